@@ -1,0 +1,65 @@
+-- The group of the check digit, its permutation, and the tables that the code keeps of them. What is
+-- said of all elements is computed, element by element.
+use Rattle.std.proofs.Common.{◌≡◌, ℕ, ◌+◌, ◌%◌, ◌<◌, Bool, zero, suc, true, ◌==◌, nat_lt, [], slice_index, slice_index_or, refl, ap, ◌∙◌, arith}
+use Rattle.std.proofs.lemmas.Bool.{agree_below, agree_below_at, eqb-true, ltb-true}
+use Rattle.sctid.specs.declared.check.TheConstants.{PRODUCTS, PERMUTATIONS}
+use Rattle.sctid.specs.Identifier.{times, permutation, permuted}
+
+-- a test passes at each number below a bound
+abbrev passes_below : ℕ → (ℕ → Bool) → Bool
+passes_below n test = agree_below test (λ _. true) n
+
+-- where all numbers below a bound pass, each of them does
+passes_below_at : (n : ℕ) (test : ℕ → Bool) (k : ℕ) → passes_below n test ≡ true → k < n → test k ≡ true
+passes_below_at n test k all within = agree_below_at test (λ _. true) n k all within
+
+-- a product of two elements is an element
+pub times-lt : (a b : ℕ) → a < 10 → b < 10 → times a b < 10
+times-lt a b a_in b_in =
+    let row = passes_below_at 10 (λ x. passes_below 10 (λ y. nat_lt (times x y) 10)) a refl a_in in
+    ltb-true _ 10 (passes_below_at 10 (λ y. nat_lt (times a y) 10) b row b_in)
+
+-- the order in which three elements are multiplied is free
+pub times_assoc : (a b c : ℕ) → a < 10 → b < 10 → c < 10 → times (times a b) c ≡ times a (times b c)
+times_assoc a b c a_in b_in c_in =
+    let plane = passes_below_at 10 (λ x. passes_below 10 (λ y. passes_below 10 (λ z. times (times x y) z == times x (times y z)))) a refl a_in in
+    let row = passes_below_at 10 (λ y. passes_below 10 (λ z. times (times a y) z == times a (times y z))) b plane b_in in
+    eqb-true _ _ (passes_below_at 10 (λ z. times (times a b) z == times a (times b z)) c row c_in)
+
+-- 0 is the unit, on the left and on the right
+pub zero-times : (a : ℕ) → a < 10 → times 0 a ≡ a
+zero-times a a_in = eqb-true _ _ (passes_below_at 10 (λ x. times 0 x == x) a refl a_in)
+
+pub times-zero : (a : ℕ) → a < 10 → times a 0 ≡ a
+times-zero a a_in = eqb-true _ _ (passes_below_at 10 (λ x. times x 0 == x) a refl a_in)
+
+-- the permutation takes a digit to a digit
+permutation-lt : (digit : ℕ) → digit < 10 → slice_index permutation digit < 10
+permutation-lt digit is_digit = ltb-true _ 10 (passes_below_at 10 (λ x. nat_lt (slice_index permutation x) 10) digit refl is_digit)
+
+-- a permuted digit is an element
+pub permuted-lt : (place digit : ℕ) → digit < 10 → permuted place digit < 10
+permuted-lt zero digit is_digit = is_digit
+permuted-lt (suc place) digit is_digit =
+    permuted-lt place (slice_index permutation digit) (permutation-lt digit is_digit)
+
+-- the table of products has the products
+pub table-times : (a b : ℕ) → a < 10 → b < 10 → slice_index (slice_index_or PRODUCTS a []) b ≡ times a b
+table-times a b a_in b_in =
+    let row = passes_below_at 10 (λ x. passes_below 10 (λ y. slice_index (slice_index_or PRODUCTS x []) y == times x y)) a refl a_in in
+    eqb-true _ _ (passes_below_at 10 (λ y. slice_index (slice_index_or PRODUCTS a []) y == times a y) b row b_in)
+
+-- a row of the table of permutations is the row before it, behind one more permutation, and the
+-- first row is also the one after the last
+next_row : (row digit : ℕ) → row < 8 → digit < 10 → slice_index (slice_index_or PERMUTATIONS ((row + 1) % 8) []) digit ≡ slice_index (slice_index_or PERMUTATIONS row []) (slice_index permutation digit)
+next_row row digit row_in is_digit =
+    let all = passes_below_at 8 (λ x. passes_below 10 (λ y. slice_index (slice_index_or PERMUTATIONS ((x + 1) % 8) []) y == slice_index (slice_index_or PERMUTATIONS x []) (slice_index permutation y))) row refl row_in in
+    eqb-true _ _ (passes_below_at 10 (λ y. slice_index (slice_index_or PERMUTATIONS ((row + 1) % 8) []) y == slice_index (slice_index_or PERMUTATIONS row []) (slice_index permutation y)) digit all is_digit)
+
+-- the table of permutations has each digit, permuted as its place asks
+pub table-permuted : (place digit : ℕ) → digit < 10 → slice_index (slice_index_or PERMUTATIONS (place % 8) []) digit ≡ permuted place digit
+table-permuted zero digit is_digit =
+    eqb-true _ _ (passes_below_at 10 (λ x. slice_index (slice_index_or PERMUTATIONS 0 []) x == x) digit refl is_digit)
+table-permuted (suc place) digit is_digit =
+    let row_is : suc place % 8 ≡ (place % 8 + 1) % 8 = omega arith in
+    ap (λ row. slice_index (slice_index_or PERMUTATIONS row []) digit) row_is ∙ next_row (place % 8) digit (omega arith) is_digit ∙ table-permuted place (slice_index permutation digit) (permutation-lt digit is_digit)

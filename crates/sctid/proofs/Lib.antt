@@ -1,0 +1,4 @@
+pub mod Group
+pub mod Numerals
+pub mod PartDigit
+pub mod Product

@@ -1,0 +1,47 @@
+-- The check product of a text of digits, which is defined from the right and computed from the left.
+use Rattle.std.proofs.Common.{◌≡◌, ℕ, ◌+◌, ◌-◌, ◌<◌, ◌≤◌, nat_le, zero, suc, true, List, [], ◌∷◌, length, get_or, drop, length-drop, sym, ap, ◌∙◌, arith}
+use Rattle.std.specs.Char.{is_ascii_digit}
+use Rattle.std.specs.List.{list_all}
+use Rattle.std.proofs.lemmas.Bool.{and_parts, leb-true, true_from_ne_false, both_ways}
+use Rattle.std.proofs.lemmas.List.Folds.{list_all_at}
+use Rattle.std.proofs.lemmas.List.{at_drop_more}
+use Rattle.sctid.specs.Identifier.{times, permuted, check_product}
+use Rattle.sctid.proofs.Group.{times-lt, times_assoc, permuted-lt}
+
+-- what a digit stands for is below ten
+pub digit-lt : (byte : ℕ) → is_ascii_digit byte ≡ true → byte - 48 < 10
+digit-lt byte digit = let at_most : byte ≤ 57 = leb-true byte 57 (and_parts (nat_le 48 byte) (nat_le byte 57) digit).1 in omega arith
+
+-- the product of a text of digits is an element of the group
+pub check_product-lt : (text : List ℕ) → list_all is_ascii_digit text ≡ true → check_product text < 10
+check_product-lt [] digits = omega arith
+check_product-lt (byte ∷ right) digits =
+    let parts = and_parts _ _ digits in
+    times-lt (check_product right) _ (check_product-lt right parts.1) (permuted-lt (length right) (byte - 48) (digit-lt byte parts.0))
+
+-- each byte of a text of digits is a digit
+pub digit_in : (text : List ℕ) (i : ℕ) → i < length text → list_all is_ascii_digit text ≡ true → is_ascii_digit (get_or text i 0) ≡ true
+digit_in text i within digits =
+    true_from_ne_false _ (λ other. both_ways _ (list_all_at is_ascii_digit text i 0 within other) digits)
+
+-- so it stands for less than ten
+pub next_digit : (text : List ℕ) (i digit : ℕ) → i < length text → list_all is_ascii_digit text ≡ true → digit ≡ get_or text i 0 - 48 → digit < 10
+next_digit text i digit within digits digit_is = omega (arith, digit-lt (get_or text i 0) (digit_in text i within digits))
+
+-- what is left of a text of digits are digits
+digits-drop : (i : ℕ) (text : List ℕ) → list_all is_ascii_digit text ≡ true → list_all is_ascii_digit (drop i text) ≡ true
+digits-drop zero text digits = digits
+digits-drop (suc i) [] digits = digits
+digits-drop (suc i) (byte ∷ right) digits = digits-drop i right (and_parts _ _ digits).1
+
+-- taking one more digit from the left puts its factor in front of the product so far
+pub check_product-more : (text : List ℕ) (i place product digit : ℕ) → i < length text → list_all is_ascii_digit text ≡ true → place + (i + 1) ≡ length text → product < 10 → digit ≡ get_or text i 0 - 48 →
+    check_product text ≡ times (check_product (drop i text)) product →
+    check_product text ≡ times (check_product (drop (i + 1) text)) (times (permuted place digit) product)
+check_product-more text i place product digit within digits placed element digit_is so_far =
+    let right = drop (i + 1) text in
+    let place_is : length right ≡ place = omega (arith, length-drop (i + 1) text) in
+    let step = at_drop_more check_product text i 0 within ∙ ap (λ p. times (check_product right) (permuted p (get_or text i 0 - 48))) place_is ∙ ap (λ d. times (check_product right) (permuted place d)) (sym digit_is) in
+    let factor_in = permuted-lt place digit (next_digit text i digit within digits digit_is) in
+    let right_in = check_product-lt right (digits-drop (i + 1) text digits) in
+    so_far ∙ ap (λ p. times p product) step ∙ times_assoc (check_product right) (permuted place digit) product right_in factor_in element

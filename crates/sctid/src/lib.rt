@@ -1,0 +1,181 @@
+//! SNOMED CT identifiers (SCTIDs), as the Release File Specification defines them in its section
+//! "Component identifiers": decimal texts with a partition and a Verhoeff check digit.
+//!
+//! An `SctId` is always valid: the one way to make one is `SctId::parse`, which accepts exactly the
+//! valid texts and names the first fault of any other.
+#![tactic(auto)]
+
+ghost use Rattle.std.specs.Prelude.{◌≡◌, ◌^◌, ◌<◌, ◌≤◌, true, None, Some, IfOk, IfErr, IfSome, is_some, length, decimal};
+ghost use Rattle.std.specs.Char.{is_ascii_digit};
+ghost use Rattle.std.specs.List.{list_all};
+ghost use Rattle.std.specs.Str.Parse.{digits_value};
+ghost use Rattle.sctid.specs.Identifier.{has_partition};
+
+mod check;
+#[cfg(test)]
+mod tests;
+
+use arrayvec::ArrayVec;
+use check::check_product;
+use std::marker::Model;
+use thiserror::Error;
+
+/// The kind of component that an identifier names, by its partition (Release File Specification,
+/// "Partition identifier"): the second digit of the partition, in the short and the long form alike.
+#[derive(Clone, Copy, Debug, PartialEq, Eq, PartialOrd, Ord, Hash)]
+pub enum Part {
+    /// Partitions 00 and 10.
+    Concept,
+    /// Partitions 01 and 11.
+    Description,
+    /// Partitions 02 and 12.
+    Relationship,
+}
+
+/// Why a text is no identifier: the first cause, in this order, that holds of it.
+#[derive(Clone, Copy, Debug, PartialEq, Eq, Hash, Error)]
+pub enum IdFault {
+    /// Fewer than 6 or more than 18 bytes.
+    #[error("an identifier has 6 to 18 digits")]
+    Length,
+    /// A byte that is no decimal digit.
+    #[error("an identifier is made of digits alone")]
+    Digit,
+    /// The first digit is 0.
+    #[error("an identifier does not begin with 0")]
+    LeadingZero,
+    /// The two digits before the last are none of the six partitions, or they stand for the long
+    /// form, which names a namespace, in fewer than 11 digits.
+    #[error("the partition is none of 00, 01, 02, 10, 11 and 12, or has no room for its namespace")]
+    Partition,
+    /// The check digit does not fit the others.
+    #[error("the check digit does not fit")]
+    Check,
+}
+
+impl IdFault {
+    ghost use Rattle.sctid.specs.Identifier.{fault_number};
+
+    /// The number of the fault, from 1 in the order in which faults are looked for.
+    pub fn number(self) -> u8
+        ensures { result ≡ fault_number self }
+    {
+        match self {
+            IdFault::Length => 1,
+            IdFault::Digit => 2,
+            IdFault::LeadingZero => 3,
+            IdFault::Partition => 4,
+            IdFault::Check => 5,
+        }
+    }
+}
+
+/// A valid SNOMED CT identifier (Release File Specification, "Component identifiers"). Contracts see
+/// it as its number, which is below 10^18 and whose decimal text has no fault. Identifiers are in
+/// the order of their numbers.
+#[derive(Clone, Copy, Debug, PartialEq, Eq, PartialOrd, Ord, Hash)]
+pub struct SctId {
+    number: u64,
+}
+
+impl Model for SctId {
+    ghost use Rattle.std.specs.Prelude.{ℕ, ◌≡◌, ◌^◌, ◌<◌, None, decimal};
+
+    ghost Value = { ℕ };
+
+    ghost use Rattle.sctid.specs.Identifier.{fault_of};
+
+    ghost view = { λ id. id.number };
+
+    ghost invariant = { λ id. (id.number < 10 ^ 18) × (fault_of (decimal id.number) ≡ None) };
+
+    ghost inverse = { λ n. record { number = n } };
+}
+
+impl SctId {
+    ghost use Rattle.sctid.specs.Identifier.{fault_of, part_of};
+
+    /// Reads an identifier from its decimal text. It answers `Ok` exactly where the text is valid,
+    /// and else the first fault in the order of `IdFault`.
+    pub fn parse(text: &[u8]) -> Result<SctId, IdFault>
+        ensures valid { IfOk result (λ id. fault_of text.now ≡ None) }
+        ensures same { IfOk result (λ id. decimal id ≡ text.now) }
+        ensures first { IfErr result (λ fault. fault_of text.now ≡ Some fault) }
+    {
+        if text.len() < 6 || text.len() > 18 {
+            return Err(IdFault::Length);
+        }
+        let Some(number) = read_digits(text) else {
+            return Err(IdFault::Digit);
+        };
+        if text[0] == b'0' {
+            return Err(IdFault::LeadingZero);
+        }
+        if !has_partition(text) {
+            return Err(IdFault::Partition);
+        }
+        if check_product(text) != 0 {
+            return Err(IdFault::Check);
+        }
+        Ok(SctId { number })
+    }
+
+    /// The kind of component that the identifier names.
+    pub fn part(self) -> Part
+        ensures { result ≡ part_of (decimal self) }
+    {
+        match self.number / 10 % 10 {
+            0 => Part::Concept,
+            1 => Part::Description,
+            _ => Part::Relationship,
+        }
+    }
+
+    /// The identifier read as a whole number. Its decimal text is the text that was parsed.
+    pub fn number(self) -> u64
+        ensures number { result ≡ self }
+        ensures small { result < 10 ^ 18 }
+        ensures valid { fault_of (decimal result) ≡ None }
+    {
+        self.number
+    }
+
+    /// Puts the digits of the identifier into `digits`, in place of what it held.
+    pub fn write_to(self, digits: &mut ArrayVec<u8, 18>)
+        ensures { digits.new.items ≡ decimal self }
+    {
+        let mut buffer = itoa::Buffer::new();
+        digits.clear();
+        let _ = digits.try_extend_from_slice(buffer.format(self.number).as_bytes());
+    }
+}
+
+// The number that a text of at most 18 digits stands for, or `None` where a byte is no digit.
+fn read_digits(text: &[u8]) -> Option<u64>
+    requires { length text.now ≤ 18 }
+    ensures digits { is_some result ≡ list_all is_ascii_digit text.now }
+    ensures value { IfSome result (λ n. n ≡ digits_value 10 text.now) }
+    ensures small { IfSome result (λ n. n < 10 ^ 18) }
+{
+    let mut number = 0u64;
+    for byte in text {
+        if !byte.is_ascii_digit() {
+            return None;
+        }
+        number = number * 10 + u64::from(*byte - b'0');
+    }
+    Some(number)
+}
+
+// Whether the two digits before the last are a partition, and the long form has room for its
+// namespace of seven digits.
+fn has_partition(text: &[u8]) -> bool
+    requires room { 3 ≤ length text.now }
+    requires digits { list_all is_ascii_digit text.now ≡ true }
+    ensures { result ≡ has_partition text.now }
+{
+    let form = text[text.len() - 3];
+    let part = text[text.len() - 2];
+    let has_form = form == b'0' || form == b'1' && text.len() >= 11;
+    has_form && part <= b'2'
+}
