@@ -1,0 +1,18 @@
+//! The files of a release as lines (Release File Specification, "File format": UTF-8 text with one
+//! row to a line, lines ended by CR LF).
+#![tactic(auto)]
+
+mod lines;
+#[cfg(test)]
+mod tests;
+
+pub use crate::lines::{Line, Lines, parts_are_lines};
+
+/// A file of a release, whole in memory.
+#[derive(Clone, Copy, Debug)]
+pub struct NamedBytes<'a> {
+    /// The path of the file below the folder of the release, with `/` between its parts.
+    pub name: &'a str,
+    /// What the file holds.
+    pub bytes: &'a [u8],
+}

@@ -1,0 +1,134 @@
+//! Cutting bytes into lines.
+ghost use Rattle.std.specs.Prelude.{◌≡◌, ℕ, List, ◌<◌, ◌≤◌, ◌∷◌, ◌++◌, length};
+ghost use Rattle.std.specs.Io.BufRead.{strip_last};
+ghost use Rattle.release_files.specs.Lines.{parts, text_of, PartsAreLines};
+
+use bstr::ByteSlice;
+use std::marker::Model;
+
+/// A line of a file. Accepted beside CR LF are LF alone and a last line without an end.
+#[derive(Clone, Copy, Debug)]
+pub struct Line<'a> {
+    /// The number of the line in its file, from 1. Empty lines are counted.
+    pub number: u64,
+    /// The offset behind the line, its end of line and a leading byte order mark counted: how many
+    /// bytes of the file have gone by with it.
+    pub end: u64,
+    /// The bytes of the line without its LF and without one CR before that.
+    pub bytes: &'a [u8],
+}
+
+/// The lines of a file in turn, after a leading byte order mark. A last part of no bytes, not even
+/// a CR, is no line. Contracts see the lines that are still to come.
+#[derive(Clone, Debug, Drop)]
+pub struct Lines<'a> {
+    rest: &'a [u8],
+    number: u64,
+    end: u64,
+}
+
+impl<'a> Model for Lines<'a> {
+    ghost use Rattle.std.specs.Prelude.{◌+◌, ◌^◌, ◌<◌, ◌≤◌, List, length};
+    ghost use Rattle.release_files.specs.Lines.{LineText, numbered, parts};
+
+    ghost Value = { List LineText };
+
+    ghost view = { λ lines. numbered lines.number lines.end (parts lines.rest.now) };
+
+    ghost invariant = { λ lines. (lines.number ≤ lines.end) × (lines.end + length lines.rest.now < 2 ^ 64) };
+}
+
+// The byte order mark in UTF-8, and the bytes that end a line.
+const BYTE_ORDER_MARK: &[u8] = b"\xef\xbb\xbf";
+
+const LINE_FEED: u8 = b'\n';
+
+const CARRIAGE_RETURN: u8 = b'\r';
+
+impl<'a> Lines<'a> {
+    ghost use Rattle.release_files.specs.Lines.{lines_of};
+
+    /// The lines of a file's bytes. Takes no memory.
+    #[tactic(auto, unfolding(crate::specs::Lines::lines_of))]
+    pub fn new(bytes: &'a [u8]) -> Lines<'a>
+        ensures lines { result ≡ lines_of bytes.now }
+        ensures few { length result ≤ length bytes.now }
+    {
+        match bytes.strip_prefix(BYTE_ORDER_MARK) {
+            Some(rest) => Lines {
+                rest,
+                number: 0,
+                end: 3,
+            },
+            None => Lines {
+                rest: bytes,
+                number: 0,
+                end: 0,
+            },
+        }
+    }
+}
+
+/// The law behind `Lines`: bytes can be cut in one way alone into parts that have a line feed at
+/// their end and no other, but for a last one that may lack it, and this is the cut that the lines
+/// are read from. Does nothing.
+pub fn parts_are_lines()
+    ensures { (bytes : List ℕ) → PartsAreLines bytes }
+{}
+
+impl<'a> Iterator for Lines<'a> {
+    ghost use Rattle.std.specs.Iterator.{YieldsFirstBy, item_count};
+    ghost use Rattle.release_files.specs.Lines.{line_text};
+
+    type Item = Line<'a>;
+
+    ghost next_gives = { YieldsFirstBy line_text (λ left. left) };
+
+    ghost remaining = { item_count (λ left. left) };
+
+    /// The next line, or `None` behind the last. Takes no memory.
+    fn next(&mut self) -> Option<Line<'a>> {
+        if self.rest.is_empty() {
+            return None;
+        }
+        let (part, rest) = first_part(self.rest);
+        self.rest = rest;
+        self.number += 1;
+        self.end += part.len() as u64;
+        Some(Line {
+            number: self.number,
+            end: self.end,
+            bytes: text_of(part),
+        })
+    }
+}
+
+// The first line of some bytes with its line feed, and what follows it.
+fn first_part(bytes: &[u8]) -> (&[u8], &[u8])
+    requires { 0 < length bytes.now }
+    ensures parts { parts bytes.now ≡ result.0.now ∷ parts result.1.now }
+    ensures joined { bytes.now ≡ result.0.now ++ result.1.now }
+    ensures some { 0 < length result.0.now }
+{
+    match bytes.find_byte(LINE_FEED) {
+        Some(at) => bytes.split_at(at + 1),
+        None => (bytes, &[]),
+    }
+}
+
+// A line without its end: without its line feed, and then without one carriage return.
+fn text_of(part: &[u8]) -> &[u8]
+    ensures { result.now ≡ text_of part.now }
+{
+    without_last(without_last(part, LINE_FEED), CARRIAGE_RETURN)
+}
+
+// The bytes without the last, if that is `byte`.
+fn without_last(bytes: &[u8], byte: u8) -> &[u8]
+    ensures { result.now ≡ strip_last byte bytes.now }
+{
+    match bytes.split_last() {
+        Some((last, front)) if *last == byte => front,
+        _ => bytes,
+    }
+}
