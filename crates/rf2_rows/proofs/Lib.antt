@@ -1,0 +1,7 @@
+pub mod Columns
+pub mod Examples
+pub mod HierarchyLemmas
+pub mod Identifiers
+pub mod PairLemmas
+pub mod Parts
+pub mod Texts

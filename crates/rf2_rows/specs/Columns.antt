@@ -1,0 +1,95 @@
+-- The columns of each kind of file, and what their texts may be (Release File Specification,
+-- "Concept file" and "Relationship file").
+use Rattle.std.specs.Prelude.{ℕ, Bool, true, false, ◌&&◌, ◌||◌, ◌==◌, nat_le, if◌then◌else◌, List, [], ◌∷◌, map, length, codes, bytes_eq, Option, None, Some, option_map}
+use Rattle.std.specs.Option.{option_or}
+use Rattle.std.specs.List.{join_with_byte, list_all}
+use Rattle.std.specs.Char.{is_ascii_digit}
+use Rattle.sctid.specs.Identifier.{fault_of, part_of}
+use Rattle.sctid.specs.declared.IdFault.{IdFault}
+use Rattle.sctid.specs.declared.IdFault.TheVariants.{Partition}
+use Rattle.sctid.specs.declared.Part.{Part}
+use Rattle.sctid.specs.declared.Part.TheVariants.{Concept, Description, Relationship}
+use Rattle.rf2_rows.specs.declared.kind.FileKind.{FileKind}
+use Rattle.rf2_rows.specs.declared.kind.FileKind.TheVariants.{Concept as ConceptFile, Relationship as RelationshipFile}
+use Rattle.rf2_rows.specs.declared.fault.RowCause.{RowCause}
+use Rattle.rf2_rows.specs.declared.fault.RowCause.TheVariants.{Fields, Id, Time, Active, Group}
+
+-- what the texts of a column are
+pub data Format : Type 0 where
+  -- the identifier of a component of the part
+  id_format : Part → Format
+  -- a date of eight digits, YYYYMMDD, or nothing where the row is not published yet
+  time_format : Format
+  -- 0 or 1
+  active_format : Format
+  -- the number of a group, of 1 to 9 digits
+  group_format : Format
+
+-- a column: its name in the header, and what its texts are
+pub record Column : Type 0 where
+  pub name : List ℕ
+  pub format : Format
+
+abbrev pub column : List ℕ → Format → Column
+column name format = record { name = name; format = format }
+
+-- the columns of a kind of file, from left to right
+abbrev pub columns_of : FileKind → List Column
+columns_of ConceptFile =
+    column (codes "id") (id_format Concept)
+    ∷ column (codes "effectiveTime") time_format
+    ∷ column (codes "active") active_format
+    ∷ column (codes "moduleId") (id_format Concept)
+    ∷ column (codes "definitionStatusId") (id_format Concept)
+    ∷ []
+columns_of RelationshipFile =
+    column (codes "id") (id_format Relationship)
+    ∷ column (codes "effectiveTime") time_format
+    ∷ column (codes "active") active_format
+    ∷ column (codes "moduleId") (id_format Concept)
+    ∷ column (codes "sourceId") (id_format Concept)
+    ∷ column (codes "destinationId") (id_format Concept)
+    ∷ column (codes "relationshipGroup") group_format
+    ∷ column (codes "typeId") (id_format Concept)
+    ∷ column (codes "characteristicTypeId") (id_format Concept)
+    ∷ column (codes "modifierId") (id_format Concept)
+    ∷ []
+
+-- the byte between two fields of a line
+abbrev pub tab : ℕ
+tab = 9
+
+-- the header of a kind of file: the names of its columns, joined by tabs
+unfoldable pub header_of : FileKind → List ℕ
+header_of kind = join_with_byte tab (map (λ column. column.name) (columns_of kind))
+
+-- whether two parts are one
+abbrev pub is_part : Part → Part → Bool
+is_part Concept Concept = true
+is_part Description Description = true
+is_part Relationship Relationship = true
+is_part _ _ = false
+
+-- the first fault of a text as an identifier of a part: its own fault where it is no identifier
+-- at all, and the partition where it is one of another part
+abbrev pub fault_for : Part → List ℕ → Option IdFault
+fault_for part text = option_or (fault_of text) (if is_part (part_of text) part then None else Some Partition)
+
+-- a text of this many digits, from the least number to the greatest
+abbrev pub is_number : ℕ → ℕ → List ℕ → Bool
+is_number least most text = nat_le least (length text) && nat_le (length text) most && list_all is_ascii_digit text
+
+-- the cause for which a text is not accepted in a column, or none
+unfoldable pub cause_of : Format → List ℕ → Option RowCause
+cause_of (id_format part) text = option_map Id (fault_for part text)
+cause_of time_format text = if length text == 0 || is_number 8 8 text then None else Some Time
+cause_of active_format text = if bytes_eq text (codes "0") || bytes_eq text (codes "1") then None else Some Active
+cause_of group_format text = if is_number 1 9 text then None else Some Group
+
+-- the number of a cause
+abbrev pub cause_number : RowCause → ℕ
+cause_number Fields = 1
+cause_number (Id fault) = 2
+cause_number Time = 3
+cause_number Active = 4
+cause_number Group = 5

@@ -1,0 +1,49 @@
+-- The kind of a file of a release, by its name (Release File Specification, "File naming
+-- convention": FileType_ContentType_ContentSubType_.. and at last .txt).
+use Rattle.std.specs.Prelude.{ℕ, ◌-◌, Bool, false, ◌&&◌, ◌||◌, ◌==◌, nat_eq, if◌then◌else◌, List, [], ◌∷◌, length, take, codes, bytes_eq, Option, None, Some, option_and_then}
+use Rattle.std.specs.List.{after_last, starts_with, ends_with}
+use Rattle.rf2_rows.specs.Parts.{parts_at}
+use Rattle.rf2_rows.specs.declared.kind.FileKind.{FileKind}
+use Rattle.rf2_rows.specs.declared.kind.FileKind.TheVariants.{Concept, Relationship}
+
+-- the file's name in a path: what follows the last `/`
+abbrev pub file_name : List ℕ → List ℕ
+file_name path = after_last (λ byte. byte == 47) path
+
+-- the elements of a file's name: what stands between its underscores
+abbrev pub elements_of : List ℕ → List (List ℕ)
+elements_of name = parts_at 95 name
+
+-- whether the word stands somewhere in the text
+abbrev pub holds : List ℕ → List ℕ → Bool
+holds word [] = false
+holds word (byte ∷ text) = starts_with nat_eq (byte ∷ text) word || holds word text
+
+-- FileType: a file of components, released or in a test release
+abbrev pub is_terminology : List ℕ → Bool
+is_terminology file_type = bytes_eq file_type (codes "sct2") || bytes_eq file_type (codes "xsct2")
+
+-- ContentType: what the rows describe
+abbrev pub kind_named : List ℕ → Option FileKind
+kind_named content =
+    if bytes_eq content (codes "Concept") then Some Concept
+    else if bytes_eq content (codes "Relationship") then Some Relationship
+    else None
+
+-- ContentSubType: the release type Snapshot, at the end or before the code of a language
+abbrev pub is_snapshot : List ℕ → Bool
+is_snapshot subtype = ends_with nat_eq subtype (codes "Snapshot") || holds (codes "Snapshot-") subtype
+
+-- the kind that the elements tell of
+abbrev pub kind_of_elements : List (List ℕ) → Option FileKind
+kind_of_elements (file_type ∷ content ∷ subtype ∷ others) =
+    if is_terminology file_type && is_snapshot subtype then kind_named content else None
+kind_of_elements _ = None
+
+-- a file's name without the extension .txt, if it has that
+abbrev pub stem_of : List ℕ → Option (List ℕ)
+stem_of name = if ends_with nat_eq name (codes ".txt") then Some (take (length name - 4) name) else None
+
+-- the kind of a file by its path, or none where the file is no part of the release
+unfoldable pub file_kind_of : List ℕ → Option FileKind
+file_kind_of path = option_and_then (λ stem. kind_of_elements (elements_of stem)) (stem_of (file_name path))

@@ -1,0 +1,17 @@
+-- Texts that a byte cuts into parts.
+use Rattle.std.specs.Prelude.{ℕ, ◌==◌, List, [], map, Option, None, Some}
+use Rattle.std.specs.Borrow.{Bor}
+use Rattle.std.specs.List.{slice_split}
+
+-- what stands between the separators of a text: one part more than there are separators
+abbrev pub parts_at : ℕ → List ℕ → List (List ℕ)
+parts_at separator text = slice_split (λ byte. byte == separator) text
+
+-- the parts of the text that is left, if one is
+abbrev pub parts_left : ℕ → Option (Bor (List ℕ)) → List (List ℕ)
+parts_left separator None = []
+parts_left separator (Some text) = parts_at separator text.now
+
+-- the texts that are lent
+abbrev pub texts_of : List (Bor (List ℕ)) → List (List ℕ)
+texts_of lent = map (λ text. text.now) lent

@@ -1,0 +1,103 @@
+-- What a line of a file is as a row (Release File Specification, "Concept file" and "Relationship
+-- file"): its fields, its first fault, and the row that an accepted line stands for.
+use Rattle.std.specs.Prelude.{◌≡◌, ℕ, ◌+◌, ◌==◌, Bool, if◌then◌else◌, List, [], ◌∷◌, length, codes, bytes_eq, slice_index_or, Option, None, Some, option_map, Result, MatchResult}
+use Rattle.std.specs.Option.{option_or}
+use Rattle.std.specs.List.{position_or_len}
+use Rattle.std.specs.Str.Parse.{digits_value}
+use Rattle.rf2_rows.specs.declared.kind.FileKind.{FileKind}
+use Rattle.rf2_rows.specs.declared.kind.FileKind.TheVariants.{Concept as ConceptFile, Relationship as RelationshipFile}
+use Rattle.rf2_rows.specs.declared.fault.RowCause.{RowCause}
+use Rattle.rf2_rows.specs.declared.fault.RowCause.TheVariants.{Fields}
+use Rattle.rf2_rows.specs.declared.fault.RowFault.{RowFault}
+use Rattle.rf2_rows.specs.declared.row.ConceptRow.{ConceptRow}
+use Rattle.rf2_rows.specs.declared.row.RelationshipRow.{RelationshipRow}
+use Rattle.rf2_rows.specs.declared.row.Row.{Row}
+use Rattle.rf2_rows.specs.declared.row.Row.TheVariants.{Concept, Relationship}
+use Rattle.rf2_rows.specs.Columns.{Column, columns_of, cause_of, tab}
+use Rattle.rf2_rows.specs.Parts.{parts_at}
+
+-- the fields of a line: what stands between its tabs
+abbrev pub fields_of : List ℕ → List (List ℕ)
+fields_of line = parts_at tab line
+
+-- the fault of a column, by its number and the cause for which its text is not accepted
+abbrev pub column_fault : ℕ → Option RowCause → Option RowFault
+column_fault number cause = option_map (λ cause. record { cause = cause; column = number }) cause
+
+-- the fault of the first column whose text is not accepted, where the first column has this number
+abbrev pub first_fault : ℕ → List Column → List (List ℕ) → Option RowFault
+first_fault number (column ∷ columns) (text ∷ texts) =
+    option_or (column_fault number (cause_of column.format text)) (first_fault (number + 1) columns texts)
+first_fault number _ _ = None
+
+-- the first fault of a line's fields: first their number, and then the columns from left to right
+abbrev pub fields_fault : FileKind → List (List ℕ) → Option RowFault
+fields_fault kind fields =
+    if length fields == length (columns_of kind) then first_fault 1 (columns_of kind) fields
+    else Some (record { cause = Fields; column = 0 })
+
+-- the first fault of a line, or none where it is a row
+unfoldable pub row_fault : FileKind → List ℕ → Option RowFault
+row_fault kind line = fields_fault kind (fields_of line)
+
+-- the text in the column with a name
+abbrev pub text_in : FileKind → List (List ℕ) → List ℕ → List ℕ
+text_in kind fields name = slice_index_or fields (position_or_len (λ column. bytes_eq column.name name) (columns_of kind)) []
+
+-- the number that a text of digits writes
+abbrev pub number_of : List ℕ → ℕ
+number_of text = digits_value 10 text
+
+-- an effective time: the number that its digits write, or none where there are none
+abbrev pub time_of : List ℕ → Option ℕ
+time_of text = if length text == 0 then None else Some (number_of text)
+
+-- whether a component is active
+abbrev pub active_of : List ℕ → Bool
+active_of text = bytes_eq text (codes "1")
+
+-- the row of the Concept file that fields stand for
+abbrev pub concept_of : List (List ℕ) → ConceptRow
+concept_of fields =
+    let text = text_in ConceptFile fields in
+    record {
+      id = number_of (text (codes "id"));
+      effective_time = time_of (text (codes "effectiveTime"));
+      active = active_of (text (codes "active"));
+      module_id = number_of (text (codes "moduleId"));
+      definition_status_id = number_of (text (codes "definitionStatusId"));
+    }
+
+-- the row of the Relationship file that fields stand for
+abbrev pub relationship_of : List (List ℕ) → RelationshipRow
+relationship_of fields =
+    let text = text_in RelationshipFile fields in
+    record {
+      id = number_of (text (codes "id"));
+      effective_time = time_of (text (codes "effectiveTime"));
+      active = active_of (text (codes "active"));
+      module_id = number_of (text (codes "moduleId"));
+      source_id = number_of (text (codes "sourceId"));
+      destination_id = number_of (text (codes "destinationId"));
+      relationship_group = number_of (text (codes "relationshipGroup"));
+      type_id = number_of (text (codes "typeId"));
+      characteristic_type_id = number_of (text (codes "characteristicTypeId"));
+      modifier_id = number_of (text (codes "modifierId"));
+    }
+
+-- the rows that lines stand for: what they are where the line has no fault
+unfoldable pub concept_row : List ℕ → ConceptRow
+concept_row line = concept_of (fields_of line)
+
+unfoldable pub relationship_row : List ℕ → RelationshipRow
+relationship_row line = relationship_of (fields_of line)
+
+-- what reading answers: a value where there is no fault, and else the fault
+abbrev pub IsReading : {T : Type 0} → Option RowFault → T → Result T RowFault → Type 0
+IsReading fault value result = MatchResult result (λ found. (fault ≡ None) × (found ≡ value)) (λ found. fault ≡ Some found)
+
+-- the row is the one that a line of a kind of file stands for
+abbrev pub IsRow : FileKind → List ℕ → Row → Type 0
+IsRow ConceptFile line (Concept row) = row ≡ concept_row line
+IsRow RelationshipFile line (Relationship row) = row ≡ relationship_row line
+IsRow _ line _ = ⊥

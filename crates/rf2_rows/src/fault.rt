@@ -1,0 +1,53 @@
+//! Why a line is no row.
+ghost use Rattle.std.specs.Prelude.{◌≡◌};
+
+use sctid::IdFault;
+use thiserror::Error;
+
+/// Why the text of a column, or a line as a whole, is not accepted.
+#[derive(Clone, Copy, Debug, PartialEq, Eq, Hash, Error)]
+pub enum RowCause {
+    /// The line has more or fewer fields than the header has columns.
+    #[error("the line has not as many fields as the header")]
+    Fields,
+    /// No identifier of the part that the column asks for. A valid identifier of another part has
+    /// the fault `IdFault::Partition`.
+    #[error("no identifier of this column: {0}")]
+    Id(IdFault),
+    /// Neither eight digits nor empty.
+    #[error("an effective time has eight digits or none")]
+    Time,
+    /// Neither `0` nor `1`.
+    #[error("active is 0 or 1")]
+    Active,
+    /// Not 1 to 9 digits.
+    #[error("a relationship group has 1 to 9 digits")]
+    Group,
+}
+
+/// The first fault of a line: its cause, and the column that it is in.
+#[derive(Clone, Copy, Debug, PartialEq, Eq, Hash, Error)]
+#[error("column {column}: {cause}")]
+pub struct RowFault {
+    /// Why the line is refused.
+    pub cause: RowCause,
+    /// The number of the column from 1, or 0 where the number of fields is wrong.
+    pub column: u8,
+}
+
+impl RowCause {
+    ghost use Rattle.rf2_rows.specs.Columns.{cause_number};
+
+    /// The number of the cause, from 1.
+    pub fn number(self) -> u8
+        ensures { result ≡ cause_number self }
+    {
+        match self {
+            RowCause::Fields => 1,
+            RowCause::Id(_) => 2,
+            RowCause::Time => 3,
+            RowCause::Active => 4,
+            RowCause::Group => 5,
+        }
+    }
+}

@@ -1,0 +1,102 @@
+//! The kinds of file, told by their names, and their headers.
+ghost use Rattle.std.specs.Prelude.{◌≡◌, None, Some, IsNone, IfSome};
+ghost use Rattle.rf2_rows.specs.Columns.{header_of};
+ghost use Rattle.rf2_rows.specs.Files.{file_kind_of, file_name, stem_of, elements_of, kind_of_elements, kind_named, is_snapshot, is_terminology};
+
+use crate::split::cut;
+use bstr::ByteSlice;
+
+/// What the rows of a file describe.
+#[derive(Clone, Copy, Debug, PartialEq, Eq, Hash)]
+pub enum FileKind {
+    /// Concepts (Release File Specification, "Concept file").
+    Concept,
+    /// Relationships between concepts (Release File Specification, "Relationship file").
+    Relationship,
+}
+
+/// The kind of a Snapshot file by its name (Release File Specification, "File naming convention"),
+/// of which only what follows the last `/` counts. `None` for every file that the engine passes over.
+#[tactic(auto, unfolding(crate::specs::Files::file_kind_of))]
+pub fn file_kind(name: &str) -> Option<FileKind>
+    ensures { result ≡ file_kind_of name.now }
+{
+    kind_of_stem(stem_of(file_name(name.as_bytes()))?)
+}
+
+/// The first line of each file of a kind: the names of its columns, joined by tabs.
+#[tactic(auto, unfolding(crate::specs::Columns::header_of))]
+pub fn header(kind: FileKind) -> &'static str
+    ensures { result.now ≡ header_of kind }
+{
+    match kind {
+        FileKind::Concept => "id\teffectiveTime\tactive\tmoduleId\tdefinitionStatusId",
+        FileKind::Relationship => {
+            "id\teffectiveTime\tactive\tmoduleId\tsourceId\tdestinationId\trelationshipGroup\ttypeId\tcharacteristicTypeId\tmodifierId"
+        }
+    }
+}
+
+// What follows the last `/` of a path.
+fn file_name(path: &[u8]) -> &[u8]
+    ensures { result.now ≡ file_name path.now }
+{
+    match path.rfind_byte(b'/') {
+        Some(at) => &path[at + 1..],
+        None => path,
+    }
+}
+
+// A file's name without the extension `.txt`, if it has that.
+fn stem_of(name: &[u8]) -> Option<&[u8]>
+    ensures other { IsNone result → stem_of name.now ≡ None }
+    ensures stem { IfSome result (λ stem. stem_of name.now ≡ Some stem.now) }
+{
+    if name.ends_with(b".txt") {
+        Some(&name[..name.len() - 4])
+    } else {
+        None
+    }
+}
+
+// The kind that the elements of a file's name tell of.
+fn kind_of_stem(stem: &[u8]) -> Option<FileKind>
+    ensures { result ≡ kind_of_elements (elements_of stem.now) }
+{
+    let (file_type, rest) = cut(stem, b'_');
+    let (content, rest) = cut(rest?, b'_');
+    let (subtype, _) = cut(rest?, b'_');
+    if is_terminology(file_type) && is_snapshot(subtype) {
+        kind_named(content)
+    } else {
+        None
+    }
+}
+
+// Whether the first element of a file's name is that of a terminology file, released or in test.
+fn is_terminology(file_type: &[u8]) -> bool
+    ensures { result ≡ is_terminology file_type.now }
+{
+    file_type == b"sct2".as_slice() || file_type == b"xsct2".as_slice()
+}
+
+// The kind that the second element of a file's name tells of.
+fn kind_named(content: &[u8]) -> Option<FileKind>
+    ensures { result ≡ kind_named content.now }
+{
+    if content == b"Concept".as_slice() {
+        Some(FileKind::Concept)
+    } else if content == b"Relationship".as_slice() {
+        Some(FileKind::Relationship)
+    } else {
+        None
+    }
+}
+
+// Whether the third element of a file's name is that of a Snapshot file, with or without a
+// language or the mark of an extension.
+fn is_snapshot(subtype: &[u8]) -> bool
+    ensures { result ≡ is_snapshot subtype.now }
+{
+    subtype.ends_with(b"Snapshot") || subtype.contains_str(b"Snapshot-")
+}

@@ -1,0 +1,20 @@
+//! The files and rows of an RF2 release (SNOMED CT Release File Specification): what kind of file a
+//! name tells of, the header of each kind, and the typed row that a line stands for.
+#![tactic(auto)]
+
+mod fault;
+mod kind;
+mod laws;
+mod read;
+mod row;
+mod split;
+#[cfg(test)]
+mod tests;
+mod value;
+
+pub use crate::fault::{RowCause, RowFault};
+pub use crate::kind::{FileKind, file_kind, header};
+pub use crate::laws::{reaches_tells_chains, same_pairs_are_told};
+pub use crate::read::read_row;
+pub use crate::row::{ConceptRow, RelationshipRow, Row};
+pub use crate::value::Decimal;

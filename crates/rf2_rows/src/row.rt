@@ -1,0 +1,51 @@
+//! The typed rows: one field for each column, in the order of the header.
+use sctid::SctId;
+
+/// A row of the Concept file (Release File Specification, "Concept file").
+#[derive(Clone, Copy, Debug, PartialEq, Eq, Hash)]
+pub struct ConceptRow {
+    /// The concept.
+    pub id: SctId,
+    /// The date from which the row counts, as a number YYYYMMDD, or `None` where it is unpublished.
+    pub effective_time: Option<u32>,
+    /// Whether the concept is active.
+    pub active: bool,
+    /// The module that the row belongs to.
+    pub module_id: SctId,
+    /// Whether the concept is defined sufficiently.
+    pub definition_status_id: SctId,
+}
+
+/// A row of the Relationship file (Release File Specification, "Relationship file").
+#[derive(Clone, Copy, Debug, PartialEq, Eq, Hash)]
+pub struct RelationshipRow {
+    /// The relationship.
+    pub id: SctId,
+    /// The date from which the row counts, as a number YYYYMMDD, or `None` where it is unpublished.
+    pub effective_time: Option<u32>,
+    /// Whether the relationship is active.
+    pub active: bool,
+    /// The module that the row belongs to.
+    pub module_id: SctId,
+    /// The concept that the row says something of.
+    pub source_id: SctId,
+    /// The concept that is the value.
+    pub destination_id: SctId,
+    /// The group of the relationship, 0 for none: at most 999,999,999.
+    pub relationship_group: u32,
+    /// The attribute, or |Is a|.
+    pub type_id: SctId,
+    /// Whether the row is inferred, stated or other.
+    pub characteristic_type_id: SctId,
+    /// Always |Some| today.
+    pub modifier_id: SctId,
+}
+
+/// The row that a line of a file stands for.
+#[derive(Clone, Copy, Debug, PartialEq, Eq, Hash)]
+pub enum Row {
+    /// A row of a Concept file.
+    Concept(ConceptRow),
+    /// A row of a Relationship file.
+    Relationship(RelationshipRow),
+}

@@ -1,0 +1,228 @@
+//! Names of files, and lines of each kind.
+use super::*;
+use sctid::IdFault;
+use std::process::Abort;
+
+#[test]
+fn knows_snapshots(rt: HostRuntime) {
+    for name in [
+        "sct2_Concept_Snapshot_INT_20240101.txt",
+        "xsct2_Concept_Snapshot_INT_20240101.txt",
+        "Snapshot/Terminology/sct2_Concept_Snapshot-en_INT_20240101.txt",
+        "a_b/c/sct2_Concept_XYSnapshot_XY_20240101.txt",
+        "sct2_Concept_XYSnapshot-en-XY_XY_20240101.txt",
+        "sct2_Concept_Snapshot.txt",
+    ] {
+        assert!(rt; file_kind(name) == Some(FileKind::Concept), "{name}");
+    }
+    let name = "sct2_Relationship_Snapshot_INT_20240101.txt";
+    assert!(rt; file_kind(name) == Some(FileKind::Relationship));
+}
+
+#[test]
+fn passes_over_other_files(rt: HostRuntime) {
+    for name in [
+        "sct2_Concept_Delta_INT_20240101.txt",
+        "sct2_Concept_Full_INT_20240101.txt",
+        "sct2_Concept_Full_Snapshot.txt",
+        "sct2_Concept_SnapshotXY_INT_20240101.txt",
+        "sct2_StatedRelationship_Snapshot_INT_20240101.txt",
+        "der2_Refset_SimpleSnapshot_INT_20240101.txt",
+        "zsct2_Concept_Snapshot_INT_20240101.txt",
+        "sct2_Concept_Snapshot_INT_20240101.txt.zip",
+        "sct2_Concept_Snapshot_INT_20240101.txt/",
+        "sct2_Concept.txt",
+        "sct2_Concept_Snapshot",
+        "",
+    ] {
+        assert!(rt; file_kind(name).is_none(), "{name}");
+    }
+}
+
+#[test]
+fn has_the_headers_of_the_standard(rt: HostRuntime) {
+    let concept = "id\teffectiveTime\tactive\tmoduleId\tdefinitionStatusId";
+    assert_eq!(rt; header(FileKind::Concept), concept);
+    assert!(rt;
+        header(FileKind::Relationship).starts_with(
+            "id\teffectiveTime\tactive\tmoduleId\tsourceId\t"
+        )
+    );
+    assert!(rt;
+        header(FileKind::Relationship).ends_with("\ttypeId\tcharacteristicTypeId\tmodifierId")
+    );
+}
+
+#[test]
+fn reads_a_concept(rt: HostRuntime) {
+    let line = b"100005\t20240101\t1\t900000000000207008\t900000000000074008";
+    match read_row(FileKind::Concept, line) {
+        Ok(Row::Concept(row)) => {
+            assert_eq!(rt; row.id.number(), 100005);
+            assert_eq!(rt; row.effective_time, Some(20240101));
+            assert!(rt; row.active);
+            assert_eq!(rt; row.module_id.number(), 900000000000207008);
+            assert_eq!(rt; row.definition_status_id.number(), 900000000000074008);
+        }
+        _ => assert!(rt; false, "a concept row"),
+    }
+}
+
+#[test]
+fn reads_a_relationship(rt: HostRuntime) {
+    let line = b"100022\t\t0\t100005\t101009\t102002\t999999999\t103007\t104001\t105000";
+    match read_row(FileKind::Relationship, line) {
+        Ok(Row::Relationship(row)) => {
+            assert_eq!(rt; row.id.number(), 100022);
+            assert_eq!(rt; row.effective_time, None);
+            assert!(rt; !row.active);
+            assert_eq!(rt; row.module_id.number(), 100005);
+            assert_eq!(rt; row.source_id.number(), 101009);
+            assert_eq!(rt; row.destination_id.number(), 102002);
+            assert_eq!(rt; row.relationship_group, 999999999);
+            assert_eq!(rt; row.type_id.number(), 103007);
+            assert_eq!(rt; row.characteristic_type_id.number(), 104001);
+            assert_eq!(rt; row.modifier_id.number(), 105000);
+        }
+        _ => assert!(rt; false, "a relationship row"),
+    }
+}
+
+// Each line has this fault and no row.
+fn assert_faults(rt: &impl Abort, kind: FileKind, lines: &[(&[u8], RowCause, u8)]) {
+    for (line, cause, column) in lines {
+        match read_row(kind, line) {
+            Ok(_) => assert!(rt; false, "a fault in column {column}"),
+            Err(fault) => {
+                assert!(rt; fault.cause == *cause, "{fault} for {column}");
+                assert_eq!(rt; fault.column, *column);
+            }
+        }
+    }
+}
+
+#[test]
+fn refuses_concepts(rt: HostRuntime) {
+    assert_faults(
+        &rt,
+        FileKind::Concept,
+        &[
+            (b"", RowCause::Fields, 0),
+            (b"100005\t\t1\t100005", RowCause::Fields, 0),
+            (b"100005\t\t1\t100005\t100005\t", RowCause::Fields, 0),
+            (b"\t\t\t\t\t\t\t\t\t\t\t", RowCause::Fields, 0),
+            (b"1\t\t1\t100005\t100005", RowCause::Id(IdFault::Length), 1),
+            (
+                b"100022\t\t1\t100005\t100005",
+                RowCause::Id(IdFault::Partition),
+                1,
+            ),
+            (b"100005\t2024010\t1\t100005\t100005", RowCause::Time, 2),
+            (b"100005\t2024010a\t1\t100005\t100005", RowCause::Time, 2),
+            (b"100005\t202401011\t1\t100005\t100005", RowCause::Time, 2),
+            (b"100005\t\t\t100005\t100005", RowCause::Active, 3),
+            (b"100005\t\t2\t100005\t100005", RowCause::Active, 3),
+            (
+                b"100005\t\t1\t100006\t100005",
+                RowCause::Id(IdFault::Check),
+                4,
+            ),
+            (
+                b"100005\t\t1\t100005\t10000x",
+                RowCause::Id(IdFault::Digit),
+                5,
+            ),
+            (b"1\t1\t2\t1\t1", RowCause::Id(IdFault::Length), 1),
+            (b"100005\t1\t2\t1\t1", RowCause::Time, 2),
+        ],
+    );
+}
+
+#[test]
+fn refuses_relationships(rt: HostRuntime) {
+    assert_faults(
+        &rt,
+        FileKind::Relationship,
+        &[
+            (
+                b"100022\t\t1\t100005\t100005\t100005\t0\t100005\t100005",
+                RowCause::Fields,
+                0,
+            ),
+            (
+                b"100005\t\t1\t100005\t100005\t100005\t0\t100005\t100005\t100005",
+                RowCause::Id(IdFault::Partition),
+                1,
+            ),
+            (
+                b"100022\t \t1\t100005\t100005\t100005\t0\t100005\t100005\t100005",
+                RowCause::Time,
+                2,
+            ),
+            (
+                b"100022\t\t01\t100005\t100005\t100005\t0\t100005\t100005\t100005",
+                RowCause::Active,
+                3,
+            ),
+            (
+                b"100022\t\t1\t100022\t100005\t100005\t0\t100005\t100005\t100005",
+                RowCause::Id(IdFault::Partition),
+                4,
+            ),
+            (
+                b"100022\t\t1\t100005\t000000\t100005\t0\t100005\t100005\t100005",
+                RowCause::Id(IdFault::LeadingZero),
+                5,
+            ),
+            (
+                b"100022\t\t1\t100005\t100005\t\t0\t100005\t100005\t100005",
+                RowCause::Id(IdFault::Length),
+                6,
+            ),
+            (
+                b"100022\t\t1\t100005\t100005\t100005\t\t100005\t100005\t100005",
+                RowCause::Group,
+                7,
+            ),
+            (
+                b"100022\t\t1\t100005\t100005\t100005\t1000000000\t100005\t100005\t100005",
+                RowCause::Group,
+                7,
+            ),
+            (
+                b"100022\t\t1\t100005\t100005\t100005\t-1\t100005\t100005\t100005",
+                RowCause::Group,
+                7,
+            ),
+            (
+                b"100022\t\t1\t100005\t100005\t100005\t0\t1\t100005\t100005",
+                RowCause::Id(IdFault::Length),
+                8,
+            ),
+            (
+                b"100022\t\t1\t100005\t100005\t100005\t0\t100005\t1\t100005",
+                RowCause::Id(IdFault::Length),
+                9,
+            ),
+            (
+                b"100022\t\t1\t100005\t100005\t100005\t0\t100005\t100005\t100005\r",
+                RowCause::Id(IdFault::Digit),
+                10,
+            ),
+        ],
+    );
+}
+
+#[test]
+fn numbers_the_causes(rt: HostRuntime) {
+    let causes = [
+        RowCause::Fields,
+        RowCause::Id(IdFault::Check),
+        RowCause::Time,
+        RowCause::Active,
+        RowCause::Group,
+    ];
+    for (i, cause) in causes.iter().enumerate() {
+        assert!(rt; usize::from(cause.number()) == i + 1);
+    }
+}
