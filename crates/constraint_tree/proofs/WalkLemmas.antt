@@ -1,0 +1,69 @@
+-- What the tests on concepts in force and on the hierarchy tell.
+use Rattle.std.proofs.Common.{◌≡◌, ◌==◌, ◌&&◌, inl, inr, Bool, true, List, [], ◌∷◌, Contains, refl, sym, subst, arith}
+use Rattle.std.specs.List.{list_any}
+use Rattle.std.proofs.lemmas.Bool.{false≢true, or_cases, or_left, or_right, and_parts, and_from, eqb-true, eq-eqb}
+use Rattle.rf2_rows.specs.Hierarchy.{reaches}
+use Rattle.rf2_rows.proofs.HierarchyLemmas.{first_contained, rest_contained, contained_cases, tells_reaches}
+use Rattle.constraint_tree.specs.Walks.{TellsInForce, TellsBelow, TellsAbove, TellsChild}
+
+-- where some item of a list passes a test, one that does is in the list
+pub passing_item : {X : Type 0} (test : X → Bool) (xs : List X) → list_any test xs ≡ true → (x : X) × Contains xs x × (test x ≡ true)
+passing_item test [] holds = absurd (false≢true holds)
+passing_item test (first ∷ rest) holds = elim (or_cases (test first) (list_any test rest) holds) [
+  | inl here ↦ (first, first_contained first rest, here)
+  | inr later ↦ let found = passing_item test rest later in (found.0, rest_contained first rest found.0 found.1, found.2)
+]
+
+-- where an item of a list passes a test, some item does
+pub some_item_passes : {X : Type 0} (test : X → Bool) (xs : List X) (x : X) → Contains xs x → test x ≡ true → list_any test xs ≡ true
+some_item_passes test [] x (k, below, is) passes = absurd (omega arith)
+some_item_passes test (first ∷ rest) x contained passes = elim (contained_cases first rest x contained) [
+  | inl is ↦ or_left (test first) (list_any test rest) (subst (λ item. test item ≡ true) (sym is) passes)
+  | inr later ↦ or_right (test first) (list_any test rest) (some_item_passes test rest x later passes)
+]
+
+-- the test of being in force
+pub tells_in_force : TellsInForce
+tells_in_force release concept = (
+  λ holds.
+      let found = passing_item (λ item. item == concept) release.concepts holds in
+      subst (Contains release.concepts) (eqb-true found.0 concept found.2) found.1,
+  λ contained. some_item_passes (λ item. item == concept) release.concepts concept contained (eq-eqb concept concept refl),
+)
+
+-- the test of a child and a parent
+pub tells_child : TellsChild
+tells_child release child parent = (
+  λ holds.
+      let found = passing_item (λ row. (row.0 == child) && (row.1 == parent)) release.isa holds in
+      let parts = and_parts (found.0.0 == child) (found.0.1 == parent) found.2 in
+      let child_is = eqb-true found.0.0 child parts.0 in
+      let parent_is = eqb-true found.0.1 parent parts.1 in
+      subst (Contains release.isa) (λ i. (child_is i, parent_is i)) found.1,
+  λ contained.
+      some_item_passes (λ row. (row.0 == child) && (row.1 == parent)) release.isa (child, parent) contained
+      (and_from _ _ (eq-eqb child child refl) (eq-eqb parent parent refl)),
+)
+
+-- the tests of lying below and above a set
+pub tells_below : TellsBelow
+tells_below release set concept = (
+  λ holds.
+      let found = passing_item (λ member. set member && reaches release.isa concept member) release.concepts holds in
+      let parts = and_parts (set found.0) (reaches release.isa concept found.0) found.2 in
+      (found.0, found.1, parts.0, (tells_reaches release.isa concept found.0).0 parts.1),
+  λ below.
+      some_item_passes (λ member. set member && reaches release.isa concept member) release.concepts below.0 below.1
+      (and_from _ _ below.2 ((tells_reaches release.isa concept below.0).1 below.3)),
+)
+
+pub tells_above : TellsAbove
+tells_above release set concept = (
+  λ holds.
+      let found = passing_item (λ member. set member && reaches release.isa member concept) release.concepts holds in
+      let parts = and_parts (set found.0) (reaches release.isa found.0 concept) found.2 in
+      (found.0, found.1, parts.0, (tells_reaches release.isa found.0 concept).0 parts.1),
+  λ above.
+      some_item_passes (λ member. set member && reaches release.isa member concept) release.concepts above.0 above.1
+      (and_from _ _ above.2 ((tells_reaches release.isa above.0 concept).1 above.3)),
+)

@@ -1,0 +1,42 @@
+-- What the value of an attribute passes, and how many pairs may pass (Expression Constraint Language,
+-- "Refinements" and "Cardinality"). A set is the test whether a concept is in it.
+use Rattle.std.specs.Prelude.{ℕ, ℤ, Bool, true, false, not, ◌&&◌, Option, Some, None, nat_le, int_lt, int_le}
+use Rattle.std.specs.Ordering.{int_eq}
+use Rattle.rf2_rows.specs.Release.{Value, concept_value, number_value}
+use Rattle.constraint_tree.specs.declared.operator.Cardinality.{Cardinality}
+use Rattle.constraint_tree.specs.declared.operator.Compare.{Compare}
+use Rattle.constraint_tree.specs.declared.operator.Compare.TheVariants.{Equal, NotEqual, Less, LessOrEqual, Greater, GreaterOrEqual}
+
+-- `=` before a constraint: a concept in the set. A number or another text is no concept, so it passes
+-- neither this test nor the next (this project's choice)
+abbrev pub is_within : (ℕ → Bool) → Value → Bool
+is_within set (concept_value concept) = set concept
+is_within set other = false
+
+-- `!=` before a constraint: a concept that is not in the set. It asks for a value, and so is not the
+-- denial of `=`
+abbrev pub is_outside : (ℕ → Bool) → Value → Bool
+is_outside set (concept_value concept) = not (set concept)
+is_outside set other = false
+
+-- whether the first number compares so with the second
+abbrev pub compares : Compare → ℤ → ℤ → Bool
+compares Equal first second = int_eq first second
+compares NotEqual first second = not (int_eq first second)
+compares Less first second = int_lt first second
+compares LessOrEqual first second = int_le first second
+compares Greater first second = int_lt second first
+compares GreaterOrEqual first second = int_le second first
+
+-- a comparison with a number: a number that compares so
+abbrev pub is_number_that : Compare → ℤ → Value → Bool
+is_number_that compare number (number_value found) = compares compare found number
+is_number_that compare number other = false
+
+-- at least the minimum and, where a maximum is given, at most it
+abbrev pub is_up_to : Option ℕ → ℕ → Bool
+is_up_to None count = true
+is_up_to (Some most) count = nat_le count most
+
+abbrev pub lies_in : Cardinality → ℕ → Bool
+lies_in cardinality count = nat_le cardinality.min count && is_up_to cardinality.max count

@@ -1,0 +1,123 @@
+//! How deep a tree is.
+ghost use Rattle.std.specs.Prelude.{◌≡◌, ◌-◌, ◌^◌, min};
+ghost use Rattle.constraint_tree.specs.Depth.{depth_of, trees_depth, refinement_depth, refinements_depth, set_depth, sets_depth, attribute_depth, test_depth};
+ghost use Rattle.constraint_tree.specs.Tree.{tree_of, trees_of, refinement_tree_of, refinement_trees_of, set_tree_of, set_trees_of, attribute_tree_of, test_tree_of};
+
+use crate::tree::{Attribute, AttributeSet, Constraint, Refinement, Test};
+
+impl Constraint {
+    /// The number of nodes on the longest way from the root, where each constraint, refinement and attribute
+    /// set is a node: `*` has 1, `<<100005` has 2. A number above `u64::MAX` is given as that. It takes no
+    /// memory.
+    #[cycle(depth)]
+    #[tactic(auto, using(crate::proofs::TreeLemmas::trees_of_items))]
+    pub fn depth(&self) -> u64
+        ensures { result ≡ min (depth_of (tree_of self.now)) (2 ^ 64 - 1) }
+    {
+        match self {
+            Constraint::Concept(_) | Constraint::Any => 1,
+            Constraint::Walk(_, operand) | Constraint::MemberOf(operand) => {
+                operand.depth().saturating_add(1)
+            }
+            Constraint::And(parts) | Constraint::Or(parts) => {
+                deepest_constraint(parts).saturating_add(1)
+            }
+            Constraint::Minus(first, second) => first.depth().max(second.depth()).saturating_add(1),
+            Constraint::Dotted(start, names) => start
+                .depth()
+                .max(deepest_constraint(names))
+                .saturating_add(1),
+            Constraint::Refined(focus, refinement) => focus
+                .depth()
+                .max(refinement.depth())
+                .saturating_add(1),
+        }
+    }
+}
+
+impl Refinement {
+    #[cycle(depth)]
+    #[tactic(auto, using(crate::proofs::TreeLemmas::trees_of_items))]
+    fn depth(&self) -> u64
+        ensures { result ≡ min (refinement_depth (refinement_tree_of self.now)) (2 ^ 64 - 1) }
+    {
+        match self {
+            Refinement::One(attribute) => attribute.depth().saturating_add(1),
+            Refinement::Group(_, set) => set.depth().saturating_add(1),
+            Refinement::And(parts) | Refinement::Or(parts) => {
+                deepest_refinement(parts).saturating_add(1)
+            }
+        }
+    }
+}
+
+impl AttributeSet {
+    #[cycle(depth)]
+    #[tactic(auto, using(crate::proofs::TreeLemmas::trees_of_items))]
+    fn depth(&self) -> u64
+        ensures { result ≡ min (set_depth (set_tree_of self.now)) (2 ^ 64 - 1) }
+    {
+        match self {
+            AttributeSet::One(attribute) => attribute.depth().saturating_add(1),
+            AttributeSet::And(parts) | AttributeSet::Or(parts) => {
+                deepest_set(parts).saturating_add(1)
+            }
+        }
+    }
+}
+
+impl Attribute {
+    // An attribute is no node: it is as deep as the deeper of its constraints.
+    #[cycle(depth)]
+    fn depth(&self) -> u64
+        ensures { result ≡ min (attribute_depth (attribute_tree_of self.now)) (2 ^ 64 - 1) }
+    {
+        self.name.depth().max(self.test.depth())
+    }
+}
+
+impl Test {
+    #[cycle(depth)]
+    fn depth(&self) -> u64
+        ensures { result ≡ min (test_depth (test_tree_of self.now)) (2 ^ 64 - 1) }
+    {
+        match self {
+            Test::Within(operand) | Test::Outside(operand) => operand.depth(),
+            Test::Number(_, _) => 0,
+        }
+    }
+}
+
+// The depth of the deepest, or 0 where there is none.
+#[cycle(depth)]
+fn deepest_constraint(parts: &[Constraint]) -> u64
+    ensures { result ≡ min (trees_depth (trees_of parts.now)) (2 ^ 64 - 1) }
+{
+    let mut deepest = 0u64;
+    for part in parts {
+        deepest = deepest.max(part.depth());
+    }
+    deepest
+}
+
+#[cycle(depth)]
+fn deepest_refinement(parts: &[Refinement]) -> u64
+    ensures { result ≡ min (refinements_depth (refinement_trees_of parts.now)) (2 ^ 64 - 1) }
+{
+    let mut deepest = 0u64;
+    for part in parts {
+        deepest = deepest.max(part.depth());
+    }
+    deepest
+}
+
+#[cycle(depth)]
+fn deepest_set(parts: &[AttributeSet]) -> u64
+    ensures { result ≡ min (sets_depth (set_trees_of parts.now)) (2 ^ 64 - 1) }
+{
+    let mut deepest = 0u64;
+    for part in parts {
+        deepest = deepest.max(part.depth());
+    }
+    deepest
+}

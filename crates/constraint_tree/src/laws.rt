@@ -1,0 +1,50 @@
+//! Laws about the definitions of this crate: functions that do nothing, each with laws as its contract.
+ghost use Rattle.constraint_tree.specs.Denotation.{DenotesConceptsInForce};
+ghost use Rattle.constraint_tree.specs.Walks.{TellsInForce, TellsChild, TellsBelow, TellsAbove};
+ghost use Rattle.constraint_tree.specs.WorkedQueries.{GivesEverything, GivesDescendants, GivesBraces, GivesDistinctPairs, GivesBraceCounts, GivesNoneInBraces, GivesReverse, GivesDotted, GivesNotEqual, GivesRowsInForce, GivesNumbers, GivesWalks, GivesOperands, GivesEmptyAnswers};
+ghost use Rattle.constraint_tree.specs.WrongReadings.{MisreadsSplitBraces, MisreadsNotEqual, MisreadsNoneInBraces, MisreadsGroupZero, MisreadsRows, MisreadsTop, MisreadsDepth, MisreadsSecondParent, MisreadsWalkOfAnd};
+
+/// The tests that operators are made of say what they are named for: that a concept is one of the release's,
+/// that there is an is-a row, and that a chain of is-a rows leads to a member of the set or from one.
+pub fn walks_tell_chains()
+    ensures in_force { TellsInForce }
+    ensures child { TellsChild }
+    ensures below { TellsBelow }
+    ensures above { TellsAbove }
+{}
+
+/// A constraint denotes concepts of the release alone, whatever the release and the constraint are.
+pub fn constraints_denote_concepts_in_force()
+    ensures { DenotesConceptsInForce }
+{}
+
+/// What worked queries denote on a small release.
+pub fn worked_queries_hold()
+    ensures everything { GivesEverything }
+    ensures descendants { GivesDescendants }
+    ensures braces { GivesBraces }
+    ensures distinct_pairs { GivesDistinctPairs }
+    ensures brace_counts { GivesBraceCounts }
+    ensures none_in_braces { GivesNoneInBraces }
+    ensures reverse { GivesReverse }
+    ensures dotted { GivesDotted }
+    ensures not_equal { GivesNotEqual }
+    ensures rows_in_force { GivesRowsInForce }
+    ensures numbers { GivesNumbers }
+    ensures walks { GivesWalks }
+    ensures operands { GivesOperands }
+    ensures empty_answers { GivesEmptyAnswers }
+{}
+
+/// What wrong readings of a query give on that release: each something else.
+pub fn wrong_readings_differ()
+    ensures split_braces { MisreadsSplitBraces }
+    ensures not_equal { MisreadsNotEqual }
+    ensures none_in_braces { MisreadsNoneInBraces }
+    ensures group_zero { MisreadsGroupZero }
+    ensures rows { MisreadsRows }
+    ensures top { MisreadsTop }
+    ensures depth { MisreadsDepth }
+    ensures second_parent { MisreadsSecondParent }
+    ensures walk_of_and { MisreadsWalkOfAnd }
+{}

@@ -1,0 +1,16 @@
+//! Expression constraints as trees, and what they mean over a release (Expression Constraint Language 2.2).
+#![tactic(auto)]
+
+mod depth;
+mod laws;
+mod operator;
+#[cfg(test)]
+mod tests;
+mod tree;
+
+pub use crate::laws::{
+    constraints_denote_concepts_in_force, walks_tell_chains, worked_queries_hold,
+    wrong_readings_differ,
+};
+pub use crate::operator::{Cardinality, Compare, Operator};
+pub use crate::tree::{Attribute, AttributeSet, Constraint, Refinement, Test};
