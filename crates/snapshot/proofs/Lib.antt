@@ -1,0 +1,9 @@
+pub mod ApartLemmas
+pub mod FinishLemmas
+pub mod LoadLemmas
+pub mod NumberingLemmas
+pub mod PlaceLemmas
+pub mod ReadLemmas
+pub mod RisingLemmas
+pub mod SearchLemmas
+pub mod SortLemmas

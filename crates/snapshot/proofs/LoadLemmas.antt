@@ -1,0 +1,234 @@
+-- What was kept of places is what the definition of a release says of them.
+use Rattle.std.proofs.Common.{ℕ, ◌≡◌, ◌+◌, ◌-◌, ◌&&◌, ◌||◌, ◌==◌, List, [], ◌∷◌, ◌++◌, length, map, Option, None, Some, Result, Ok, Err, sym, ◌∙◌, ap, refl, Bool, true, false, cond}
+use Rattle.std.specs.Prelude.{option_to_list, filter, count_by}
+use Rattle.std.specs.List.{filter_map, list_any}
+use Rattle.std.proofs.lemmas.List.{map-append, append-nil, length-map}
+use Rattle.std.proofs.Common.{append_assoc, suc}
+use Rattle.std.proofs.lemmas.List.Sums.{length-filter}
+use Rattle.std.proofs.lemmas.List.Elements.{filter_map-append, filter-append}
+use Rattle.release_files.specs.declared.NamedBytes.{NamedBytes}
+use Rattle.rf2_rows.specs.declared.kind.FileKind.TheVariants.{Concept, Relationship}
+use Rattle.rf2_rows.specs.declared.row.ConceptRow.{ConceptRow}
+use Rattle.rf2_rows.specs.declared.row.RelationshipRow.{RelationshipRow}
+use Rattle.snapshot.specs.Contents.{contents_of, least_cyclic, load_of, unless_cyclic, unless_faulty}
+use Rattle.snapshot.specs.Faults.{fault_after, fault_at, first_fault, first_of}
+use Rattle.snapshot.specs.Files.{FileText, Place, no_line, first_line, later_line, file_text, is_concept_file, has_kind, places_from}
+use Rattle.snapshot.specs.InForce.{concept_row_at, relationship_row_at, concept_rows, relationship_rows, concepts_in_force, has, is_in_force, listed_count, release_of, rows_among}
+use Rattle.snapshot.specs.Kept.{Kept, contents_from, finished, ids_kept, is_isa, keep, keep_concept, keep_relationship, nothing_kept, read_all, release_from, unless_fault}
+use Rattle.snapshot.specs.Limits.{limits_in_force}
+use Rattle.snapshot.specs.declared.fault.LoadFault.{LoadFault}
+use Rattle.snapshot.specs.declared.fault.LoadFault.TheVariants.{NoConceptFile}
+use Rattle.snapshot.specs.declared.limits.Limits.{Limits}
+use Rattle.snapshot.specs.declared.rows.TheConstants.{IS_A, INFERRED}
+
+-- what is kept of all rows of each kind
+abbrev kept_of_rows : List ConceptRow → List RelationshipRow → Kept
+kept_of_rows concepts relationships = record {
+  concept_ids = map (λ (row : ConceptRow). row.id) concepts;
+  active_concepts = map (λ (row : ConceptRow). row.id) (filter (λ (row : ConceptRow). row.active) concepts);
+  relationship_ids = map (λ (row : RelationshipRow). row.id) relationships;
+  isa_ends = map (λ (row : RelationshipRow). (row.source_id, row.destination_id)) (filter is_isa relationships);
+}
+
+-- what is kept of places
+abbrev pub kept_of : List Place → Kept
+kept_of places = kept_of_rows (concept_rows places) (relationship_rows places)
+
+-- one row more of a list that is filtered and mapped
+map-push : {X Y : Type 0} (f : X → Y) (xs : List X) (x : X) → map f (xs ++ x ∷ []) ≡ map f xs ++ f x ∷ []
+map-push f xs x = map-append f xs (x ∷ [])
+
+map_filter-push : {X Y : Type 0} (f : X → Y) (p : X → Bool) (xs : List X) (x : X)
+    → map f (filter p (xs ++ x ∷ [])) ≡ cond (p x) (map f (filter p xs) ++ f x ∷ []) (map f (filter p xs))
+map_filter-push f p xs x = ap (map f) (filter-append p xs (x ∷ [])) ∙ by (p x)
+  where
+    by : (b : Bool) → map f (filter p xs ++ cond b (x ∷ []) []) ≡ cond b (map f (filter p xs) ++ f x ∷ []) (map f (filter p xs))
+    by true = map-append f (filter p xs) (x ∷ [])
+    by false = ap (map f) (append-nil (filter p xs))
+
+-- keeping the row of each kind that a place has, if any
+kept_of_rows-push : (concepts : List ConceptRow) (relationships : List RelationshipRow) (concept : Option ConceptRow) (relationship : Option RelationshipRow)
+    → kept_of_rows (concepts ++ option_to_list concept) (relationships ++ option_to_list relationship)
+    ≡ keep_relationship (keep_concept (kept_of_rows concepts relationships) concept) relationship
+kept_of_rows-push concepts relationships None None = (λ i. kept_of_rows (append-nil concepts i) (append-nil relationships i))
+kept_of_rows-push concepts relationships (Some row) None =
+    ap (λ (others : List RelationshipRow). kept_of_rows (concepts ++ row ∷ []) others) (append-nil relationships)
+    ∙ (λ i. record (kept_of_rows concepts relationships) {
+      concept_ids = map-push (λ (row : ConceptRow). row.id) concepts row i;
+      active_concepts = map_filter-push (λ (row : ConceptRow). row.id) (λ (row : ConceptRow). row.active) concepts row i;
+    })
+kept_of_rows-push concepts relationships None (Some row) =
+    ap (λ (others : List ConceptRow). kept_of_rows others (relationships ++ row ∷ [])) (append-nil concepts)
+    ∙ (λ i. record (kept_of_rows concepts relationships) {
+      relationship_ids = map-push (λ (row : RelationshipRow). row.id) relationships row i;
+      isa_ends = map_filter-push (λ (row : RelationshipRow). (row.source_id, row.destination_id)) is_isa relationships row i;
+    })
+kept_of_rows-push concepts relationships (Some concept) (Some row) =
+    (λ i. record {
+      concept_ids = map-push (λ (row : ConceptRow). row.id) concepts concept i;
+      active_concepts = map_filter-push (λ (row : ConceptRow). row.id) (λ (row : ConceptRow). row.active) concepts concept i;
+      relationship_ids = map-push (λ (row : RelationshipRow). row.id) relationships row i;
+      isa_ends = map_filter-push (λ (row : RelationshipRow). (row.source_id, row.destination_id)) is_isa relationships row i;
+    })
+
+-- one place more is what keeping it leaves
+pub kept_of-push : (places : List Place) (place : Place) → kept_of (places ++ place ∷ []) ≡ keep (kept_of places) place
+kept_of-push places place =
+    (λ i. kept_of_rows
+    ((filter_map-append concept_row_at places (place ∷ []) ∙ ap (λ rest. concept_rows places ++ rest) (single (concept_row_at place))) i)
+    ((filter_map-append relationship_row_at places (place ∷ []) ∙ ap (λ rest. relationship_rows places ++ rest) (single (relationship_row_at place))) i))
+    ∙ kept_of_rows-push (concept_rows places) (relationship_rows places) (concept_row_at place) (relationship_row_at place)
+  where
+    single : {Y : Type 0} (o : Option Y) → filter_map (λ (x : Option Y). x) (o ∷ []) ≡ option_to_list o
+    single None = refl
+    single (Some y) = refl
+
+-- the fault at a place depends on the identifiers before it alone
+fault_at-kept : (limits : Limits) (before : List Place) (place : Place) → fault_at limits before place ≡ fault_after limits (ids_kept (kept_of before)) place
+fault_at-kept limits before (no_line file kind) = refl
+fault_at-kept limits before (first_line file kind line) = refl
+fault_at-kept limits before (later_line file Concept line) = refl
+fault_at-kept limits before (later_line file Relationship line) = refl
+
+-- a fault, or what is kept where there is none
+abbrev pub kept_unless : Option LoadFault → Kept → Result Kept LoadFault
+kept_unless None kept = Ok kept
+kept_unless (Some fault) kept = Err fault
+
+-- reading answers the first fault, or keeps what the places hold
+pub read_all-is : (limits : Limits) (before places : List Place)
+    → read_all limits (kept_of before) places ≡ kept_unless (first_fault limits before places) (kept_of (before ++ places))
+read_all-is limits before [] = ap (λ (all : List Place). Ok (kept_of all)) (sym (append-nil before))
+read_all-is limits before (place ∷ places) =
+    let rest : read_all limits (keep (kept_of before) place) places
+    ≡ kept_unless (first_fault limits (before ++ place ∷ []) places) (kept_of (before ++ place ∷ places)) =
+    ap (λ kept. read_all limits kept places) (sym (kept_of-push before place))
+    ∙ read_all-is limits (before ++ place ∷ []) places
+    ∙ ap (λ (all : List Place). kept_unless (first_fault limits (before ++ place ∷ []) places) (kept_of all)) (append_assoc before (place ∷ []) places) in
+    ap (λ fault. unless_fault fault (read_all limits (keep (kept_of before) place) places)) (sym (fault_at-kept limits before place))
+    ∙ by (fault_at limits before place) rest
+  where
+    by : (fault : Option LoadFault)
+        → read_all limits (keep (kept_of before) place) places ≡ kept_unless (first_fault limits (before ++ place ∷ []) places) (kept_of (before ++ place ∷ places))
+        → unless_fault fault (read_all limits (keep (kept_of before) place) places)
+        ≡ kept_unless (first_of fault (first_fault limits (before ++ place ∷ []) places)) (kept_of (before ++ place ∷ places))
+    by None rest = rest
+    by (Some fault) rest = refl
+
+abbrev ends : RelationshipRow → ℕ × ℕ
+ends row = (row.source_id, row.destination_id)
+
+-- the is-a rows in force are the rows that look like it between concepts in force
+isa_in_force-is : (concepts : List ℕ) (rows : List RelationshipRow)
+    → map (λ (row : RelationshipRow). (row.source_id, row.destination_id)) (filter (λ (row : RelationshipRow). is_in_force concepts row && (row.type_id == IS_A)) rows)
+    ≡ rows_among concepts (map (λ (row : RelationshipRow). (row.source_id, row.destination_id)) (filter is_isa rows))
+isa_in_force-is concepts [] = refl
+isa_in_force-is concepts (row ∷ rows) =
+    left (is_in_force concepts row && (row.type_id == IS_A))
+    ∙ by (row.active && (row.characteristic_type_id == INFERRED)) (row.type_id == IS_A) (has concepts row.source_id) (has concepts row.destination_id)
+    (map ends (filter (λ (row : RelationshipRow). is_in_force concepts row && (row.type_id == IS_A)) rows)) (rows_among concepts (map ends (filter is_isa rows)))
+    (isa_in_force-is concepts rows)
+    ∙ right (is_isa row)
+  where
+    left : (b : Bool) → map ends (cond b (row ∷ filter (λ (row : RelationshipRow). is_in_force concepts row && (row.type_id == IS_A)) rows) (filter (λ (row : RelationshipRow). is_in_force concepts row && (row.type_id == IS_A)) rows))
+        ≡ cond b (ends row ∷ map ends (filter (λ (row : RelationshipRow). is_in_force concepts row && (row.type_id == IS_A)) rows)) (map ends (filter (λ (row : RelationshipRow). is_in_force concepts row && (row.type_id == IS_A)) rows))
+    left true = refl
+    left false = refl
+
+    right : (b : Bool) → cond b (cond (has concepts row.source_id && has concepts row.destination_id) (ends row ∷ rows_among concepts (map ends (filter is_isa rows))) (rows_among concepts (map ends (filter is_isa rows)))) (rows_among concepts (map ends (filter is_isa rows)))
+        ≡ rows_among concepts (map ends (cond b (row ∷ filter is_isa rows) (filter is_isa rows)))
+    right true = refl
+    right false = refl
+
+    by : (inferred isa child parent : Bool) (kept among : List (ℕ × ℕ)) → kept ≡ among
+        → cond (inferred && child && parent && isa) (ends row ∷ kept) kept
+        ≡ cond (inferred && isa) (cond (child && parent) (ends row ∷ among) among) among
+    by true true true true kept among same = ap (λ rest. ends row ∷ rest) same
+    by true true true false kept among same = same
+    by true true false parent kept among same = same
+    by true false true true kept among same = same
+    by true false true false kept among same = same
+    by true false false parent kept among same = same
+    by false isa child parent kept among same = same
+
+-- the release of places is made of what was kept of them
+pub release_of-kept : (places : List Place) → release_of places ≡ release_from (kept_of places)
+release_of-kept places = (λ i. record {
+  concepts = concepts_in_force places;
+  isa = isa_in_force-is (concepts_in_force places) (relationship_rows places) i;
+  attributes = [];
+  members = [];
+  names = [];
+})
+
+-- and so are the contents
+pub contents_of-kept : (language : List ℕ) (files : List FileText) (places : List Place)
+    → contents_of language files places ≡ contents_from language (length (filter has_kind files)) (kept_of places)
+contents_of-kept language files places = (λ i. record {
+  release = release_of-kept places i;
+  language = language;
+  files = length (filter has_kind files);
+  passed = sym (length-map (concept_rows places) (λ (row : ConceptRow). row.id)) i + sym (length-map (relationship_rows places) (λ (row : RelationshipRow). row.id)) i - listed_count (release_of-kept places i);
+})
+
+-- how many files have a kind, and whether one has the kind of concepts
+kind_count_length : (files : List NamedBytes) → length (filter (λ (file : NamedBytes). has_kind (file_text file)) files) ≡ length (filter has_kind (map file_text files))
+kind_count_length [] = refl
+kind_count_length (file ∷ files) = by (has_kind (file_text file)) (kind_count_length files)
+  where
+    by : (b : Bool) → length (filter (λ (file : NamedBytes). has_kind (file_text file)) files) ≡ length (filter has_kind (map file_text files))
+        → length (cond b (file ∷ filter (λ (file : NamedBytes). has_kind (file_text file)) files) (filter (λ (file : NamedBytes). has_kind (file_text file)) files))
+        ≡ length (cond b (file_text file ∷ filter has_kind (map file_text files)) (filter has_kind (map file_text files)))
+    by true rest = ap suc rest
+    by false rest = rest
+
+pub kind_count-is : (files : List NamedBytes) → count_by (λ (file : NamedBytes). has_kind (file_text file)) files ≡ length (filter has_kind (map file_text files))
+kind_count-is files = sym (length-filter (λ (file : NamedBytes). has_kind (file_text file)) files) ∙ kind_count_length files
+
+pub list_any-file_text : (files : List NamedBytes) → list_any (λ (file : NamedBytes). is_concept_file (file_text file)) files ≡ list_any is_concept_file (map file_text files)
+list_any-file_text [] = refl
+list_any-file_text (file ∷ files) = ap (λ rest. is_concept_file (file_text file) || rest) (list_any-file_text files)
+
+-- what a load makes of files without a fault by file and line
+pub load_of-finished : (limits : Limits) (language : List ℕ) (files : List NamedBytes) (kept : Kept)
+    → list_any (λ (file : NamedBytes). is_concept_file (file_text file)) files ≡ true
+    → read_all (limits_in_force limits) nothing_kept (places_from 0 (map file_text files)) ≡ Ok kept
+    → load_of limits language (map file_text files) ≡ finished language (count_by (λ (file : NamedBytes). has_kind (file_text file)) files) kept
+load_of-finished limits language files kept there read =
+    let places : List Place = places_from 0 (map file_text files) in
+    let all : kept_unless (first_fault (limits_in_force limits) [] places) (kept_of places) ≡ Ok kept = sym (read_all-is (limits_in_force limits) [] places) ∙ read in
+    ap (λ (found : Bool). cond found (unless_faulty (contents_of language (map file_text files) places) (first_fault (limits_in_force limits) [] places)) (Err NoConceptFile)) (sym (list_any-file_text files) ∙ there)
+    ∙ by places (first_fault (limits_in_force limits) [] places) all
+    ∙ ap (λ count. finished language count kept) (sym (kind_count-is files))
+  where
+    by : (places : List Place) (fault : Option LoadFault) → kept_unless fault (kept_of places) ≡ Ok kept
+        → unless_faulty (contents_of language (map file_text files) places) fault ≡ finished language (length (filter has_kind (map file_text files))) kept
+    by places None all =
+        let same : kept_of places ≡ kept = (cc) in
+        (λ i. unless_cyclic (contents_of-kept language (map file_text files) places i) (least_cyclic (release_of-kept places i)))
+        ∙ ap (λ k. finished language (length (filter has_kind (map file_text files))) k) same
+    by places (Some fault) all = (cc)
+
+-- and of files with one
+pub load_of-fault : (limits : Limits) (language : List ℕ) (files : List NamedBytes) (fault : LoadFault)
+    → list_any (λ (file : NamedBytes). is_concept_file (file_text file)) files ≡ true
+    → read_all (limits_in_force limits) nothing_kept (places_from 0 (map file_text files)) ≡ Err fault
+    → load_of limits language (map file_text files) ≡ Err fault
+load_of-fault limits language files fault there read =
+    let places : List Place = places_from 0 (map file_text files) in
+    let all : kept_unless (first_fault (limits_in_force limits) [] places) (kept_of places) ≡ Err fault = sym (read_all-is (limits_in_force limits) [] places) ∙ read in
+    ap (λ (found : Bool). cond found (unless_faulty (contents_of language (map file_text files) places) (first_fault (limits_in_force limits) [] places)) (Err NoConceptFile)) (sym (list_any-file_text files) ∙ there)
+    ∙ by places (first_fault (limits_in_force limits) [] places) all
+  where
+    by : (places : List Place) (first : Option LoadFault) → kept_unless first (kept_of places) ≡ Err fault
+        → unless_faulty (contents_of language (map file_text files) places) first ≡ Err fault
+    by places None all = (cc)
+    by places (Some other) all = let same : other ≡ fault = (cc) in ap (λ f. Err f) same
+
+-- and of files of which none has the name of a Concept file
+pub load_of-none : (limits : Limits) (language : List ℕ) (files : List NamedBytes)
+    → list_any (λ (file : NamedBytes). is_concept_file (file_text file)) files ≡ false
+    → load_of limits language (map file_text files) ≡ Err NoConceptFile
+load_of-none limits language files none =
+    let places : List Place = places_from 0 (map file_text files) in
+    ap (λ (found : Bool). cond found (unless_faulty (contents_of language (map file_text files) places) (first_fault (limits_in_force limits) [] places)) (Err NoConceptFile)) (sym (list_any-file_text files) ∙ none)

@@ -1,0 +1,51 @@
+use Rattle.std.proofs.Common.{◌≡◌, ◌<◌, subst, sym, arith, length, nat_lt, false, None, Option}
+use Rattle.std.specs.Prelude.{OnOk, IfErr}
+use Rattle.std.proofs.lemmas.Bool.Decides.{nat_tests}
+use Rattle.rf2_rows.specs.Rows.{IsRow}
+use Rattle.rf2_rows.specs.declared.row.Row.TheVariants.{Concept, Relationship}
+use Rattle.release_files.specs.Lines.{line_text}
+use Rattle.snapshot.specs.Kept.{Kept, IsFaultAt, ids_kept}
+use Rattle.snapshot.specs.RowsKept.{kept_in}
+use Rattle.snapshot.specs.declared.fault.LoadFault.{LoadFault}
+use Rattle.snapshot.proofs.PlaceLemmas.{fault_of_concept, keep_of_concept, fault_of_relationship, keep_of_relationship}
+use Rattle.snapshot.proofs.rows.Rows.read_line.Goals as goal
+
+pub returns-in-Ok-Concept-clause-clean : goal.returns-in-Ok-Concept-clause-clean
+returns-in-Ok-Concept-clause-clean c =
+    let fits : nat_lt c.args.limits.now.bytes c.args.line.end ≡ false = grind (arith, nat_tests, c.if-line-limits.false) in
+    let some : 0 < length c.args.line.bytes.now = grind (arith, nat_tests, c.if-is_empty.false, c.is_empty.ensures) in
+    let is : IsRow c.args.kind c.args.line.bytes.now (Concept c.in-Ok-Concept.row) = rw c.in-Ok-Concept.field-0-is at c.in-Ok-Concept.ensures.row in
+    subst (λ (o : Option LoadFault). OnOk c.add_concept.result (o ≡ None)) (sym (fault_of_concept c.args.limits.now (ids_kept (kept_in c.args.self.now)) c.args.file c.args.kind (line_text c.args.line) c.in-Ok-Concept.row fits some c.in-Ok-Concept.ensures.accepted is)) c.add_concept.ensures.clean
+
+pub returns-in-Ok-Concept-clause-kept : goal.returns-in-Ok-Concept-clause-kept
+returns-in-Ok-Concept-clause-kept c =
+    let some : 0 < length c.args.line.bytes.now = grind (arith, nat_tests, c.if-is_empty.false, c.is_empty.ensures) in
+    let is : IsRow c.args.kind c.args.line.bytes.now (Concept c.in-Ok-Concept.row) = rw c.in-Ok-Concept.field-0-is at c.in-Ok-Concept.ensures.row in
+    subst (λ (k : Kept). OnOk c.add_concept.result (kept_in c.add_concept.new.self ≡ k)) (sym (keep_of_concept (kept_in c.args.self.now) c.args.file c.args.kind (line_text c.args.line) c.in-Ok-Concept.row some is)) c.add_concept.ensures.kept
+
+pub returns-in-Ok-Concept-clause-err : goal.returns-in-Ok-Concept-clause-err
+returns-in-Ok-Concept-clause-err c =
+    let fits : nat_lt c.args.limits.now.bytes c.args.line.end ≡ false = grind (arith, nat_tests, c.if-line-limits.false) in
+    let some : 0 < length c.args.line.bytes.now = grind (arith, nat_tests, c.if-is_empty.false, c.is_empty.ensures) in
+    let is : IsRow c.args.kind c.args.line.bytes.now (Concept c.in-Ok-Concept.row) = rw c.in-Ok-Concept.field-0-is at c.in-Ok-Concept.ensures.row in
+    subst (λ (o : Option LoadFault). IfErr c.add_concept.result (λ fault. IsFaultAt fault o)) (sym (fault_of_concept c.args.limits.now (ids_kept (kept_in c.args.self.now)) c.args.file c.args.kind (line_text c.args.line) c.in-Ok-Concept.row fits some c.in-Ok-Concept.ensures.accepted is)) c.add_concept.ensures.err
+
+pub returns-in-Ok-Relationship-clause-clean : goal.returns-in-Ok-Relationship-clause-clean
+returns-in-Ok-Relationship-clause-clean c =
+    let fits : nat_lt c.args.limits.now.bytes c.args.line.end ≡ false = grind (arith, nat_tests, c.if-line-limits.false) in
+    let some : 0 < length c.args.line.bytes.now = grind (arith, nat_tests, c.if-is_empty.false, c.is_empty.ensures) in
+    let is : IsRow c.args.kind c.args.line.bytes.now (Relationship c.in-Ok-Relationship.row) = rw c.in-Ok-Relationship.field-0-is at c.in-Ok-Relationship.ensures.row in
+    subst (λ (o : Option LoadFault). OnOk c.add_relationship.result (o ≡ None)) (sym (fault_of_relationship c.args.limits.now (ids_kept (kept_in c.args.self.now)) c.args.file c.args.kind (line_text c.args.line) c.in-Ok-Relationship.row fits some c.in-Ok-Relationship.ensures.accepted is)) c.add_relationship.ensures.clean
+
+pub returns-in-Ok-Relationship-clause-kept : goal.returns-in-Ok-Relationship-clause-kept
+returns-in-Ok-Relationship-clause-kept c =
+    let some : 0 < length c.args.line.bytes.now = grind (arith, nat_tests, c.if-is_empty.false, c.is_empty.ensures) in
+    let is : IsRow c.args.kind c.args.line.bytes.now (Relationship c.in-Ok-Relationship.row) = rw c.in-Ok-Relationship.field-0-is at c.in-Ok-Relationship.ensures.row in
+    subst (λ (k : Kept). OnOk c.add_relationship.result (kept_in c.add_relationship.new.self ≡ k)) (sym (keep_of_relationship (kept_in c.args.self.now) c.args.file c.args.kind (line_text c.args.line) c.in-Ok-Relationship.row some is)) c.add_relationship.ensures.kept
+
+pub returns-in-Ok-Relationship-clause-err : goal.returns-in-Ok-Relationship-clause-err
+returns-in-Ok-Relationship-clause-err c =
+    let fits : nat_lt c.args.limits.now.bytes c.args.line.end ≡ false = grind (arith, nat_tests, c.if-line-limits.false) in
+    let some : 0 < length c.args.line.bytes.now = grind (arith, nat_tests, c.if-is_empty.false, c.is_empty.ensures) in
+    let is : IsRow c.args.kind c.args.line.bytes.now (Relationship c.in-Ok-Relationship.row) = rw c.in-Ok-Relationship.field-0-is at c.in-Ok-Relationship.ensures.row in
+    subst (λ (o : Option LoadFault). IfErr c.add_relationship.result (λ fault. IsFaultAt fault o)) (sym (fault_of_relationship c.args.limits.now (ids_kept (kept_in c.args.self.now)) c.args.file c.args.kind (line_text c.args.line) c.in-Ok-Relationship.row fits some c.in-Ok-Relationship.ensures.accepted is)) c.add_relationship.ensures.err

@@ -1,0 +1,58 @@
+-- What a loaded release contains, and which fault a list of files has that is none.
+use Rattle.std.specs.Prelude.{ℕ, ◌-◌, ◌≡◌, ◌≢◌, if◌then◌else◌, List, [], length, filter, find, Option, None, Some, Result, Ok, Err}
+use Rattle.std.specs.List.{list_any}
+use Rattle.rf2_rows.specs.Hierarchy.{reaches}
+use Rattle.rf2_rows.specs.Release.{Release}
+use Rattle.snapshot.specs.Faults.{first_fault}
+use Rattle.snapshot.specs.Files.{FileText, Place, places_from, is_concept_file, has_kind}
+use Rattle.snapshot.specs.InForce.{release_of, row_count, listed_count}
+use Rattle.snapshot.specs.Limits.{limits_in_force}
+use Rattle.snapshot.specs.declared.fault.LoadFault.{LoadFault}
+use Rattle.snapshot.specs.declared.fault.LoadFault.TheVariants.{NoConceptFile, Cycle, Memory}
+use Rattle.snapshot.specs.declared.limits.Limits.{Limits}
+
+-- what a snapshot is of: a release, the language whose names come first, how many files have a kind, and
+-- how many rows are in none of the release's lists
+pub record Contents : Type 0 where
+  pub release : Release
+  pub language : List ℕ
+  pub files : ℕ
+  pub passed : ℕ
+
+-- the first of some concepts that reaches itself by is-a rows
+abbrev pub first_cyclic : List ℕ → List (ℕ × ℕ) → Option ℕ
+first_cyclic concepts isa = find (λ concept. reaches isa concept concept) concepts
+
+-- the least concept that reaches itself by is-a rows
+abbrev pub least_cyclic : Release → Option ℕ
+least_cyclic release = first_cyclic release.concepts release.isa
+
+-- what the places of files without a fault contain
+abbrev pub contents_of : List ℕ → List FileText → List Place → Contents
+contents_of language files places = record {
+  release = release_of places;
+  language = language;
+  files = length (filter has_kind files);
+  passed = row_count places - listed_count (release_of places);
+}
+
+abbrev pub unless_cyclic : Contents → Option ℕ → Result Contents LoadFault
+unless_cyclic contents None = Ok contents
+unless_cyclic contents (Some concept) = Err (Cycle concept)
+
+abbrev pub unless_faulty : Contents → Option LoadFault → Result Contents LoadFault
+unless_faulty contents None = unless_cyclic contents (least_cyclic contents.release)
+unless_faulty contents (Some fault) = Err fault
+
+-- what a list of files contains, or its first fault: no file with the name of a Concept file; then by file
+-- and line; then a cycle
+abbrev pub load_of : Limits → List ℕ → List FileText → Result Contents LoadFault
+load_of limits language files =
+    let places = places_from 0 files in
+    if list_any is_concept_file files
+    then unless_faulty (contents_of language files places) (first_fault (limits_in_force limits) [] places)
+    else Err NoConceptFile
+
+-- a fault that a load answers: the fault of the files, or the want of memory
+abbrev pub IsFaultOf : LoadFault → Result Contents LoadFault → Type 0
+IsFaultOf fault loaded = fault ≢ Memory → loaded ≡ Err fault

@@ -1,0 +1,52 @@
+-- The files of a release as one list of places, in the order of the files and their lines.
+use Rattle.std.specs.Prelude.{ℕ, ◌+◌, List, [], ◌∷◌, ◌++◌, map, Option, None, Some, Bool, true, false, is_some}
+use Rattle.rf2_rows.specs.Files.{file_kind_of}
+use Rattle.rf2_rows.specs.declared.kind.FileKind.{FileKind}
+use Rattle.rf2_rows.specs.declared.kind.FileKind.TheVariants.{Concept}
+use Rattle.release_files.specs.Lines.{LineText, lines_of}
+use Rattle.release_files.specs.declared.NamedBytes.{NamedBytes}
+
+-- a file: its name and what it holds
+pub record FileText : Type 0 where
+  pub name : List ℕ
+  pub bytes : List ℕ
+
+abbrev pub file_text : NamedBytes → FileText
+file_text file = record { name = file.name.now; bytes = file.bytes.now }
+
+-- what is met in a file that has a kind: that it has no line, its first line, or a later one. A file is
+-- named by its place in the list, from 0
+pub data Place : Type 0 where
+  no_line : ℕ → FileKind → Place
+  first_line : ℕ → FileKind → LineText → Place
+  later_line : ℕ → FileKind → LineText → Place
+
+-- the places of a file of a kind, by its lines
+abbrev pub places_of_lines : ℕ → FileKind → List LineText → List Place
+places_of_lines file kind [] = no_line file kind ∷ []
+places_of_lines file kind (line ∷ lines) = first_line file kind line ∷ map (later_line file kind) lines
+
+-- the places of a file: none where it has no kind
+abbrev pub places_of_kind : ℕ → Option FileKind → List ℕ → List Place
+places_of_kind file None bytes = []
+places_of_kind file (Some kind) bytes = places_of_lines file kind (lines_of bytes)
+
+abbrev pub places_of_file : ℕ → FileText → List Place
+places_of_file file text = places_of_kind file (file_kind_of text.name) text.bytes
+
+-- the places of files, of which the first has the place `file` in the list
+abbrev pub places_from : ℕ → List FileText → List Place
+places_from file [] = []
+places_from file (text ∷ texts) = places_of_file file text ++ places_from (file + 1) texts
+
+abbrev pub is_concept_kind : Option FileKind → Bool
+is_concept_kind (Some Concept) = true
+is_concept_kind other = false
+
+-- the file has the name of a Concept file
+abbrev pub is_concept_file : FileText → Bool
+is_concept_file text = is_concept_kind (file_kind_of text.name)
+
+-- the file has the name of a file of some kind
+abbrev pub has_kind : FileText → Bool
+has_kind text = is_some (file_kind_of text.name)

@@ -1,0 +1,91 @@
+-- The rows of a release that are in force (Release File Specification, "Concept file" and
+-- "Relationship file"; the inferred view).
+use Rattle.std.specs.Prelude.{ℕ, ◌+◌, ◌==◌, ◌&&◌, Bool, nat_lt, if◌then◌else◌, List, [], ◌∷◌, length, map, filter, Option, None, Some}
+use Rattle.std.specs.List.{filter_map, list_any}
+use Rattle.rf2_rows.specs.Rows.{concept_row, relationship_row}
+use Rattle.rf2_rows.specs.Release.{Release}
+use Rattle.rf2_rows.specs.declared.kind.FileKind.{FileKind}
+use Rattle.rf2_rows.specs.declared.kind.FileKind.TheVariants.{Concept, Relationship}
+use Rattle.rf2_rows.specs.declared.row.ConceptRow.{ConceptRow}
+use Rattle.rf2_rows.specs.declared.row.RelationshipRow.{RelationshipRow}
+use Rattle.snapshot.specs.Files.{Place, later_line}
+use Rattle.snapshot.specs.declared.rows.TheConstants.{IS_A, INFERRED}
+
+-- the concept row that stands at a place: behind the header, on a line that is not empty
+abbrev pub concept_row_at : Place → Option ConceptRow
+concept_row_at (later_line file Concept line) = row_on line.bytes
+  where
+    row_on : List ℕ → Option ConceptRow
+    row_on [] = None
+    row_on (byte ∷ bytes) = Some (concept_row (byte ∷ bytes))
+concept_row_at other = None
+
+-- the relationship row that stands at a place
+abbrev pub relationship_row_at : Place → Option RelationshipRow
+relationship_row_at (later_line file Relationship line) = row_on line.bytes
+  where
+    row_on : List ℕ → Option RelationshipRow
+    row_on [] = None
+    row_on (byte ∷ bytes) = Some (relationship_row (byte ∷ bytes))
+relationship_row_at other = None
+
+-- all rows of a kind, in force or not
+abbrev pub concept_rows : List Place → List ConceptRow
+concept_rows places = filter_map concept_row_at places
+
+abbrev pub relationship_rows : List Place → List RelationshipRow
+relationship_rows places = filter_map relationship_row_at places
+
+-- the identifiers of all rows of a kind
+abbrev pub ids_of : FileKind → List Place → List ℕ
+ids_of Concept places = map (λ (row : ConceptRow). row.id) (concept_rows places)
+ids_of Relationship places = map (λ (row : RelationshipRow). row.id) (relationship_rows places)
+
+-- a number is among others
+abbrev pub has : List ℕ → ℕ → Bool
+has ids id = list_any (λ other. id == other) ids
+
+-- a number put into a rising list of numbers at its place, unless it is there
+abbrev pub put : ℕ → List ℕ → List ℕ
+put id [] = id ∷ []
+put id (first ∷ others) =
+    if nat_lt id first then id ∷ first ∷ others else if id == first then first ∷ others else first ∷ put id others
+
+-- the members of a list in rising order, each once
+abbrev pub rising : List ℕ → List ℕ
+rising [] = []
+rising (id ∷ ids) = put id (rising ids)
+
+-- the rows between two of some concepts
+abbrev pub rows_among : List ℕ → List (ℕ × ℕ) → List (ℕ × ℕ)
+rows_among concepts rows = filter (λ (row : ℕ × ℕ). has concepts row.0 && has concepts row.1) rows
+
+-- a concept row is in force where it is active
+abbrev pub concepts_in_force : List Place → List ℕ
+concepts_in_force places = rising (map (λ (row : ConceptRow). row.id) (filter (λ (row : ConceptRow). row.active) (concept_rows places)))
+
+-- a relationship row is in force where it is active and inferred and both its ends are concepts in force
+abbrev pub is_in_force : List ℕ → RelationshipRow → Bool
+is_in_force concepts row =
+    row.active && (row.characteristic_type_id == INFERRED) && has concepts row.source_id && has concepts row.destination_id
+
+-- the is-a rows: the rows in force whose type is |Is a|
+abbrev pub isa_in_force : List ℕ → List Place → List (ℕ × ℕ)
+isa_in_force concepts places =
+    map (λ (row : RelationshipRow). (row.source_id, row.destination_id))
+    (filter (λ (row : RelationshipRow). is_in_force concepts row && (row.type_id == IS_A)) (relationship_rows places))
+
+-- the release that the places hold
+abbrev pub release_of : List Place → Release
+release_of places =
+    let concepts = concepts_in_force places in
+    record { concepts = concepts; isa = isa_in_force concepts places; attributes = []; members = []; names = [] }
+
+-- how many rows there are, in force or not
+abbrev pub row_count : List Place → ℕ
+row_count places = length (concept_rows places) + length (relationship_rows places)
+
+-- how many rows the lists of a release have
+abbrev pub listed_count : Release → ℕ
+listed_count release =
+    length release.concepts + length release.isa + length release.attributes + length release.members + length release.names

@@ -1,0 +1,11 @@
+pub mod Contents
+pub mod FaultNumbers
+pub mod Faults
+pub mod Files
+pub mod InForce
+pub mod Kept
+pub mod Limits
+pub mod Numbering
+pub mod RowsKept
+pub mod Search
+pub mod SnapshotInside

@@ -1,0 +1,11 @@
+-- What the rows that the program holds say.
+use Rattle.snapshot.specs.Kept.{Kept}
+use Rattle.snapshot.specs.declared.rows.Rows.{Rows}
+
+abbrev pub kept_in : Rows → Kept
+kept_in rows = record {
+  concept_ids = rows.concept_ids.keys;
+  active_concepts = rows.active_concepts.items;
+  relationship_ids = rows.relationship_ids.keys;
+  isa_ends = rows.isa_ends.items;
+}

@@ -1,0 +1,30 @@
+-- What the fields of a snapshot say, and what they keep.
+use Rattle.std.specs.Prelude.{◌≡◌, ◌<◌, ◌^◌, [], map, length, string_bytes}
+use Rattle.std.specs.List.Sorted.{IsStrictlyIncreasing}
+use Rattle.snapshot.specs.Contents.{Contents}
+use Rattle.snapshot.specs.Numbering.{row_of_numbers}
+use Rattle.snapshot.specs.Search.{IsWithin}
+use Rattle.snapshot.specs.declared.load.Snapshot.TheInside.{Inside}
+
+-- the contents that the fields stand for
+abbrev pub contents_in : Inside → Contents
+contents_in inside = record {
+  release = record {
+    concepts = inside.concepts.items;
+    isa = map (row_of_numbers inside.concepts.items) inside.isa.items;
+    attributes = [];
+    members = [];
+    names = [];
+  };
+  language = string_bytes inside.language;
+  files = inside.files;
+  passed = inside.passed;
+}
+
+-- the concepts rise, and each is found at its number; the numbers in rows are those of concepts
+abbrev pub IsNumbered : Inside → Type 0
+IsNumbered inside =
+    IsStrictlyIncreasing inside.concepts.items
+    × (inside.numbers.keys ≡ inside.concepts.items)
+    × (length inside.concepts.items < 2 ^ 32)
+    × IsWithin (length inside.concepts.items) inside.isa.items

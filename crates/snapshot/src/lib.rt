@@ -1,0 +1,14 @@
+//! A release in memory: the rows in force of a list of Snapshot files, or the first fault of them.
+#![tactic(auto)]
+
+mod components;
+mod cycle;
+mod fault;
+mod limits;
+mod load;
+mod numbering;
+mod rows;
+
+pub use crate::fault::LoadFault;
+pub use crate::limits::Limits;
+pub use crate::load::Snapshot;

@@ -1,0 +1,223 @@
+//! Loading a release, and reading it.
+ghost use Rattle.std.specs.Prelude.{◌≡◌, ◌<◌, ◌^◌, None, Ok, IfOk, IfErr, OnOk, map, length, slice_index, string_bytes, count_by, nat_eq};
+ghost use Rattle.std.specs.List.{filter_map, list_any, IsDistinct};
+ghost use Rattle.std.specs.List.Sorted.{IsStrictlyIncreasing};
+ghost use Rattle.snapshot.specs.Contents.{IsFaultOf, first_cyclic, load_of};
+ghost use Rattle.snapshot.specs.Files.{file_text, has_kind as has_kind_of, is_concept_file as is_concept_file_of, places_from};
+ghost use Rattle.snapshot.specs.InForce.{rising as rising_of, rows_among};
+ghost use Rattle.snapshot.specs.Kept.{IsApart, IsCycle, IsFaultIn, finished, nothing_kept, read_all};
+ghost use Rattle.snapshot.specs.Numbering.{number_of, numbered_row, row_of_numbers};
+ghost use Rattle.snapshot.specs.RowsKept.{kept_in};
+ghost use Rattle.snapshot.specs.Search.{IsWithin};
+
+use crate::cycle::least_cyclic;
+use crate::fault::LoadFault;
+use crate::limits::Limits;
+use crate::numbering::{number_concepts, number_of, number_rows};
+use crate::rows::Rows;
+use indexmap::IndexSet;
+use release_files::NamedBytes;
+use rf2_rows::{FileKind, file_kind};
+use sctid::SctId;
+use std::alloc::Global;
+use std::marker::Model;
+
+/// The rows in force of a release. Its concepts have the numbers from 0, in the rising order of
+/// their identifiers. Contracts see the release, the asked language, and the counts of files and of
+/// rows that are passed over.
+#[derive(Drop, Debug)]
+pub struct Snapshot {
+    // the concepts in force in rising order
+    concepts: Vec<SctId>,
+    // the same, to find a concept's number by its identifier
+    numbers: IndexSet<u64>,
+    // child and parent of each is-a row, in the order of the rows
+    isa: Vec<(u32, u32)>,
+    // the language whose names come first
+    language: String,
+    // how many files have a kind
+    files: u64,
+    // how many rows are in none of the lists
+    passed: u64,
+}
+
+impl Model for Snapshot {
+    ghost use Rattle.snapshot.specs.Contents.{Contents};
+
+    ghost Value = { Contents };
+
+    ghost use Rattle.snapshot.specs.SnapshotInside.{contents_in, IsNumbered};
+
+    ghost view = { contents_in };
+
+    ghost invariant = { IsNumbered };
+}
+
+impl Snapshot {
+    /// Loads the Snapshot files of a list, and passes over the others. The faults, of which the
+    /// first is answered, are looked for in this order: `NoConceptFile` on the names alone; then
+    /// file by file and line by line `TooMany` by bytes, `Header` on line 1 or in a file without
+    /// lines, `Row`, `Duplicate`, `TooMany` by rows; last `Cycle`. `Memory` is answered where a
+    /// growth is refused. `lang` is the language code whose names come first.
+    pub fn load(
+        alloc: Global,
+        files: &[NamedBytes<'_>],
+        lang: &str,
+        limits: Limits,
+    ) -> Result<Snapshot, LoadFault>
+        ensures ok { IfOk result (λ snapshot. load_of limits lang.now (map file_text files.now) ≡ Ok snapshot) }
+        ensures err { IfErr result (λ fault. IsFaultOf fault (load_of limits lang.now (map file_text files.now))) }
+    {
+        if !has_concept_file(files) {
+            return Err(LoadFault::NoConceptFile);
+        }
+        let limits = limits.in_force();
+        match read_files(alloc, files, &limits) {
+            Ok(rows) => {
+                let language = String::from_str(alloc, lang)?;
+                finish(alloc, rows, language, kind_count(files))
+            }
+            Err(fault) => Err(fault),
+        }
+    }
+
+    /// How many concepts are in force.
+    pub fn concept_count(&self) -> u32
+        ensures count { result ≡ length self.now.release.concepts }
+        ensures rising { IsStrictlyIncreasing self.now.release.concepts }
+    {
+        self.concepts.len() as u32
+    }
+
+    /// The number of the concept with an identifier, or `None` where there is none in force.
+    pub fn index_of(&self, id: u64) -> Option<u32>
+        ensures { result ≡ number_of self.now.release.concepts id }
+    {
+        number_of(&self.numbers, id)
+    }
+
+    /// The identifier of a concept by its number, which is below `concept_count`.
+    pub fn id_at(&self, concept: u32) -> SctId
+        requires { concept < length self.now.release.concepts }
+        ensures { result ≡ slice_index self.now.release.concepts concept }
+    {
+        self.concepts[concept as usize]
+    }
+
+    /// Child and parent of each is-a row in force by their numbers, in the order of the files and
+    /// their lines.
+    pub fn isa_rows(&self) -> &[(u32, u32)]
+        ensures rows { map (row_of_numbers self.now.release.concepts) result.now ≡ self.now.release.isa }
+        ensures within { IsWithin (length self.now.release.concepts) result.now }
+    {
+        self.isa.as_slice()
+    }
+}
+
+// Whether a file of the list has the name of a Concept file.
+fn has_concept_file(files: &[NamedBytes<'_>]) -> bool
+    ensures { result ≡ list_any (λ file. is_concept_file_of (file_text file)) files.now }
+{
+    files.iter().any(is_concept_file)
+}
+
+fn is_concept_file(file: &NamedBytes<'_>) -> bool
+    ensures { result ≡ is_concept_file_of (file_text file.now) }
+{
+    matches!(file_kind(file.name), Some(FileKind::Concept))
+}
+
+// How many files have a kind.
+fn kind_count(files: &[NamedBytes<'_>]) -> u64
+    ensures { result ≡ count_by (λ file. has_kind_of (file_text file)) files.now }
+{
+    files.iter().filter(|file| has_kind(file)).count() as u64
+}
+
+fn has_kind(file: &NamedBytes<'_>) -> bool
+    ensures { result ≡ has_kind_of (file_text file.now) }
+{
+    file_kind(file.name).is_some()
+}
+
+// The rows of all files that have a kind, in turn.
+fn read_files(alloc: Global, files: &[NamedBytes<'_>], limits: &Limits) -> Result<Rows, LoadFault>
+    ensures ok { IfOk result (λ rows. read_all limits.now nothing_kept (places_from 0 (map file_text files.now)) ≡ Ok (kept_in rows)) }
+    ensures err { IfErr result (λ fault. IsFaultIn fault (read_all limits.now nothing_kept (places_from 0 (map file_text files.now)))) }
+{
+    let mut rows = Rows::new(alloc);
+    for (file, named) in files.iter().enumerate() {
+        match rows.read_named(file, named, limits) {
+            Ok(()) => {}
+            Err(fault) => return Err(fault),
+        }
+    }
+    Ok(rows)
+}
+
+// Numbers the concepts in force in rising order, and the is-a rows between them.
+fn finish(alloc: Global, rows: Rows, language: String, files: u64) -> Result<Snapshot, LoadFault>
+    requires { IsApart (kept_in rows) }
+    ensures ok { IfOk result (λ snapshot. finished (string_bytes language) files (kept_in rows) ≡ Ok snapshot) }
+    ensures err { IfErr result (λ fault. IsFaultOf fault (finished (string_bytes language) files (kept_in rows))) }
+{
+    let row_count = rows.row_count();
+    let (concepts, ends) = rows.into_parts();
+    let concepts = rising(concepts);
+    match number_hierarchy(alloc, concepts.as_slice(), ends.as_slice()) {
+        Ok(hierarchy) => {
+            let Hierarchy { numbers, isa } = hierarchy;
+            let listed = concepts.len() as u64 + isa.len() as u64;
+            Ok(Snapshot {
+                concepts,
+                numbers,
+                isa,
+                language,
+                files,
+                passed: row_count.saturating_sub(listed),
+            })
+        }
+        Err(fault) => Err(fault),
+    }
+}
+
+// The concepts in force, each at its number, and the is-a rows by the numbers of their ends.
+#[derive(Drop)]
+struct Hierarchy {
+    numbers: IndexSet<u64>,
+    isa: Vec<(u32, u32)>,
+}
+
+// The numbers of concepts in rising order, and by them the rows between two of the concepts, unless
+// one reaches itself.
+fn number_hierarchy(
+    alloc: Global,
+    concepts: &[SctId],
+    ends: &[(SctId, SctId)],
+) -> Result<Hierarchy, LoadFault>
+    requires rising { IsStrictlyIncreasing concepts.now }
+    requires few { length concepts.now < 2 ^ 32 }
+    ensures numbers { IfOk result (λ hierarchy. hierarchy.numbers.keys ≡ concepts.now) }
+    ensures rows { IfOk result (λ hierarchy. hierarchy.isa.items ≡ filter_map (numbered_row concepts.now) ends.now) }
+    ensures acyclic { OnOk result (first_cyclic concepts.now (rows_among concepts.now ends.now) ≡ None) }
+    ensures cycle { IfErr result (λ fault. IsCycle fault (first_cyclic concepts.now (rows_among concepts.now ends.now))) }
+{
+    let numbers = number_concepts(alloc, concepts)?;
+    let isa = number_rows(alloc, &numbers, ends)?;
+    let count = concepts.len() as u32;
+    let cyclic = least_cyclic(alloc, isa.as_slice(), count)?;
+    match cyclic {
+        Some(concept) => Err(LoadFault::Cycle(concepts[concept as usize])),
+        None => Ok(Hierarchy { numbers, isa }),
+    }
+}
+
+// Concepts, each of which stands there once, in rising order.
+fn rising(mut concepts: Vec<SctId>) -> Vec<SctId>
+    requires { IsDistinct nat_eq concepts.items }
+    ensures rising { result.items ≡ rising_of concepts.items }
+    ensures increasing { IsStrictlyIncreasing result.items }
+{
+    concepts.as_mut_slice().sort_unstable();
+    concepts
+}

@@ -1,0 +1,245 @@
+//! The rows of files as they are read, one line after another.
+ghost use Rattle.std.specs.Prelude.{◌≡◌, None, Some, Ok, Err, OnOk, IfErr, IfOk, ◌++◌, ◌∷◌, [], ◌+◌, ◌<◌, ◌^◌, map, length};
+ghost use Rattle.release_files.specs.Lines.{line_text, lines_of};
+ghost use Rattle.snapshot.specs.Faults.{fault_after, fault_of_first, fault_of_id};
+ghost use Rattle.snapshot.specs.Files.{file_text, later_line, places_of_file, places_of_lines};
+ghost use Rattle.snapshot.specs.Kept.{IsFaultAt, IsFaultIn, ids_kept, is_isa as is_isa_row, keep, keep_concept, keep_relationship, nothing_kept, read_all};
+
+use crate::fault::LoadFault;
+use crate::limits::Limits;
+use indexmap::IndexSet;
+use release_files::{Line, Lines, NamedBytes};
+use rf2_rows::{ConceptRow, FileKind, RelationshipRow, Row, file_kind, header, read_row};
+use sctid::SctId;
+use std::alloc::Global;
+
+// |Is a|, the type of the rows that make the hierarchy.
+const IS_A: u64 = 116680003;
+
+// |Inferred relationship|, the characteristic type of the rows that count.
+const INFERRED: u64 = 900000000000011006;
+
+/// What is kept of the rows read so far.
+#[derive(Drop)]
+pub struct Rows {
+    // the identifiers of all concept rows, in the order of the rows
+    concept_ids: IndexSet<u64>,
+    // those of the active ones
+    active_concepts: Vec<SctId>,
+    // the identifiers of all relationship rows
+    relationship_ids: IndexSet<u64>,
+    // child and parent of the active, inferred is-a rows
+    isa_ends: Vec<(SctId, SctId)>,
+}
+
+impl Rows {
+    ghost use Rattle.snapshot.specs.RowsKept.{kept_in};
+
+    pub fn new(alloc: Global) -> Rows
+        ensures { kept_in result ≡ nothing_kept }
+    {
+        Rows {
+            concept_ids: IndexSet::new(alloc),
+            active_concepts: Vec::new(alloc),
+            relationship_ids: IndexSet::new(alloc),
+            isa_ends: Vec::new(alloc),
+        }
+    }
+
+    /// Reads a file, if it has a kind.
+    pub fn read_named(
+        &mut self,
+        file: usize,
+        named: &NamedBytes<'_>,
+        limits: &Limits,
+    ) -> Result<(), LoadFault>
+        ensures ok { OnOk result (read_all limits.now (kept_in self.old) (places_of_file file (file_text named.now)) ≡ Ok (kept_in self.new)) }
+        ensures err { IfErr result (λ fault. IsFaultIn fault (read_all limits.now (kept_in self.old) (places_of_file file (file_text named.now)))) }
+    {
+        match file_kind(named.name) {
+            Some(kind) => self.read_file(file, kind, named.bytes, limits),
+            None => Ok(()),
+        }
+    }
+
+    /// How many rows were read.
+    pub fn row_count(&self) -> u64
+        requires { length (kept_in self.now).concept_ids + length (kept_in self.now).relationship_ids < 2 ^ 64 }
+        ensures { result ≡ length (kept_in self.now).concept_ids + length (kept_in self.now).relationship_ids }
+    {
+        self.concept_ids.len() as u64 + self.relationship_ids.len() as u64
+    }
+
+    // Reads the lines of a file of a kind.
+    fn read_file(
+        &mut self,
+        file: usize,
+        kind: FileKind,
+        bytes: &[u8],
+        limits: &Limits,
+    ) -> Result<(), LoadFault>
+        ensures ok { OnOk result (read_all limits.now (kept_in self.old) (places_of_lines file kind (lines_of bytes.now)) ≡ Ok (kept_in self.new)) }
+        ensures err { IfErr result (λ fault. IsFaultIn fault (read_all limits.now (kept_in self.old) (places_of_lines file kind (lines_of bytes.now)))) }
+    {
+        let mut lines = Lines::new(bytes);
+        let Some(first) = lines.next() else {
+            return Err(LoadFault::Header { file });
+        };
+        match check_header(file, kind, first, limits) {
+            Ok(()) => self.read_lines(file, kind, lines, limits),
+            Err(fault) => Err(fault),
+        }
+    }
+
+    // Reads the lines behind the header.
+    fn read_lines(
+        &mut self,
+        file: usize,
+        kind: FileKind,
+        lines: Lines<'_>,
+        limits: &Limits,
+    ) -> Result<(), LoadFault>
+        ensures ok { OnOk result (read_all limits.now (kept_in self.old) (map (later_line file kind) lines.entry) ≡ Ok (kept_in self.new)) }
+        ensures err { IfErr result (λ fault. IsFaultIn fault (read_all limits.now (kept_in self.old) (map (later_line file kind) lines.entry))) }
+    {
+        for line in lines {
+            match self.read_line(file, kind, line, limits) {
+                Ok(()) => {}
+                Err(fault) => return Err(fault),
+            }
+        }
+        Ok(())
+    }
+
+    /// The active concepts, and the ends of the active, inferred is-a rows. What served to find
+    /// repeated identifiers is freed.
+    pub fn into_parts(self) -> (Vec<SctId>, Vec<(SctId, SctId)>)
+        ensures concepts { result.0.items ≡ (kept_in self).active_concepts }
+        ensures ends { result.1.items ≡ (kept_in self).isa_ends }
+    {
+        (self.active_concepts, self.isa_ends)
+    }
+
+    // Reads a line behind the header.
+    fn read_line(
+        &mut self,
+        file: usize,
+        kind: FileKind,
+        line: Line<'_>,
+        limits: &Limits,
+    ) -> Result<(), LoadFault>
+        ensures clean { OnOk result (fault_after limits.now (ids_kept (kept_in self.old)) (later_line file kind (line_text line.entry)) ≡ None) }
+        ensures kept { OnOk result (kept_in self.new ≡ keep (kept_in self.old) (later_line file kind (line_text line.entry))) }
+        ensures err { IfErr result (λ fault. IsFaultAt fault (fault_after limits.now (ids_kept (kept_in self.old)) (later_line file kind (line_text line.entry)))) }
+    {
+        let number = line.number;
+        if line.end > limits.bytes {
+            return Err(LoadFault::TooMany { file, line: number });
+        }
+        if line.bytes.is_empty() {
+            return Ok(());
+        }
+        match read_row(kind, line.bytes) {
+            Ok(Row::Concept(row)) => self.add_concept(file, number, row, limits),
+            Ok(Row::Relationship(row)) => self.add_relationship(file, number, row, limits),
+            Err(fault) => Err(LoadFault::Row {
+                file,
+                line: number,
+                fault,
+            }),
+        }
+    }
+
+    fn add_concept(
+        &mut self,
+        file: usize,
+        line: u64,
+        row: ConceptRow,
+        limits: &Limits,
+    ) -> Result<(), LoadFault>
+        ensures clean { OnOk result (fault_of_id file line (kept_in self.old).concept_ids limits.now.concepts row.id ≡ None) }
+        ensures kept { OnOk result (kept_in self.new ≡ keep_concept (kept_in self.old) (Some row)) }
+        ensures err { IfErr result (λ fault. IsFaultAt fault (fault_of_id file line (kept_in self.old).concept_ids limits.now.concepts row.id)) }
+    {
+        add_identifier(&mut self.concept_ids, row.id, file, line, limits.concepts)?;
+        if row.active {
+            self.active_concepts.push(row.id)?;
+        }
+        Ok(())
+    }
+
+    fn add_relationship(
+        &mut self,
+        file: usize,
+        line: u64,
+        row: RelationshipRow,
+        limits: &Limits,
+    ) -> Result<(), LoadFault>
+        ensures clean { OnOk result (fault_of_id file line (kept_in self.old).relationship_ids limits.now.relationships row.id ≡ None) }
+        ensures kept { OnOk result (kept_in self.new ≡ keep_relationship (kept_in self.old) (Some row)) }
+        ensures err { IfErr result (λ fault. IsFaultAt fault (fault_of_id file line (kept_in self.old).relationship_ids limits.now.relationships row.id)) }
+    {
+        add_identifier(
+            &mut self.relationship_ids,
+            row.id,
+            file,
+            line,
+            limits.relationships,
+        )?;
+        if is_isa(&row) {
+            self.isa_ends.push((row.source_id, row.destination_id))?;
+        }
+        Ok(())
+    }
+}
+
+// The header comes first, and within the limit of bytes.
+fn check_header(
+    file: usize,
+    kind: FileKind,
+    line: Line<'_>,
+    limits: &Limits,
+) -> Result<(), LoadFault>
+    ensures clean { OnOk result (fault_of_first limits.now file kind (line_text line.entry) ≡ None) }
+    ensures err { IfErr result (λ fault. fault_of_first limits.now file kind (line_text line.entry) ≡ Some fault) }
+{
+    if line.end > limits.bytes {
+        return Err(LoadFault::TooMany {
+            file,
+            line: line.number,
+        });
+    }
+    if line.bytes != header(kind).as_bytes() {
+        return Err(LoadFault::Header { file });
+    }
+    Ok(())
+}
+
+// Adds the identifier of a row to those of its kind, of which there may be `limit`.
+fn add_identifier(
+    ids: &mut IndexSet<u64>,
+    id: SctId,
+    file: usize,
+    line: u64,
+    limit: u64,
+) -> Result<(), LoadFault>
+    ensures clean { OnOk result (fault_of_id file line ids.old.keys limit id ≡ None) }
+    ensures added { OnOk result (ids.new.keys ≡ ids.old.keys ++ id ∷ []) }
+    ensures err { IfErr result (λ fault. IsFaultAt fault (fault_of_id file line ids.old.keys limit id)) }
+{
+    let is_new = ids.insert(id.number())?;
+    if !is_new {
+        return Err(LoadFault::Duplicate { file, line });
+    }
+    if ids.len() as u64 > limit {
+        return Err(LoadFault::TooMany { file, line });
+    }
+    Ok(())
+}
+
+// Whether a row belongs to the hierarchy, as far as the row itself tells.
+fn is_isa(row: &RelationshipRow) -> bool
+    ensures { result ≡ is_isa_row row.now }
+{
+    row.active && row.characteristic_type_id.number() == INFERRED && row.type_id.number() == IS_A
+}
