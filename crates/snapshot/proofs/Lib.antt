@@ -1,5 +1,6 @@
 pub mod ApartLemmas
 pub mod FinishLemmas
+pub mod LawLemmas
 pub mod LoadLemmas
 pub mod NumberingLemmas
 pub mod PlaceLemmas

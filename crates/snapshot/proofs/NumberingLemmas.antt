@@ -88,7 +88,7 @@ rows_of_numbers concepts (row ∷ rows) = elim (cases_Bool (has concepts row.0))
 ]
 
 -- what stands at the first place where a test passes is found
-find-first : (test : ℕ → Bool) (xs : List ℕ) (i : ℕ) → i < length xs → ((k : ℕ) → k < i → test (get_or xs k 0) ≡ false)
+pub find-first : (test : ℕ → Bool) (xs : List ℕ) (i : ℕ) → i < length xs → ((k : ℕ) → k < i → test (get_or xs k 0) ≡ false)
     → test (get_or xs i 0) ≡ true → find test xs ≡ Some (get_or xs i 0)
 find-first test xs i within before here =
     find_at test xs
@@ -96,7 +96,7 @@ find-first test xs i within before here =
     ∙ slice_get-get_or xs i 0 within
 
 -- nothing is found where no test passes
-find-none : (test : ℕ → Bool) (xs : List ℕ) → ((k : ℕ) → k < length xs → test (get_or xs k 0) ≡ false) → find test xs ≡ None
+pub find-none : (test : ℕ → Bool) (xs : List ℕ) → ((k : ℕ) → k < length xs → test (get_or xs k 0) ≡ false) → find test xs ≡ None
 find-none test [] none = refl
 find-none test (x ∷ xs) none =
     let first : test x ≡ false = none 0 (omega arith) in

@@ -1,7 +1,8 @@
 -- What a loaded release contains, and which fault a list of files has that is none.
-use Rattle.std.specs.Prelude.{ℕ, ◌-◌, ◌≡◌, ◌≢◌, if◌then◌else◌, List, [], length, filter, find, Option, None, Some, Result, Ok, Err}
+use Rattle.std.specs.Prelude.{◌↔◌, ◌<◌, Contains, ℕ, ◌-◌, ◌≡◌, ◌≢◌, if◌then◌else◌, List, [], length, filter, find, Option, None, Some, Result, Ok, Err}
 use Rattle.std.specs.List.{list_any}
-use Rattle.rf2_rows.specs.Hierarchy.{reaches}
+use Rattle.std.specs.List.Sorted.{IsStrictlyIncreasing}
+use Rattle.rf2_rows.specs.Hierarchy.{Reaches, reaches}
 use Rattle.rf2_rows.specs.Release.{Release}
 use Rattle.snapshot.specs.Faults.{first_fault}
 use Rattle.snapshot.specs.Files.{FileText, Place, places_from, is_concept_file, has_kind}
@@ -56,3 +57,14 @@ load_of limits language files =
 -- a fault that a load answers: the fault of the files, or the want of memory
 abbrev pub IsFaultOf : LoadFault → Result Contents LoadFault → Type 0
 IsFaultOf fault loaded = fault ≢ Memory → loaded ≡ Err fault
+
+-- where the concepts of a release are in rising order, the concept that is called the least cyclic one is
+-- the least that a chain of is-a rows leads back to, and there is none exactly where there is no such chain
+abbrev pub NamesLeastCyclic : Type 0
+NamesLeastCyclic =
+    (release : Release) → IsStrictlyIncreasing release.concepts
+    → ((concept : ℕ) → (least_cyclic release ≡ Some concept) ↔
+    (Contains release.concepts concept × Reaches release.isa concept concept
+    × ((lesser : ℕ) → Contains release.concepts lesser → lesser < concept → ¬ Reaches release.isa lesser lesser)))
+    × ((least_cyclic release ≡ None) ↔
+    ((concept : ℕ) → Contains release.concepts concept → ¬ Reaches release.isa concept concept))

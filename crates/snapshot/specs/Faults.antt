@@ -1,5 +1,5 @@
 -- The first fault of a list of files.
-use Rattle.std.specs.Prelude.{ℕ, bytes_eq, nat_lt, nat_le, if◌then◌else◌, List, [], ◌∷◌, ◌++◌, length, Option, None, Some}
+use Rattle.std.specs.Prelude.{◌≡◌, ◌↔◌, ℕ, bytes_eq, nat_lt, nat_le, if◌then◌else◌, List, [], ◌∷◌, ◌++◌, length, Option, None, Some}
 use Rattle.rf2_rows.specs.Columns.{header_of}
 use Rattle.rf2_rows.specs.Rows.{row_fault, concept_row, relationship_row}
 use Rattle.rf2_rows.specs.declared.fault.RowFault.{RowFault}
@@ -64,3 +64,24 @@ first_of None later = later
 abbrev pub first_fault : Limits → List Place → List Place → Option LoadFault
 first_fault limits before [] = None
 first_fault limits before (place ∷ later) = first_of (fault_at limits before place) (first_fault limits (before ++ place ∷ []) later)
+
+-- no place has a fault
+abbrev pub HasNoFault : Limits → List Place → Type 0
+HasNoFault limits places =
+    (before : List Place) (place : Place) (later : List Place) → places ≡ before ++ place ∷ later → fault_at limits before place ≡ None
+
+-- a place has the fault, and no place before it has any
+pub record IsFirstFault (limits : Limits) (places : List Place) (fault : LoadFault) : Type 0 where
+  pub before : List Place
+  pub place : Place
+  pub later : List Place
+  pub cut : places ≡ before ++ place ∷ later
+  pub here : fault_at limits before place ≡ Some fault
+  pub none_before : HasNoFault limits before
+
+-- what is called the first fault is the first, and there is none exactly where no place has one
+abbrev pub NamesFirstFault : Type 0
+NamesFirstFault =
+    (limits : Limits) (places : List Place)
+    → ((fault : LoadFault) → (first_fault limits [] places ≡ Some fault) ↔ IsFirstFault limits places fault)
+    × ((first_fault limits [] places ≡ None) ↔ HasNoFault limits places)

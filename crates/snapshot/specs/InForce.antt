@@ -1,6 +1,6 @@
 -- The rows of a release that are in force (Release File Specification, "Concept file" and
 -- "Relationship file"; the inferred view).
-use Rattle.std.specs.Prelude.{ℕ, ◌+◌, ◌==◌, ◌&&◌, Bool, nat_lt, if◌then◌else◌, List, [], ◌∷◌, length, map, filter, Option, None, Some}
+use Rattle.std.specs.Prelude.{◌≤◌, ℕ, ◌+◌, ◌==◌, ◌&&◌, Bool, nat_lt, if◌then◌else◌, List, [], ◌∷◌, length, map, filter, Option, None, Some}
 use Rattle.std.specs.List.{filter_map, list_any}
 use Rattle.rf2_rows.specs.Rows.{concept_row, relationship_row}
 use Rattle.rf2_rows.specs.Release.{Release}
@@ -89,3 +89,7 @@ row_count places = length (concept_rows places) + length (relationship_rows plac
 abbrev pub listed_count : Release → ℕ
 listed_count release =
     length release.concepts + length release.isa + length release.attributes + length release.members + length release.names
+
+-- the rows of the lists are among those that were read, so that the others are as many as the difference
+abbrev pub CountsEachRow : Type 0
+CountsEachRow = (places : List Place) → listed_count (release_of places) ≤ row_count places

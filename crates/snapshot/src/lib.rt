@@ -4,11 +4,15 @@
 mod components;
 mod cycle;
 mod fault;
+mod laws;
 mod limits;
 mod load;
 mod numbering;
 mod rows;
 
 pub use crate::fault::LoadFault;
+pub use crate::laws::{
+    cyclic_concept_is_the_least, first_fault_is_the_first, rows_are_listed_or_passed,
+};
 pub use crate::limits::Limits;
 pub use crate::load::Snapshot;
