@@ -1,0 +1,5 @@
+mod ChildrenLemmas
+mod DenotedLemmas
+mod PrintLemmas
+mod QueryLemmas
+mod WalkLemmas

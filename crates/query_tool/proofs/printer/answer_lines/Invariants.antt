@@ -1,0 +1,9 @@
+use Rattle.std.proofs.Common.{◌≡◌, ◌++◌}
+use Rattle.query_tool.specs.Answer.{answer_text, marked_concepts}
+use Rattle.query_tool.proofs.PrintLemmas.{lines_from}
+use Rattle.query_tool.proofs.printer.answer_lines.Given as goal
+
+abbrev pub invariant-loop-concept : goal.invariant-loop-concept
+invariant-loop-concept l =
+    l.lines.items ++ lines_from l.concept l.marks l.snapshot.release.concepts
+    ≡ answer_text (marked_concepts l.marks l.snapshot.release.concepts)

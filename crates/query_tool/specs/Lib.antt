@@ -1,0 +1,7 @@
+pub mod Answer
+pub mod Children
+pub mod ChildrenInside
+pub mod EngineInside
+pub mod Query
+pub mod Reading
+pub mod Walk

@@ -1,0 +1,327 @@
+//! Loads of the sample release with one thing changed, and of releases made for a test.
+use crate::sample::sample_files;
+use bstr::ByteSlice;
+use release_files::NamedBytes;
+use rf2_rows::{RowCause, RowFault};
+use sctid::{IdFault, SctId};
+use snapshot::{Limits, LoadFault, Snapshot};
+use std::alloc::{AllocError, Global};
+use std::process::Abort;
+use std::test::Fail;
+
+// The places of the sample's concept and relationship files in the list.
+const CONCEPTS: usize = 1;
+
+const RELATIONSHIPS: usize = 4;
+
+const NAME: &str = "sct2_Concept_Snapshot_INT_20240101.txt";
+
+const HEADER: &[u8] = b"id\teffectiveTime\tactive\tmoduleId\tdefinitionStatusId\r\n";
+
+const CONCEPT_REST: &[u8] = b"\t20240101\t1\t900000000000207008\t900000000000074008\r\n";
+
+const RELATIONSHIP_NAME: &str = "sct2_Relationship_Snapshot_INT_20240101.txt";
+
+const RELATIONSHIP_HEADER: &[u8] =
+    b"id\teffectiveTime\tactive\tmoduleId\tsourceId\tdestinationId\trelationshipGroup\ttypeId\tcharacteristicTypeId\tmodifierId\r\n";
+
+const ISA_REST: &[u8] = b"\t0\t116680003\t900000000000011006\t900000000000451002\r\n";
+
+// The bytes with the first `from` in them replaced.
+fn replaced(alloc: Global, bytes: &[u8], from: &[u8], to: &[u8]) -> Result<Vec<u8>, AllocError> {
+    let mut changed = Vec::new(alloc);
+    match bytes.split_once_str(from) {
+        Some((before, after)) => {
+            changed.extend_from_slice(before)?;
+            changed.extend_from_slice(to)?;
+            changed.extend_from_slice(after)?;
+        }
+        None => changed.extend_from_slice(bytes)?,
+    }
+    Ok(changed)
+}
+
+// The fault of a load, if it has one.
+fn fault_of(alloc: Global, files: &[NamedBytes<'_>], limits: Limits) -> Option<LoadFault> {
+    Snapshot::load(alloc, files, "en", limits).err()
+}
+
+// The fault of the sample with a file in which the first `from` is replaced.
+fn fault_with(
+    alloc: Global,
+    place: usize,
+    from: &[u8],
+    to: &[u8],
+) -> Result<Option<LoadFault>, AllocError> {
+    let sample = sample_files();
+    let Some(named) = sample.get(place) else {
+        return Ok(None);
+    };
+    let changed = replaced(alloc, named.bytes, from, to)?;
+    let mut files = Vec::new(alloc);
+    for (at, named) in sample.iter().enumerate() {
+        let bytes = if at == place {
+            changed.as_slice()
+        } else {
+            named.bytes
+        };
+        files.push(NamedBytes {
+            name: named.name,
+            bytes,
+        })?;
+    }
+    Ok(fault_of(alloc, files.as_slice(), Limits::standard()))
+}
+
+fn id(rt: &impl Abort, text: &[u8]) -> SctId {
+    match SctId::parse(text) {
+        Ok(id) => id,
+        Err(_) => panic!(rt; "an identifier"),
+    }
+}
+
+#[test]
+fn refuses_changed_loads(rt: HostRuntime) -> Result<(), Fail> {
+    let row = |line, cause, column| {
+        Some(LoadFault::Row {
+            file: 1,
+            line,
+            fault: RowFault { cause, column },
+        })
+    };
+    let changed = [
+        (
+            CONCEPTS,
+            b"138875005\t".as_slice(),
+            b"100006\t".as_slice(),
+            row(2, RowCause::Id(IdFault::Check), 1),
+        ),
+        (
+            CONCEPTS,
+            b"109006\t20240101\t0\t900000000000207008\t900000000000074008\r\n",
+            b"109006\t20240101\t0\t900000000000207008\t900000000000074008\r\n100005\t20240101\t0\t900000000000207008\t900000000000074008\r\n",
+            Some(LoadFault::Duplicate { file: 1, line: 13 }),
+        ),
+        (
+            CONCEPTS,
+            b"\tmoduleId\tdefinitionStatusId",
+            b"\tmoduleId",
+            Some(LoadFault::Header { file: 1 }),
+        ),
+        (
+            CONCEPTS,
+            b"109006\t20240101\t0\t900000000000207008\t900000000000074008\r\n",
+            b"109006\t20240101\t",
+            row(12, RowCause::Fields, 0),
+        ),
+        (
+            RELATIONSHIPS,
+            b"121022\t",
+            b"122026\t20240101\t1\t900000000000207008\t100005\t103007\t0\t116680003\t900000000000011006\t900000000000451002\r\n121022\t",
+            Some(LoadFault::Cycle(id(&rt, b"100005"))),
+        ),
+        (
+            RELATIONSHIPS,
+            b"121022\t",
+            b"122026\t20240101\t1\t900000000000207008\t138875005\t138875005\t0\t116680003\t900000000000011006\t900000000000451002\r\n121022\t",
+            Some(LoadFault::Cycle(id(&rt, b"138875005"))),
+        ),
+        (CONCEPTS, b"", b"", None),
+    ];
+    for (place, from, to, want) in changed {
+        let fault = fault_with(rt.alloc(), place, from, to)?;
+        assert!(rt; fault == want, "{fault:?} in place of {want:?}");
+    }
+    Ok(())
+}
+
+#[test]
+fn keeps_to_limits_and_names(rt: HostRuntime) {
+    let mut limits = Limits::standard();
+    limits.concepts = 10;
+    let many = fault_of(rt.alloc(), &sample_files(), limits);
+    assert!(rt; many == Some(LoadFault::TooMany { file: 1, line: 12 }));
+    limits.concepts = 11;
+    assert!(rt; fault_of(rt.alloc(), &sample_files(), limits).is_none());
+    let files = sample_files();
+    let none = fault_of(rt.alloc(), &files[2..], Limits::standard());
+    assert!(rt; none == Some(LoadFault::NoConceptFile));
+}
+
+#[test]
+fn numbers_concepts(rt: HostRuntime) {
+    match Snapshot::load(rt.alloc(), &sample_files(), "en", Limits::standard()) {
+        Ok(snapshot) => {
+            assert_eq!(rt; snapshot.concept_count(), 10);
+            assert_eq!(rt; snapshot.index_of(103007), Some(3));
+            assert_eq!(rt; snapshot.index_of(109006), None);
+            assert_eq!(rt; snapshot.id_at(9).number(), 138875005);
+            assert_eq!(rt; snapshot.isa_rows().len(), 10);
+        }
+        Err(fault) => panic!(rt; "{fault}"),
+    }
+}
+
+// The rows in force of the sample: as many concepts, and the is-a rows in the order of the file, as the
+// sample release of the definitions has them.
+#[test]
+fn holds_the_sample_release(rt: HostRuntime) {
+    let concepts = [
+        100005, 101009, 102002, 103007, 104001, 105000, 106004, 107008, 108003, 138875005,
+    ];
+    let isa = [
+        (100005, 138875005),
+        (106004, 138875005),
+        (104001, 138875005),
+        (105000, 138875005),
+        (108003, 138875005),
+        (101009, 100005),
+        (102002, 100005),
+        (103007, 101009),
+        (103007, 102002),
+        (107008, 106004),
+    ];
+    match Snapshot::load(rt.alloc(), &sample_files(), "en", Limits::standard()) {
+        Ok(snapshot) => {
+            for (number, id) in concepts.iter().enumerate() {
+                assert_eq!(rt; snapshot.index_of(*id), Some(number as u32));
+            }
+            assert_eq!(rt; snapshot.isa_rows().len(), isa.len());
+            for (row, ends) in snapshot.isa_rows().iter().zip(&isa) {
+                assert_eq!(rt; Some(row.0), snapshot.index_of(ends.0));
+                assert_eq!(rt; Some(row.1), snapshot.index_of(ends.1));
+            }
+        }
+        Err(fault) => panic!(rt; "{fault}"),
+    }
+}
+
+// The first identifiers with a partition, of numbers from 10,000 on, one for each `\n`-ended line.
+fn identifiers(
+    rt: &impl Abort,
+    alloc: Global,
+    partition: &[u8],
+    count: u64,
+) -> Result<Vec<SctId>, AllocError> {
+    let mut found = Vec::new(alloc);
+    for item in 10_000..10_000u64.saturating_add(count) {
+        let mut text = Vec::new(alloc);
+        let mut digits = itoa::Buffer::new();
+        text.extend_from_slice(digits.format(item).as_bytes())?;
+        text.extend_from_slice(partition)?;
+        for check in b'0'..=b'9' {
+            text.push(check)?;
+            if let Ok(id) = SctId::parse(text.as_slice()) {
+                found.push(id)?;
+            }
+            let _ = text.pop();
+        }
+    }
+    assert!(rt; found.len() as u64 == count);
+    Ok(found)
+}
+
+fn push_number(bytes: &mut Vec<u8>, id: SctId) -> Result<(), AllocError> {
+    let mut digits = itoa::Buffer::new();
+    bytes.extend_from_slice(digits.format(id.number()).as_bytes())
+}
+
+// A concept file with a row for each identifier.
+fn concept_file(alloc: Global, ids: &[SctId]) -> Result<Vec<u8>, AllocError> {
+    let mut bytes = Vec::from_slice(alloc, HEADER)?;
+    for id in ids {
+        push_number(&mut bytes, *id)?;
+        bytes.extend_from_slice(CONCEPT_REST)?;
+    }
+    Ok(bytes)
+}
+
+// A relationship file whose rows lead from each concept to the one before it.
+fn chain_file(alloc: Global, ids: &[SctId], concepts: &[SctId]) -> Result<Vec<u8>, AllocError> {
+    let mut bytes = Vec::from_slice(alloc, RELATIONSHIP_HEADER)?;
+    for (id, ends) in ids.iter().zip(concepts.windows(2)) {
+        if let [parent, child] = ends {
+            push_row(&mut bytes, *id, *child, *parent)?;
+        }
+    }
+    Ok(bytes)
+}
+
+fn push_row(bytes: &mut Vec<u8>, id: SctId, child: SctId, parent: SctId) -> Result<(), AllocError> {
+    push_number(bytes, id)?;
+    bytes.extend_from_slice(b"\t20240101\t1\t900000000000207008\t")?;
+    push_number(bytes, child)?;
+    bytes.push(b'\t')?;
+    push_number(bytes, parent)?;
+    bytes.extend_from_slice(ISA_REST)
+}
+
+// A chain of 100,000 concepts loads, and with its ends joined it is refused: nothing goes by depth.
+#[test]
+fn loads_a_long_chain(rt: HostRuntime) -> Result<(), Fail> {
+    let alloc = rt.alloc();
+    let concepts = identifiers(&rt, alloc, b"00", 100_000)?;
+    let ids = identifiers(&rt, alloc, b"02", 100_000)?;
+    let concept_bytes = concept_file(alloc, concepts.as_slice())?;
+    let mut rows = chain_file(alloc, ids.as_slice(), concepts.as_slice())?;
+    // the rows stand before the concepts that they name
+    let files = [
+        NamedBytes {
+            name: RELATIONSHIP_NAME,
+            bytes: rows.as_slice(),
+        },
+        NamedBytes {
+            name: NAME,
+            bytes: concept_bytes.as_slice(),
+        },
+    ];
+    match Snapshot::load(alloc, &files, "en", Limits::standard()) {
+        Ok(snapshot) => {
+            assert_eq!(rt; snapshot.concept_count(), 100_000);
+            assert_eq!(rt; snapshot.isa_rows().len(), 99_999);
+        }
+        Err(fault) => panic!(rt; "{fault}"),
+    }
+    let (first, last) = (concepts.first(), concepts.last());
+    if let (Some(first), Some(last), Some(id)) = (first, last, ids.last()) {
+        push_row(&mut rows, *id, *first, *last)?;
+        let files = [
+            NamedBytes {
+                name: RELATIONSHIP_NAME,
+                bytes: rows.as_slice(),
+            },
+            NamedBytes {
+                name: NAME,
+                bytes: concept_bytes.as_slice(),
+            },
+        ];
+        let fault = fault_of(alloc, &files, Limits::standard());
+        assert!(rt; fault == Some(LoadFault::Cycle(*first)), "{fault:?}");
+    }
+    Ok(())
+}
+
+// Two concept files are one list of concepts, in which an identifier stands once.
+#[test]
+fn joins_files_of_a_kind(rt: HostRuntime) -> Result<(), Fail> {
+    let alloc = rt.alloc();
+    let one = concept_file(alloc, &[id(&rt, b"1000004")])?;
+    let other = concept_file(alloc, &[id(&rt, b"100005")])?;
+    let file = |name, bytes| NamedBytes { name, bytes };
+    let files = [
+        file(NAME, one.as_slice()),
+        file("xsct2_Concept_Snapshot_XX.txt", other.as_slice()),
+    ];
+    match Snapshot::load(alloc, &files, "en", Limits::standard()) {
+        Ok(snapshot) => {
+            assert_eq!(rt; snapshot.concept_count(), 2);
+            assert_eq!(rt; snapshot.index_of(100005), Some(0));
+            assert_eq!(rt; snapshot.index_of(1000004), Some(1));
+        }
+        Err(fault) => panic!(rt; "{fault}"),
+    }
+    let twice = [file(NAME, one.as_slice()), file(NAME, one.as_slice())];
+    let fault = fault_of(alloc, &twice, Limits::standard());
+    assert!(rt; fault == Some(LoadFault::Duplicate { file: 1, line: 2 }));
+    Ok(())
+}

@@ -1,0 +1,62 @@
+//! The bytes of an answer.
+ghost use Rattle.std.specs.Prelude.{◌≡◌, ◌++◌, Bool, IfOk, OnErr, OnOk, length, count_by};
+ghost use Rattle.query_tool.specs.Answer.{answer_text, marked_concepts, number_line, syntax_text};
+
+use snapshot::Snapshot;
+use std::alloc::{AllocError, Global};
+
+/// Appends `OK`, the number of the concepts that are marked and then a line for each, in the rising
+/// order of their identifiers. Every line ends in LF. Where memory is refused `output` is unchanged.
+pub fn print_answer(
+    alloc: Global,
+    snapshot: &Snapshot,
+    marks: &[bool],
+    output: &mut Vec<u8>,
+) -> Result<(), AllocError>
+    requires { length marks.now ≡ length snapshot.now.release.concepts }
+    ensures ok { OnOk result (output.new.items ≡ output.old.items ++ answer_text (marked_concepts marks.now snapshot.now.release.concepts)) }
+    ensures err { OnErr result (output.new.items ≡ output.old.items) }
+{
+    let lines = answer_lines(alloc, snapshot, marks)?;
+    output.extend_from_slice(lines.as_slice())
+}
+
+/// Appends the line that answers a text outside the grammar. Where memory is refused `output` is
+/// unchanged.
+pub fn print_syntax_fault(output: &mut Vec<u8>) -> Result<(), AllocError>
+    ensures ok { OnOk result (output.new.items ≡ output.old.items ++ syntax_text) }
+    ensures err { OnErr result (output.new.items ≡ output.old.items) }
+{
+    output.extend_from_slice(b"ERR syntax\n")
+}
+
+// The whole answer, apart, so that a growth that is refused leaves no part of it behind.
+fn answer_lines(alloc: Global, snapshot: &Snapshot, marks: &[bool]) -> Result<Vec<u8>, AllocError>
+    requires { length marks.now ≡ length snapshot.now.release.concepts }
+    ensures { IfOk result (λ lines. lines.items ≡ answer_text (marked_concepts marks.now snapshot.now.release.concepts)) }
+{
+    let mut lines = Vec::from_slice(alloc, b"OK ")?;
+    print_number(mark_count(marks), &mut lines)?;
+    for concept in 0..snapshot.concept_count() {
+        if marks[concept as usize] {
+            print_number(snapshot.id_at(concept).number(), &mut lines)?;
+        }
+    }
+    Ok(lines)
+}
+
+// How many places are marked.
+fn mark_count(marks: &[bool]) -> u64
+    ensures { result ≡ count_by (λ mark. mark) marks.now }
+{
+    marks.iter().filter(|mark| **mark).count() as u64
+}
+
+// Appends a number and LF.
+fn print_number(number: u64, output: &mut Vec<u8>) -> Result<(), AllocError>
+    ensures { OnOk result (output.new.items ≡ output.old.items ++ number_line number) }
+{
+    let mut digits = itoa::Buffer::new();
+    output.extend_from_slice(digits.format(number).as_bytes())?;
+    output.extend_from_slice(b"\n")
+}
