@@ -1,9 +1,10 @@
 //! Loads of the sample release with one thing changed, and of releases made for a test.
 use crate::sample::sample_files;
+use arrayvec::ArrayVec;
 use bstr::ByteSlice;
 use release_files::NamedBytes;
-use rf2_rows::{RowCause, RowFault};
-use sctid::{IdFault, SctId};
+use rf2_rows::{FileKind, RowCause, RowFault, file_kind};
+use sctid::{IdFault, Part, SctId};
 use snapshot::{Limits, LoadFault, Snapshot};
 use std::alloc::{AllocError, Global};
 use std::process::Abort;
@@ -78,6 +79,33 @@ fn id(rt: &impl Abort, text: &[u8]) -> SctId {
         Ok(id) => id,
         Err(_) => panic!(rt; "an identifier"),
     }
+}
+
+// What texts are as identifiers, and names as those of files.
+#[test]
+fn reads_identifiers_and_names(rt: HostRuntime) {
+    let texts = [
+        (b"100005".as_slice(), Ok(Part::Concept)),
+        (b"10000", Err(IdFault::Length)),
+        (b"10000a", Err(IdFault::Digit)),
+        (b"010005", Err(IdFault::LeadingZero)),
+        (b"100035", Err(IdFault::Partition)),
+        (b"100105", Err(IdFault::Partition)),
+        (b"100006", Err(IdFault::Check)),
+    ];
+    for (text, want) in texts {
+        let part = match SctId::parse(text) {
+            Ok(id) => Ok(id.part()),
+            Err(fault) => Err(fault),
+        };
+        assert!(rt; part == want, "{text:?}");
+    }
+    let mut digits = ArrayVec::new();
+    id(&rt, b"138875005").write_to(&mut digits);
+    assert!(rt; digits.as_slice() == b"138875005".as_slice());
+    let kind = file_kind("a/sct2_Concept_XYSnapshot_XY_20240101.txt");
+    assert!(rt; kind == Some(FileKind::Concept));
+    assert!(rt; file_kind("sct2_Concept_Delta_INT_20240101.txt").is_none());
 }
 
 #[test]
