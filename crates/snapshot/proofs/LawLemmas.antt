@@ -15,7 +15,7 @@ use Rattle.snapshot.specs.InForce.{CountsEachRow, concept_rows, concepts_in_forc
 use Rattle.rf2_rows.specs.declared.row.ConceptRow.{ConceptRow}
 use Rattle.rf2_rows.specs.declared.row.RelationshipRow.{RelationshipRow}
 use Rattle.snapshot.specs.declared.fault.LoadFault.{LoadFault}
-use Rattle.snapshot.specs.declared.rows.TheConstants.{IS_A}
+use Rattle.snapshot.specs.Metadata.{is_a}
 use Rattle.snapshot.specs.declared.limits.Limits.{Limits}
 use Rattle.std.proofs.lemmas.List.{get_or_default}
 use Rattle.std.proofs.lemmas.List.Elements.{Contains-get_or}
@@ -129,7 +129,7 @@ counts_each_row places =
     let concepts : length (concepts_in_force places) ≤ length (concept_rows places) =
     omega (arith, length-rising (map (λ (row : ConceptRow). row.id) (filter (λ (row : ConceptRow). row.active) (concept_rows places))), length-kept (λ (row : ConceptRow). row.id) (λ (row : ConceptRow). row.active) (concept_rows places)) in
     let isa : length (isa_in_force (concepts_in_force places) places) ≤ length (relationship_rows places) =
-    length-kept (λ (row : RelationshipRow). (row.source_id, row.destination_id)) (λ (row : RelationshipRow). is_in_force (concepts_in_force places) row && (row.type_id == IS_A)) (relationship_rows places) in
+    length-kept (λ (row : RelationshipRow). (row.source_id, row.destination_id)) (λ (row : RelationshipRow). is_in_force (concepts_in_force places) row && (row.type_id == is_a)) (relationship_rows places) in
     omega arith
 
 -- what is found passes the test, and no item before it does

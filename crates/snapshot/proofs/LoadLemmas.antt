@@ -19,7 +19,7 @@ use Rattle.snapshot.specs.Limits.{limits_in_force}
 use Rattle.snapshot.specs.declared.fault.LoadFault.{LoadFault}
 use Rattle.snapshot.specs.declared.fault.LoadFault.TheVariants.{NoConceptFile}
 use Rattle.snapshot.specs.declared.limits.Limits.{Limits}
-use Rattle.snapshot.specs.declared.rows.TheConstants.{IS_A, INFERRED}
+use Rattle.snapshot.specs.Metadata.{is_a, inferred_relationship}
 
 -- what is kept of all rows of each kind
 abbrev kept_of_rows : List ConceptRow → List RelationshipRow → Kept
@@ -120,18 +120,18 @@ ends row = (row.source_id, row.destination_id)
 
 -- the is-a rows in force are the rows that look like it between concepts in force
 isa_in_force-is : (concepts : List ℕ) (rows : List RelationshipRow)
-    → map (λ (row : RelationshipRow). (row.source_id, row.destination_id)) (filter (λ (row : RelationshipRow). is_in_force concepts row && (row.type_id == IS_A)) rows)
+    → map (λ (row : RelationshipRow). (row.source_id, row.destination_id)) (filter (λ (row : RelationshipRow). is_in_force concepts row && (row.type_id == is_a)) rows)
     ≡ rows_among concepts (map (λ (row : RelationshipRow). (row.source_id, row.destination_id)) (filter is_isa rows))
 isa_in_force-is concepts [] = refl
 isa_in_force-is concepts (row ∷ rows) =
-    left (is_in_force concepts row && (row.type_id == IS_A))
-    ∙ by (row.active && (row.characteristic_type_id == INFERRED)) (row.type_id == IS_A) (has concepts row.source_id) (has concepts row.destination_id)
-    (map ends (filter (λ (row : RelationshipRow). is_in_force concepts row && (row.type_id == IS_A)) rows)) (rows_among concepts (map ends (filter is_isa rows)))
+    left (is_in_force concepts row && (row.type_id == is_a))
+    ∙ by (row.active && (row.characteristic_type_id == inferred_relationship)) (row.type_id == is_a) (has concepts row.source_id) (has concepts row.destination_id)
+    (map ends (filter (λ (row : RelationshipRow). is_in_force concepts row && (row.type_id == is_a)) rows)) (rows_among concepts (map ends (filter is_isa rows)))
     (isa_in_force-is concepts rows)
     ∙ right (is_isa row)
   where
-    left : (b : Bool) → map ends (cond b (row ∷ filter (λ (row : RelationshipRow). is_in_force concepts row && (row.type_id == IS_A)) rows) (filter (λ (row : RelationshipRow). is_in_force concepts row && (row.type_id == IS_A)) rows))
-        ≡ cond b (ends row ∷ map ends (filter (λ (row : RelationshipRow). is_in_force concepts row && (row.type_id == IS_A)) rows)) (map ends (filter (λ (row : RelationshipRow). is_in_force concepts row && (row.type_id == IS_A)) rows))
+    left : (b : Bool) → map ends (cond b (row ∷ filter (λ (row : RelationshipRow). is_in_force concepts row && (row.type_id == is_a)) rows) (filter (λ (row : RelationshipRow). is_in_force concepts row && (row.type_id == is_a)) rows))
+        ≡ cond b (ends row ∷ map ends (filter (λ (row : RelationshipRow). is_in_force concepts row && (row.type_id == is_a)) rows)) (map ends (filter (λ (row : RelationshipRow). is_in_force concepts row && (row.type_id == is_a)) rows))
     left true = refl
     left false = refl
 

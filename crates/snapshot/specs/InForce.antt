@@ -9,7 +9,7 @@ use Rattle.rf2_rows.specs.declared.kind.FileKind.TheVariants.{Concept, Relations
 use Rattle.rf2_rows.specs.declared.row.ConceptRow.{ConceptRow}
 use Rattle.rf2_rows.specs.declared.row.RelationshipRow.{RelationshipRow}
 use Rattle.snapshot.specs.Files.{Place, later_line}
-use Rattle.snapshot.specs.declared.rows.TheConstants.{IS_A, INFERRED}
+use Rattle.snapshot.specs.Metadata.{is_a, inferred_relationship}
 
 -- the concept row that stands at a place: behind the header, on a line that is not empty
 abbrev pub concept_row_at : Place → Option ConceptRow
@@ -67,13 +67,13 @@ concepts_in_force places = rising (map (λ (row : ConceptRow). row.id) (filter (
 -- a relationship row is in force where it is active and inferred and both its ends are concepts in force
 abbrev pub is_in_force : List ℕ → RelationshipRow → Bool
 is_in_force concepts row =
-    row.active && (row.characteristic_type_id == INFERRED) && has concepts row.source_id && has concepts row.destination_id
+    row.active && (row.characteristic_type_id == inferred_relationship) && has concepts row.source_id && has concepts row.destination_id
 
 -- the is-a rows: the rows in force whose type is |Is a|
 abbrev pub isa_in_force : List ℕ → List Place → List (ℕ × ℕ)
 isa_in_force concepts places =
     map (λ (row : RelationshipRow). (row.source_id, row.destination_id))
-    (filter (λ (row : RelationshipRow). is_in_force concepts row && (row.type_id == IS_A)) (relationship_rows places))
+    (filter (λ (row : RelationshipRow). is_in_force concepts row && (row.type_id == is_a)) (relationship_rows places))
 
 -- the release that the places hold
 abbrev pub release_of : List Place → Release

@@ -13,7 +13,7 @@ use Rattle.snapshot.specs.Contents.{Contents, unless_cyclic, least_cyclic}
 use Rattle.snapshot.specs.declared.fault.LoadFault.{LoadFault}
 use Rattle.snapshot.specs.declared.fault.LoadFault.TheVariants.{Cycle, Memory}
 use Rattle.snapshot.specs.declared.limits.Limits.{Limits}
-use Rattle.snapshot.specs.declared.rows.TheConstants.{IS_A, INFERRED}
+use Rattle.snapshot.specs.Metadata.{is_a, inferred_relationship}
 
 -- the identifiers of all concept rows and of the active ones, those of all relationship rows, and child
 -- and parent of the active, inferred is-a rows, all in the order of the rows
@@ -33,7 +33,7 @@ ids_kept kept Relationship = kept.relationship_ids
 
 -- the row itself says that it belongs to the hierarchy
 abbrev pub is_isa : RelationshipRow → Bool
-is_isa row = row.active && (row.characteristic_type_id == INFERRED) && (row.type_id == IS_A)
+is_isa row = row.active && (row.characteristic_type_id == inferred_relationship) && (row.type_id == is_a)
 
 -- what is kept after a concept row, if there is one
 abbrev pub keep_concept : Kept → Option ConceptRow → Kept

@@ -5,6 +5,7 @@ pub mod Files
 pub mod InForce
 pub mod Kept
 pub mod Limits
+pub mod Metadata
 pub mod Numbering
 pub mod RowsKept
 pub mod Search
