@@ -4,6 +4,7 @@ ghost use Rattle.std.specs.List.Sorted.{IsStrictlyIncreasing};
 ghost use Rattle.constraint_tree.specs.Denotation.{denotation};
 ghost use Rattle.snapshot.specs.Contents.{IsFaultOf, load_of};
 ghost use Rattle.snapshot.specs.Files.{file_text};
+ghost use Rattle.snapshot.specs.Name.{name_of};
 ghost use Rattle.query_tool.specs.Answer.{answer_text, syntax_text};
 ghost use Rattle.query_tool.specs.Query.{IsTextOf, tree_of_query};
 ghost use Rattle.query_tool.specs.declared.query.Query.{Query};
@@ -58,10 +59,11 @@ impl Engine {
     }
 
     /// Appends the answer to a query line: `OK` and the number of concepts that it denotes, then
-    /// the identifier of each, in rising order, on a line of its own; or `ERR syntax` where the
+    /// each of them in rising order on a line of its own, its identifier and its name between bars
+    /// if it has one; or `ERR syntax` where the
     /// line is no query. Where memory is refused `output` is unchanged.
     pub fn answer(&self, alloc: Global, line: &[u8], output: &mut Vec<u8>) -> Result<(), AllocError>
-        ensures query { OnOk result ((query : Query) → IsTextOf line.now query → output.new.items ≡ output.old.items ++ answer_text (denotation self.now.release (tree_of_query query))) }
+        ensures query { OnOk result ((query : Query) → IsTextOf line.now query → output.new.items ≡ output.old.items ++ answer_text (name_of self.now.release self.now.language) (denotation self.now.release (tree_of_query query))) }
         ensures syntax { OnOk result (((query : Query) → ¬ IsTextOf line.now query) → output.new.items ≡ output.old.items ++ syntax_text) }
         ensures err { OnErr result (output.new.items ≡ output.old.items) }
         ensures rising { (query : Query) → IsStrictlyIncreasing (denotation self.now.release (tree_of_query query)) }

@@ -10,8 +10,10 @@ use std::alloc::{AllocError, Global};
 use std::process::Abort;
 use std::test::Fail;
 
-// The places of the sample's concept and relationship files in the list.
+// The places of the sample's concept, description and relationship files in the list.
 const CONCEPTS: usize = 1;
+
+const DESCRIPTIONS: usize = 2;
 
 const RELATIONSHIPS: usize = 4;
 
@@ -110,9 +112,9 @@ fn reads_identifiers_and_names(rt: HostRuntime) {
 
 #[test]
 fn refuses_changed_loads(rt: HostRuntime) -> Result<(), Fail> {
-    let row = |line, cause, column| {
+    let row = |file, line, cause, column| {
         Some(LoadFault::Row {
-            file: 1,
+            file,
             line,
             fault: RowFault { cause, column },
         })
@@ -122,7 +124,7 @@ fn refuses_changed_loads(rt: HostRuntime) -> Result<(), Fail> {
             CONCEPTS,
             b"138875005\t".as_slice(),
             b"100006\t".as_slice(),
-            row(2, RowCause::Id(IdFault::Check), 1),
+            row(1, 2, RowCause::Id(IdFault::Check), 1),
         ),
         (
             CONCEPTS,
@@ -140,7 +142,7 @@ fn refuses_changed_loads(rt: HostRuntime) -> Result<(), Fail> {
             CONCEPTS,
             b"109006\t20240101\t0\t900000000000207008\t900000000000074008\r\n",
             b"109006\t20240101\t",
-            row(12, RowCause::Fields, 0),
+            row(1, 12, RowCause::Fields, 0),
         ),
         (
             RELATIONSHIPS,
@@ -153,6 +155,24 @@ fn refuses_changed_loads(rt: HostRuntime) -> Result<(), Fail> {
             b"121022\t",
             b"122026\t20240101\t1\t900000000000207008\t138875005\t138875005\t0\t116680003\t900000000000011006\t900000000000451002\r\n121022\t",
             Some(LoadFault::Cycle(id(&rt, b"138875005"))),
+        ),
+        (
+            DESCRIPTIONS,
+            b"\tBeta (finding)\t",
+            b"\tBeta \xFF\t",
+            row(2, 4, RowCause::Utf8, 8),
+        ),
+        (
+            DESCRIPTIONS,
+            b"101013\t20240101\t1\t",
+            b"100014\t20240101\t0\t",
+            Some(LoadFault::Duplicate { file: 2, line: 3 }),
+        ),
+        (
+            DESCRIPTIONS,
+            b"\tterm\t",
+            b"\tTerm\t",
+            Some(LoadFault::Header { file: 2 }),
         ),
         (CONCEPTS, b"", b"", None),
     ];
@@ -170,6 +190,11 @@ fn keeps_to_limits_and_names(rt: HostRuntime) {
     let many = fault_of(rt.alloc(), &sample_files(), limits);
     assert!(rt; many == Some(LoadFault::TooMany { file: 1, line: 12 }));
     limits.concepts = 11;
+    assert!(rt; fault_of(rt.alloc(), &sample_files(), limits).is_none());
+    limits.descriptions = 10;
+    let many = fault_of(rt.alloc(), &sample_files(), limits);
+    assert!(rt; many == Some(LoadFault::TooMany { file: 2, line: 12 }));
+    limits.descriptions = 11;
     assert!(rt; fault_of(rt.alloc(), &sample_files(), limits).is_none());
     let files = sample_files();
     let none = fault_of(rt.alloc(), &files[2..], Limits::standard());
@@ -190,8 +215,8 @@ fn numbers_concepts(rt: HostRuntime) {
     }
 }
 
-// The rows in force of the sample: as many concepts, and the is-a rows in the order of the file, as the
-// sample release of the definitions has them.
+// The rows in force of the sample: as many concepts, the is-a rows in the order of the file, and the
+// names, as the sample release of the definitions has them.
 #[test]
 fn holds_the_sample_release(rt: HostRuntime) {
     let concepts = [
@@ -209,6 +234,18 @@ fn holds_the_sample_release(rt: HostRuntime) {
         (103007, 102002),
         (107008, 106004),
     ];
+    let names = [
+        Some("Alpha (finding)"),
+        Some("Beta (finding)"),
+        Some("Gamma (finding)"),
+        Some("Delta (finding)"),
+        Some("Type T (attribute)"),
+        Some("Type U (attribute)"),
+        Some("Value X (value)"),
+        Some("Value Y (value)"),
+        None,
+        Some("Root (test)"),
+    ];
     match Snapshot::load(rt.alloc(), &sample_files(), "en", Limits::standard()) {
         Ok(snapshot) => {
             for (number, id) in concepts.iter().enumerate() {
@@ -218,6 +255,11 @@ fn holds_the_sample_release(rt: HostRuntime) {
             for (row, ends) in snapshot.isa_rows().iter().zip(&isa) {
                 assert_eq!(rt; Some(row.0), snapshot.index_of(ends.0));
                 assert_eq!(rt; Some(row.1), snapshot.index_of(ends.1));
+            }
+            assert_eq!(rt; snapshot.concept_count() as usize, names.len());
+            for number in 0..snapshot.concept_count() {
+                let name = snapshot.name(number);
+                assert!(rt; names.get(number as usize) == Some(&name));
             }
         }
         Err(fault) => panic!(rt; "{fault}"),

@@ -1,12 +1,13 @@
 //! The bytes of an answer.
-ghost use Rattle.std.specs.Prelude.{◌≡◌, ◌++◌, Bool, IfOk, OnErr, OnOk, length, count_by};
-ghost use Rattle.query_tool.specs.Answer.{answer_text, marked_concepts, number_line, syntax_text};
+ghost use Rattle.std.specs.Prelude.{◌≡◌, ◌<◌, ◌++◌, Bool, IfOk, OnErr, OnOk, length, count_by, slice_index};
+ghost use Rattle.query_tool.specs.Answer.{answer_text, concept_line, marked_concepts, name_text, number_line, syntax_text};
+ghost use Rattle.snapshot.specs.Name.{name_of, text_lent};
 
 use snapshot::Snapshot;
 use std::alloc::{AllocError, Global};
 
 /// Appends `OK`, the number of the concepts that are marked and then a line for each, in the rising
-/// order of their identifiers. Every line ends in LF. Where memory is refused `output` is unchanged.
+/// order of their identifiers: the identifier, and the name if the concept has one. Every line ends in LF. Where memory is refused `output` is unchanged.
 pub fn print_answer(
     alloc: Global,
     snapshot: &Snapshot,
@@ -14,7 +15,7 @@ pub fn print_answer(
     output: &mut Vec<u8>,
 ) -> Result<(), AllocError>
     requires { length marks.now ≡ length snapshot.now.release.concepts }
-    ensures ok { OnOk result (output.new.items ≡ output.old.items ++ answer_text (marked_concepts marks.now snapshot.now.release.concepts)) }
+    ensures ok { OnOk result (output.new.items ≡ output.old.items ++ answer_text (name_of snapshot.now.release snapshot.now.language) (marked_concepts marks.now snapshot.now.release.concepts)) }
     ensures err { OnErr result (output.new.items ≡ output.old.items) }
 {
     let lines = answer_lines(alloc, snapshot, marks)?;
@@ -33,13 +34,13 @@ pub fn print_syntax_fault(output: &mut Vec<u8>) -> Result<(), AllocError>
 // The whole answer, apart, so that a growth that is refused leaves no part of it behind.
 fn answer_lines(alloc: Global, snapshot: &Snapshot, marks: &[bool]) -> Result<Vec<u8>, AllocError>
     requires { length marks.now ≡ length snapshot.now.release.concepts }
-    ensures { IfOk result (λ lines. lines.items ≡ answer_text (marked_concepts marks.now snapshot.now.release.concepts)) }
+    ensures { IfOk result (λ lines. lines.items ≡ answer_text (name_of snapshot.now.release snapshot.now.language) (marked_concepts marks.now snapshot.now.release.concepts)) }
 {
     let mut lines = Vec::from_slice(alloc, b"OK ")?;
     print_number(mark_count(marks), &mut lines)?;
     for concept in 0..snapshot.concept_count() {
         if marks[concept as usize] {
-            print_number(snapshot.id_at(concept).number(), &mut lines)?;
+            print_concept(snapshot, concept, &mut lines)?;
         }
     }
     Ok(lines)
@@ -50,6 +51,32 @@ fn mark_count(marks: &[bool]) -> u64
     ensures { result ≡ count_by (λ mark. mark) marks.now }
 {
     marks.iter().filter(|mark| **mark).count() as u64
+}
+
+// Appends the line of a concept.
+fn print_concept(snapshot: &Snapshot, concept: u32, output: &mut Vec<u8>) -> Result<(), AllocError>
+    requires { concept < length snapshot.now.release.concepts }
+    ensures { OnOk result (output.new.items ≡ output.old.items ++ concept_line (name_of snapshot.now.release snapshot.now.language) (slice_index snapshot.now.release.concepts concept)) }
+{
+    let mut digits = itoa::Buffer::new();
+    let id = digits.format(snapshot.id_at(concept).number());
+    output.extend_from_slice(id.as_bytes())?;
+    print_name(snapshot.name(concept), output)?;
+    output.extend_from_slice(b"\n")
+}
+
+// Appends a name between bars, if there is one.
+fn print_name(name: Option<&str>, output: &mut Vec<u8>) -> Result<(), AllocError>
+    ensures { OnOk result (output.new.items ≡ output.old.items ++ name_text (text_lent name.entry)) }
+{
+    match name {
+        Some(name) => {
+            output.extend_from_slice(b" |")?;
+            output.extend_from_slice(name.as_bytes())?;
+            output.extend_from_slice(b"|")
+        }
+        None => Ok(()),
+    }
 }
 
 // Appends a number and LF.

@@ -8,17 +8,26 @@ use std::test::Fail;
 const ANSWERS: [(&[u8], &[u8]); 18] = [
     (
         b"*",
-        b"OK 10\n100005\n101009\n102002\n103007\n104001\n105000\n106004\n107008\n108003\n138875005\n",
+        b"OK 10\n100005 |Alpha (finding)|\n101009 |Beta (finding)|\n102002 |Gamma (finding)|\n103007 |Delta (finding)|\n104001 |Type T (attribute)|\n105000 |Type U (attribute)|\n106004 |Value X (value)|\n107008 |Value Y (value)|\n108003\n138875005 |Root (test)|\n",
     ),
-    (b"100005", b"OK 1\n100005\n"),
-    (b"<100005", b"OK 3\n101009\n102002\n103007\n"),
-    (b"<<100005", b"OK 4\n100005\n101009\n102002\n103007\n"),
-    (b" < \t100005 \r\n", b"OK 3\n101009\n102002\n103007\n"),
-    (b"<<107008", b"OK 1\n107008\n"),
+    (b"100005", b"OK 1\n100005 |Alpha (finding)|\n"),
+    (
+        b"<100005",
+        b"OK 3\n101009 |Beta (finding)|\n102002 |Gamma (finding)|\n103007 |Delta (finding)|\n",
+    ),
+    (
+        b"<<100005",
+        b"OK 4\n100005 |Alpha (finding)|\n101009 |Beta (finding)|\n102002 |Gamma (finding)|\n103007 |Delta (finding)|\n",
+    ),
+    (
+        b" < \t100005 \r\n",
+        b"OK 3\n101009 |Beta (finding)|\n102002 |Gamma (finding)|\n103007 |Delta (finding)|\n",
+    ),
+    (b"<<107008", b"OK 1\n107008 |Value Y (value)|\n"),
     (b"<103007", b"OK 0\n"),
     (
         b"< *",
-        b"OK 9\n100005\n101009\n102002\n103007\n104001\n105000\n106004\n107008\n108003\n",
+        b"OK 9\n100005 |Alpha (finding)|\n101009 |Beta (finding)|\n102002 |Gamma (finding)|\n103007 |Delta (finding)|\n104001 |Type T (attribute)|\n105000 |Type U (attribute)|\n106004 |Value X (value)|\n107008 |Value Y (value)|\n108003\n",
     ),
     (b"109006", b"OK 0\n"),
     (b"<<109006", b"OK 0\n"),
@@ -37,16 +46,17 @@ const TWO_CONCEPTS: &[u8] = b"id\teffectiveTime\tactive\tmoduleId\tdefinitionSta
 1000004\t20240101\t1\t900000000000207008\t900000000000074008\r\n\
 100005\t20240101\t1\t900000000000207008\t900000000000074008\r\n";
 
-// What a release answers to a line, behind what the vector holds before; or just that, where memory
-// is refused.
+// What a release with the names of a language answers to a line, behind what the vector holds before;
+// or just that, where memory is refused.
 fn answered(
     rt: &impl Abort,
     alloc: Global,
     files: &[NamedBytes<'_>],
+    language: &str,
     line: &[u8],
 ) -> Result<Vec<u8>, Fail> {
     let mut output = Vec::from_slice(alloc, b"before\n")?;
-    match Engine::load(alloc, files, "en", Limits::standard()) {
+    match Engine::load(alloc, files, language, Limits::standard()) {
         Ok(engine) => {
             if engine.answer(alloc, line, &mut output).is_err() {
                 assert!(rt; output.as_slice() == b"before\n".as_slice());
@@ -60,7 +70,7 @@ fn answered(
 #[test]
 fn answers_queries(rt: HostRuntime) -> Result<(), Fail> {
     for (line, answer) in ANSWERS {
-        let output = answered(&rt, rt.alloc(), &sample_files(), line)?;
+        let output = answered(&rt, rt.alloc(), &sample_files(), "en", line)?;
         assert!(rt; output.as_slice().strip_prefix(b"before\n".as_slice()) == Some(answer));
     }
     Ok(())
@@ -72,7 +82,29 @@ fn answers_in_rising_order(rt: HostRuntime) -> Result<(), Fail> {
         name: "sct2_Concept_Snapshot_INT_20240101.txt",
         bytes: TWO_CONCEPTS,
     }];
-    let output = answered(&rt, rt.alloc(), &files, b"*")?;
+    let output = answered(&rt, rt.alloc(), &files, "en", b"*")?;
     assert!(rt; output.as_slice() == b"before\nOK 2\n100005\n1000004\n".as_slice());
+    Ok(())
+}
+
+// A name in the asked language comes first, then any.
+#[test]
+fn names_concepts_in_a_language(rt: HostRuntime) -> Result<(), Fail> {
+    let answers = [
+        (
+            "da",
+            b"103007".as_slice(),
+            b"OK 1\n103007 |Delta (fund)|\n".as_slice(),
+        ),
+        ("da", b"100005", b"OK 1\n100005 |Alpha (finding)|\n"),
+        ("en", b"103007", b"OK 1\n103007 |Delta (finding)|\n"),
+        ("en", b"108003", b"OK 1\n108003\n"),
+        // in no language that is asked: the least identifier, whatever its language
+        ("fr", b"103007", b"OK 1\n103007 |Delta (finding)|\n"),
+    ];
+    for (language, line, answer) in answers {
+        let output = answered(&rt, rt.alloc(), &sample_files(), language, line)?;
+        assert!(rt; output.as_slice().strip_prefix(b"before\n".as_slice()) == Some(answer));
+    }
     Ok(())
 }

@@ -8,7 +8,7 @@ use Rattle.rf2_rows.specs.declared.kind.FileKind.{FileKind}
 use Rattle.rf2_rows.specs.declared.fault.RowFault.{RowFault}
 use Rattle.rf2_rows.specs.Columns.{Column, columns_of, cause_of}
 use Rattle.rf2_rows.specs.Parts.{texts_of}
-use Rattle.rf2_rows.specs.Rows.{column_fault, first_fault, fields_fault, concept_of, relationship_of, number_of, time_of, active_of}
+use Rattle.rf2_rows.specs.Rows.{column_fault, first_fault, fields_fault, concept_of, description_of, relationship_of, number_of, time_of, active_of}
 
 -- the text of the field at a place
 abbrev pub text_at : List (Bor (List ℕ)) → ℕ → List ℕ
@@ -44,6 +44,19 @@ pub concept_of_texts : (fields : List (Bor (List ℕ))) → concept_of (texts_of
   definition_status_id = number_of (text_at fields 4);
 }
 concept_of_texts fields = simp get_or-texts_of
+
+pub description_of_texts : (fields : List (Bor (List ℕ))) → description_of (texts_of fields) ≡ record {
+  id = number_of (text_at fields 0);
+  effective_time = time_of (text_at fields 1);
+  active = active_of (text_at fields 2);
+  module_id = number_of (text_at fields 3);
+  concept_id = number_of (text_at fields 4);
+  language_code = text_at fields 5;
+  type_id = number_of (text_at fields 6);
+  term = text_at fields 7;
+  case_significance_id = number_of (text_at fields 8);
+}
+description_of_texts fields = simp get_or-texts_of
 
 pub relationship_of_texts : (fields : List (Bor (List ℕ))) → relationship_of (texts_of fields) ≡ record {
   id = number_of (text_at fields 0);

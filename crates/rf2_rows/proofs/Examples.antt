@@ -1,13 +1,15 @@
 -- Worked names, headers and lines: the definitions compute.
-use Rattle.std.proofs.Common.{◌≡◌, ℕ, List, [], ◌∷◌, None, Some, true, refl}
+use lib.Utf8.{encode}
+use Rattle.std.proofs.Common.{◌≡◌, ℕ, List, [], ◌∷◌, ◌++◌, None, Some, true, refl}
 use Rattle.std.specs.Prelude.{codes}
 use Rattle.std.specs.List.{join_with_byte}
+use Rattle.std.specs.Str.{chars, is_utf8}
 use Rattle.sctid.specs.declared.IdFault.TheVariants.{Partition, Check}
-use Rattle.rf2_rows.specs.declared.kind.FileKind.TheVariants.{Concept, Relationship}
-use Rattle.rf2_rows.specs.declared.fault.RowCause.TheVariants.{Fields, Id, Time}
+use Rattle.rf2_rows.specs.declared.kind.FileKind.TheVariants.{Concept, Description, Relationship}
+use Rattle.rf2_rows.specs.declared.fault.RowCause.TheVariants.{Fields, Id, Time, Utf8}
 use Rattle.rf2_rows.specs.Files.{file_kind_of}
 use Rattle.rf2_rows.specs.Columns.{header_of, cause_of}
-use Rattle.rf2_rows.specs.Rows.{row_fault, concept_row}
+use Rattle.rf2_rows.specs.Rows.{row_fault, concept_row, description_row}
 
 extension_of_concepts : file_kind_of (codes "a/sct2_Concept_XYSnapshot_XY_20240101.txt") ≡ Some Concept
 unfolding file_kind_of
@@ -56,3 +58,24 @@ other_part = refl
 own_fault : row_fault Concept (line (codes "100016" ∷ [] ∷ codes "0" ∷ codes "100005" ∷ codes "100005" ∷ [])) ≡ Some (record { cause = Id Check; column = 1 })
 unfolding row_fault cause_of
 own_fault = refl
+
+-- a line of the Description file with this term
+abbrev described : List ℕ → List ℕ
+described term = line (codes "100014" ∷ codes "20240101" ∷ codes "1" ∷ codes "900000000000207008" ∷ codes "100005" ∷ codes "en" ∷ codes "900000000000013009" ∷ term ∷ codes "900000000000448009" ∷ [])
+
+-- its letter é takes two bytes
+meniere : List ℕ
+meniere = codes "M" ++ (195 ∷ 169 ∷ codes "niere")
+
+description_without_fault : row_fault Description (described meniere) ≡ None
+unfolding row_fault cause_of is_utf8 chars encode meniere
+description_without_fault = refl
+
+its_description : description_row (described meniere) ≡ record { id = 100014; effective_time = Some 20240101; active = true; module_id = 900000000000207008; concept_id = 100005; language_code = codes "en"; type_id = 900000000000013009; term = meniere; case_significance_id = 900000000000448009 }
+unfolding description_row meniere
+its_description = refl
+
+-- one of the two bytes alone is no letter
+term_cut_in_letter : row_fault Description (described (codes "M" ++ (195 ∷ []))) ≡ Some (record { cause = Utf8; column = 8 })
+unfolding row_fault cause_of is_utf8 chars encode
+term_cut_in_letter = refl

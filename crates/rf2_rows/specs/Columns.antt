@@ -1,18 +1,19 @@
 -- The columns of each kind of file, and what their texts may be (Release File Specification,
--- "Concept file" and "Relationship file").
+-- "Concept file", "Description file" and "Relationship file").
 use Rattle.std.specs.Prelude.{ℕ, Bool, true, false, ◌&&◌, ◌||◌, ◌==◌, nat_le, if◌then◌else◌, List, [], ◌∷◌, map, length, codes, bytes_eq, Option, None, Some, option_map}
 use Rattle.std.specs.Option.{option_or}
 use Rattle.std.specs.List.{join_with_byte, list_all}
 use Rattle.std.specs.Char.{is_ascii_digit}
+use Rattle.std.specs.Str.{is_utf8}
 use Rattle.sctid.specs.Identifier.{fault_of, part_of}
 use Rattle.sctid.specs.declared.IdFault.{IdFault}
 use Rattle.sctid.specs.declared.IdFault.TheVariants.{Partition}
 use Rattle.sctid.specs.declared.Part.{Part}
 use Rattle.sctid.specs.declared.Part.TheVariants.{Concept, Description, Relationship}
 use Rattle.rf2_rows.specs.declared.kind.FileKind.{FileKind}
-use Rattle.rf2_rows.specs.declared.kind.FileKind.TheVariants.{Concept as ConceptFile, Relationship as RelationshipFile}
+use Rattle.rf2_rows.specs.declared.kind.FileKind.TheVariants.{Concept as ConceptFile, Description as DescriptionFile, Relationship as RelationshipFile}
 use Rattle.rf2_rows.specs.declared.fault.RowCause.{RowCause}
-use Rattle.rf2_rows.specs.declared.fault.RowCause.TheVariants.{Fields, Id, Time, Active, Group}
+use Rattle.rf2_rows.specs.declared.fault.RowCause.TheVariants.{Fields, Id, Time, Active, Group, Utf8}
 
 -- what the texts of a column are
 pub data Format : Type 0 where
@@ -24,6 +25,8 @@ pub data Format : Type 0 where
   active_format : Format
   -- the number of a group, of 1 to 9 digits
   group_format : Format
+  -- a text in UTF-8
+  text_format : Format
 
 -- a column: its name in the header, and what its texts are
 pub record Column : Type 0 where
@@ -41,6 +44,17 @@ columns_of ConceptFile =
     ∷ column (codes "active") active_format
     ∷ column (codes "moduleId") (id_format Concept)
     ∷ column (codes "definitionStatusId") (id_format Concept)
+    ∷ []
+columns_of DescriptionFile =
+    column (codes "id") (id_format Description)
+    ∷ column (codes "effectiveTime") time_format
+    ∷ column (codes "active") active_format
+    ∷ column (codes "moduleId") (id_format Concept)
+    ∷ column (codes "conceptId") (id_format Concept)
+    ∷ column (codes "languageCode") text_format
+    ∷ column (codes "typeId") (id_format Concept)
+    ∷ column (codes "term") text_format
+    ∷ column (codes "caseSignificanceId") (id_format Concept)
     ∷ []
 columns_of RelationshipFile =
     column (codes "id") (id_format Relationship)
@@ -85,11 +99,13 @@ cause_of (id_format part) text = option_map Id (fault_for part text)
 cause_of time_format text = if length text == 0 || is_number 8 8 text then None else Some Time
 cause_of active_format text = if bytes_eq text (codes "0") || bytes_eq text (codes "1") then None else Some Active
 cause_of group_format text = if is_number 1 9 text then None else Some Group
+cause_of text_format text = if is_utf8 text then None else Some Utf8
 
--- the number of a cause
+-- the number of a cause; 6 and 8 are kept for causes of other kinds of row
 abbrev pub cause_number : RowCause → ℕ
 cause_number Fields = 1
 cause_number (Id fault) = 2
 cause_number Time = 3
 cause_number Active = 4
 cause_number Group = 5
+cause_number Utf8 = 7

@@ -4,7 +4,7 @@ use Rattle.std.specs.Prelude.{ℕ, ◌-◌, Bool, false, ◌&&◌, ◌||◌, ◌
 use Rattle.std.specs.List.{after_last, starts_with, ends_with}
 use Rattle.rf2_rows.specs.Parts.{parts_at}
 use Rattle.rf2_rows.specs.declared.kind.FileKind.{FileKind}
-use Rattle.rf2_rows.specs.declared.kind.FileKind.TheVariants.{Concept, Relationship}
+use Rattle.rf2_rows.specs.declared.kind.FileKind.TheVariants.{Concept, Description, Relationship}
 
 -- the file's name in a path: what follows the last `/`
 abbrev pub file_name : List ℕ → List ℕ
@@ -27,6 +27,7 @@ is_terminology file_type = bytes_eq file_type (codes "sct2") || bytes_eq file_ty
 abbrev pub kind_named : List ℕ → Option FileKind
 kind_named content =
     if bytes_eq content (codes "Concept") then Some Concept
+    else if bytes_eq content (codes "Description") then Some Description
     else if bytes_eq content (codes "Relationship") then Some Relationship
     else None
 

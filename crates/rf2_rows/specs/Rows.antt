@@ -1,18 +1,19 @@
--- What a line of a file is as a row (Release File Specification, "Concept file" and "Relationship
--- file"): its fields, its first fault, and the row that an accepted line stands for.
+-- What a line of a file is as a row (Release File Specification, "Concept file", "Description file"
+-- and "Relationship file"): its fields, its first fault, and the row that an accepted line stands for.
 use Rattle.std.specs.Prelude.{◌≡◌, ℕ, ◌+◌, ◌==◌, Bool, if◌then◌else◌, List, [], ◌∷◌, length, codes, bytes_eq, slice_index_or, Option, None, Some, option_map, Result, MatchResult}
 use Rattle.std.specs.Option.{option_or}
 use Rattle.std.specs.List.{position_or_len}
 use Rattle.std.specs.Str.Parse.{digits_value}
 use Rattle.rf2_rows.specs.declared.kind.FileKind.{FileKind}
-use Rattle.rf2_rows.specs.declared.kind.FileKind.TheVariants.{Concept as ConceptFile, Relationship as RelationshipFile}
+use Rattle.rf2_rows.specs.declared.kind.FileKind.TheVariants.{Concept as ConceptFile, Description as DescriptionFile, Relationship as RelationshipFile}
 use Rattle.rf2_rows.specs.declared.fault.RowCause.{RowCause}
 use Rattle.rf2_rows.specs.declared.fault.RowCause.TheVariants.{Fields}
 use Rattle.rf2_rows.specs.declared.fault.RowFault.{RowFault}
 use Rattle.rf2_rows.specs.declared.row.ConceptRow.{ConceptRow}
+use Rattle.rf2_rows.specs.declared.row.DescriptionRow.{DescriptionRow}
 use Rattle.rf2_rows.specs.declared.row.RelationshipRow.{RelationshipRow}
 use Rattle.rf2_rows.specs.declared.row.Row.{Row}
-use Rattle.rf2_rows.specs.declared.row.Row.TheVariants.{Concept, Relationship}
+use Rattle.rf2_rows.specs.declared.row.Row.TheVariants.{Concept, Description, Relationship}
 use Rattle.rf2_rows.specs.Columns.{Column, columns_of, cause_of, tab}
 use Rattle.rf2_rows.specs.Parts.{parts_at}
 
@@ -68,6 +69,48 @@ concept_of fields =
       definition_status_id = number_of (text (codes "definitionStatusId"));
     }
 
+-- a row of the Description file, whose texts are bytes
+pub record DescriptionText : Type 0 where
+  pub id : ℕ
+  pub effective_time : Option ℕ
+  pub active : Bool
+  pub module_id : ℕ
+  pub concept_id : ℕ
+  pub language_code : List ℕ
+  pub type_id : ℕ
+  pub term : List ℕ
+  pub case_significance_id : ℕ
+
+-- a row with the bytes of the texts that it was lent
+abbrev pub description_text : DescriptionRow → DescriptionText
+description_text row = record {
+  id = row.id;
+  effective_time = row.effective_time;
+  active = row.active;
+  module_id = row.module_id;
+  concept_id = row.concept_id;
+  language_code = row.language_code.now;
+  type_id = row.type_id;
+  term = row.term.now;
+  case_significance_id = row.case_significance_id;
+}
+
+-- the row of the Description file that fields stand for
+abbrev pub description_of : List (List ℕ) → DescriptionText
+description_of fields =
+    let text = text_in DescriptionFile fields in
+    record {
+      id = number_of (text (codes "id"));
+      effective_time = time_of (text (codes "effectiveTime"));
+      active = active_of (text (codes "active"));
+      module_id = number_of (text (codes "moduleId"));
+      concept_id = number_of (text (codes "conceptId"));
+      language_code = text (codes "languageCode");
+      type_id = number_of (text (codes "typeId"));
+      term = text (codes "term");
+      case_significance_id = number_of (text (codes "caseSignificanceId"));
+    }
+
 -- the row of the Relationship file that fields stand for
 abbrev pub relationship_of : List (List ℕ) → RelationshipRow
 relationship_of fields =
@@ -89,6 +132,9 @@ relationship_of fields =
 unfoldable pub concept_row : List ℕ → ConceptRow
 concept_row line = concept_of (fields_of line)
 
+unfoldable pub description_row : List ℕ → DescriptionText
+description_row line = description_of (fields_of line)
+
 unfoldable pub relationship_row : List ℕ → RelationshipRow
 relationship_row line = relationship_of (fields_of line)
 
@@ -96,8 +142,13 @@ relationship_row line = relationship_of (fields_of line)
 abbrev pub IsReading : {T : Type 0} → Option RowFault → T → Result T RowFault → Type 0
 IsReading fault value result = MatchResult result (λ found. (fault ≡ None) × (found ≡ value)) (λ found. fault ≡ Some found)
 
+-- the same of what is lent, of which only its view counts
+abbrev pub IsReadingLent : {Lent T : Type 0} → (Lent → T) → Option RowFault → T → Result Lent RowFault → Type 0
+IsReadingLent view fault value result = MatchResult result (λ found. (fault ≡ None) × (view found ≡ value)) (λ found. fault ≡ Some found)
+
 -- the row is the one that a line of a kind of file stands for
 abbrev pub IsRow : FileKind → List ℕ → Row → Type 0
 IsRow ConceptFile line (Concept row) = row ≡ concept_row line
+IsRow DescriptionFile line (Description row) = description_text row ≡ description_row line
 IsRow RelationshipFile line (Relationship row) = row ≡ relationship_row line
 IsRow _ line _ = ⊥

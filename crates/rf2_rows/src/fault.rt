@@ -23,6 +23,9 @@ pub enum RowCause {
     /// Not 1 to 9 digits.
     #[error("a relationship group has 1 to 9 digits")]
     Group,
+    /// Not UTF-8.
+    #[error("the text is not UTF-8")]
+    Utf8,
 }
 
 /// The first fault of a line: its cause, and the column that it is in.
@@ -38,7 +41,7 @@ pub struct RowFault {
 impl RowCause {
     ghost use Rattle.rf2_rows.specs.Columns.{cause_number};
 
-    /// The number of the cause, from 1.
+    /// The number of the cause, from 1. 6 and 8 are kept for causes of other kinds of row.
     pub fn number(self) -> u8
         ensures { result ≡ cause_number self }
     {
@@ -48,6 +51,7 @@ impl RowCause {
             RowCause::Time => 3,
             RowCause::Active => 4,
             RowCause::Group => 5,
+            RowCause::Utf8 => 7,
         }
     }
 }

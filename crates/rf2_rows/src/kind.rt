@@ -11,6 +11,8 @@ use bstr::ByteSlice;
 pub enum FileKind {
     /// Concepts (Release File Specification, "Concept file").
     Concept,
+    /// Descriptions of concepts (Release File Specification, "Description file").
+    Description,
     /// Relationships between concepts (Release File Specification, "Relationship file").
     Relationship,
 }
@@ -31,6 +33,9 @@ pub fn header(kind: FileKind) -> &'static str
 {
     match kind {
         FileKind::Concept => "id\teffectiveTime\tactive\tmoduleId\tdefinitionStatusId",
+        FileKind::Description => {
+            "id\teffectiveTime\tactive\tmoduleId\tconceptId\tlanguageCode\ttypeId\tterm\tcaseSignificanceId"
+        }
         FileKind::Relationship => {
             "id\teffectiveTime\tactive\tmoduleId\tsourceId\tdestinationId\trelationshipGroup\ttypeId\tcharacteristicTypeId\tmodifierId"
         }
@@ -86,6 +91,8 @@ fn kind_named(content: &[u8]) -> Option<FileKind>
 {
     if content == b"Concept".as_slice() {
         Some(FileKind::Concept)
+    } else if content == b"Description".as_slice() {
+        Some(FileKind::Description)
     } else if content == b"Relationship".as_slice() {
         Some(FileKind::Relationship)
     } else {

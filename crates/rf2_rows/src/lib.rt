@@ -16,5 +16,5 @@ pub use crate::fault::{RowCause, RowFault};
 pub use crate::kind::{FileKind, file_kind, header};
 pub use crate::laws::{reaches_tells_chains, same_pairs_are_told};
 pub use crate::read::read_row;
-pub use crate::row::{ConceptRow, RelationshipRow, Row};
+pub use crate::row::{ConceptRow, DescriptionRow, RelationshipRow, Row};
 pub use crate::value::Decimal;

@@ -1,12 +1,12 @@
 //! Reading a line as a row.
 ghost use Rattle.std.specs.Prelude.{◌≡◌, ◌<◌, ◌≤◌, None, Some, IsNone, IfOk, IfErr, IfSome, is_some, length};
-ghost use Rattle.rf2_rows.specs.Columns.{cause_of, id_format, time_format, active_format, group_format, is_number};
+ghost use Rattle.rf2_rows.specs.Columns.{cause_of, id_format, time_format, active_format, group_format, text_format, is_number};
 ghost use Rattle.rf2_rows.specs.Parts.{texts_of};
-ghost use Rattle.rf2_rows.specs.Rows.{IsReading, column_fault, fields_of, fields_fault, row_fault, concept_of, relationship_of, number_of, time_of, active_of, IsRow};
+ghost use Rattle.rf2_rows.specs.Rows.{IsReading, IsReadingLent, column_fault, fields_of, fields_fault, row_fault, concept_of, description_of, description_text, relationship_of, number_of, time_of, active_of, IsRow};
 
 use crate::fault::{RowCause, RowFault};
 use crate::kind::FileKind;
-use crate::row::{ConceptRow, RelationshipRow, Row};
+use crate::row::{ConceptRow, DescriptionRow, RelationshipRow, Row};
 use crate::split::cut;
 use arrayvec::ArrayVec;
 use sctid::{IdFault, Part, SctId};
@@ -15,9 +15,9 @@ use sctid::{IdFault, Part, SctId};
 type Fields<'a> = ArrayVec<&'a [u8], 10>;
 
 /// Reads a line, without its end, as a row of a kind. A fault is the first: the number of fields,
-/// then the columns from left to right. Takes no memory.
-#[tactic(auto, unfolding(crate::specs::Rows::row_fault, crate::specs::Rows::concept_row, crate::specs::Rows::relationship_row))]
-pub fn read_row(kind: FileKind, line: &[u8]) -> Result<Row, RowFault>
+/// then the columns from left to right. The texts of a row are lent from the line. Takes no memory.
+#[tactic(auto, unfolding(crate::specs::Rows::row_fault, crate::specs::Rows::concept_row, crate::specs::Rows::description_row, crate::specs::Rows::relationship_row))]
+pub fn read_row<'a>(kind: FileKind, line: &'a [u8]) -> Result<Row<'a>, RowFault>
     ensures row { IfOk result (λ row. IsRow kind line.now row) }
     ensures accepted { IfOk result (λ _. row_fault kind line.now ≡ None) }
     ensures fault { IfErr result (λ fault. row_fault kind line.now ≡ Some fault) }
@@ -30,6 +30,10 @@ pub fn read_row(kind: FileKind, line: &[u8]) -> Result<Row, RowFault>
             let row = read_concept(fields.as_slice())?;
             Ok(Row::Concept(row))
         }
+        FileKind::Description => match read_description(fields.as_slice()) {
+            Ok(row) => Ok(Row::Description(row)),
+            Err(fault) => Err(fault),
+        },
         FileKind::Relationship => {
             let row = read_relationship(fields.as_slice())?;
             Ok(Row::Relationship(row))
@@ -73,6 +77,47 @@ fn read_concept(fields: &[&[u8]]) -> Result<ConceptRow, RowFault>
         active,
         module_id,
         definition_status_id,
+    })
+}
+
+// The row of the Description file that the fields of a line stand for.
+fn read_description<'a>(fields: &[&'a [u8]]) -> Result<DescriptionRow<'a>, RowFault>
+    ensures { let texts = texts_of fields.now in
+        IsReadingLent description_text (fields_fault FileKind.Description texts) (description_of texts) result }
+{
+    let [
+        id,
+        effective_time,
+        active,
+        module_id,
+        concept_id,
+        language_code,
+        type_id,
+        term,
+        case_significance_id,
+    ] = fields
+    else {
+        return Err(fault(RowCause::Fields, 0));
+    };
+    let id = identifier(id, Part::Description, 1)?;
+    let effective_time = time(effective_time, 2)?;
+    let active = flag(active, 3)?;
+    let module_id = identifier(module_id, Part::Concept, 4)?;
+    let concept_id = identifier(concept_id, Part::Concept, 5)?;
+    let language_code = text(language_code, 6)?;
+    let type_id = identifier(type_id, Part::Concept, 7)?;
+    let term = text(term, 8)?;
+    let case_significance_id = identifier(case_significance_id, Part::Concept, 9)?;
+    Ok(DescriptionRow {
+        id,
+        effective_time,
+        active,
+        module_id,
+        concept_id,
+        language_code,
+        type_id,
+        term,
+        case_significance_id,
     })
 }
 
@@ -169,6 +214,18 @@ fn group(text: &[u8], column: u8) -> Result<u32, RowFault>
     match digits(text, 1, 9) {
         Some(number) => Ok(number),
         None => Err(fault(RowCause::Group, column)),
+    }
+}
+
+// A text in UTF-8.
+#[tactic(auto, unfolding(crate::specs::Columns::cause_of))]
+fn text(text: &[u8], column: u8) -> Result<&str, RowFault>
+    ensures { IsReadingLent (λ found. found.now) (column_fault column (cause_of text_format text.now)) text.now
+        result }
+{
+    match str::from_utf8(text) {
+        Ok(found) => Ok(found),
+        Err(_) => Err(fault(RowCause::Utf8, column)),
     }
 }
 

@@ -16,6 +16,30 @@ pub struct ConceptRow {
     pub definition_status_id: SctId,
 }
 
+/// A row of the Description file (Release File Specification, "Description file"). Its texts are
+/// lent from the line.
+#[derive(Clone, Copy, Debug, PartialEq, Eq, Hash)]
+pub struct DescriptionRow<'a> {
+    /// The description.
+    pub id: SctId,
+    /// The date from which the row counts, as a number YYYYMMDD, or `None` where it is unpublished.
+    pub effective_time: Option<u32>,
+    /// Whether the description is active.
+    pub active: bool,
+    /// The module that the row belongs to.
+    pub module_id: SctId,
+    /// The concept that the description is of.
+    pub concept_id: SctId,
+    /// The code of the term's language, as `en`.
+    pub language_code: &'a str,
+    /// Whether the term is a fully specified name, a synonym or a definition.
+    pub type_id: SctId,
+    /// The words themselves.
+    pub term: &'a str,
+    /// Which letters of the term may change their case.
+    pub case_significance_id: SctId,
+}
+
 /// A row of the Relationship file (Release File Specification, "Relationship file").
 #[derive(Clone, Copy, Debug, PartialEq, Eq, Hash)]
 pub struct RelationshipRow {
@@ -43,9 +67,11 @@ pub struct RelationshipRow {
 
 /// The row that a line of a file stands for.
 #[derive(Clone, Copy, Debug, PartialEq, Eq, Hash)]
-pub enum Row {
+pub enum Row<'a> {
     /// A row of a Concept file.
     Concept(ConceptRow),
+    /// A row of a Description file.
+    Description(DescriptionRow<'a>),
     /// A row of a Relationship file.
     Relationship(RelationshipRow),
 }

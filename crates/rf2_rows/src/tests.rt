@@ -17,6 +17,13 @@ fn knows_snapshots(rt: HostRuntime) {
     }
     let name = "sct2_Relationship_Snapshot_INT_20240101.txt";
     assert!(rt; file_kind(name) == Some(FileKind::Relationship));
+    for name in [
+        "sct2_Description_Snapshot-en_INT_20240101.txt",
+        "Snapshot/Terminology/xsct2_Description_XYSnapshot-en-XY_XY_20240101.txt",
+        "sct2_Description_Snapshot_INT_20240101.txt",
+    ] {
+        assert!(rt; file_kind(name) == Some(FileKind::Description), "{name}");
+    }
 }
 
 #[test]
@@ -25,6 +32,9 @@ fn passes_over_other_files(rt: HostRuntime) {
         "sct2_Concept_Delta_INT_20240101.txt",
         "sct2_Concept_Full_INT_20240101.txt",
         "sct2_Concept_Full_Snapshot.txt",
+        "sct2_Description_Delta-en_INT_20240101.txt",
+        "sct2_Descriptions_Snapshot-en_INT_20240101.txt",
+        "sct2_TextDefinition_Snapshot-en_INT_20240101.txt",
         "sct2_Concept_SnapshotXY_INT_20240101.txt",
         "sct2_StatedRelationship_Snapshot_INT_20240101.txt",
         "der2_Refset_SimpleSnapshot_INT_20240101.txt",
@@ -43,6 +53,9 @@ fn passes_over_other_files(rt: HostRuntime) {
 fn has_the_headers_of_the_standard(rt: HostRuntime) {
     let concept = "id\teffectiveTime\tactive\tmoduleId\tdefinitionStatusId";
     assert_eq!(rt; header(FileKind::Concept), concept);
+    let description =
+        "id\teffectiveTime\tactive\tmoduleId\tconceptId\tlanguageCode\ttypeId\tterm\tcaseSignificanceId";
+    assert_eq!(rt; header(FileKind::Description), description);
     assert!(rt;
         header(FileKind::Relationship).starts_with(
             "id\teffectiveTime\tactive\tmoduleId\tsourceId\t"
@@ -65,6 +78,25 @@ fn reads_a_concept(rt: HostRuntime) {
             assert_eq!(rt; row.definition_status_id.number(), 900000000000074008);
         }
         _ => assert!(rt; false, "a concept row"),
+    }
+}
+
+#[test]
+fn reads_a_description(rt: HostRuntime) {
+    let line = "100014\t20240101\t1\t100005\t101009\tfr\t102002\tMaladie de Ménière\t103007";
+    match read_row(FileKind::Description, line.as_bytes()) {
+        Ok(Row::Description(row)) => {
+            assert_eq!(rt; row.id.number(), 100014);
+            assert_eq!(rt; row.effective_time, Some(20240101));
+            assert!(rt; row.active);
+            assert_eq!(rt; row.module_id.number(), 100005);
+            assert_eq!(rt; row.concept_id.number(), 101009);
+            assert_eq!(rt; row.language_code, "fr");
+            assert_eq!(rt; row.type_id.number(), 102002);
+            assert_eq!(rt; row.term, "Maladie de Ménière");
+            assert_eq!(rt; row.case_significance_id.number(), 103007);
+        }
+        _ => assert!(rt; false, "a description row"),
     }
 }
 
@@ -134,6 +166,76 @@ fn refuses_concepts(rt: HostRuntime) {
             ),
             (b"1\t1\t2\t1\t1", RowCause::Id(IdFault::Length), 1),
             (b"100005\t1\t2\t1\t1", RowCause::Time, 2),
+        ],
+    );
+}
+
+#[test]
+fn refuses_descriptions(rt: HostRuntime) {
+    assert_faults(
+        &rt,
+        FileKind::Description,
+        &[
+            (
+                b"100014\t\t1\t100005\t100005\ten\t100005\tterm",
+                RowCause::Fields,
+                0,
+            ),
+            (
+                b"100014\t\t1\t100005\t100005\ten\t100005\tterm\t100005\t",
+                RowCause::Fields,
+                0,
+            ),
+            (
+                b"100005\t\t1\t100005\t100005\ten\t100005\tterm\t100005",
+                RowCause::Id(IdFault::Partition),
+                1,
+            ),
+            (
+                b"100014\t2024\t1\t100005\t100005\ten\t100005\tterm\t100005",
+                RowCause::Time,
+                2,
+            ),
+            (
+                b"100014\t\tt\t100005\t100005\ten\t100005\tterm\t100005",
+                RowCause::Active,
+                3,
+            ),
+            (
+                b"100014\t\t1\t100014\t100005\ten\t100005\tterm\t100005",
+                RowCause::Id(IdFault::Partition),
+                4,
+            ),
+            (
+                b"100014\t\t1\t100005\t100014\ten\t100005\tterm\t100005",
+                RowCause::Id(IdFault::Partition),
+                5,
+            ),
+            (
+                b"100014\t\t1\t100005\t100005\te\xff\t100005\tterm\t100005",
+                RowCause::Utf8,
+                6,
+            ),
+            (
+                b"100014\t\t1\t100005\t100005\ten\t\tterm\t100005",
+                RowCause::Id(IdFault::Length),
+                7,
+            ),
+            (
+                b"100014\t\t1\t100005\t100005\ten\t100005\tM\xe9ni\xe8re\t100005",
+                RowCause::Utf8,
+                8,
+            ),
+            (
+                b"100014\t\t1\t100005\t100005\ten\t100005\tM\xc3\t1",
+                RowCause::Utf8,
+                8,
+            ),
+            (
+                b"100014\t\t1\t100005\t100005\ten\t100005\tterm\t100014",
+                RowCause::Id(IdFault::Partition),
+                9,
+            ),
         ],
     );
 }
@@ -216,13 +318,14 @@ fn refuses_relationships(rt: HostRuntime) {
 #[test]
 fn numbers_the_causes(rt: HostRuntime) {
     let causes = [
-        RowCause::Fields,
-        RowCause::Id(IdFault::Check),
-        RowCause::Time,
-        RowCause::Active,
-        RowCause::Group,
+        (RowCause::Fields, 1),
+        (RowCause::Id(IdFault::Check), 2),
+        (RowCause::Time, 3),
+        (RowCause::Active, 4),
+        (RowCause::Group, 5),
+        (RowCause::Utf8, 7),
     ];
-    for (i, cause) in causes.iter().enumerate() {
-        assert!(rt; usize::from(cause.number()) == i + 1);
+    for (cause, number) in causes {
+        assert!(rt; cause.number() == number, "{cause}");
     }
 }

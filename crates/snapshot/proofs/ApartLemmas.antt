@@ -8,13 +8,14 @@ use Rattle.std.proofs.lemmas.Bool.{cases_Bool, or_cases, or_left, or_right, eqb-
 use Rattle.std.proofs.lemmas.List.Folds.{list_any-append}
 use Rattle.std.proofs.lemmas.Map.Keys.{IsDistinct-push}
 use Rattle.release_files.specs.Lines.{LineText}
-use Rattle.rf2_rows.specs.Rows.{row_fault, concept_row, relationship_row}
+use Rattle.rf2_rows.specs.Rows.{row_fault, concept_row, description_row, relationship_row}
+use Rattle.rf2_rows.specs.Release.{Name}
 use Rattle.rf2_rows.specs.declared.fault.RowFault.{RowFault}
 use Rattle.rf2_rows.specs.declared.kind.FileKind.{FileKind}
-use Rattle.rf2_rows.specs.declared.kind.FileKind.TheVariants.{Concept, Relationship}
+use Rattle.rf2_rows.specs.declared.kind.FileKind.TheVariants.{Concept, Description, Relationship}
 use Rattle.snapshot.specs.Faults.{fault_after, fault_of_id, fault_of_later, fault_of_row, id_on}
 use Rattle.snapshot.specs.Files.{Place, no_line, first_line, later_line}
-use Rattle.snapshot.specs.InForce.{has}
+use Rattle.snapshot.specs.InForce.{has, is_name, name_on}
 use Rattle.snapshot.specs.Kept.{IsApart, Kept, ids_kept, is_isa, keep, nothing_kept, read_all, unless_fault}
 use Rattle.snapshot.specs.Limits.{row_limit}
 use Rattle.snapshot.specs.declared.fault.LoadFault.{LoadFault}
@@ -26,8 +27,10 @@ record KeepsApart (limits : Limits) (kept : Kept) : Type 0 where
   active_among : (q : ℕ) → has kept.active_concepts q ≡ true → has kept.concept_ids q ≡ true
   active_apart : IsDistinct nat_eq kept.active_concepts
   fewer_active : length kept.active_concepts ≤ length kept.concept_ids
+  fewer_names : length kept.names ≤ length kept.description_ids
   fewer_ends : length kept.isa_ends ≤ length kept.relationship_ids
   few_concepts : length kept.concept_ids ≤ limits.concepts
+  few_descriptions : length kept.description_ids ≤ limits.descriptions
   few_relationships : length kept.relationship_ids ≤ limits.relationships
 
 -- an identifier without a fault is new and within the limit
@@ -101,8 +104,10 @@ keeps_concept limits kept file line (byte ∷ bytes) apart clean =
             | inr lacks ↦ lacks
           ]);
       fewer_active = omega (arith, length-append kept.active_concepts (id ∷ []), length-append kept.concept_ids (id ∷ []), apart.fewer_active);
+      fewer_names = apart.fewer_names;
       fewer_ends = apart.fewer_ends;
       few_concepts = omega (arith, length-append kept.concept_ids (id ∷ []));
+      few_descriptions = apart.few_descriptions;
       few_relationships = apart.few_relationships;
     }
     by false id new room = record {
@@ -110,8 +115,47 @@ keeps_concept limits kept file line (byte ∷ bytes) apart clean =
       active_among = λ q there. has-push kept.concept_ids id q (apart.active_among q there);
       active_apart = apart.active_apart;
       fewer_active = omega (arith, length-append kept.concept_ids (id ∷ []), apart.fewer_active);
+      fewer_names = apart.fewer_names;
       fewer_ends = apart.fewer_ends;
       few_concepts = omega (arith, length-append kept.concept_ids (id ∷ []));
+      few_descriptions = apart.few_descriptions;
+      few_relationships = apart.few_relationships;
+    }
+
+-- what a description row without a fault leaves
+keeps_description : (limits : Limits) (kept : Kept) (file : ℕ) (line : LineText) (bytes : List ℕ) → KeepsApart limits kept
+    → fault_of_later file line.number Description kept.description_ids limits.descriptions bytes ≡ None
+    → KeepsApart limits (keep kept (later_line file Description (record line { bytes = bytes })))
+keeps_description limits kept file line [] apart clean = apart
+keeps_description limits kept file line (byte ∷ bytes) apart clean =
+    let parts = clean_later file line.number Description kept.description_ids limits.descriptions byte bytes clean in
+    by (is_name (description_row (byte ∷ bytes))) (description_row (byte ∷ bytes)).id (name_on (description_row (byte ∷ bytes))) parts.1
+  where
+    by : (named : Bool) (id : ℕ) (name : Name) → length kept.description_ids < limits.descriptions
+        → KeepsApart limits (record kept {
+          description_ids = kept.description_ids ++ id ∷ [];
+          names = cond named (kept.names ++ name ∷ []) kept.names;
+        })
+    by true id name room = record {
+      all_apart = apart.all_apart;
+      active_among = apart.active_among;
+      active_apart = apart.active_apart;
+      fewer_active = apart.fewer_active;
+      fewer_names = omega (arith, length-append kept.names (name ∷ []), length-append kept.description_ids (id ∷ []), apart.fewer_names);
+      fewer_ends = apart.fewer_ends;
+      few_concepts = apart.few_concepts;
+      few_descriptions = omega (arith, length-append kept.description_ids (id ∷ []));
+      few_relationships = apart.few_relationships;
+    }
+    by false id name room = record {
+      all_apart = apart.all_apart;
+      active_among = apart.active_among;
+      active_apart = apart.active_apart;
+      fewer_active = apart.fewer_active;
+      fewer_names = omega (arith, length-append kept.description_ids (id ∷ []), apart.fewer_names);
+      fewer_ends = apart.fewer_ends;
+      few_concepts = apart.few_concepts;
+      few_descriptions = omega (arith, length-append kept.description_ids (id ∷ []));
       few_relationships = apart.few_relationships;
     }
 
@@ -134,8 +178,10 @@ keeps_relationship limits kept file line (byte ∷ bytes) apart clean =
       active_among = apart.active_among;
       active_apart = apart.active_apart;
       fewer_active = apart.fewer_active;
+      fewer_names = apart.fewer_names;
       fewer_ends = omega (arith, length-append kept.isa_ends (row ∷ []), length-append kept.relationship_ids (id ∷ []), apart.fewer_ends);
       few_concepts = apart.few_concepts;
+      few_descriptions = apart.few_descriptions;
       few_relationships = omega (arith, length-append kept.relationship_ids (id ∷ []));
     }
     by false id row room = record {
@@ -143,8 +189,10 @@ keeps_relationship limits kept file line (byte ∷ bytes) apart clean =
       active_among = apart.active_among;
       active_apart = apart.active_apart;
       fewer_active = apart.fewer_active;
+      fewer_names = apart.fewer_names;
       fewer_ends = omega (arith, length-append kept.relationship_ids (id ∷ []), apart.fewer_ends);
       few_concepts = apart.few_concepts;
+      few_descriptions = apart.few_descriptions;
       few_relationships = omega (arith, length-append kept.relationship_ids (id ∷ []));
     }
 
@@ -155,6 +203,8 @@ keeps_place limits kept (no_line file kind) apart clean = apart
 keeps_place limits kept (first_line file kind line) apart clean = apart
 keeps_place limits kept (later_line file Concept line) apart clean =
     keeps_concept limits kept file line line.bytes apart (clean_within limits (ids_kept kept) file Concept line clean)
+keeps_place limits kept (later_line file Description line) apart clean =
+    keeps_description limits kept file line line.bytes apart (clean_within limits (ids_kept kept) file Description line clean)
 keeps_place limits kept (later_line file Relationship line) apart clean =
     keeps_relationship limits kept file line line.bytes apart (clean_within limits (ids_kept kept) file Relationship line clean)
 
@@ -175,11 +225,11 @@ unfolding IsDistinct
 none_apart = tt
 
 -- what a load kept has no identifier twice, and is few enough to number
-pub IsApart-read : (limits : Limits) (kept : Kept) (places : List Place) → limits.concepts ≤ 4000000 → limits.relationships ≤ 20000000
+pub IsApart-read : (limits : Limits) (kept : Kept) (places : List Place) → limits.concepts ≤ 4000000 → limits.descriptions ≤ 20000000 → limits.relationships ≤ 20000000
     → read_all limits nothing_kept places ≡ Ok kept → IsApart kept
-IsApart-read limits kept places concepts relationships read =
+IsApart-read limits kept places concepts descriptions relationships read =
     let apart = keeps_all limits nothing_kept kept places nothing read in
-    (apart.active_apart, apart.fewer_active, apart.fewer_ends, omega (arith, apart.few_concepts), omega (arith, apart.few_relationships))
+    (apart.active_apart, apart.fewer_active, apart.fewer_names, apart.fewer_ends, omega (arith, apart.few_concepts), omega (arith, apart.few_descriptions), omega (arith, apart.few_relationships))
   where
     nothing : KeepsApart limits nothing_kept
     nothing = record {
@@ -187,7 +237,9 @@ IsApart-read limits kept places concepts relationships read =
       active_among = λ q there. absurd (false≢true there);
       active_apart = none_apart;
       fewer_active = omega arith;
+      fewer_names = omega arith;
       fewer_ends = omega arith;
       few_concepts = omega arith;
+      few_descriptions = omega arith;
       few_relationships = omega arith;
     }

@@ -7,11 +7,12 @@ use Rattle.std.proofs.lemmas.List.{append-nil, length-map}
 use Rattle.std.proofs.lemmas.List.Sums.{length-filter, count_by-le-length}
 use Rattle.rf2_rows.specs.Hierarchy.{Reaches, reaches}
 use Rattle.rf2_rows.specs.Release.{Release}
+use Rattle.rf2_rows.specs.Rows.{DescriptionText}
 use Rattle.rf2_rows.proofs.HierarchyLemmas.{chain_from_test, test_from_chain, contained_cases}
 use Rattle.snapshot.specs.Contents.{NamesLeastCyclic, least_cyclic}
 use Rattle.snapshot.specs.Faults.{NamesFirstFault, fault_at, first_fault, first_of}
 use Rattle.snapshot.specs.Files.{Place}
-use Rattle.snapshot.specs.InForce.{CountsEachRow, concept_rows, concepts_in_force, is_in_force, isa_in_force, relationship_rows}
+use Rattle.snapshot.specs.InForce.{CountsEachRow, concept_rows, concepts_in_force, description_rows, has, is_in_force, is_name, isa_in_force, name_on, names_in_force, relationship_rows}
 use Rattle.rf2_rows.specs.declared.row.ConceptRow.{ConceptRow}
 use Rattle.rf2_rows.specs.declared.row.RelationshipRow.{RelationshipRow}
 use Rattle.snapshot.specs.declared.fault.LoadFault.{LoadFault}
@@ -130,6 +131,8 @@ counts_each_row places =
     omega (arith, length-rising (map (λ (row : ConceptRow). row.id) (filter (λ (row : ConceptRow). row.active) (concept_rows places))), length-kept (λ (row : ConceptRow). row.id) (λ (row : ConceptRow). row.active) (concept_rows places)) in
     let isa : length (isa_in_force (concepts_in_force places) places) ≤ length (relationship_rows places) =
     length-kept (λ (row : RelationshipRow). (row.source_id, row.destination_id)) (λ (row : RelationshipRow). is_in_force (concepts_in_force places) row && (row.type_id == is_a)) (relationship_rows places) in
+    let names : length (names_in_force (concepts_in_force places) places) ≤ length (description_rows places) =
+    length-kept name_on (λ (row : DescriptionText). is_name row && has (concepts_in_force places) row.concept_id) (description_rows places) in
     omega arith
 
 -- what is found passes the test, and no item before it does

@@ -1,7 +1,10 @@
 pub mod ApartLemmas
 pub mod FinishLemmas
+pub mod FirstRowLemmas
 pub mod LawLemmas
 pub mod LoadLemmas
+pub mod NameLawLemmas
+pub mod NameLemmas
 pub mod NumberingLemmas
 pub mod PlaceLemmas
 pub mod ReadLemmas

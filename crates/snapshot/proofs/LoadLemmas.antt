@@ -7,14 +7,15 @@ use Rattle.std.proofs.Common.{append_assoc, suc}
 use Rattle.std.proofs.lemmas.List.Sums.{length-filter}
 use Rattle.std.proofs.lemmas.List.Elements.{filter_map-append, filter-append}
 use Rattle.release_files.specs.declared.NamedBytes.{NamedBytes}
-use Rattle.rf2_rows.specs.declared.kind.FileKind.TheVariants.{Concept, Relationship}
+use Rattle.rf2_rows.specs.Rows.{DescriptionText}
+use Rattle.rf2_rows.specs.declared.kind.FileKind.TheVariants.{Concept, Description, Relationship}
 use Rattle.rf2_rows.specs.declared.row.ConceptRow.{ConceptRow}
 use Rattle.rf2_rows.specs.declared.row.RelationshipRow.{RelationshipRow}
 use Rattle.snapshot.specs.Contents.{contents_of, least_cyclic, load_of, unless_cyclic, unless_faulty}
 use Rattle.snapshot.specs.Faults.{fault_after, fault_at, first_fault, first_of}
 use Rattle.snapshot.specs.Files.{FileText, Place, no_line, first_line, later_line, file_text, is_concept_file, has_kind, places_from}
-use Rattle.snapshot.specs.InForce.{concept_row_at, relationship_row_at, concept_rows, relationship_rows, concepts_in_force, has, is_in_force, listed_count, release_of, rows_among}
-use Rattle.snapshot.specs.Kept.{Kept, contents_from, finished, ids_kept, is_isa, keep, keep_concept, keep_relationship, nothing_kept, read_all, release_from, unless_fault}
+use Rattle.snapshot.specs.InForce.{concept_row_at, description_row_at, relationship_row_at, concept_rows, description_rows, relationship_rows, concepts_in_force, has, is_in_force, is_name, name_on, listed_count, release_of, rows_among}
+use Rattle.snapshot.specs.Kept.{Kept, contents_from, finished, ids_kept, is_isa, keep, keep_concept, keep_description, keep_relationship, names_among, nothing_kept, read_all, release_from, unless_fault}
 use Rattle.snapshot.specs.Limits.{limits_in_force}
 use Rattle.snapshot.specs.declared.fault.LoadFault.{LoadFault}
 use Rattle.snapshot.specs.declared.fault.LoadFault.TheVariants.{NoConceptFile}
@@ -22,17 +23,19 @@ use Rattle.snapshot.specs.declared.limits.Limits.{Limits}
 use Rattle.snapshot.specs.Metadata.{is_a, inferred_relationship}
 
 -- what is kept of all rows of each kind
-abbrev kept_of_rows : List ConceptRow → List RelationshipRow → Kept
-kept_of_rows concepts relationships = record {
+abbrev kept_of_rows : List ConceptRow → List DescriptionText → List RelationshipRow → Kept
+kept_of_rows concepts descriptions relationships = record {
   concept_ids = map (λ (row : ConceptRow). row.id) concepts;
   active_concepts = map (λ (row : ConceptRow). row.id) (filter (λ (row : ConceptRow). row.active) concepts);
+  description_ids = map (λ (row : DescriptionText). row.id) descriptions;
+  names = map name_on (filter is_name descriptions);
   relationship_ids = map (λ (row : RelationshipRow). row.id) relationships;
   isa_ends = map (λ (row : RelationshipRow). (row.source_id, row.destination_id)) (filter is_isa relationships);
 }
 
 -- what is kept of places
 abbrev pub kept_of : List Place → Kept
-kept_of places = kept_of_rows (concept_rows places) (relationship_rows places)
+kept_of places = kept_of_rows (concept_rows places) (description_rows places) (relationship_rows places)
 
 -- one row more of a list that is filtered and mapped
 map-push : {X Y : Type 0} (f : X → Y) (xs : List X) (x : X) → map f (xs ++ x ∷ []) ≡ map f xs ++ f x ∷ []
@@ -46,48 +49,61 @@ map_filter-push f p xs x = ap (map f) (filter-append p xs (x ∷ [])) ∙ by (p 
     by true = map-append f (filter p xs) (x ∷ [])
     by false = ap (map f) (append-nil (filter p xs))
 
--- keeping the row of each kind that a place has, if any
-kept_of_rows-push : (concepts : List ConceptRow) (relationships : List RelationshipRow) (concept : Option ConceptRow) (relationship : Option RelationshipRow)
-    → kept_of_rows (concepts ++ option_to_list concept) (relationships ++ option_to_list relationship)
-    ≡ keep_relationship (keep_concept (kept_of_rows concepts relationships) concept) relationship
-kept_of_rows-push concepts relationships None None = (λ i. kept_of_rows (append-nil concepts i) (append-nil relationships i))
-kept_of_rows-push concepts relationships (Some row) None =
-    ap (λ (others : List RelationshipRow). kept_of_rows (concepts ++ row ∷ []) others) (append-nil relationships)
-    ∙ (λ i. record (kept_of_rows concepts relationships) {
+-- keeping the row of a kind that a place has, if any
+keep_concept-push : (concepts : List ConceptRow) (descriptions : List DescriptionText) (relationships : List RelationshipRow) (concept : Option ConceptRow)
+    → kept_of_rows (concepts ++ option_to_list concept) descriptions relationships ≡ keep_concept (kept_of_rows concepts descriptions relationships) concept
+keep_concept-push concepts descriptions relationships None = ap (λ (rows : List ConceptRow). kept_of_rows rows descriptions relationships) (append-nil concepts)
+keep_concept-push concepts descriptions relationships (Some row) =
+    (λ i. record (kept_of_rows concepts descriptions relationships) {
       concept_ids = map-push (λ (row : ConceptRow). row.id) concepts row i;
       active_concepts = map_filter-push (λ (row : ConceptRow). row.id) (λ (row : ConceptRow). row.active) concepts row i;
     })
-kept_of_rows-push concepts relationships None (Some row) =
-    ap (λ (others : List ConceptRow). kept_of_rows others (relationships ++ row ∷ [])) (append-nil concepts)
-    ∙ (λ i. record (kept_of_rows concepts relationships) {
-      relationship_ids = map-push (λ (row : RelationshipRow). row.id) relationships row i;
-      isa_ends = map_filter-push (λ (row : RelationshipRow). (row.source_id, row.destination_id)) is_isa relationships row i;
+
+keep_description-push : (concepts : List ConceptRow) (descriptions : List DescriptionText) (relationships : List RelationshipRow) (description : Option DescriptionText)
+    → kept_of_rows concepts (descriptions ++ option_to_list description) relationships ≡ keep_description (kept_of_rows concepts descriptions relationships) description
+keep_description-push concepts descriptions relationships None = ap (λ (rows : List DescriptionText). kept_of_rows concepts rows relationships) (append-nil descriptions)
+keep_description-push concepts descriptions relationships (Some row) =
+    (λ i. record (kept_of_rows concepts descriptions relationships) {
+      description_ids = map-push (λ (row : DescriptionText). row.id) descriptions row i;
+      names = map_filter-push name_on is_name descriptions row i;
     })
-kept_of_rows-push concepts relationships (Some concept) (Some row) =
-    (λ i. record {
-      concept_ids = map-push (λ (row : ConceptRow). row.id) concepts concept i;
-      active_concepts = map_filter-push (λ (row : ConceptRow). row.id) (λ (row : ConceptRow). row.active) concepts concept i;
+
+keep_relationship-push : (concepts : List ConceptRow) (descriptions : List DescriptionText) (relationships : List RelationshipRow) (relationship : Option RelationshipRow)
+    → kept_of_rows concepts descriptions (relationships ++ option_to_list relationship) ≡ keep_relationship (kept_of_rows concepts descriptions relationships) relationship
+keep_relationship-push concepts descriptions relationships None = ap (λ (rows : List RelationshipRow). kept_of_rows concepts descriptions rows) (append-nil relationships)
+keep_relationship-push concepts descriptions relationships (Some row) =
+    (λ i. record (kept_of_rows concepts descriptions relationships) {
       relationship_ids = map-push (λ (row : RelationshipRow). row.id) relationships row i;
       isa_ends = map_filter-push (λ (row : RelationshipRow). (row.source_id, row.destination_id)) is_isa relationships row i;
     })
 
+-- the rows that a place adds to those of a kind
+rows-push : {Row : Type 0} (row_at : Place → Option Row) (places : List Place) (place : Place)
+    → filter_map row_at (places ++ place ∷ []) ≡ filter_map row_at places ++ option_to_list (row_at place)
+rows-push row_at places place = filter_map-append row_at places (place ∷ []) ∙ ap (λ rest. filter_map row_at places ++ rest) (single (row_at place))
+  where
+    single : {Row : Type 0} (row : Option Row) → filter_map (λ (x : Option Row). x) (row ∷ []) ≡ option_to_list row
+    single None = refl
+    single (Some row) = refl
+
 -- one place more is what keeping it leaves
 pub kept_of-push : (places : List Place) (place : Place) → kept_of (places ++ place ∷ []) ≡ keep (kept_of places) place
 kept_of-push places place =
-    (λ i. kept_of_rows
-    ((filter_map-append concept_row_at places (place ∷ []) ∙ ap (λ rest. concept_rows places ++ rest) (single (concept_row_at place))) i)
-    ((filter_map-append relationship_row_at places (place ∷ []) ∙ ap (λ rest. relationship_rows places ++ rest) (single (relationship_row_at place))) i))
-    ∙ kept_of_rows-push (concept_rows places) (relationship_rows places) (concept_row_at place) (relationship_row_at place)
-  where
-    single : {Y : Type 0} (o : Option Y) → filter_map (λ (x : Option Y). x) (o ∷ []) ≡ option_to_list o
-    single None = refl
-    single (Some y) = refl
+    let concepts = concept_rows places in
+    let descriptions = description_rows places in
+    let relationships = relationship_rows places in
+    (λ i. kept_of_rows (rows-push concept_row_at places place i) (rows-push description_row_at places place i) (rows-push relationship_row_at places place i))
+    ∙ keep_relationship-push (concepts ++ option_to_list (concept_row_at place)) (descriptions ++ option_to_list (description_row_at place)) relationships (relationship_row_at place)
+    ∙ ap (λ kept. keep_relationship kept (relationship_row_at place))
+    (keep_description-push (concepts ++ option_to_list (concept_row_at place)) descriptions relationships (description_row_at place)
+    ∙ ap (λ kept. keep_description kept (description_row_at place)) (keep_concept-push concepts descriptions relationships (concept_row_at place)))
 
 -- the fault at a place depends on the identifiers before it alone
 fault_at-kept : (limits : Limits) (before : List Place) (place : Place) → fault_at limits before place ≡ fault_after limits (ids_kept (kept_of before)) place
 fault_at-kept limits before (no_line file kind) = refl
 fault_at-kept limits before (first_line file kind line) = refl
 fault_at-kept limits before (later_line file Concept line) = refl
+fault_at-kept limits before (later_line file Description line) = refl
 fault_at-kept limits before (later_line file Relationship line) = refl
 
 -- a fault, or what is kept where there is none
@@ -151,6 +167,24 @@ isa_in_force-is concepts (row ∷ rows) =
     by true false false parent kept among same = same
     by false isa child parent kept among same = same
 
+-- the names in force are the active fully specified names of concepts in force
+names_in_force-is : (concepts : List ℕ) (rows : List DescriptionText)
+    → map name_on (filter (λ (row : DescriptionText). is_name row && has concepts row.concept_id) rows) ≡ names_among concepts (map name_on (filter is_name rows))
+names_in_force-is concepts [] = refl
+names_in_force-is concepts (row ∷ rows) = by (is_name row) (has concepts row.concept_id) refl (names_in_force-is concepts rows)
+  where
+    by : (named own : Bool) → has concepts row.concept_id ≡ own
+        → map name_on (filter (λ (row : DescriptionText). is_name row && has concepts row.concept_id) rows) ≡ names_among concepts (map name_on (filter is_name rows))
+        → map name_on (cond (named && own) (row ∷ filter (λ (row : DescriptionText). is_name row && has concepts row.concept_id) rows) (filter (λ (row : DescriptionText). is_name row && has concepts row.concept_id) rows))
+        ≡ names_among concepts (map name_on (cond named (row ∷ filter is_name rows) (filter is_name rows)))
+    by true true is rest =
+        ap (λ names. name_on row ∷ names) rest
+        ∙ ap (λ (b : Bool). cond b (name_on row ∷ names_among concepts (map name_on (filter is_name rows))) (names_among concepts (map name_on (filter is_name rows)))) (sym is)
+    by true false is rest =
+        rest
+        ∙ ap (λ (b : Bool). cond b (name_on row ∷ names_among concepts (map name_on (filter is_name rows))) (names_among concepts (map name_on (filter is_name rows)))) (sym is)
+    by false own is rest = rest
+
 -- the release of places is made of what was kept of them
 pub release_of-kept : (places : List Place) → release_of places ≡ release_from (kept_of places)
 release_of-kept places = (λ i. record {
@@ -158,7 +192,7 @@ release_of-kept places = (λ i. record {
   isa = isa_in_force-is (concepts_in_force places) (relationship_rows places) i;
   attributes = [];
   members = [];
-  names = [];
+  names = names_in_force-is (concepts_in_force places) (description_rows places) i;
 })
 
 -- and so are the contents
@@ -168,7 +202,7 @@ contents_of-kept language files places = (λ i. record {
   release = release_of-kept places i;
   language = language;
   files = length (filter has_kind files);
-  passed = sym (length-map (concept_rows places) (λ (row : ConceptRow). row.id)) i + sym (length-map (relationship_rows places) (λ (row : RelationshipRow). row.id)) i - listed_count (release_of-kept places i);
+  passed = sym (length-map (concept_rows places) (λ (row : ConceptRow). row.id)) i + sym (length-map (description_rows places) (λ (row : DescriptionText). row.id)) i + sym (length-map (relationship_rows places) (λ (row : RelationshipRow). row.id)) i - listed_count (release_of-kept places i);
 })
 
 -- how many files have a kind, and whether one has the kind of concepts

@@ -1,15 +1,16 @@
 -- What a line behind the header comes to, once it is read as a row.
-use Rattle.std.proofs.Common.{ℕ, ◌≡◌, ◌<◌, List, [], ◌∷◌, length, false, nat_lt, None, Some, refl, arith}
-use Rattle.rf2_rows.specs.Rows.{IsRow, row_fault, concept_row, relationship_row}
+use Rattle.std.proofs.Common.{ℕ, ◌≡◌, ◌<◌, List, [], ◌∷◌, length, false, nat_lt, None, Some, refl, sym, ap, arith}
+use Rattle.rf2_rows.specs.Rows.{DescriptionText, IsRow, row_fault, concept_row, description_row, description_text, relationship_row}
 use Rattle.rf2_rows.specs.declared.kind.FileKind.{FileKind}
-use Rattle.rf2_rows.specs.declared.kind.FileKind.TheVariants.{Concept, Relationship}
+use Rattle.rf2_rows.specs.declared.kind.FileKind.TheVariants.{Concept, Description, Relationship}
 use Rattle.rf2_rows.specs.declared.row.Row.TheVariants as typed
 use Rattle.rf2_rows.specs.declared.row.ConceptRow.{ConceptRow}
+use Rattle.rf2_rows.specs.declared.row.DescriptionRow.{DescriptionRow}
 use Rattle.rf2_rows.specs.declared.row.RelationshipRow.{RelationshipRow}
 use Rattle.release_files.specs.Lines.{LineText}
 use Rattle.snapshot.specs.Faults.{fault_after, fault_of_id, fault_of_later}
 use Rattle.snapshot.specs.Files.{later_line}
-use Rattle.snapshot.specs.Kept.{Kept, keep, keep_concept, keep_relationship}
+use Rattle.snapshot.specs.Kept.{Kept, keep, keep_concept, keep_description, keep_relationship}
 use Rattle.snapshot.specs.declared.limits.Limits.{Limits}
 
 -- the fault of a concept row is that of its identifier
@@ -22,7 +23,22 @@ fault_of_concept limits earlier file Concept line row fits some accepted is = rw
         → fault_of_later file line.number Concept (earlier Concept) limits.concepts bytes ≡ fault_of_id file line.number (earlier Concept) limits.concepts row.id
     at_bytes [] some accepted is = absurd (omega arith)
     at_bytes (byte ∷ bytes) some accepted is = rw (accepted, is) refl
+fault_of_concept limits earlier file Description line row fits some accepted is = absurd is
 fault_of_concept limits earlier file Relationship line row fits some accepted is = absurd is
+
+-- the fault of a description row is that of its identifier
+pub fault_of_description : (limits : Limits) (earlier : FileKind → List ℕ) (file : ℕ) (kind : FileKind) (line : LineText) (row : DescriptionRow)
+    → nat_lt limits.bytes line.end ≡ false → 0 < length line.bytes → row_fault kind line.bytes ≡ None → IsRow kind line.bytes (typed.Description row)
+    → fault_after limits earlier (later_line file kind line) ≡ fault_of_id file line.number (earlier Description) limits.descriptions row.id
+fault_of_description limits earlier file Description line row fits some accepted is = rw fits (at_bytes line.bytes some accepted is)
+  where
+    at_bytes : (bytes : List ℕ) → 0 < length bytes → row_fault Description bytes ≡ None → description_text row ≡ description_row bytes
+        → fault_of_later file line.number Description (earlier Description) limits.descriptions bytes ≡ fault_of_id file line.number (earlier Description) limits.descriptions row.id
+    at_bytes [] some accepted is = absurd (omega arith)
+    at_bytes (byte ∷ bytes) some accepted is =
+        rw accepted (ap (λ (text : DescriptionText). fault_of_id file line.number (earlier Description) limits.descriptions text.id) (sym is))
+fault_of_description limits earlier file Concept line row fits some accepted is = absurd is
+fault_of_description limits earlier file Relationship line row fits some accepted is = absurd is
 
 -- the fault of a relationship row is that of its identifier
 pub fault_of_relationship : (limits : Limits) (earlier : FileKind → List ℕ) (file : ℕ) (kind : FileKind) (line : LineText) (row : RelationshipRow)
@@ -35,6 +51,7 @@ fault_of_relationship limits earlier file Relationship line row fits some accept
     at_bytes [] some accepted is = absurd (omega arith)
     at_bytes (byte ∷ bytes) some accepted is = rw (accepted, is) refl
 fault_of_relationship limits earlier file Concept line row fits some accepted is = absurd is
+fault_of_relationship limits earlier file Description line row fits some accepted is = absurd is
 
 -- what is kept of a concept row
 pub keep_of_concept : (kept : Kept) (file : ℕ) (kind : FileKind) (line : LineText) (row : ConceptRow)
@@ -45,7 +62,20 @@ keep_of_concept kept file Concept line row some is = at_bytes line.bytes some is
         → keep kept (later_line file Concept (record line { bytes = bytes })) ≡ keep_concept kept (Some row)
     at_bytes [] some is = absurd (omega arith)
     at_bytes (byte ∷ bytes) some is = rw is refl
+keep_of_concept kept file Description line row some is = absurd is
 keep_of_concept kept file Relationship line row some is = absurd is
+
+-- what is kept of a description row
+pub keep_of_description : (kept : Kept) (file : ℕ) (kind : FileKind) (line : LineText) (row : DescriptionRow)
+    → 0 < length line.bytes → IsRow kind line.bytes (typed.Description row) → keep kept (later_line file kind line) ≡ keep_description kept (Some (description_text row))
+keep_of_description kept file Description line row some is = at_bytes line.bytes some is
+  where
+    at_bytes : (bytes : List ℕ) → 0 < length bytes → description_text row ≡ description_row bytes
+        → keep kept (later_line file Description (record line { bytes = bytes })) ≡ keep_description kept (Some (description_text row))
+    at_bytes [] some is = absurd (omega arith)
+    at_bytes (byte ∷ bytes) some is = ap (λ (text : DescriptionText). keep_description kept (Some text)) (sym is)
+keep_of_description kept file Concept line row some is = absurd is
+keep_of_description kept file Relationship line row some is = absurd is
 
 -- what is kept of a relationship row
 pub keep_of_relationship : (kept : Kept) (file : ℕ) (kind : FileKind) (line : LineText) (row : RelationshipRow)
@@ -57,3 +87,4 @@ keep_of_relationship kept file Relationship line row some is = at_bytes line.byt
     at_bytes [] some is = absurd (omega arith)
     at_bytes (byte ∷ bytes) some is = rw is refl
 keep_of_relationship kept file Concept line row some is = absurd is
+keep_of_relationship kept file Description line row some is = absurd is

@@ -1,10 +1,10 @@
 -- The first fault of a list of files.
 use Rattle.std.specs.Prelude.{◌≡◌, ◌↔◌, ℕ, bytes_eq, nat_lt, nat_le, if◌then◌else◌, List, [], ◌∷◌, ◌++◌, length, Option, None, Some}
 use Rattle.rf2_rows.specs.Columns.{header_of}
-use Rattle.rf2_rows.specs.Rows.{row_fault, concept_row, relationship_row}
+use Rattle.rf2_rows.specs.Rows.{row_fault, concept_row, description_row, relationship_row}
 use Rattle.rf2_rows.specs.declared.fault.RowFault.{RowFault}
 use Rattle.rf2_rows.specs.declared.kind.FileKind.{FileKind}
-use Rattle.rf2_rows.specs.declared.kind.FileKind.TheVariants.{Concept, Relationship}
+use Rattle.rf2_rows.specs.declared.kind.FileKind.TheVariants.{Concept, Description, Relationship}
 use Rattle.release_files.specs.Lines.{LineText}
 use Rattle.snapshot.specs.Files.{Place, no_line, first_line, later_line}
 use Rattle.snapshot.specs.InForce.{has, ids_of}
@@ -16,6 +16,7 @@ use Rattle.snapshot.specs.declared.limits.Limits.{Limits}
 -- the identifier of the row that an accepted line of a kind is
 abbrev pub id_on : FileKind → List ℕ → ℕ
 id_on Concept line = (concept_row line).id
+id_on Description line = (description_row line).id
 id_on Relationship line = (relationship_row line).id
 
 -- the fault of a row by its identifier, where the earlier rows of its kind have these identifiers and so

@@ -1,15 +1,15 @@
--- The rows of a release that are in force (Release File Specification, "Concept file" and
--- "Relationship file"; the inferred view).
+-- The rows of a release that are in force (Release File Specification, "Concept file",
+-- "Description file" and "Relationship file"; the inferred view).
 use Rattle.std.specs.Prelude.{◌≤◌, ℕ, ◌+◌, ◌==◌, ◌&&◌, Bool, nat_lt, if◌then◌else◌, List, [], ◌∷◌, length, map, filter, Option, None, Some}
 use Rattle.std.specs.List.{filter_map, list_any}
-use Rattle.rf2_rows.specs.Rows.{concept_row, relationship_row}
-use Rattle.rf2_rows.specs.Release.{Release}
+use Rattle.rf2_rows.specs.Rows.{DescriptionText, concept_row, description_row, relationship_row}
+use Rattle.rf2_rows.specs.Release.{Name, Release}
 use Rattle.rf2_rows.specs.declared.kind.FileKind.{FileKind}
-use Rattle.rf2_rows.specs.declared.kind.FileKind.TheVariants.{Concept, Relationship}
+use Rattle.rf2_rows.specs.declared.kind.FileKind.TheVariants.{Concept, Description, Relationship}
 use Rattle.rf2_rows.specs.declared.row.ConceptRow.{ConceptRow}
 use Rattle.rf2_rows.specs.declared.row.RelationshipRow.{RelationshipRow}
 use Rattle.snapshot.specs.Files.{Place, later_line}
-use Rattle.snapshot.specs.Metadata.{is_a, inferred_relationship}
+use Rattle.snapshot.specs.Metadata.{fully_specified_name, inferred_relationship, is_a}
 
 -- the concept row that stands at a place: behind the header, on a line that is not empty
 abbrev pub concept_row_at : Place → Option ConceptRow
@@ -19,6 +19,15 @@ concept_row_at (later_line file Concept line) = row_on line.bytes
     row_on [] = None
     row_on (byte ∷ bytes) = Some (concept_row (byte ∷ bytes))
 concept_row_at other = None
+
+-- the description row that stands at a place
+abbrev pub description_row_at : Place → Option DescriptionText
+description_row_at (later_line file Description line) = row_on line.bytes
+  where
+    row_on : List ℕ → Option DescriptionText
+    row_on [] = None
+    row_on (byte ∷ bytes) = Some (description_row (byte ∷ bytes))
+description_row_at other = None
 
 -- the relationship row that stands at a place
 abbrev pub relationship_row_at : Place → Option RelationshipRow
@@ -33,12 +42,16 @@ relationship_row_at other = None
 abbrev pub concept_rows : List Place → List ConceptRow
 concept_rows places = filter_map concept_row_at places
 
+abbrev pub description_rows : List Place → List DescriptionText
+description_rows places = filter_map description_row_at places
+
 abbrev pub relationship_rows : List Place → List RelationshipRow
 relationship_rows places = filter_map relationship_row_at places
 
 -- the identifiers of all rows of a kind
 abbrev pub ids_of : FileKind → List Place → List ℕ
 ids_of Concept places = map (λ (row : ConceptRow). row.id) (concept_rows places)
+ids_of Description places = map (λ (row : DescriptionText). row.id) (description_rows places)
 ids_of Relationship places = map (λ (row : RelationshipRow). row.id) (relationship_rows places)
 
 -- a number is among others
@@ -75,15 +88,34 @@ isa_in_force concepts places =
     map (λ (row : RelationshipRow). (row.source_id, row.destination_id))
     (filter (λ (row : RelationshipRow). is_in_force concepts row && (row.type_id == is_a)) (relationship_rows places))
 
+-- the name row that a description row is
+abbrev pub name_on : DescriptionText → Name
+name_on row = record { id = row.id; concept = row.concept_id; language = row.language_code; term = row.term }
+
+-- a description row is a name row where it is active and a fully specified name
+abbrev pub is_name : DescriptionText → Bool
+is_name row = row.active && (row.type_id == fully_specified_name)
+
+-- it is in force where its concept is, too
+abbrev pub names_in_force : List ℕ → List Place → List Name
+names_in_force concepts places =
+    map name_on (filter (λ (row : DescriptionText). is_name row && has concepts row.concept_id) (description_rows places))
+
 -- the release that the places hold
 abbrev pub release_of : List Place → Release
 release_of places =
     let concepts = concepts_in_force places in
-    record { concepts = concepts; isa = isa_in_force concepts places; attributes = []; members = []; names = [] }
+    record {
+      concepts = concepts;
+      isa = isa_in_force concepts places;
+      attributes = [];
+      members = [];
+      names = names_in_force concepts places;
+    }
 
 -- how many rows there are, in force or not
 abbrev pub row_count : List Place → ℕ
-row_count places = length (concept_rows places) + length (relationship_rows places)
+row_count places = length (concept_rows places) + length (description_rows places) + length (relationship_rows places)
 
 -- how many rows the lists of a release have
 abbrev pub listed_count : Release → ℕ

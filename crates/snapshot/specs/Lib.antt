@@ -2,10 +2,13 @@ pub mod Contents
 pub mod FaultNumbers
 pub mod Faults
 pub mod Files
+pub mod FirstRows
 pub mod InForce
 pub mod Kept
 pub mod Limits
 pub mod Metadata
+pub mod Name
+pub mod NamesInside
 pub mod Numbering
 pub mod RowsKept
 pub mod Search

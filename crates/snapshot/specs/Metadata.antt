@@ -1,5 +1,5 @@
 -- The concepts of SNOMED CT's own metadata that tell which rows count (Release File Specification,
--- "Relationship file"). Their identifiers are written here and not taken from the code.
+-- "Relationship file" and "Description file"). Their identifiers are written here and not taken from the code.
 use Rattle.std.specs.Prelude.{ℕ}
 
 -- |Is a|, the type of the rows that make the hierarchy
@@ -9,3 +9,7 @@ is_a = 116680003
 -- |Inferred relationship|, the characteristic type of the rows of the inferred view
 abbrev pub inferred_relationship : ℕ
 inferred_relationship = 900000000000011006
+
+-- |Fully specified name|, the type of the descriptions that name concepts
+abbrev pub fully_specified_name : ℕ
+fully_specified_name = 900000000000003001

@@ -6,6 +6,8 @@ abbrev pub kept_in : Rows → Kept
 kept_in rows = record {
   concept_ids = rows.concept_ids.keys;
   active_concepts = rows.active_concepts.items;
+  description_ids = rows.description_ids.keys;
+  names = rows.names;
   relationship_ids = rows.relationship_ids.keys;
   isa_ends = rows.isa_ends.items;
 }

@@ -2,6 +2,7 @@
 use Rattle.std.specs.Prelude.{◌≡◌, ◌<◌, ◌^◌, [], map, length, string_bytes}
 use Rattle.std.specs.List.Sorted.{IsStrictlyIncreasing}
 use Rattle.snapshot.specs.Contents.{Contents}
+use Rattle.snapshot.specs.FirstRows.{AreFirstPlaces}
 use Rattle.snapshot.specs.Numbering.{row_of_numbers}
 use Rattle.snapshot.specs.Search.{IsWithin}
 use Rattle.snapshot.specs.declared.load.Snapshot.TheInside.{Inside}
@@ -14,17 +15,19 @@ contents_in inside = record {
     isa = map (row_of_numbers inside.concepts.items) inside.isa.items;
     attributes = [];
     members = [];
-    names = [];
+    names = inside.names;
   };
   language = string_bytes inside.language;
   files = inside.files;
   passed = inside.passed;
 }
 
--- the concepts rise, and each is found at its number; the numbers in rows are those of concepts
+-- the concepts rise, and each is found at its number; the numbers in rows are those of concepts; and for
+-- each concept the place of the row that names it is known
 abbrev pub IsNumbered : Inside → Type 0
 IsNumbered inside =
     IsStrictlyIncreasing inside.concepts.items
     × (inside.numbers.keys ≡ inside.concepts.items)
     × (length inside.concepts.items < 2 ^ 32)
     × IsWithin (length inside.concepts.items) inside.isa.items
+    × AreFirstPlaces (string_bytes inside.language) inside.concepts.items inside.names inside.names inside.first_names.items

@@ -6,6 +6,7 @@ ghost use Rattle.snapshot.specs.Contents.{IsFaultOf, first_cyclic, load_of};
 ghost use Rattle.snapshot.specs.Files.{file_text, has_kind as has_kind_of, is_concept_file as is_concept_file_of, places_from};
 ghost use Rattle.snapshot.specs.InForce.{rising as rising_of, rows_among};
 ghost use Rattle.snapshot.specs.Kept.{IsApart, IsCycle, IsFaultIn, finished, nothing_kept, read_all};
+ghost use Rattle.snapshot.specs.Name.{name_of, text_lent};
 ghost use Rattle.snapshot.specs.Numbering.{number_of, numbered_row, row_of_numbers};
 ghost use Rattle.snapshot.specs.RowsKept.{kept_in};
 ghost use Rattle.snapshot.specs.Search.{IsWithin};
@@ -13,6 +14,7 @@ ghost use Rattle.snapshot.specs.Search.{IsWithin};
 use crate::cycle::least_cyclic;
 use crate::fault::LoadFault;
 use crate::limits::Limits;
+use crate::names::Names;
 use crate::numbering::{number_concepts, number_of, number_rows};
 use crate::rows::Rows;
 use indexmap::IndexSet;
@@ -33,6 +35,10 @@ pub struct Snapshot {
     numbers: IndexSet<u64>,
     // child and parent of each is-a row, in the order of the rows
     isa: Vec<(u32, u32)>,
+    // the name rows in the order of the rows
+    names: Names,
+    // for each concept the place of the name row that names it, if there is one
+    first_names: Vec<Option<u32>>,
     // the language whose names come first
     language: String,
     // how many files have a kind
@@ -104,6 +110,17 @@ impl Snapshot {
         self.concepts[concept as usize]
     }
 
+    /// The name of a concept by its number, which is below `concept_count`: the term of its fully
+    /// specified name, of several the one in the asked language, and of these the one with the least
+    /// identifier. `None` where it has none (Release File Specification, "Description file").
+    pub fn name(&self, concept: u32) -> Option<&str>
+        requires { concept < length self.now.release.concepts }
+        ensures { text_lent result ≡ name_of self.now.release self.now.language (slice_index self.now.release.concepts concept) }
+    {
+        let place = self.first_names[concept as usize]?;
+        Some(self.names.term(place as usize))
+    }
+
     /// Child and parent of each is-a row in force by their numbers, in the order of the files and
     /// their lines.
     pub fn isa_rows(&self) -> &[(u32, u32)]
@@ -162,16 +179,20 @@ fn finish(alloc: Global, rows: Rows, language: String, files: u64) -> Result<Sna
     ensures err { IfErr result (λ fault. IsFaultOf fault (finished (string_bytes language) files (kept_in rows))) }
 {
     let row_count = rows.row_count();
-    let (concepts, ends) = rows.into_parts();
+    let (concepts, names, ends) = rows.into_parts();
     let concepts = rising(concepts);
     match number_hierarchy(alloc, concepts.as_slice(), ends.as_slice()) {
         Ok(hierarchy) => {
             let Hierarchy { numbers, isa } = hierarchy;
-            let listed = concepts.len() as u64 + isa.len() as u64;
+            let names = names.among(alloc, &numbers)?;
+            let first_names = names.first_places(alloc, &numbers, language.as_str())?;
+            let listed = concepts.len() as u64 + isa.len() as u64 + names.len() as u64;
             Ok(Snapshot {
                 concepts,
                 numbers,
                 isa,
+                names,
+                first_names,
                 language,
                 files,
                 passed: row_count.saturating_sub(listed),

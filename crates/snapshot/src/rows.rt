@@ -3,13 +3,18 @@ ghost use Rattle.std.specs.Prelude.{◌≡◌, None, Some, Ok, Err, OnOk, IfErr,
 ghost use Rattle.release_files.specs.Lines.{line_text, lines_of};
 ghost use Rattle.snapshot.specs.Faults.{fault_after, fault_of_first, fault_of_id};
 ghost use Rattle.snapshot.specs.Files.{file_text, later_line, places_of_file, places_of_lines};
-ghost use Rattle.snapshot.specs.Kept.{IsFaultAt, IsFaultIn, ids_kept, is_isa as is_isa_row, keep, keep_concept, keep_relationship, nothing_kept, read_all};
+ghost use Rattle.snapshot.specs.Kept.{IsFaultAt, IsFaultIn, ids_kept, is_isa as is_isa_row, keep, keep_concept, keep_description, keep_relationship, nothing_kept, read_all};
+ghost use Rattle.snapshot.specs.InForce.{is_name as is_name_row};
+ghost use Rattle.rf2_rows.specs.Rows.{description_text};
 
 use crate::fault::LoadFault;
 use crate::limits::Limits;
+use crate::names::Names;
 use indexmap::IndexSet;
 use release_files::{Line, Lines, NamedBytes};
-use rf2_rows::{ConceptRow, FileKind, RelationshipRow, Row, file_kind, header, read_row};
+use rf2_rows::{
+    ConceptRow, DescriptionRow, FileKind, RelationshipRow, Row, file_kind, header, read_row,
+};
 use sctid::SctId;
 use std::alloc::Global;
 
@@ -19,6 +24,9 @@ const IS_A: u64 = 116680003;
 // |Inferred relationship|, the characteristic type of the rows that count.
 const INFERRED: u64 = 900000000000011006;
 
+// |Fully specified name|, the type of the descriptions that name concepts.
+const FULLY_SPECIFIED_NAME: u64 = 900000000000003001;
+
 /// What is kept of the rows read so far.
 #[derive(Drop)]
 pub struct Rows {
@@ -26,6 +34,10 @@ pub struct Rows {
     concept_ids: IndexSet<u64>,
     // those of the active ones
     active_concepts: Vec<SctId>,
+    // the identifiers of all description rows
+    description_ids: IndexSet<u64>,
+    // the active fully specified names
+    names: Names,
     // the identifiers of all relationship rows
     relationship_ids: IndexSet<u64>,
     // child and parent of the active, inferred is-a rows
@@ -41,6 +53,8 @@ impl Rows {
         Rows {
             concept_ids: IndexSet::new(alloc),
             active_concepts: Vec::new(alloc),
+            description_ids: IndexSet::new(alloc),
+            names: Names::new(alloc),
             relationship_ids: IndexSet::new(alloc),
             isa_ends: Vec::new(alloc),
         }
@@ -64,10 +78,12 @@ impl Rows {
 
     /// How many rows were read.
     pub fn row_count(&self) -> u64
-        requires { length (kept_in self.now).concept_ids + length (kept_in self.now).relationship_ids < 2 ^ 64 }
-        ensures { result ≡ length (kept_in self.now).concept_ids + length (kept_in self.now).relationship_ids }
+        requires { length (kept_in self.now).concept_ids + length (kept_in self.now).description_ids + length (kept_in self.now).relationship_ids < 2 ^ 64 }
+        ensures { result ≡ length (kept_in self.now).concept_ids + length (kept_in self.now).description_ids + length (kept_in self.now).relationship_ids }
     {
-        self.concept_ids.len() as u64 + self.relationship_ids.len() as u64
+        self.concept_ids.len() as u64
+            + self.description_ids.len() as u64
+            + self.relationship_ids.len() as u64
     }
 
     // Reads the lines of a file of a kind.
@@ -111,13 +127,14 @@ impl Rows {
         Ok(())
     }
 
-    /// The active concepts, and the ends of the active, inferred is-a rows. What served to find
-    /// repeated identifiers is freed.
-    pub fn into_parts(self) -> (Vec<SctId>, Vec<(SctId, SctId)>)
+    /// The active concepts, the active fully specified names, and the ends of the active, inferred
+    /// is-a rows. What served to find repeated identifiers is freed.
+    pub fn into_parts(self) -> (Vec<SctId>, Names, Vec<(SctId, SctId)>)
         ensures concepts { result.0.items ≡ (kept_in self).active_concepts }
-        ensures ends { result.1.items ≡ (kept_in self).isa_ends }
+        ensures names { result.1 ≡ (kept_in self).names }
+        ensures ends { result.2.items ≡ (kept_in self).isa_ends }
     {
-        (self.active_concepts, self.isa_ends)
+        (self.active_concepts, self.names, self.isa_ends)
     }
 
     // Reads a line behind the header.
@@ -141,6 +158,7 @@ impl Rows {
         }
         match read_row(kind, line.bytes) {
             Ok(Row::Concept(row)) => self.add_concept(file, number, row, limits),
+            Ok(Row::Description(row)) => self.add_description(file, number, &row, limits),
             Ok(Row::Relationship(row)) => self.add_relationship(file, number, row, limits),
             Err(fault) => Err(LoadFault::Row {
                 file,
@@ -164,6 +182,31 @@ impl Rows {
         add_identifier(&mut self.concept_ids, row.id, file, line, limits.concepts)?;
         if row.active {
             self.active_concepts.push(row.id)?;
+        }
+        Ok(())
+    }
+
+    fn add_description(
+        &mut self,
+        file: usize,
+        line: u64,
+        row: &DescriptionRow<'_>,
+        limits: &Limits,
+    ) -> Result<(), LoadFault>
+        ensures clean { OnOk result (fault_of_id file line (kept_in self.old).description_ids limits.now.descriptions row.now.id ≡ None) }
+        ensures kept { OnOk result (kept_in self.new ≡ keep_description (kept_in self.old) (Some (description_text row.now))) }
+        ensures err { IfErr result (λ fault. IsFaultAt fault (fault_of_id file line (kept_in self.old).description_ids limits.now.descriptions row.now.id)) }
+    {
+        add_identifier(
+            &mut self.description_ids,
+            row.id,
+            file,
+            line,
+            limits.descriptions,
+        )?;
+        if is_name(row) {
+            self.names
+                .push(row.id, row.concept_id, row.language_code, row.term)?;
         }
         Ok(())
     }
@@ -242,4 +285,11 @@ fn is_isa(row: &RelationshipRow) -> bool
     ensures { result ≡ is_isa_row row.now }
 {
     row.active && row.characteristic_type_id.number() == INFERRED && row.type_id.number() == IS_A
+}
+
+// Whether a row names a concept, as far as the row itself tells.
+fn is_name(row: &DescriptionRow<'_>) -> bool
+    ensures { result ≡ is_name_row (description_text row.now) }
+{
+    row.active && row.type_id.number() == FULLY_SPECIFIED_NAME
 }

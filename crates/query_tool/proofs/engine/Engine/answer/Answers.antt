@@ -1,9 +1,10 @@
-use Rattle.std.proofs.Common.{ℕ, ◌≡◌, ◌++◌, ◌∙◌, List, Bool, ap, map, subst}
+use Rattle.std.proofs.Common.{◌≡◌, ◌++◌, ◌∙◌, List, Bool, ap, map, subst}
 use Rattle.std.specs.List.Sorted.{IsStrictlyIncreasing}
 use Rattle.std.proofs.lemmas.List.Kept.{IsStrictlyIncreasing-filter}
 use Rattle.std.proofs.lemmas.Result.{on_ok_weaker}
 use Rattle.constraint_tree.specs.Denotation.{denotes, denotation}
 use Rattle.snapshot.specs.Contents.{Contents}
+use Rattle.snapshot.specs.Name.{name_of}
 use Rattle.query_tool.specs.Answer.{answer_text, marked_concepts}
 use Rattle.query_tool.specs.EngineInside.{contents_in, IsReady}
 use Rattle.query_tool.specs.Query.{tree_of_query}
@@ -25,6 +26,7 @@ returns-in_ok-marks-in-Some-clause-query c =
     let release = c.self.inside.snapshot.release in
     let asked = c.in-Some.query in
     let released : release ≡ c.args.self.now.release = ap (λ (contents : Contents). contents.release) c.self.view_is in
+    let spoken : c.self.inside.snapshot.language ≡ c.args.self.now.language = ap (λ (contents : Contents). contents.language) c.self.view_is in
     let marks : c.as_slice.result.now ≡ map (denotes release (tree_of_query asked)) release.concepts = c.as_slice.ensures.value ∙ c.in_ok-marks-in-Some.ensures in
     on_ok_weaker c.print_answer.result
     (λ printed query is_of.
@@ -33,7 +35,7 @@ returns-in_ok-marks-in-Some-clause-query c =
     ap (λ (marks : List Bool). marked_concepts marks release.concepts) marks
     ∙ marked_concepts-map (denotes release (tree_of_query asked)) release.concepts
     ∙ (λ i. denotation (released i) (tree_of_query (same i))) in
-    printed ∙ ap (λ (concepts : List ℕ). c.args.output.now.items ++ answer_text concepts) found)
+    printed ∙ (λ i. c.args.output.now.items ++ answer_text (name_of (released i) (spoken i)) (found i)))
     c.print_answer.ensures.ok
 
 pub returns-in-None-clause-query : goal.returns-in-None-clause-query

@@ -14,8 +14,9 @@ use Rattle.snapshot.proofs.load.Snapshot.load.Goals as goal
 pub finish-requires : goal.finish-requires
 finish-requires c =
     let concepts : c.in_force-limits.result.concepts ≤ 4000000 = subst (λ (l : Limits). l.concepts ≤ 4000000) (sym c.in_force-limits.ensures) (omega arith) in
+    let descriptions : c.in_force-limits.result.descriptions ≤ 20000000 = subst (λ (l : Limits). l.descriptions ≤ 20000000) (sym c.in_force-limits.ensures) (omega arith) in
     let relationships : c.in_force-limits.result.relationships ≤ 20000000 = subst (λ (l : Limits). l.relationships ≤ 20000000) (sym c.in_force-limits.ensures) (omega arith) in
-    IsApart-read c.in_force-limits.result (kept_in c.in-Ok.rows) (places_from 0 (map file_text c.args.files.now)) concepts relationships c.in-Ok.ensures.ok
+    IsApart-read c.in_force-limits.result (kept_in c.in-Ok.rows) (places_from 0 (map file_text c.args.files.now)) concepts descriptions relationships c.in-Ok.ensures.ok
 
 pub returns-then-not-has_concept_file-clause-err : goal.returns-then-not-has_concept_file-clause-err
 returns-then-not-has_concept_file-clause-err c other = load_of-none c.args.limits c.args.lang.now c.args.files.now (sym c.if-not-has_concept_file.ensures)

@@ -2,12 +2,12 @@ use Rattle.std.proofs.Common.{◌≡◌, ◌<◌, subst, sym, arith, length, nat
 use Rattle.std.specs.Prelude.{OnOk, IfErr}
 use Rattle.std.proofs.lemmas.Bool.Decides.{nat_tests}
 use Rattle.rf2_rows.specs.Rows.{IsRow}
-use Rattle.rf2_rows.specs.declared.row.Row.TheVariants.{Concept, Relationship}
+use Rattle.rf2_rows.specs.declared.row.Row.TheVariants.{Concept, Description, Relationship}
 use Rattle.release_files.specs.Lines.{line_text}
 use Rattle.snapshot.specs.Kept.{Kept, IsFaultAt, ids_kept}
 use Rattle.snapshot.specs.RowsKept.{kept_in}
 use Rattle.snapshot.specs.declared.fault.LoadFault.{LoadFault}
-use Rattle.snapshot.proofs.PlaceLemmas.{fault_of_concept, keep_of_concept, fault_of_relationship, keep_of_relationship}
+use Rattle.snapshot.proofs.PlaceLemmas.{fault_of_concept, keep_of_concept, fault_of_description, keep_of_description, fault_of_relationship, keep_of_relationship}
 use Rattle.snapshot.proofs.rows.Rows.read_line.Goals as goal
 
 pub returns-in-Ok-Concept-clause-clean : goal.returns-in-Ok-Concept-clause-clean
@@ -29,6 +29,26 @@ returns-in-Ok-Concept-clause-err c =
     let some : 0 < length c.args.line.bytes.now = grind (arith, nat_tests, c.if-is_empty.false, c.is_empty.ensures) in
     let is : IsRow c.args.kind c.args.line.bytes.now (Concept c.in-Ok-Concept.row) = rw c.in-Ok-Concept.field-0-is at c.in-Ok-Concept.ensures.row in
     subst (λ (o : Option LoadFault). IfErr c.add_concept.result (λ fault. IsFaultAt fault o)) (sym (fault_of_concept c.args.limits.now (ids_kept (kept_in c.args.self.now)) c.args.file c.args.kind (line_text c.args.line) c.in-Ok-Concept.row fits some c.in-Ok-Concept.ensures.accepted is)) c.add_concept.ensures.err
+
+pub returns-in-Ok-Description-clause-clean : goal.returns-in-Ok-Description-clause-clean
+returns-in-Ok-Description-clause-clean c =
+    let fits : nat_lt c.args.limits.now.bytes c.args.line.end ≡ false = grind (arith, nat_tests, c.if-line-limits.false) in
+    let some : 0 < length c.args.line.bytes.now = grind (arith, nat_tests, c.if-is_empty.false, c.is_empty.ensures) in
+    let is : IsRow c.args.kind c.args.line.bytes.now (Description c.in-Ok-Description.row) = rw c.in-Ok-Description.field-0-is at c.in-Ok-Description.ensures.row in
+    subst (λ (o : Option LoadFault). OnOk c.add_description.result (o ≡ None)) (sym (fault_of_description c.args.limits.now (ids_kept (kept_in c.args.self.now)) c.args.file c.args.kind (line_text c.args.line) c.in-Ok-Description.row fits some c.in-Ok-Description.ensures.accepted is)) c.add_description.ensures.clean
+
+pub returns-in-Ok-Description-clause-kept : goal.returns-in-Ok-Description-clause-kept
+returns-in-Ok-Description-clause-kept c =
+    let some : 0 < length c.args.line.bytes.now = grind (arith, nat_tests, c.if-is_empty.false, c.is_empty.ensures) in
+    let is : IsRow c.args.kind c.args.line.bytes.now (Description c.in-Ok-Description.row) = rw c.in-Ok-Description.field-0-is at c.in-Ok-Description.ensures.row in
+    subst (λ (k : Kept). OnOk c.add_description.result (kept_in c.add_description.new.self ≡ k)) (sym (keep_of_description (kept_in c.args.self.now) c.args.file c.args.kind (line_text c.args.line) c.in-Ok-Description.row some is)) c.add_description.ensures.kept
+
+pub returns-in-Ok-Description-clause-err : goal.returns-in-Ok-Description-clause-err
+returns-in-Ok-Description-clause-err c =
+    let fits : nat_lt c.args.limits.now.bytes c.args.line.end ≡ false = grind (arith, nat_tests, c.if-line-limits.false) in
+    let some : 0 < length c.args.line.bytes.now = grind (arith, nat_tests, c.if-is_empty.false, c.is_empty.ensures) in
+    let is : IsRow c.args.kind c.args.line.bytes.now (Description c.in-Ok-Description.row) = rw c.in-Ok-Description.field-0-is at c.in-Ok-Description.ensures.row in
+    subst (λ (o : Option LoadFault). IfErr c.add_description.result (λ fault. IsFaultAt fault o)) (sym (fault_of_description c.args.limits.now (ids_kept (kept_in c.args.self.now)) c.args.file c.args.kind (line_text c.args.line) c.in-Ok-Description.row fits some c.in-Ok-Description.ensures.accepted is)) c.add_description.ensures.err
 
 pub returns-in-Ok-Relationship-clause-clean : goal.returns-in-Ok-Relationship-clause-clean
 returns-in-Ok-Relationship-clause-clean c =
