@@ -4,4 +4,5 @@ pub mod ChildrenInside
 pub mod EngineInside
 pub mod Query
 pub mod Reading
+pub mod SampleContents
 pub mod Walk
