@@ -1,8 +1,14 @@
 pub mod Answer
 pub mod Children
 pub mod ChildrenInside
+pub mod CommandLine
 pub mod EngineInside
+pub mod Fault
+pub mod Lexing
+pub mod Lines
+pub mod LoadRefusal
 pub mod Query
-pub mod Reading
 pub mod SampleContents
+pub mod Serve
+pub mod Tokens
 pub mod Walk

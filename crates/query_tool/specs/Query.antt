@@ -1,11 +1,13 @@
 -- The queries and their texts (Expression Constraint Language 2.2, "Simple Expression Constraints", brief
--- syntax). A text is a list of bytes.
-use Rattle.std.specs.Prelude.{ℕ, ◌≡◌, ◌≢◌, ◌≤◌, ◌==◌, ◌||◌, ◌++◌, Bool, true, List, [], length, codes, slice_index}
-use Rattle.std.specs.Char.{is_ascii_digit}
-use Rattle.std.specs.List.{list_all}
+-- syntax), and why a text is none. A text is a list of bytes.
+use Rattle.std.specs.Prelude.{ℕ, nat_lt, nat_le, not, if◌then◌else◌, List, [], ◌∷◌, length, Option, None, Some, option_map, Result, Ok, Err}
+use Rattle.std.specs.Str.{is_utf8}
 use Rattle.std.specs.Str.Parse.{digits_value}
 use Rattle.constraint_tree.specs.Tree.{Tree, concept_tree, any_tree, walk_tree}
 use Rattle.constraint_tree.specs.declared.operator.Operator.TheVariants as operator
+use Rattle.query_tool.specs.Tokens.{Token, descendant_of, descendant_or_self_of, wildcard, digits, tokens_of}
+use Rattle.query_tool.specs.declared.fault.QueryFault.{QueryFault}
+use Rattle.query_tool.specs.declared.fault.QueryFault.TheVariants.{Long, Utf8, Syntax}
 use Rattle.query_tool.specs.declared.query.Focus.{Focus}
 use Rattle.query_tool.specs.declared.query.Focus.TheVariants.{Concept, Any}
 use Rattle.query_tool.specs.declared.query.Query.{Query}
@@ -21,45 +23,30 @@ tree_of_query (Itself focus) = tree_of_focus focus
 tree_of_query (Descendants focus) = walk_tree operator.Descendants (tree_of_focus focus)
 tree_of_query (DescendantsOrSelf focus) = walk_tree operator.DescendantsOrSelf (tree_of_focus focus)
 
-abbrev pub focus_of : Query → Focus
-focus_of (Itself focus) = focus
-focus_of (Descendants focus) = focus
-focus_of (DescendantsOrSelf focus) = focus
+-- a focus is `*`, or the digits of an identifier, of which there are at least 6
+abbrev pub focus_of : List Token → Option Focus
+focus_of (wildcard ∷ []) = Some Any
+focus_of (digits run ∷ []) = if nat_le 6 (length run) then Some (Concept (digits_value 10 run)) else None
+focus_of tokens = None
 
-abbrev pub operator_text : Query → List ℕ
-operator_text (Itself focus) = []
-operator_text (Descendants focus) = codes "<"
-operator_text (DescendantsOrSelf focus) = codes "<<"
+-- the query that tokens are of, if any: a focus, alone or behind an operator
+abbrev pub query_of : List Token → Option Query
+query_of (descendant_of ∷ tokens) = option_map Descendants (focus_of tokens)
+query_of (descendant_or_self_of ∷ tokens) = option_map DescendantsOrSelf (focus_of tokens)
+query_of tokens = option_map Itself (focus_of tokens)
 
--- a focus is written as `*`, or as 6 to 18 decimal digits, of which the first is not 0
-abbrev pub IsFocusText : List ℕ → Focus → Type 0
-IsFocusText text Any = text ≡ codes "*"
-IsFocusText text (Concept number) =
-    (list_all is_ascii_digit text ≡ true)
-    × (6 ≤ length text)
-    × (length text ≤ 18)
-    × (slice_index text 0 ≢ 48)
-    × (digits_value 10 text ≡ number)
+abbrev pub or_syntax : Option Query → Result Query QueryFault
+or_syntax (Some query) = Ok query
+or_syntax None = Err Syntax
 
--- blanks are space, tab, CR and LF
-abbrev pub is_blank : ℕ → Bool
-is_blank byte = byte == 32 || byte == 9 || byte == 13 || byte == 10
+abbrev pub grammar : Result (List Token) QueryFault → Result Query QueryFault
+grammar (Ok tokens) = or_syntax (query_of tokens)
+grammar (Err fault) = Err fault
 
-abbrev pub AreBlanks : List ℕ → Type 0
-AreBlanks text = list_all is_blank text ≡ true
-
--- a text is of a query where it is blanks, the operator, blanks, the focus and blanks
-pub record IsTextOf (text : List ℕ) (query : Query) : Type 0 where
-  pub before : List ℕ
-  pub between : List ℕ
-  pub focus : List ℕ
-  pub behind : List ℕ
-  pub is : text ≡ before ++ (operator_text query ++ (between ++ (focus ++ behind)))
-  pub blanks_before : AreBlanks before
-  pub blanks_between : AreBlanks between
-  pub blanks_behind : AreBlanks behind
-  pub is_focus : IsFocusText focus (focus_of query)
-
--- no text is of two queries
-abbrev pub HaveOneQuery : Type 0
-HaveOneQuery = (text : List ℕ) (query other : Query) → IsTextOf text query → IsTextOf text other → query ≡ other
+-- the query that a text is of, or the first that holds of: it has more than 65,535 bytes; it is not UTF-8; a
+-- place where no token begins or a run of digits is too long, the least of these; its tokens are of no query
+abbrev pub query_read : List ℕ → Result Query QueryFault
+query_read text =
+    if nat_lt 65535 (length text) then Err Long
+    else if not (is_utf8 text) then Err Utf8
+    else grammar (tokens_of text)

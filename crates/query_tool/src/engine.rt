@@ -4,13 +4,12 @@ ghost use Rattle.std.specs.List.Sorted.{IsStrictlyIncreasing};
 ghost use Rattle.constraint_tree.specs.Denotation.{denotation};
 ghost use Rattle.snapshot.specs.Contents.{IsFaultOf, load_of};
 ghost use Rattle.snapshot.specs.Files.{file_text};
-ghost use Rattle.snapshot.specs.Name.{name_of};
-ghost use Rattle.query_tool.specs.Answer.{answer_text, syntax_text};
-ghost use Rattle.query_tool.specs.Query.{IsTextOf, tree_of_query};
+ghost use Rattle.query_tool.specs.Answer.{line_answer};
+ghost use Rattle.query_tool.specs.Query.{tree_of_query};
 ghost use Rattle.query_tool.specs.declared.query.Query.{Query};
 
 use crate::children::Children;
-use crate::printer::{print_answer, print_syntax_fault};
+use crate::printer::{print_answer, print_fault};
 use crate::query::parse;
 use crate::walk::denoted;
 use release_files::NamedBytes;
@@ -60,20 +59,20 @@ impl Engine {
 
     /// Appends the answer to a query line: `OK` and the number of concepts that it denotes, then
     /// each of them in rising order on a line of its own, its identifier and its name between bars
-    /// if it has one; or `ERR syntax` where the
-    /// line is no query. Where memory is refused `output` is unchanged.
+    /// if it has one. A line that is no query is answered by `ERR` and its first fault: `long`,
+    /// `utf8`, `token` or `limit` with the offset in bytes, or `syntax`. Where memory is refused
+    /// `output` is unchanged.
     pub fn answer(&self, alloc: Global, line: &[u8], output: &mut Vec<u8>) -> Result<(), AllocError>
-        ensures query { OnOk result ((query : Query) → IsTextOf line.now query → output.new.items ≡ output.old.items ++ answer_text (name_of self.now.release self.now.language) (denotation self.now.release (tree_of_query query))) }
-        ensures syntax { OnOk result (((query : Query) → ¬ IsTextOf line.now query) → output.new.items ≡ output.old.items ++ syntax_text) }
+        ensures ok { OnOk result (output.new.items ≡ output.old.items ++ line_answer self.now line.now) }
         ensures err { OnErr result (output.new.items ≡ output.old.items) }
         ensures rising { (query : Query) → IsStrictlyIncreasing (denotation self.now.release (tree_of_query query)) }
     {
         match parse(line) {
-            Some(query) => {
+            Ok(query) => {
                 let marks = denoted(alloc, query, &self.snapshot, &self.children)?;
                 print_answer(alloc, &self.snapshot, marks.as_slice(), output)
             }
-            None => print_syntax_fault(output),
+            Err(fault) => print_fault(alloc, fault, output),
         }
     }
 }

@@ -30,8 +30,13 @@ const RELATIONSHIP_HEADER: &[u8] =
 
 const ISA_REST: &[u8] = b"\t0\t116680003\t900000000000011006\t900000000000451002\r\n";
 
-// The bytes with the first `from` in them replaced.
-fn replaced(alloc: Global, bytes: &[u8], from: &[u8], to: &[u8]) -> Result<Vec<u8>, AllocError> {
+/// The bytes with the first `from` in them replaced.
+pub fn replaced(
+    alloc: Global,
+    bytes: &[u8],
+    from: &[u8],
+    to: &[u8],
+) -> Result<Vec<u8>, AllocError> {
     let mut changed = Vec::new(alloc);
     match bytes.split_once_str(from) {
         Some((before, after)) => {

@@ -3,67 +3,139 @@
 
 mod children;
 mod engine;
+mod fault;
+mod folder;
+mod lexer;
+mod load_refusal;
 #[cfg(test)]
 mod load_tests;
 mod printer;
 mod query;
+mod run;
+#[cfg(test)]
+mod run_tests;
 mod sample;
+mod serve;
+#[cfg(test)]
+mod serve_tests;
+mod streams;
+#[cfg(test)]
+mod test_streams;
 #[cfg(test)]
 mod tests;
 mod walk;
+mod words;
 
-use engine::Engine;
-use sample::sample_files;
+use folder::{FolderFault, FolderFile, read_folder};
+use release_files::NamedBytes;
+use serve::{Status, serve};
 use snapshot::Limits;
-use std::io::{BufRead, BufReader, Write};
+use std::alloc::AllocError;
+use std::io::ErrorKind;
 use std::process::ExitCode;
 use std::{env, io};
-
-const DEVICE_FAULT: u8 = 1;
-
-const WORDS_FAULT: u8 = 2;
-
-const RELEASE_REFUSED: u8 = 3;
+use streams::{StreamInput, StreamOutput};
+use words::{Mode, Request, WordFault, read_words};
 
 fn main(rt: HostRuntime) -> ExitCode {
-    if !matches!(word_count(&rt), Ok(0)) {
-        let _ = eprintln!(rt; "hosecrag takes no words: it answers the queries on standard input");
-        return ExitCode::from(WORDS_FAULT);
+    ExitCode::from(outcome(&rt).code())
+}
+
+// Does what the command line asks for.
+fn outcome(rt: &HostRuntime) -> Status {
+    match asked(rt) {
+        Ok(request) => answer(rt, &request),
+        Err(WordFault::Help(text)) => {
+            let _ = print!(rt; "{text}");
+            Status::Done
+        }
+        Err(WordFault::Usage(text)) => {
+            let _ = eprint!(rt; "{text}");
+            Status::WordsFault
+        }
+        Err(WordFault::Memory) => {
+            let _ = eprintln!(rt; "FAULT memory");
+            Status::MemoryRefused
+        }
     }
-    match Engine::load(rt.alloc(), &sample_files(), "en", Limits::standard()) {
-        Ok(engine) => match answer_input(&rt, &engine) {
-            Ok(()) => ExitCode::SUCCESS,
-            Err(fault) => {
-                let _ = eprintln!(rt; "{fault}");
-                ExitCode::from(DEVICE_FAULT)
-            }
+}
+
+// What the words of the command line ask for.
+fn asked(rt: &HostRuntime) -> Result<Request, WordFault> {
+    let given = match env::args(rt) {
+        Ok(given) => given,
+        Err(error) => return Err(unread_words(rt, &error)),
+    };
+    let words: Vec<String> = given.collect(rt.alloc())?;
+    let texts: Vec<&str> = words.iter().map(|word| word.as_str()).collect(rt.alloc())?;
+    read_words(rt.alloc(), texts.as_slice())
+}
+
+// Why the words can't be had.
+fn unread_words(rt: &HostRuntime, error: &io::Error) -> WordFault {
+    if error.kind() == ErrorKind::OutOfMemory {
+        return WordFault::Memory;
+    }
+    match String::from_str(rt.alloc(), "error: a word is not UTF-8\n") {
+        Ok(text) => WordFault::Usage(text),
+        Err(_) => WordFault::Memory,
+    }
+}
+
+// Answers standard input over the release that is asked for.
+fn answer(rt: &HostRuntime, request: &Request) -> Status {
+    match files_asked(rt, request) {
+        Ok(files) => match named(rt, files.as_slice()) {
+            Ok(named) => serve_streams(rt, request, named.as_slice()),
+            Err(_) => refuse_folder(rt, &FolderFault::Memory),
         },
-        Err(fault) => {
-            let _ = eprintln!(rt; "{fault}");
-            ExitCode::from(RELEASE_REFUSED)
-        }
+        Err(fault) => refuse_folder(rt, &fault),
     }
 }
 
-// How many words follow the program's name.
-fn word_count(rt: &HostRuntime) -> io::Result<usize> {
-    Ok(env::args(rt)?.count().saturating_sub(1))
+// The files of the folder that is asked for, or none where the release is built in.
+fn files_asked(rt: &HostRuntime, request: &Request) -> Result<Vec<FolderFile>, FolderFault> {
+    match request.mode {
+        Mode::Sample => Ok(Vec::new(rt.alloc())),
+        Mode::Query => read_folder(rt, request.folder.as_str(), Limits::standard().bytes),
+    }
 }
 
-// Answers each line of standard input, a last one without an end too where it is not empty.
-fn answer_input(rt: &HostRuntime, engine: &Engine) -> io::Result<()> {
-    let mut input = BufReader::new(rt.alloc(), rt.reader())?;
-    let mut output = io::writer(rt);
-    let mut line = Vec::new(rt.alloc());
-    let mut answer = Vec::new(rt.alloc());
-    for _ in 0..u64::MAX {
-        line.clear();
-        answer.clear();
-        if input.read_until(b'\n', &mut line)? == 0 {
-            break;
+fn named<'a>(rt: &HostRuntime, files: &'a [FolderFile]) -> Result<Vec<NamedBytes<'a>>, AllocError> {
+    files
+        .iter()
+        .map(FolderFile::named_bytes)
+        .collect(rt.alloc())
+}
+
+fn serve_streams(rt: &HostRuntime, request: &Request, files: &[NamedBytes<'_>]) -> Status {
+    let mut input = StreamInput::new(rt.reader());
+    let mut output = StreamOutput::new(io::writer(rt));
+    let mut errors = StreamOutput::new(rt.stderr());
+    serve(
+        rt.alloc(),
+        request,
+        files,
+        &mut input,
+        &mut output,
+        &mut errors,
+    )
+}
+
+// Tells why the files of a folder can't be had.
+fn refuse_folder(rt: &HostRuntime, fault: &FolderFault) -> Status {
+    match fault {
+        FolderFault::Listing => {
+            let _ = eprintln!(rt; "REFUSED device");
+            Status::DeviceFault
         }
-        engine.answer(rt.alloc(), line.as_slice(), &mut answer)?;
-        output.write_all(answer.as_slice())?;
+        FolderFault::File(name) => {
+            let _ = eprintln!(rt; "REFUSED device {name}");
+            Status::DeviceFault
+        }
+        FolderFault::Memory => {
+            let _ = eprintln!(rt; "REFUSED memory");
+            Status::MemoryRefused
+        }
     }
-    output.flush()
 }

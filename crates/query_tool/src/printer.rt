@@ -1,13 +1,15 @@
 //! The bytes of an answer.
 ghost use Rattle.std.specs.Prelude.{◌≡◌, ◌<◌, ◌++◌, Bool, IfOk, OnErr, OnOk, length, count_by, slice_index};
-ghost use Rattle.query_tool.specs.Answer.{answer_text, concept_line, marked_concepts, name_text, number_line, syntax_text};
+ghost use Rattle.query_tool.specs.Answer.{answer_text, concept_line, marked_concepts, name_text, number_line, refusal_text};
 ghost use Rattle.snapshot.specs.Name.{name_of, text_lent};
 
+use crate::fault::QueryFault;
 use snapshot::Snapshot;
 use std::alloc::{AllocError, Global};
 
 /// Appends `OK`, the number of the concepts that are marked and then a line for each, in the rising
-/// order of their identifiers: the identifier, and the name if the concept has one. Every line ends in LF. Where memory is refused `output` is unchanged.
+/// order of their identifiers: the identifier, and the name if the concept has one. Every line ends
+/// in LF. Where memory is refused `output` is unchanged.
 pub fn print_answer(
     alloc: Global,
     snapshot: &Snapshot,
@@ -22,13 +24,36 @@ pub fn print_answer(
     output.extend_from_slice(lines.as_slice())
 }
 
-/// Appends the line that answers a text outside the grammar. Where memory is refused `output` is
-/// unchanged.
-pub fn print_syntax_fault(output: &mut Vec<u8>) -> Result<(), AllocError>
-    ensures ok { OnOk result (output.new.items ≡ output.old.items ++ syntax_text) }
+/// Appends the line that refuses a text: `ERR`, the fault and its place if it has one, and LF. Where
+/// memory is refused `output` is unchanged.
+pub fn print_fault(alloc: Global, fault: QueryFault, output: &mut Vec<u8>) -> Result<(), AllocError>
+    ensures ok { OnOk result (output.new.items ≡ output.old.items ++ refusal_text fault) }
     ensures err { OnErr result (output.new.items ≡ output.old.items) }
 {
-    output.extend_from_slice(b"ERR syntax\n")
+    let line = fault_line(alloc, fault)?;
+    output.extend_from_slice(line.as_slice())
+}
+
+// The line that refuses a text, apart, so that a growth that is refused leaves no part of it behind.
+fn fault_line(alloc: Global, fault: QueryFault) -> Result<Vec<u8>, AllocError>
+    ensures { IfOk result (λ line. line.items ≡ refusal_text fault) }
+{
+    match fault {
+        QueryFault::Long => Vec::from_slice(alloc, b"ERR long\n"),
+        QueryFault::Utf8 => Vec::from_slice(alloc, b"ERR utf8\n"),
+        QueryFault::Token(at) => place_line(alloc, b"ERR token ", at),
+        QueryFault::Limit(at) => place_line(alloc, b"ERR limit ", at),
+        QueryFault::Syntax => Vec::from_slice(alloc, b"ERR syntax\n"),
+    }
+}
+
+// A line of words and a place.
+fn place_line(alloc: Global, words: &[u8], at: usize) -> Result<Vec<u8>, AllocError>
+    ensures { IfOk result (λ line. line.items ≡ words.now ++ number_line at) }
+{
+    let mut line = Vec::from_slice(alloc, words)?;
+    print_number(at as u64, &mut line)?;
+    Ok(line)
 }
 
 // The whole answer, apart, so that a growth that is refused leaves no part of it behind.

@@ -1,11 +1,14 @@
-use super::*;
+//! Queries and their answers over small releases.
+use crate::engine::Engine;
+use crate::sample::sample_files;
 use release_files::NamedBytes;
+use snapshot::Limits;
 use std::alloc::Global;
 use std::process::Abort;
 use std::test::Fail;
 
 // Lines and their answers by the sample release.
-const ANSWERS: [(&[u8], &[u8]); 18] = [
+const ANSWERS: [(&[u8], &[u8]); 12] = [
     (
         b"*",
         b"OK 10\n100005 |Alpha (finding)|\n101009 |Beta (finding)|\n102002 |Gamma (finding)|\n103007 |Delta (finding)|\n104001 |Type T (attribute)|\n105000 |Type U (attribute)|\n106004 |Value X (value)|\n107008 |Value Y (value)|\n108003\n138875005 |Root (test)|\n",
@@ -32,13 +35,33 @@ const ANSWERS: [(&[u8], &[u8]); 18] = [
     (b"109006", b"OK 0\n"),
     (b"<<109006", b"OK 0\n"),
     (b"999999", b"OK 0\n"),
-    (b"99", b"ERR syntax\n"),
+    (b"123456789012345678", b"OK 0\n"),
+];
+
+// Lines that are of no query, and why. A place counts the bytes before it.
+const REFUSALS: [(&[u8], &[u8]); 20] = [
     (b"", b"ERR syntax\n"),
-    (b"< <100005", b"ERR syntax\n"),
-    (b"007", b"ERR syntax\n"),
-    (b"100005x", b"ERR syntax\n"),
-    (b"<<<100005", b"ERR syntax\n"),
+    (b"99", b"ERR syntax\n"),
+    (b"0", b"ERR syntax\n"),
+    (b"<", b"ERR syntax\n"),
     (b"**", b"ERR syntax\n"),
+    (b"<<<100005", b"ERR syntax\n"),
+    (b"< <100005", b"ERR syntax\n"),
+    (b"< 100005 100005", b"ERR syntax\n"),
+    (b"007", b"ERR token 0\n"),
+    (b"100005x", b"ERR token 6\n"),
+    (b"100005 |Alpha", b"ERR token 7\n"),
+    (b"1234567890123456789", b"ERR limit 0\n"),
+    (b"<< 1234567890123456789", b"ERR limit 3\n"),
+    (b"\xff", b"ERR utf8\n"),
+    // of two faults the one at the least place, however many tokens stand before it
+    (b"007 x", b"ERR token 0\n"),
+    (b"x 1234567890123456789", b"ERR token 0\n"),
+    (b"1234567890123456789 x", b"ERR limit 0\n"),
+    (b"* * * * x 007", b"ERR token 8\n"),
+    (b"* \xc3\xa9", b"ERR token 2\n"),
+    // a text that is not UTF-8 has no tokens
+    (b"x \xff", b"ERR utf8\n"),
 ];
 
 // A concept file whose rows are not in the order of their identifiers.
@@ -71,6 +94,29 @@ fn answered(
 fn answers_queries(rt: HostRuntime) -> Result<(), Fail> {
     for (line, answer) in ANSWERS {
         let output = answered(&rt, rt.alloc(), &sample_files(), "en", line)?;
+        assert!(rt; output.as_slice().strip_prefix(b"before\n".as_slice()) == Some(answer));
+    }
+    Ok(())
+}
+
+#[test]
+fn refuses_other_lines(rt: HostRuntime) -> Result<(), Fail> {
+    for (line, answer) in REFUSALS {
+        let output = answered(&rt, rt.alloc(), &sample_files(), "en", line)?;
+        assert!(rt; output.as_slice().strip_prefix(b"before\n".as_slice()) == Some(answer));
+    }
+    Ok(())
+}
+
+#[test]
+fn refuses_long_lines(rt: HostRuntime) -> Result<(), Fail> {
+    let answers = [
+        (65535, b"ERR syntax\n".as_slice()),
+        (65536, b"ERR long\n".as_slice()),
+    ];
+    for (count, answer) in answers {
+        let line = vec![in rt.alloc(); b' '; count]?;
+        let output = answered(&rt, rt.alloc(), &sample_files(), "en", line.as_slice())?;
         assert!(rt; output.as_slice().strip_prefix(b"before\n".as_slice()) == Some(answer));
     }
     Ok(())

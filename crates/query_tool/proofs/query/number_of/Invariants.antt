@@ -2,7 +2,7 @@ use Rattle.std.proofs.Common.{◌≡◌, true, take}
 use Rattle.std.specs.Char.{is_ascii_digit}
 use Rattle.std.specs.List.{list_all}
 use Rattle.std.specs.Str.Parse.{digits_value}
-use Rattle.query_tool.proofs.query.read_digits.Given as goal
+use Rattle.query_tool.proofs.query.number_of.Given as goal
 
 -- what was read are digits, and the number is what they write
 abbrev pub invariant-loop-digit : goal.invariant-loop-digit

@@ -1,0 +1,50 @@
+-- What the words of a command line ask for. The words begin with the program's name. How words are read as
+-- arguments is clap's; here is what the program takes, and what a request is of it.
+use Rattle.std.specs.Prelude.{◌≡◌, ◌≤◌, ℕ, true, List, [], length, codes, string_bytes, unwrap_or, Option, Some}
+use Rattle.clap.specs.Words.{App, Row, Rule, Text, first_of, new_app, new_rule, subcommand_of, with_rule, with_subcommand}
+use Rattle.query_tool.specs.declared.words.Mode.{Mode}
+use Rattle.query_tool.specs.declared.words.Mode.TheVariants.{Sample, Query}
+use Rattle.query_tool.specs.declared.words.Request.{Request}
+
+-- a folder, which has to be there, and `--lang` with a code of a language
+abbrev pub folder_rule : Rule
+folder_rule = record (new_rule (codes "FOLDER")) { required = true }
+
+abbrev pub lang_rule : Rule
+lang_rule = record (new_rule (codes "lang")) { long = Some (codes "lang"); value_names = 1 }
+
+-- `query`, with both
+abbrev pub query_command : App
+query_command = with_rule (with_rule (new_app (codes "query")) folder_rule) lang_rule
+
+-- a command has to be named
+abbrev pub requiring_command : App → App
+requiring_command app = record app { top = record app.top { subcommand_required = true } }
+
+-- the program
+abbrev pub program : App
+program = with_subcommand (requiring_command (new_app (codes "hosecrag"))) query_command.top
+
+-- the language whose names come first where none is given
+abbrev pub default_language : List ℕ
+default_language = codes "en"
+
+-- no word but the program's name asks for the built-in release
+abbrev pub AsksSample : List Text → Request → Type 0
+AsksSample words request = (length words ≤ 1) × (string_bytes request.folder ≡ []) × (string_bytes request.lang ≡ default_language)
+
+-- a command `query` asks for the release of its folder, and for its language first
+abbrev pub AsksQuery : Option (Text × List Row) → Request → Type 0
+AsksQuery command request =
+    (rows : List Row) × (command ≡ Some (codes "query", rows))
+    × (first_of (codes "FOLDER") rows ≡ Some (string_bytes request.folder))
+    × (unwrap_or (first_of (codes "lang") rows) default_language ≡ string_bytes request.lang)
+
+-- what words ask for in each mode
+abbrev pub Asks : Mode → List Text → Request → Type 0
+Asks Sample words request = AsksSample words request
+Asks Query words request = AsksQuery (subcommand_of program words) request
+
+-- the request is that of the words
+abbrev pub IsRequest : List Text → Request → Type 0
+IsRequest words request = Asks request.mode words request

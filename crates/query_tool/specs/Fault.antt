@@ -1,0 +1,71 @@
+-- What a run that ends at a fault leaves behind.
+use Rattle.std.specs.Prelude.{◌≡◌, ◌⊎◌, ℕ, ◌+◌, ◌-◌, ◌^◌, ◌<◌, ◌≤◌, Bool, true, false, List, [], ◌++◌, length, take, slice_index_or, Option, ⊤}
+use Rattle.std.specs.Io.KnownBytes.{Appends}
+use Rattle.snapshot.specs.Contents.{Contents}
+use Rattle.query_tool.specs.Answer.{line_answer}
+use Rattle.query_tool.specs.Lines.{answers, line_feed_count}
+use Rattle.query_tool.specs.declared.run.RunFault.{RunFault}
+use Rattle.query_tool.specs.declared.run.RunFault.TheVariants.{Read, Write, Memory, Turns}
+
+-- the numbers of the faults
+abbrev pub number_of : RunFault → ℕ
+number_of (Read count) = 1
+number_of (Write count) = 2
+number_of (Memory count) = 3
+number_of (Turns count) = 4
+
+-- how many answers were written whole
+abbrev pub whole_answers : RunFault → ℕ
+whole_answers (Read count) = count
+whole_answers (Write count) = count
+whole_answers (Memory count) = count
+whole_answers (Turns count) = count
+
+-- the answers to the first lines were written, and nothing else
+abbrev pub WritesFirst : Contents → List (List ℕ) → ℕ → Option (List ℕ) → Option (List ℕ) → Type 0
+WritesFirst contents lines count before after =
+    (count ≤ length lines) × Appends before after (answers contents (take count lines))
+
+-- the answers to the first lines were written and then a front of the next answer, not all of it
+abbrev pub WritesPart : Contents → List (List ℕ) → ℕ → Option (List ℕ) → Option (List ℕ) → Type 0
+WritesPart contents lines count before after =
+    let next = line_answer contents (slice_index_or lines count []) in
+    (place : ℕ)
+    × (count < length lines)
+    × (place < length next)
+    × Appends before after (answers contents (take count lines) ++ take place next)
+
+-- what was written of the answers to some lines, `count` of them whole, where a fault came
+abbrev pub LeavesWritten : Contents → List (List ℕ) → ℕ → RunFault → Option (List ℕ) → Option (List ℕ) → Type 0
+LeavesWritten contents lines count (Read answered) before after = WritesFirst contents lines count before after
+LeavesWritten contents lines count (Write answered) before after = WritesPart contents lines count before after
+LeavesWritten contents lines count (Memory answered) before after = WritesFirst contents lines count before after
+LeavesWritten contents lines count (Turns answered) before after = WritesFirst contents lines count before after
+
+-- where no answer was under way, each line that ended was answered
+abbrev pub AnswersEnded : RunFault → List ℕ → Type 0
+AnswersEnded (Read count) read = count ≡ line_feed_count read
+AnswersEnded (Write count) read = ⊤
+AnswersEnded (Memory count) read = ⊤
+AnswersEnded (Turns count) read = count ≡ line_feed_count read
+
+-- at `Read` the input alone has failed, at `Write` the output alone, at the others neither
+abbrev pub HaveFailed : RunFault → Bool → Bool → Type 0
+HaveFailed (Read count) input output = (input ≡ true) × (output ≡ false)
+HaveFailed (Write count) input output = (input ≡ false) × (output ≡ true)
+HaveFailed (Memory count) input output = (input ≡ false) × (output ≡ false)
+HaveFailed (Turns count) input output = (input ≡ false) × (output ≡ false)
+
+-- at `Turns` the input was read 2^40 times, unless the count of its reads stands still at its end
+abbrev pub CountsTurns : RunFault → ℕ → ℕ → Type 0
+CountsTurns (Read count) before after = ⊤
+CountsTurns (Write count) before after = ⊤
+CountsTurns (Memory count) before after = ⊤
+CountsTurns (Turns count) before after = (after ≡ before + 2 ^ 40) ⊎ (after ≡ 2 ^ 64 - 1)
+
+-- a fault that an answer can meet, after `count` whole answers
+abbrev pub IsAnswerFault : RunFault → ℕ → Bool → Type 0
+IsAnswerFault (Read answered) count output = ⊥
+IsAnswerFault (Write answered) count output = (answered ≡ count) × (output ≡ true)
+IsAnswerFault (Memory answered) count output = (answered ≡ count) × (output ≡ false)
+IsAnswerFault (Turns answered) count output = ⊥

@@ -1,0 +1,137 @@
+//! Runs over streams in pieces, and over streams that fail.
+ghost use Rattle.std.specs.Prelude.{◌≡◌, false};
+
+use crate::engine::Engine;
+use crate::run::{RunFault, run};
+use crate::sample::sample_files;
+use crate::streams::{AnswerOutput, QueryInput, StreamInput, StreamOutput};
+use crate::test_streams::{PieceInput, PieceOutput, ROOM};
+use snapshot::Limits;
+use std::alloc::Global;
+use std::process::Abort;
+use std::test::Fail;
+
+const ANSWER: &[u8] =
+    b"OK 3\n101009 |Beta (finding)|\n102002 |Gamma (finding)|\n103007 |Delta (finding)|\n";
+
+// Checks what a run over an input and an output answers and writes.
+fn check_run(
+    rt: &impl Abort,
+    alloc: Global,
+    mut input: PieceInput<'_>,
+    mut output: PieceOutput,
+    answer: Result<u64, RunFault>,
+    written: &[u8],
+) -> Result<(), Fail>
+    requires input { input.failed ≡ false }
+    requires output { output.failed ≡ false }
+{
+    match Engine::load(alloc, &sample_files(), "en", Limits::standard()) {
+        Ok(engine) => {
+            let found = run(alloc, &engine, &mut input, &mut output);
+            assert!(rt; found == answer);
+            assert!(rt; output.bytes.as_slice() == written);
+            assert!(rt; input.failed() == matches!(answer, Err(RunFault::Read(_))));
+            assert!(rt; output.failed() == matches!(answer, Err(RunFault::Write(_))));
+        }
+        Err(_) => assert!(rt; false, "the release loads"),
+    }
+    Ok(())
+}
+
+#[test]
+fn answers_no_line_of_no_input(rt: HostRuntime) -> Result<(), Fail> {
+    let input = PieceInput::new(b"", ROOM, ROOM);
+    let output = PieceOutput::new(rt.alloc(), ROOM, ROOM)?;
+    check_run(&rt, rt.alloc(), input, output, Ok(0), b"")
+}
+
+// An empty line is a query too, though no text of one; a last line needs no line feed.
+#[test]
+fn answers_each_line(rt: HostRuntime) -> Result<(), Fail> {
+    let mut both = Vec::from_slice(rt.alloc(), ANSWER)?;
+    both.extend_from_slice(b"ERR syntax\n")?;
+    let inputs = [
+        (b"<100005\n\n".as_slice(), Ok(2), both.as_slice()),
+        (b"<100005\n", Ok(1), ANSWER),
+        (b"<100005", Ok(1), ANSWER),
+    ];
+    for (bytes, answer, written) in inputs {
+        for most in [1, 3, ROOM] {
+            let input = PieceInput::new(bytes, most, ROOM);
+            let output = PieceOutput::new(rt.alloc(), most, ROOM)?;
+            check_run(&rt, rt.alloc(), input, output, answer, written)?;
+        }
+    }
+    Ok(())
+}
+
+#[test]
+fn stops_where_the_output_fails(rt: HostRuntime) -> Result<(), Fail> {
+    // how many bytes the output takes, how many answers they are, and what was written
+    let outputs = [
+        (10, 0, b"OK 3\n10100".as_slice()),
+        (0, 0, b""),
+        (ANSWER.len(), 1, ANSWER),
+    ];
+    for (sound, answered, written) in outputs {
+        for most in [1, 3, ROOM] {
+            let input = PieceInput::new(b"<100005\n<100005\n", ROOM, ROOM);
+            let output = PieceOutput::new(rt.alloc(), most, sound)?;
+            let answer = Err(RunFault::Write(answered));
+            check_run(&rt, rt.alloc(), input, output, answer, written)?;
+        }
+    }
+    Ok(())
+}
+
+#[test]
+fn stops_where_the_input_fails(rt: HostRuntime) -> Result<(), Fail> {
+    // how many bytes the input gives, how many answers they are, and what was written
+    let inputs = [
+        (5, 0, b"".as_slice()),
+        (7, 0, b""),
+        (8, 1, ANSWER),
+        (13, 1, ANSWER),
+    ];
+    for (sound, answered, written) in inputs {
+        for most in [1, 3, ROOM] {
+            let input = PieceInput::new(b"<100005\n<100005\n", most, sound);
+            let output = PieceOutput::new(rt.alloc(), ROOM, ROOM)?;
+            let answer = Err(RunFault::Read(answered));
+            check_run(&rt, rt.alloc(), input, output, answer, written)?;
+        }
+    }
+    Ok(())
+}
+
+#[test]
+fn runs_over_streams(rt: HostRuntime) -> Result<(), Fail> {
+    let bytes = b"<100005\n".as_slice();
+    let mut input = StreamInput::new(bytes);
+    let mut written = Vec::new(rt.alloc());
+    let mut output = StreamOutput::new(&mut written);
+    match Engine::load(rt.alloc(), &sample_files(), "en", Limits::standard()) {
+        Ok(engine) => {
+            let found = run(rt.alloc(), &engine, &mut input, &mut output);
+            assert!(rt; found == Ok(1));
+        }
+        Err(_) => assert!(rt; false, "the release loads"),
+    }
+    // one read gave the line, and one the end
+    assert!(rt; input.reads() == 2);
+    assert!(rt; !input.failed() && !output.failed());
+    assert!(rt; written.as_slice() == ANSWER);
+    Ok(())
+}
+
+#[test]
+fn numbers_its_faults(rt: HostRuntime) {
+    let faults = [
+        RunFault::Read(0),
+        RunFault::Write(0),
+        RunFault::Memory(0),
+        RunFault::Turns(0),
+    ];
+    assert!(rt; faults.map(|fault| fault.number()) == [1, 2, 3, 4]);
+}

@@ -1,0 +1,253 @@
+//! What the program answers to its words, and to releases that are refused.
+use crate::load_refusal::print_load_fault;
+use crate::load_tests::replaced;
+use crate::sample::sample_files;
+use crate::serve::{Status, serve};
+use crate::test_streams::{PieceInput, PieceOutput, ROOM};
+use crate::words::{Mode, Request, WordFault, read_words};
+use release_files::NamedBytes;
+use rf2_rows::{RowCause, RowFault};
+use sctid::IdFault;
+use snapshot::LoadFault;
+use std::alloc::Global;
+use std::process::Abort;
+use std::test::Fail;
+
+const ANSWER: &[u8] =
+    b"OK 3\n101009 |Beta (finding)|\n102002 |Gamma (finding)|\n103007 |Delta (finding)|\n";
+
+// The places of the sample's concept and relationship files in the list.
+const CONCEPTS: usize = 1;
+
+const RELATIONSHIPS: usize = 4;
+
+const LAST_CONCEPT: &[u8] = b"109006\t20240101\t0\t900000000000207008\t900000000000074008\r\n";
+
+#[test]
+fn reads_words(rt: HostRuntime) {
+    let requests = [
+        (["hosecrag"].as_slice(), Mode::Sample, "", "en"),
+        (&["hosecrag", "query", "F"], Mode::Query, "F", "en"),
+        (
+            &["hosecrag", "query", "F", "--lang", "da"],
+            Mode::Query,
+            "F",
+            "da",
+        ),
+        (
+            &["hosecrag", "query", "--lang=da", "F"],
+            Mode::Query,
+            "F",
+            "da",
+        ),
+        (
+            &["hosecrag", "query", "", "--lang", ""],
+            Mode::Query,
+            "",
+            "",
+        ),
+    ];
+    for (words, mode, folder, lang) in requests {
+        match read_words(rt.alloc(), words) {
+            Ok(request) => {
+                assert!(rt; request.mode == mode);
+                assert!(rt; request.folder.as_str() == folder);
+                assert!(rt; request.lang.as_str() == lang);
+            }
+            Err(_) => assert!(rt; false, "words of a request"),
+        }
+    }
+}
+
+#[test]
+fn refuses_words(rt: HostRuntime) {
+    let refused = [
+        ["hosecrag", "query"].as_slice(),
+        &["hosecrag", "explain", "F"],
+        &["hosecrag", "query", "F", "G"],
+        &["hosecrag", "query", "F", "--lang"],
+        &["hosecrag", "--"],
+    ];
+    for words in refused {
+        assert!(rt; matches!(read_words(rt.alloc(), words), Err(WordFault::Usage(_))));
+    }
+    for words in [
+        ["hosecrag", "--help"].as_slice(),
+        &["hosecrag", "query", "-h"],
+    ] {
+        assert!(rt; matches!(read_words(rt.alloc(), words), Err(WordFault::Help(_))));
+    }
+}
+
+// What serving a line ends with, and what it writes as answers and as errors.
+fn check_served(
+    rt: &impl Abort,
+    alloc: Global,
+    mode: Mode,
+    lang: &str,
+    files: &[NamedBytes<'_>],
+    wanted: (Status, &[u8], &[u8]),
+) -> Result<(), Fail> {
+    let request = Request {
+        mode,
+        folder: String::new(alloc),
+        lang: String::from_str(alloc, lang)?,
+    };
+    let mut input = PieceInput::new(b"<100005\n", ROOM, ROOM);
+    let mut output = PieceOutput::new(alloc, ROOM, ROOM)?;
+    let mut errors = PieceOutput::new(alloc, ROOM, ROOM)?;
+    let status = serve(alloc, &request, files, &mut input, &mut output, &mut errors);
+    assert!(rt; status == wanted.0);
+    assert!(rt; output.bytes.as_slice() == wanted.1);
+    assert!(rt; errors.bytes.as_slice() == wanted.2);
+    Ok(())
+}
+
+#[test]
+fn serves_releases(rt: HostRuntime) -> Result<(), Fail> {
+    let alloc = rt.alloc();
+    let done = (Status::Done, ANSWER, b"".as_slice());
+    check_served(&rt, alloc, Mode::Sample, "en", &[], done)?;
+    check_served(&rt, alloc, Mode::Query, "en", &sample_files(), done)?;
+    let danish =
+        b"OK 3\n101009 |Beta (finding)|\n102002 |Gamma (finding)|\n103007 |Delta (fund)|\n";
+    let done = (Status::Done, danish.as_slice(), b"".as_slice());
+    check_served(&rt, alloc, Mode::Query, "da", &sample_files(), done)
+}
+
+// The sample release with the first `from` in a file replaced is refused by a line.
+fn check_refused(
+    rt: &impl Abort,
+    alloc: Global,
+    place: usize,
+    from: &[u8],
+    to: &[u8],
+    line: &[u8],
+) -> Result<(), Fail> {
+    let sample = sample_files();
+    let Some(named) = sample.get(place) else {
+        return Ok(());
+    };
+    let changed = replaced(alloc, named.bytes, from, to)?;
+    let mut files = Vec::new(alloc);
+    for (at, named) in sample.iter().enumerate() {
+        let bytes = if at == place {
+            changed.as_slice()
+        } else {
+            named.bytes
+        };
+        files.push(NamedBytes {
+            name: named.name,
+            bytes,
+        })?;
+    }
+    let refused = (Status::ReleaseRefused, b"".as_slice(), line);
+    check_served(rt, alloc, Mode::Query, "en", files.as_slice(), refused)
+}
+
+#[test]
+fn refuses_releases(rt: HostRuntime) -> Result<(), Fail> {
+    let changes = [
+        (
+            CONCEPTS,
+            b"138875005\t".as_slice(),
+            b"100006\t".as_slice(),
+            b"REFUSED row sct2_Concept_Snapshot_INT_20240101.txt 2 1 id-check\n".as_slice(),
+        ),
+        (
+            CONCEPTS,
+            LAST_CONCEPT,
+            b"109006\t20240101\t0\t900000000000207008\t900000000000074008\r\n100005\t20240101\t0\t900000000000207008\t900000000000074008\r\n",
+            b"REFUSED duplicate sct2_Concept_Snapshot_INT_20240101.txt 13\n",
+        ),
+        (
+            CONCEPTS,
+            b"\tmoduleId\tdefinitionStatusId",
+            b"\tmoduleId",
+            b"REFUSED header sct2_Concept_Snapshot_INT_20240101.txt\n",
+        ),
+        (
+            CONCEPTS,
+            LAST_CONCEPT,
+            b"109006\t20240101\t",
+            b"REFUSED row sct2_Concept_Snapshot_INT_20240101.txt 12 0 fields\n",
+        ),
+        (
+            RELATIONSHIPS,
+            b"121022\t",
+            b"122026\t20240101\t1\t900000000000207008\t100005\t103007\t0\t116680003\t900000000000011006\t900000000000451002\r\n121022\t",
+            b"REFUSED cycle 100005\n",
+        ),
+    ];
+    for (place, from, to, line) in changes {
+        check_refused(&rt, rt.alloc(), place, from, to, line)?;
+    }
+    let none = (
+        Status::ReleaseRefused,
+        b"".as_slice(),
+        b"REFUSED no-concept-file\n".as_slice(),
+    );
+    check_served(&rt, rt.alloc(), Mode::Query, "en", &[], none)
+}
+
+// Each cause has its word.
+#[test]
+fn tells_causes(rt: HostRuntime) -> Result<(), Fail> {
+    let causes = [
+        (RowCause::Fields, b"REFUSED row c 2 0 fields\n".as_slice()),
+        (
+            RowCause::Id(IdFault::Length),
+            b"REFUSED row c 2 0 id-length\n",
+        ),
+        (
+            RowCause::Id(IdFault::Digit),
+            b"REFUSED row c 2 0 id-digit\n",
+        ),
+        (
+            RowCause::Id(IdFault::LeadingZero),
+            b"REFUSED row c 2 0 id-zero\n",
+        ),
+        (
+            RowCause::Id(IdFault::Partition),
+            b"REFUSED row c 2 0 id-part\n",
+        ),
+        (
+            RowCause::Id(IdFault::Check),
+            b"REFUSED row c 2 0 id-check\n",
+        ),
+        (RowCause::Time, b"REFUSED row c 2 0 time\n"),
+        (RowCause::Active, b"REFUSED row c 2 0 active\n"),
+        (RowCause::Group, b"REFUSED row c 2 0 group\n"),
+        (RowCause::Utf8, b"REFUSED row c 2 0 utf8\n"),
+    ];
+    for (cause, line) in causes {
+        let fault = LoadFault::Row {
+            file: 0,
+            line: 2,
+            fault: RowFault { cause, column: 0 },
+        };
+        check_line(&rt, rt.alloc(), fault, line)?;
+    }
+    let many = LoadFault::TooMany { file: 0, line: 12 };
+    check_line(&rt, rt.alloc(), many, b"REFUSED too-many c 12\n")?;
+    check_line(&rt, rt.alloc(), LoadFault::Memory, b"REFUSED memory\n")
+}
+
+fn check_line(rt: &impl Abort, alloc: Global, fault: LoadFault, wanted: &[u8]) -> Result<(), Fail> {
+    let mut line = Vec::new(alloc);
+    print_load_fault(alloc, fault, &["c"], &mut line)?;
+    assert!(rt; line.as_slice() == wanted);
+    Ok(())
+}
+
+#[test]
+fn ends_with_its_status(rt: HostRuntime) {
+    let statuses = [
+        Status::Done,
+        Status::DeviceFault,
+        Status::WordsFault,
+        Status::ReleaseRefused,
+        Status::MemoryRefused,
+    ];
+    assert!(rt; statuses.map(|status| status.code()) == [0, 1, 2, 3, 4]);
+}
