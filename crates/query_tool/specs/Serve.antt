@@ -40,6 +40,13 @@ fault_text (Write count) = codes "FAULT write\n"
 fault_text (Memory count) = codes "FAULT memory\n"
 fault_text (Turns count) = codes "FAULT turns\n"
 
+-- the status that a fault of a run ends with
+abbrev pub status_of : RunFault → Status
+status_of (Read count) = DeviceFault
+status_of (Write count) = DeviceFault
+status_of (Memory count) = MemoryRefused
+status_of (Turns count) = DeviceFault
+
 -- a line was written, unless the writer has failed
 abbrev pub IsTold : Bool → Option (List ℕ) → Option (List ℕ) → List ℕ → Type 0
 IsTold failed before after line = failed ≡ false → Appends before after line

@@ -6,7 +6,7 @@ ghost use Rattle.snapshot.specs.Limits.{standard_limits};
 ghost use Rattle.rf2_rows.specs.Parts.{texts_of};
 ghost use Rattle.query_tool.specs.Fault.{HaveFailed};
 ghost use Rattle.query_tool.specs.LoadRefusal.{load_refusal};
-ghost use Rattle.query_tool.specs.Serve.{IsAnswered, IsTold, fault_text, loaded, status_code};
+ghost use Rattle.query_tool.specs.Serve.{IsAnswered, IsTold, fault_text, loaded, status_code, status_of};
 
 use crate::engine::Engine;
 use crate::load_refusal::print_load_fault;
@@ -70,6 +70,7 @@ pub fn serve<R: QueryInput, W: AnswerOutput, E: AnswerOutput>(
         × (W.written output.new ≡ W.written output.old)
         × IsTold (E.AnswerOutput.has_failed errors.new) (E.written errors.old) (E.written errors.new) (load_refusal (map (λ (file : FileText). file.name) (map file_text files.now)) fault) }
     ensures device { result ≡ Status.DeviceFault → (fault : RunFault)
+        × (status_of fault ≡ Status.DeviceFault)
         × HaveFailed fault (R.has_failed input.new) (W.has_failed output.new)
         × IsTold (E.AnswerOutput.has_failed errors.new) (E.written errors.old) (E.written errors.new) (fault_text fault) }
     ensures quiet { result ≡ Status.Done → E.written errors.new ≡ E.written errors.old }
@@ -104,6 +105,7 @@ fn serve_files<R: QueryInput, W: AnswerOutput, E: AnswerOutput>(
         × (W.written output.new ≡ W.written output.old)
         × IsTold (E.AnswerOutput.has_failed errors.new) (E.written errors.old) (E.written errors.new) (load_refusal (map (λ (file : FileText). file.name) (map file_text files.now)) fault) }
     ensures device { result ≡ Status.DeviceFault → (fault : RunFault)
+        × (status_of fault ≡ Status.DeviceFault)
         × HaveFailed fault (R.has_failed input.new) (W.has_failed output.new)
         × IsTold (E.AnswerOutput.has_failed errors.new) (E.written errors.old) (E.written errors.new) (fault_text fault) }
     ensures quiet { result ≡ Status.Done → E.written errors.new ≡ E.written errors.old }
@@ -132,6 +134,7 @@ fn answer_all<R: QueryInput, W: AnswerOutput, E: AnswerOutput>(
     ensures done { result ≡ Status.Done → IsAnswered engine.now (R.remaining input.old) (R.remaining input.new) (W.written output.old) (W.written output.new) }
     ensures taken { result ≢ Status.ReleaseRefused }
     ensures device { result ≡ Status.DeviceFault → (fault : RunFault)
+        × (status_of fault ≡ Status.DeviceFault)
         × HaveFailed fault (R.has_failed input.new) (W.has_failed output.new)
         × IsTold (E.AnswerOutput.has_failed errors.new) (E.written errors.old) (E.written errors.new) (fault_text fault) }
     ensures quiet { result ≡ Status.Done → E.written errors.new ≡ E.written errors.old }
@@ -229,9 +232,7 @@ fn fault_line(fault: RunFault) -> &'static [u8]
 }
 
 fn fault_status(fault: RunFault) -> Status
-    ensures undone { result ≢ Status.Done }
-    ensures taken { (result ≢ Status.ReleaseRefused) × (result ≢ Status.WordsFault) }
-    ensures memory { result ≡ Status.MemoryRefused → fault_text fault ≡ codes "FAULT memory\n" }
+    ensures { result ≡ status_of fault }
 {
     match fault {
         RunFault::Memory(_) => Status::MemoryRefused,

@@ -1,5 +1,5 @@
 //! The words of the command line.
-ghost use Rattle.std.specs.Prelude.{◌≡◌, IfOk, string_bytes};
+ghost use Rattle.std.specs.Prelude.{◌≡◌, ◌≤◌, IfErr, IfOk, length, string_bytes};
 ghost use Rattle.clap.specs.Words.{app_of, subcommand_rows_of};
 ghost use Rattle.rf2_rows.specs.Parts.{texts_of};
 ghost use Rattle.query_tool.specs.CommandLine.{AsksQuery, IsRequest, program};
@@ -56,7 +56,8 @@ const DEFAULT_LANGUAGE: &str = "en";
 /// Reads the words of a command line, of which the first is the program's name: no more words, or
 /// `query FOLDER [--lang CODE]`.
 pub fn read_words<'a>(alloc: Global, words: &'a [&'a str]) -> Result<Request, WordFault>
-    ensures { IfOk result (IsRequest (texts_of words.now)) }
+    ensures asked { IfOk result (IsRequest (texts_of words.now)) }
+    ensures none { length words.now ≤ 1 → IfErr result (λ fault. fault ≡ WordFault.Memory) }
 {
     if words.len() <= 1 {
         return Ok(Request::new(alloc, Mode::Sample, "", DEFAULT_LANGUAGE)?);
@@ -127,6 +128,10 @@ fn word_fault(alloc: Global, error: &Error) -> WordFault {
 }
 
 impl From<AllocError> for WordFault {
+    ghost use Rattle.query_tool.specs.declared.words.WordFault.TheVariants.{Memory};
+
+    ghost from_gives = { λ _ fault. fault ≡ Memory };
+
     fn from(_refused: AllocError) -> WordFault {
         WordFault::Memory
     }

@@ -11,8 +11,8 @@ program_is_simple : is_simple program ≡ true
 unfolding clap_on_literals
 program_is_simple = refl
 
-pub returns-in-Ok : goal.returns-in-Ok
-returns-in-Ok c =
+pub returns-in-Ok-clause-asked : goal.returns-in-Ok-clause-asked
+returns-in-Ok-clause-asked c =
     let is : app_of c.in_ok-command.command ≡ program = c.in_ok-command.ensures in
     let named : subcommand_rows_of c.in-Ok.matches ≡ subcommand_of program (texts_of c.args.words.now) =
     (c.in-Ok.ensures.matches (ap is_simple is ∙ program_is_simple)).1 ∙ ap (λ (app : App). subcommand_of app (texts_of c.args.words.now)) is in
