@@ -1,17 +1,20 @@
 -- What a command that was named has, by the matches of the words.
-use Rattle.std.proofs.Common.{◌≡◌, List, Option, None, Some, Box, Global, option_map, box_value, Result, Ok, Err, IfOk, refl, sym, subst}
+use Rattle.std.proofs.Common.{◌≡◌, ◌⊎◌, inl, inr, List, Option, None, Some, Box, Global, option_map, box_value, Result, Ok, Err, IfOk, IfErr, codes, refl, sym, subst}
 use Rattle.std.specs.Borrow.{Bor}
 use Rattle.std.specs.Prelude.{unwrap_or}
-use Rattle.clap.specs.Words.{Row, Text, found_of, rows_of, subcommand_of, subcommand_rows, subcommand_rows_of}
+use Rattle.clap.specs.Words.{IsAmong, Row, Text, fault_of, first_of, found_of, rows_of, subcommand_of, subcommand_rows, subcommand_rows_of}
 use Rattle.clap.specs.Matches.{subcommand_name_of}
 use Rattle.clap.specs.declared.parser.matches.ArgMatches.{ArgMatches}
 use Rattle.clap.specs.declared.parser.matches.SubCommand.{SubCommand}
 use Rattle.clap.specs.declared.parser.matches.ArgMatches.TheViews.{out-ArgMatches, out-SubCommand}
-use Rattle.query_tool.specs.CommandLine.{Asks, AsksQuery, IsRequest, program}
+use Rattle.clap.specs.declared.error.kind.ErrorKind.{ErrorKind}
+use Rattle.clap.specs.declared.error.kind.ErrorKind.TheVariants.{MissingSubcommand, OutOfMemory}
+use Rattle.query_tool.specs.CommandLine.{Asks, AsksQuery, IsFaultBy, IsNoRequest, IsRefusal, IsRequest, NamesFolder, program}
 use Rattle.query_tool.specs.declared.words.Mode.{Mode}
 use Rattle.query_tool.specs.declared.words.Mode.TheVariants.{Query}
 use Rattle.query_tool.specs.declared.words.Request.{Request}
 use Rattle.query_tool.specs.declared.words.WordFault.{WordFault}
+use Rattle.query_tool.specs.declared.words.WordFault.TheVariants.{Usage, Help, Memory}
 
 -- the name and the arguments of the command are those of one command
 pub command_named : (matches : ArgMatches) (name : Text) (rows : List Row) → subcommand_name_of matches ≡ Some name
@@ -40,3 +43,34 @@ pub request_is : (words : List Text) (command : Option (Text × List Row)) (resu
 request_is words command (Ok request) named mode asked =
     subst (λ (m : Mode). Asks m words request) (sym mode) (subst (λ (c : Option (Text × List Row)). AsksQuery c request) named asked)
 request_is words command (Err fault) named mode asked = tt
+
+-- a command without a folder among its rows names none
+pub names_no_folder : (command : Option (Text × List Row)) (rows : List Row) → option_map (λ (found : Text × List Row). found.1) command ≡ Some rows
+    → first_of (codes "FOLDER") rows ≡ None → ¬ NamesFolder command
+names_no_folder command rows held none names = by names.0 names.1 names.2 names.3
+  where
+    by : (folder : Text) (named : List Row) → command ≡ Some (codes "query", named) → first_of (codes "FOLDER") named ≡ Some folder → ⊥
+    by folder named is first = (cc)
+
+-- where a command names no folder, it is no request, and no call for help
+pub is_no_request : (command : Option (Text × List Row)) (fault : WordFault) → IsFaultBy MissingSubcommand fault → ¬ NamesFolder command → IsNoRequest command fault
+is_no_request command (Usage text) by none = none
+is_no_request command (Help text) by none = (cc)
+is_no_request command Memory by none = tt
+
+-- where the command is that of the words, so is the refusal
+pub refusal_is : (words : List Text) (command : Option (Text × List Row)) (result : Result Request WordFault) → command ≡ subcommand_of program words
+    → IfErr result (IsNoRequest command) → IfErr result (IsRefusal words)
+refusal_is words command (Ok request) named none = tt
+refusal_is words command (Err (Usage text)) named none = inr (subst (λ (c : Option (Text × List Row)). ¬ NamesFolder c) named none)
+refusal_is words command (Err (Help text)) named none = absurd none
+refusal_is words command (Err Memory) named none = tt
+
+-- a fault that tells of clap's error is a refusal of the words
+pub refusal_by : (words : List Text) (kind : ErrorKind) (fault : WordFault) → IsFaultBy kind fault
+    → (kind ≡ OutOfMemory) ⊎ IsAmong kind (fault_of program words) → IsRefusal words fault
+refusal_by words kind (Usage text) by (inl refused) = absurd (by.1 refused)
+refusal_by words kind (Usage text) by (inr among) = inl (kind, among, by.0)
+refusal_by words kind (Help text) by (inl refused) = (cc)
+refusal_by words kind (Help text) by (inr among) = subst (λ (k : ErrorKind). IsAmong k (fault_of program words)) by among
+refusal_by words kind Memory by found = tt

@@ -1,10 +1,14 @@
 -- What the words of a command line ask for. The words begin with the program's name. How words are read as
 -- arguments is clap's; here is what the program takes, and what a request is of it.
-use Rattle.std.specs.Prelude.{◌≡◌, ◌≤◌, ℕ, true, List, [], length, codes, string_bytes, unwrap_or, Option, Some}
-use Rattle.clap.specs.Words.{App, Row, Rule, Text, first_of, new_app, new_rule, subcommand_of, with_rule, with_subcommand}
+use Rattle.std.specs.Prelude.{◌≡◌, ◌≢◌, ◌⊎◌, ◌≤◌, ℕ, ⊤, true, List, [], length, codes, string_bytes, unwrap_or, Option, Some}
+use Rattle.clap.specs.Words.{App, IsAmong, Row, Rule, Text, fault_of, first_of, new_app, new_rule, subcommand_of, with_rule, with_subcommand}
+use Rattle.clap.specs.declared.error.kind.ErrorKind.{ErrorKind}
+use Rattle.clap.specs.declared.error.kind.ErrorKind.TheVariants.{DisplayHelp, OutOfMemory}
 use Rattle.query_tool.specs.declared.words.Mode.{Mode}
 use Rattle.query_tool.specs.declared.words.Mode.TheVariants.{Sample, Query}
 use Rattle.query_tool.specs.declared.words.Request.{Request}
+use Rattle.query_tool.specs.declared.words.WordFault.{WordFault}
+use Rattle.query_tool.specs.declared.words.WordFault.TheVariants.{Usage, Help, Memory}
 
 -- a folder, which has to be there, and `--lang` with a code of a language
 abbrev pub folder_rule : Rule
@@ -48,3 +52,34 @@ Asks Query words request = AsksQuery (subcommand_of program words) request
 -- the request is that of the words
 abbrev pub IsRequest : List Text → Request → Type 0
 IsRequest words request = Asks request.mode words request
+
+-- a command `query` names a folder
+abbrev pub NamesFolder : Option (Text × List Row) → Type 0
+NamesFolder command =
+    (folder : Text) × (rows : List Row) × (command ≡ Some (codes "query", rows)) × (first_of (codes "FOLDER") rows ≡ Some folder)
+
+-- why a command that was named is no request: it names no folder for `query`
+abbrev pub IsNoRequest : Option (Text × List Row) → WordFault → Type 0
+IsNoRequest command (Usage text) = ¬ NamesFolder command
+IsNoRequest command (Help text) = ⊥
+IsNoRequest command Memory = ⊤
+
+-- a fault tells of clap's error: of the help that was asked for, or of words that are wrong
+abbrev pub IsFaultBy : ErrorKind → WordFault → Type 0
+IsFaultBy kind (Usage text) = (kind ≢ DisplayHelp) × (kind ≢ OutOfMemory)
+IsFaultBy kind (Help text) = kind ≡ DisplayHelp
+IsFaultBy kind Memory = ⊤
+
+-- why words are refused: clap finds a fault in them that is no call for help, or they name no folder for
+-- `query`; or they call for help; or memory was refused
+abbrev pub IsRefusal : List Text → WordFault → Type 0
+IsRefusal words (Usage text) =
+    ((kind : ErrorKind) × IsAmong kind (fault_of program words) × (kind ≢ DisplayHelp)) ⊎ ¬ NamesFolder (subcommand_of program words)
+IsRefusal words (Help text) = IsAmong DisplayHelp (fault_of program words)
+IsRefusal words Memory = ⊤
+
+-- the numbers of the faults
+abbrev pub word_fault_number : WordFault → ℕ
+word_fault_number (Usage text) = 1
+word_fault_number (Help text) = 2
+word_fault_number Memory = 3

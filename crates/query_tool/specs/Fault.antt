@@ -1,9 +1,9 @@
 -- What a run that ends at a fault leaves behind.
 use Rattle.std.specs.Prelude.{◌≡◌, ◌⊎◌, ℕ, ◌+◌, ◌-◌, ◌^◌, ◌<◌, ◌≤◌, Bool, true, false, List, [], ◌++◌, length, take, slice_index_or, Option, ⊤}
-use Rattle.std.specs.Io.KnownBytes.{Appends}
+use Rattle.std.specs.Io.KnownBytes.{Appends, Consumes}
 use Rattle.snapshot.specs.Contents.{Contents}
 use Rattle.query_tool.specs.Answer.{line_answer}
-use Rattle.query_tool.specs.Lines.{answers, line_feed_count}
+use Rattle.query_tool.specs.Lines.{answers, line_feed_count, query_lines}
 use Rattle.query_tool.specs.declared.run.RunFault.{RunFault}
 use Rattle.query_tool.specs.declared.run.RunFault.TheVariants.{Read, Write, Memory, Turns}
 
@@ -69,3 +69,12 @@ IsAnswerFault (Read answered) count output = ⊥
 IsAnswerFault (Write answered) count output = (answered ≡ count) × (output ≡ true)
 IsAnswerFault (Memory answered) count output = (answered ≡ count) × (output ≡ false)
 IsAnswerFault (Turns answered) count output = ⊥
+
+-- a run over a release has ended at a fault: some bytes were read, and of the answers to their lines the
+-- first were written, as many whole as the fault says
+abbrev pub EndsAt : RunFault → Contents → Option (List ℕ) → Option (List ℕ) → Option (List ℕ) → Option (List ℕ) → Type 0
+EndsAt fault contents given left before after =
+    (read : List ℕ)
+    × Consumes given left read
+    × LeavesWritten contents (query_lines read) (whole_answers fault) fault before after
+    × AnswersEnded fault read

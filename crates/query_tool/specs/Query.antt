@@ -7,7 +7,7 @@ use Rattle.constraint_tree.specs.Tree.{Tree, concept_tree, any_tree, walk_tree}
 use Rattle.constraint_tree.specs.declared.operator.Operator.TheVariants as operator
 use Rattle.query_tool.specs.Tokens.{Token, descendant_of, descendant_or_self_of, wildcard, digits, tokens_of}
 use Rattle.query_tool.specs.declared.fault.QueryFault.{QueryFault}
-use Rattle.query_tool.specs.declared.fault.QueryFault.TheVariants.{Long, Utf8, Syntax}
+use Rattle.query_tool.specs.declared.fault.QueryFault.TheVariants.{Long, Utf8, Token as TokenFault, Limit, Syntax}
 use Rattle.query_tool.specs.declared.query.Focus.{Focus}
 use Rattle.query_tool.specs.declared.query.Focus.TheVariants.{Concept, Any}
 use Rattle.query_tool.specs.declared.query.Query.{Query}
@@ -50,3 +50,11 @@ query_read text =
     if nat_lt 65535 (length text) then Err Long
     else if not (is_utf8 text) then Err Utf8
     else grammar (tokens_of text)
+
+-- the numbers of the faults, in the order in which they are looked for
+abbrev pub query_fault_number : QueryFault → ℕ
+query_fault_number Long = 1
+query_fault_number Utf8 = 2
+query_fault_number (TokenFault place) = 3
+query_fault_number (Limit place) = 3
+query_fault_number Syntax = 5

@@ -16,3 +16,20 @@ pub enum QueryFault {
     /// The tokens are of no query.
     Syntax,
 }
+
+impl QueryFault {
+    ghost use Rattle.query_tool.specs.Query.{query_fault_number};
+
+    /// The number of the fault, from 1 in the order in which faults are looked for. 4 is kept for
+    /// texts whose brackets are too deep.
+    pub fn number(self) -> u8
+        ensures { result ≡ query_fault_number self }
+    {
+        match self {
+            QueryFault::Long => 1,
+            QueryFault::Utf8 => 2,
+            QueryFault::Token(_) | QueryFault::Limit(_) => 3,
+            QueryFault::Syntax => 5,
+        }
+    }
+}

@@ -1,8 +1,8 @@
 //! The run: answers the query lines of an input one after the other.
 ghost use Rattle.std.specs.Prelude.{◌≡◌, ℕ, ◌+◌, ◌^◌, ◌<◌, ◌≤◌, ◌∷◌, ◌++◌, false, IfErr, IfOk, IfSome, List, MatchOption, OnErr, OnOk, [], is_err, length, take, vec_len};
-ghost use Rattle.std.specs.Io.KnownBytes.{Appends, Consumes, IsAtEnd};
+ghost use Rattle.std.specs.Io.KnownBytes.{Appends, IsAtEnd};
 ghost use Rattle.query_tool.specs.Answer.{line_answer};
-ghost use Rattle.query_tool.specs.Fault.{AnswersEnded, CountsTurns, HaveFailed, IsAnswerFault, LeavesWritten, number_of, whole_answers};
+ghost use Rattle.query_tool.specs.Fault.{CountsTurns, EndsAt, HaveFailed, IsAnswerFault, LeavesWritten, number_of};
 ghost use Rattle.query_tool.specs.Lines.{HasNoFeed, IsCutInto, answers, line_feed, query_lines};
 
 use crate::engine::Engine;
@@ -65,10 +65,7 @@ pub fn run<R: QueryInput, W: AnswerOutput>(
     ensures count { IfOk result (λ count. IfSome (R.remaining input.old) (λ bytes. count ≡ length (query_lines bytes))) }
     ensures answers { OnOk result (IfSome (R.remaining input.old) (λ bytes. Appends (W.written output.old) (W.written output.new) (answers engine.now (query_lines bytes)))) }
     ensures sound { OnOk result ((R.has_failed input.new ≡ false) × (W.has_failed output.new ≡ false)) }
-    ensures fault { IfErr result (λ fault. (read : List ℕ)
-        × Consumes (R.remaining input.old) (R.remaining input.new) read
-        × LeavesWritten engine.now (query_lines read) (whole_answers fault) fault (W.written output.old) (W.written output.new)
-        × AnswersEnded fault read) }
+    ensures fault { IfErr result (λ fault. EndsAt fault engine.now (R.remaining input.old) (R.remaining input.new) (W.written output.old) (W.written output.new)) }
     ensures failed { IfErr result (λ fault. HaveFailed fault (R.has_failed input.new) (W.has_failed output.new)) }
     ensures turns { IfErr result (λ fault. CountsTurns fault (R.read_count input.old) (R.read_count input.new)) }
 {

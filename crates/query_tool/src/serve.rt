@@ -4,7 +4,7 @@ ghost use Rattle.snapshot.specs.Contents.{Contents, load_of};
 ghost use Rattle.snapshot.specs.Files.{FileText, file_text};
 ghost use Rattle.snapshot.specs.Limits.{standard_limits};
 ghost use Rattle.rf2_rows.specs.Parts.{texts_of};
-ghost use Rattle.query_tool.specs.Fault.{HaveFailed};
+ghost use Rattle.query_tool.specs.Fault.{CountsTurns, EndsAt, HaveFailed};
 ghost use Rattle.query_tool.specs.LoadRefusal.{load_refusal};
 ghost use Rattle.query_tool.specs.Serve.{IsAnswered, IsTold, fault_text, loaded, status_code, status_of};
 
@@ -67,17 +67,27 @@ pub fn serve<R: QueryInput, W: AnswerOutput, E: AnswerOutput>(
         × IsAnswered contents (R.remaining input.old) (R.remaining input.new) (W.written output.old) (W.written output.new) }
     ensures refused { result ≡ Status.ReleaseRefused → (fault : LoadFault)
         × (loaded request.now.mode (string_bytes request.now.lang) (map file_text files.now) ≡ Err fault)
-        × (W.written output.new ≡ W.written output.old)
+        × (input.new ≡ input.old)
+        × (output.new ≡ output.old)
         × IsTold (E.AnswerOutput.has_failed errors.new) (E.written errors.old) (E.written errors.new) (load_refusal (map (λ (file : FileText). file.name) (map file_text files.now)) fault) }
-    ensures device { result ≡ Status.DeviceFault → (fault : RunFault)
+    ensures device { result ≡ Status.DeviceFault → (contents : Contents) × (fault : RunFault)
+        × (loaded request.now.mode (string_bytes request.now.lang) (map file_text files.now) ≡ Ok contents)
         × (status_of fault ≡ Status.DeviceFault)
+        × EndsAt fault contents (R.remaining input.old) (R.remaining input.new) (W.written output.old) (W.written output.new)
         × HaveFailed fault (R.has_failed input.new) (W.has_failed output.new)
+        × CountsTurns fault (R.read_count input.old) (R.read_count input.new)
         × IsTold (E.AnswerOutput.has_failed errors.new) (E.written errors.old) (E.written errors.new) (fault_text fault) }
     ensures quiet { result ≡ Status.Done → E.written errors.new ≡ E.written errors.old }
     ensures known { result ≢ Status.WordsFault }
     ensures memory { result ≡ Status.MemoryRefused →
-        IsTold (E.AnswerOutput.has_failed errors.new) (E.written errors.old) (E.written errors.new) (codes "REFUSED memory\n")
-        ⊎ IsTold (E.AnswerOutput.has_failed errors.new) (E.written errors.old) (E.written errors.new) (codes "FAULT memory\n") }
+        ((input.new ≡ input.old) × (output.new ≡ output.old) × IsTold (E.AnswerOutput.has_failed errors.new) (E.written errors.old) (E.written errors.new) (codes "REFUSED memory\n"))
+        ⊎ ((contents : Contents) × (fault : RunFault)
+        × (loaded request.now.mode (string_bytes request.now.lang) (map file_text files.now) ≡ Ok contents)
+        × (status_of fault ≡ Status.MemoryRefused)
+        × EndsAt fault contents (R.remaining input.old) (R.remaining input.new) (W.written output.old) (W.written output.new)
+        × HaveFailed fault (R.has_failed input.new) (W.has_failed output.new)
+        × CountsTurns fault (R.read_count input.old) (R.read_count input.new)
+        × IsTold (E.AnswerOutput.has_failed errors.new) (E.written errors.old) (E.written errors.new) (fault_text fault)) }
 {
     match request.mode {
         Mode::Sample => serve_files(alloc, "en", &sample_files(), input, output, errors),
@@ -102,17 +112,27 @@ fn serve_files<R: QueryInput, W: AnswerOutput, E: AnswerOutput>(
         × IsAnswered contents (R.remaining input.old) (R.remaining input.new) (W.written output.old) (W.written output.new) }
     ensures refused { result ≡ Status.ReleaseRefused → (fault : LoadFault)
         × (load_of standard_limits lang.now (map file_text files.now) ≡ Err fault)
-        × (W.written output.new ≡ W.written output.old)
+        × (input.new ≡ input.old)
+        × (output.new ≡ output.old)
         × IsTold (E.AnswerOutput.has_failed errors.new) (E.written errors.old) (E.written errors.new) (load_refusal (map (λ (file : FileText). file.name) (map file_text files.now)) fault) }
-    ensures device { result ≡ Status.DeviceFault → (fault : RunFault)
+    ensures device { result ≡ Status.DeviceFault → (contents : Contents) × (fault : RunFault)
+        × (load_of standard_limits lang.now (map file_text files.now) ≡ Ok contents)
         × (status_of fault ≡ Status.DeviceFault)
+        × EndsAt fault contents (R.remaining input.old) (R.remaining input.new) (W.written output.old) (W.written output.new)
         × HaveFailed fault (R.has_failed input.new) (W.has_failed output.new)
+        × CountsTurns fault (R.read_count input.old) (R.read_count input.new)
         × IsTold (E.AnswerOutput.has_failed errors.new) (E.written errors.old) (E.written errors.new) (fault_text fault) }
     ensures quiet { result ≡ Status.Done → E.written errors.new ≡ E.written errors.old }
     ensures known { result ≢ Status.WordsFault }
     ensures memory { result ≡ Status.MemoryRefused →
-        IsTold (E.AnswerOutput.has_failed errors.new) (E.written errors.old) (E.written errors.new) (codes "REFUSED memory\n")
-        ⊎ IsTold (E.AnswerOutput.has_failed errors.new) (E.written errors.old) (E.written errors.new) (codes "FAULT memory\n") }
+        ((input.new ≡ input.old) × (output.new ≡ output.old) × IsTold (E.AnswerOutput.has_failed errors.new) (E.written errors.old) (E.written errors.new) (codes "REFUSED memory\n"))
+        ⊎ ((contents : Contents) × (fault : RunFault)
+        × (load_of standard_limits lang.now (map file_text files.now) ≡ Ok contents)
+        × (status_of fault ≡ Status.MemoryRefused)
+        × EndsAt fault contents (R.remaining input.old) (R.remaining input.new) (W.written output.old) (W.written output.new)
+        × HaveFailed fault (R.has_failed input.new) (W.has_failed output.new)
+        × CountsTurns fault (R.read_count input.old) (R.read_count input.new)
+        × IsTold (E.AnswerOutput.has_failed errors.new) (E.written errors.old) (E.written errors.new) (fault_text fault)) }
 {
     match Engine::load(alloc, files, lang, Limits::standard()) {
         Ok(engine) => answer_all(alloc, &engine, input, output, errors),
@@ -133,14 +153,14 @@ fn answer_all<R: QueryInput, W: AnswerOutput, E: AnswerOutput>(
     requires errors { E.AnswerOutput.has_failed errors.old ≡ false }
     ensures done { result ≡ Status.Done → IsAnswered engine.now (R.remaining input.old) (R.remaining input.new) (W.written output.old) (W.written output.new) }
     ensures taken { result ≢ Status.ReleaseRefused }
-    ensures device { result ≡ Status.DeviceFault → (fault : RunFault)
-        × (status_of fault ≡ Status.DeviceFault)
+    ensures fault { result ≢ Status.Done → (fault : RunFault)
+        × (status_of fault ≡ result)
+        × EndsAt fault engine.now (R.remaining input.old) (R.remaining input.new) (W.written output.old) (W.written output.new)
         × HaveFailed fault (R.has_failed input.new) (W.has_failed output.new)
+        × CountsTurns fault (R.read_count input.old) (R.read_count input.new)
         × IsTold (E.AnswerOutput.has_failed errors.new) (E.written errors.old) (E.written errors.new) (fault_text fault) }
     ensures quiet { result ≡ Status.Done → E.written errors.new ≡ E.written errors.old }
     ensures known { result ≢ Status.WordsFault }
-    ensures memory { result ≡ Status.MemoryRefused →
-        IsTold (E.AnswerOutput.has_failed errors.new) (E.written errors.old) (E.written errors.new) (codes "FAULT memory\n") }
 {
     match run(alloc, engine, input, output) {
         Ok(_) => Status::Done,

@@ -1,8 +1,9 @@
 //! The words of the command line.
 ghost use Rattle.std.specs.Prelude.{◌≡◌, ◌≤◌, IfErr, IfOk, length, string_bytes};
-ghost use Rattle.clap.specs.Words.{app_of, subcommand_rows_of};
+ghost use Rattle.clap.specs.Words.{app_of, kind_of, subcommand_rows_of};
+ghost use Rattle.clap.specs.declared.error.kind.ErrorKind.TheVariants.{MissingSubcommand};
 ghost use Rattle.rf2_rows.specs.Parts.{texts_of};
-ghost use Rattle.query_tool.specs.CommandLine.{AsksQuery, IsRequest, program};
+ghost use Rattle.query_tool.specs.CommandLine.{AsksQuery, IsFaultBy, IsNoRequest, IsRefusal, IsRequest, program};
 
 use clap::error::ErrorKind;
 use clap::{Arg, ArgMatches, Command, Error};
@@ -51,12 +52,28 @@ pub enum WordFault {
     Memory,
 }
 
+impl WordFault {
+    ghost use Rattle.query_tool.specs.CommandLine.{word_fault_number};
+
+    /// The number of the fault, from 1 to 3.
+    pub fn number(&self) -> u8
+        ensures { result ≡ word_fault_number self.now }
+    {
+        match self {
+            WordFault::Usage(_) => 1,
+            WordFault::Help(_) => 2,
+            WordFault::Memory => 3,
+        }
+    }
+}
+
 const DEFAULT_LANGUAGE: &str = "en";
 
 /// Reads the words of a command line, of which the first is the program's name: no more words, or
 /// `query FOLDER [--lang CODE]`.
 pub fn read_words<'a>(alloc: Global, words: &'a [&'a str]) -> Result<Request, WordFault>
     ensures asked { IfOk result (IsRequest (texts_of words.now)) }
+    ensures refused { IfErr result (IsRefusal (texts_of words.now)) }
     ensures none { length words.now ≤ 1 → IfErr result (λ fault. fault ≡ WordFault.Memory) }
 {
     if words.len() <= 1 {
@@ -96,6 +113,7 @@ fn command_line<'a>(alloc: Global) -> Result<Command<'a>, AllocError>
 fn query_request(alloc: Global, matches: &ArgMatches<'_>) -> Result<Request, WordFault>
     ensures mode { IfOk result (λ request. request.mode ≡ Mode.Query) }
     ensures asked { IfOk result (AsksQuery (subcommand_rows_of matches.now)) }
+    ensures refused { IfErr result (IsNoRequest (subcommand_rows_of matches.now)) }
 {
     let Some((name, arguments)) = matches.subcommand() else {
         return Err(no_command(alloc));
@@ -111,7 +129,9 @@ fn query_request(alloc: Global, matches: &ArgMatches<'_>) -> Result<Request, Wor
 }
 
 // The fault of words that name no command.
-fn no_command(alloc: Global) -> WordFault {
+fn no_command(alloc: Global) -> WordFault
+    ensures { IsFaultBy MissingSubcommand result }
+{
     match String::from_str(alloc, "error: no command is named\n") {
         Ok(text) => WordFault::Usage(text),
         Err(_) => WordFault::Memory,
@@ -119,11 +139,16 @@ fn no_command(alloc: Global) -> WordFault {
 }
 
 // The fault of words, with what to tell the user.
-fn word_fault(alloc: Global, error: &Error) -> WordFault {
-    match (error.kind(), format!(in alloc; "{error}")) {
-        (ErrorKind::DisplayHelp, Ok(text)) => WordFault::Help(text),
-        (ErrorKind::OutOfMemory, _) | (_, Err(_)) => WordFault::Memory,
-        (_, Ok(text)) => WordFault::Usage(text),
+fn word_fault(alloc: Global, error: &Error) -> WordFault
+    ensures { IsFaultBy (kind_of error.now) result }
+{
+    let Ok(text) = format!(in alloc; "{error}") else {
+        return WordFault::Memory;
+    };
+    match error.kind() {
+        ErrorKind::DisplayHelp => WordFault::Help(text),
+        ErrorKind::OutOfMemory => WordFault::Memory,
+        _ => WordFault::Usage(text),
     }
 }
 

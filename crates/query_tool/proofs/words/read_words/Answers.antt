@@ -1,9 +1,9 @@
-use Rattle.std.proofs.Common.{◌≡◌, ◌∙◌, ap, refl, true}
+use Rattle.std.proofs.Common.{◌≡◌, ◌∙◌, ap, refl, subst, true}
 use Rattle.rf2_rows.specs.Parts.{texts_of}
-use Rattle.clap.specs.Words.{App, app_of, is_simple, subcommand_of, subcommand_rows_of}
+use Rattle.clap.specs.Words.{App, app_of, is_simple, is_simple_and_free, HasKind, fault_of, kind_of, subcommand_of, subcommand_rows_of}
 use Rattle.clap.proofs.OnLiterals.{clap_on_literals}
 use Rattle.query_tool.specs.CommandLine.{program}
-use Rattle.query_tool.proofs.WordLemmas.{request_is}
+use Rattle.query_tool.proofs.WordLemmas.{refusal_by, refusal_is, request_is}
 use Rattle.query_tool.proofs.words.read_words.Goals as goal
 
 -- the program's command line is one of which clap tells the matches
@@ -11,9 +11,28 @@ program_is_simple : is_simple program ≡ true
 unfolding clap_on_literals
 program_is_simple = refl
 
+-- and of which it tells the faults
+program_is_free : is_simple_and_free program ≡ true
+unfolding clap_on_literals
+program_is_free = refl
+
 pub returns-in-Ok-clause-asked : goal.returns-in-Ok-clause-asked
 returns-in-Ok-clause-asked c =
     let is : app_of c.in_ok-command.command ≡ program = c.in_ok-command.ensures in
     let named : subcommand_rows_of c.in-Ok.matches ≡ subcommand_of program (texts_of c.args.words.now) =
     (c.in-Ok.ensures.matches (ap is_simple is ∙ program_is_simple)).1 ∙ ap (λ (app : App). subcommand_of app (texts_of c.args.words.now)) is in
     request_is (texts_of c.args.words.now) (subcommand_rows_of c.in-Ok.matches) c.query_request.result named c.query_request.ensures.mode c.query_request.ensures.asked
+
+pub returns-in-Ok-clause-refused : goal.returns-in-Ok-clause-refused
+returns-in-Ok-clause-refused c =
+    let is : app_of c.in_ok-command.command ≡ program = c.in_ok-command.ensures in
+    let named : subcommand_rows_of c.in-Ok.matches ≡ subcommand_of program (texts_of c.args.words.now) =
+    (c.in-Ok.ensures.matches (ap is_simple is ∙ program_is_simple)).1 ∙ ap (λ (app : App). subcommand_of app (texts_of c.args.words.now)) is in
+    refusal_is (texts_of c.args.words.now) (subcommand_rows_of c.in-Ok.matches) c.query_request.result named c.query_request.ensures.refused
+
+pub returns-in-Err-clause-refused : goal.returns-in-Err-clause-refused
+returns-in-Err-clause-refused c =
+    let is : app_of c.in_ok-command.command ≡ program = c.in_ok-command.ensures in
+    let words = texts_of c.args.words.now in
+    refusal_by words (kind_of c.in-Err.error) c.word_fault.result c.word_fault.ensures
+    (subst (λ (app : App). HasKind (fault_of app words) c.in-Err.error) is (c.in-Err.ensures.kinds (ap is_simple_and_free is ∙ program_is_free)))
