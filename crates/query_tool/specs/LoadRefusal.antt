@@ -4,7 +4,7 @@ use Rattle.std.specs.List.{flat_map}
 use Rattle.sctid.specs.declared.IdFault.{IdFault}
 use Rattle.sctid.specs.declared.IdFault.TheVariants.{Length, Digit, LeadingZero, Partition, Check}
 use Rattle.rf2_rows.specs.declared.fault.RowCause.{RowCause}
-use Rattle.rf2_rows.specs.declared.fault.RowCause.TheVariants.{Fields, Id, Time, Active, Group, Utf8}
+use Rattle.rf2_rows.specs.declared.fault.RowCause.TheVariants.{Fields, Id, Time, Active, Group, Value, Utf8, Uuid}
 use Rattle.snapshot.specs.declared.fault.LoadFault.{LoadFault}
 use Rattle.snapshot.specs.declared.fault.LoadFault.TheVariants.{NoConceptFile, Header, Row, Duplicate, TooMany, Cycle, Memory}
 
@@ -22,7 +22,9 @@ cause_word (Id fault) = id_word fault
 cause_word Time = codes "time"
 cause_word Active = codes "active"
 cause_word Group = codes "group"
+cause_word Value = codes "value"
 cause_word Utf8 = codes "utf8"
+cause_word Uuid = codes "uuid"
 
 -- `REFUSED` and words, each behind a space, on a line of their own
 abbrev pub refused_line : List (List ℕ) → List ℕ

@@ -138,7 +138,9 @@ fn cause_word(cause: RowCause) -> &'static [u8]
         RowCause::Time => b"time",
         RowCause::Active => b"active",
         RowCause::Group => b"group",
+        RowCause::Value => b"value",
         RowCause::Utf8 => b"utf8",
+        RowCause::Uuid => b"uuid",
     }
 }
 

@@ -10,10 +10,14 @@ use std::alloc::{AllocError, Global};
 use std::process::Abort;
 use std::test::Fail;
 
-// The places of the sample's concept, description and relationship files in the list.
+// The places of the sample's files in the list.
+const MEMBERS: usize = 0;
+
 const CONCEPTS: usize = 1;
 
 const DESCRIPTIONS: usize = 2;
+
+const CONCRETE_VALUES: usize = 3;
 
 const RELATIONSHIPS: usize = 4;
 
@@ -179,7 +183,42 @@ fn refuses_changed_loads(rt: HostRuntime) -> Result<(), Fail> {
             b"\tTerm\t",
             Some(LoadFault::Header { file: 2 }),
         ),
+        (
+            MEMBERS,
+            b"00000000-0000-4000-8000-000000000001",
+            b"g0000000-0000-4000-8000-000000000001",
+            row(0, 2, RowCause::Uuid, 1),
+        ),
+        (
+            MEMBERS,
+            b"00000000-0000-4000-8000-000000000002",
+            b"00000000-0000-4000-8000-000000000001",
+            Some(LoadFault::Duplicate { file: 0, line: 3 }),
+        ),
+        (
+            MEMBERS,
+            b"\treferencedComponentId",
+            b"\treferencedComponentId\tvalueId",
+            Some(LoadFault::Header { file: 0 }),
+        ),
+        (
+            CONCRETE_VALUES,
+            b"\t#2.5\t",
+            b"\t#1.\t",
+            row(3, 2, RowCause::Value, 6),
+        ),
+        (
+            CONCRETE_VALUES,
+            b"117026\t20240101\t1\t",
+            b"114022\t20240101\t0\t",
+            Some(LoadFault::Duplicate { file: 3, line: 3 }),
+        ),
         (CONCEPTS, b"", b"", None),
+        // a component of another part, and a concrete value whose identifier a relationship has
+        (MEMBERS, b"\t109006\r\n", b"\t100014\r\n", None),
+        (CONCRETE_VALUES, b"114022\t", b"100022\t", None),
+        // an |Is a| among the concrete values belongs to nothing, and cannot make a cycle
+        (CONCRETE_VALUES, b"\t105000\t", b"\t116680003\t", None),
     ];
     for (place, from, to, want) in changed {
         let fault = fault_with(rt.alloc(), place, from, to)?;
@@ -201,6 +240,15 @@ fn keeps_to_limits_and_names(rt: HostRuntime) {
     assert!(rt; many == Some(LoadFault::TooMany { file: 2, line: 12 }));
     limits.descriptions = 11;
     assert!(rt; fault_of(rt.alloc(), &sample_files(), limits).is_none());
+    limits.concrete = 1;
+    let many = fault_of(rt.alloc(), &sample_files(), limits);
+    assert!(rt; many == Some(LoadFault::TooMany { file: 3, line: 3 }));
+    limits.concrete = 2;
+    limits.members = 2;
+    let many = fault_of(rt.alloc(), &sample_files(), limits);
+    assert!(rt; many == Some(LoadFault::TooMany { file: 0, line: 4 }));
+    limits.members = 3;
+    assert!(rt; fault_of(rt.alloc(), &sample_files(), limits).is_none());
     let files = sample_files();
     let none = fault_of(rt.alloc(), &files[2..], Limits::standard());
     assert!(rt; none == Some(LoadFault::NoConceptFile));
@@ -215,6 +263,7 @@ fn numbers_concepts(rt: HostRuntime) {
             assert_eq!(rt; snapshot.index_of(109006), None);
             assert_eq!(rt; snapshot.id_at(9).number(), 138875005);
             assert_eq!(rt; snapshot.isa_rows().len(), 10);
+            assert!(rt; snapshot.member_rows() == [(8, 1), (8, 3)].as_slice());
         }
         Err(fault) => panic!(rt; "{fault}"),
     }

@@ -218,7 +218,9 @@ fn tells_causes(rt: HostRuntime) -> Result<(), Fail> {
         (RowCause::Time, b"REFUSED row c 2 0 time\n"),
         (RowCause::Active, b"REFUSED row c 2 0 active\n"),
         (RowCause::Group, b"REFUSED row c 2 0 group\n"),
+        (RowCause::Value, b"REFUSED row c 2 0 value\n"),
         (RowCause::Utf8, b"REFUSED row c 2 0 utf8\n"),
+        (RowCause::Uuid, b"REFUSED row c 2 0 uuid\n"),
     ];
     for (cause, line) in causes {
         let fault = LoadFault::Row {

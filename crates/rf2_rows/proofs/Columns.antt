@@ -7,8 +7,10 @@ use Rattle.std.proofs.Math.ListN.{get_or-map, length-map}
 use Rattle.rf2_rows.specs.declared.kind.FileKind.{FileKind}
 use Rattle.rf2_rows.specs.declared.fault.RowFault.{RowFault}
 use Rattle.rf2_rows.specs.Columns.{Column, columns_of, cause_of}
+use Rattle.rf2_rows.specs.Numbers.{number_of}
 use Rattle.rf2_rows.specs.Parts.{texts_of}
-use Rattle.rf2_rows.specs.Rows.{column_fault, first_fault, fields_fault, concept_of, description_of, relationship_of, number_of, time_of, active_of}
+use Rattle.rf2_rows.specs.Values.{value_of}
+use Rattle.rf2_rows.specs.Rows.{column_fault, first_fault, fields_fault, concept_of, description_of, relationship_of, concrete_of, member_of, time_of, active_of, uuid_of}
 
 -- the text of the field at a place
 abbrev pub text_at : List (Bor (List ℕ)) → ℕ → List ℕ
@@ -71,3 +73,27 @@ pub relationship_of_texts : (fields : List (Bor (List ℕ))) → relationship_of
   modifier_id = number_of (text_at fields 9);
 }
 relationship_of_texts fields = simp get_or-texts_of
+
+pub concrete_of_texts : (fields : List (Bor (List ℕ))) → concrete_of (texts_of fields) ≡ record {
+  id = number_of (text_at fields 0);
+  effective_time = time_of (text_at fields 1);
+  active = active_of (text_at fields 2);
+  module_id = number_of (text_at fields 3);
+  source_id = number_of (text_at fields 4);
+  value = value_of (text_at fields 5);
+  relationship_group = number_of (text_at fields 6);
+  type_id = number_of (text_at fields 7);
+  characteristic_type_id = number_of (text_at fields 8);
+  modifier_id = number_of (text_at fields 9);
+}
+concrete_of_texts fields = simp get_or-texts_of
+
+pub member_of_texts : (fields : List (Bor (List ℕ))) → member_of (texts_of fields) ≡ record {
+  id = uuid_of (text_at fields 0);
+  effective_time = time_of (text_at fields 1);
+  active = active_of (text_at fields 2);
+  module_id = number_of (text_at fields 3);
+  refset_id = number_of (text_at fields 4);
+  referenced_component_id = number_of (text_at fields 5);
+}
+member_of_texts fields = simp get_or-texts_of

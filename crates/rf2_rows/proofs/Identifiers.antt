@@ -10,7 +10,8 @@ use Rattle.sctid.specs.declared.Part.{Part}
 use Rattle.sctid.specs.declared.Part.TheVariants.{Concept, Description, Relationship}
 use Rattle.rf2_rows.specs.Columns.{is_part}
 
-ten_pow : (k : ℕ) → 0 < 10 ^ k
+-- a power of ten is no less than one
+pub ten_pow : (k : ℕ) → 0 < 10 ^ k
 ten_pow zero = omega arith
 ten_pow (suc k) = omega (arith, pow-suc 10 k, ten_pow k)
 

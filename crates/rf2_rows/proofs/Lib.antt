@@ -5,3 +5,4 @@ pub mod Identifiers
 pub mod PairLemmas
 pub mod Parts
 pub mod Texts
+pub mod Values

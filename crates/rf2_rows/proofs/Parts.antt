@@ -10,7 +10,7 @@ HasNone separator text count = (k : ℕ) → k < count → eqb (get_or text k 0)
 
 module _ (separator : ℕ) where
   -- a byte that is no separator goes to the front of the first part
-  parts_onto : (byte : ℕ) (text : List ℕ) → (eqb byte separator ≡ true → ⊥) → parts_at separator (byte ∷ text) ≡ onto_first byte (parts_at separator text)
+  pub parts_onto : (byte : ℕ) (text : List ℕ) → (eqb byte separator ≡ true → ⊥) → parts_at separator (byte ∷ text) ≡ onto_first byte (parts_at separator text)
   parts_onto byte text other = rw (false_from_ne_true (eqb byte separator) other) refl
 
   -- the first part goes up to the first separator, and the others are those of what stands behind it

@@ -1,24 +1,31 @@
 -- The columns of each kind of file, and what their texts may be (Release File Specification,
--- "Concept file", "Description file" and "Relationship file").
-use Rattle.std.specs.Prelude.{ℕ, Bool, true, false, ◌&&◌, ◌||◌, ◌==◌, nat_le, if◌then◌else◌, List, [], ◌∷◌, map, length, codes, bytes_eq, Option, None, Some, option_map}
-use Rattle.std.specs.Option.{option_or}
-use Rattle.std.specs.List.{join_with_byte, list_all}
-use Rattle.std.specs.Char.{is_ascii_digit}
+-- "Concept file", "Description file", "Relationship file", "Relationship concrete values file" and
+-- "Simple reference set").
+use Rattle.std.specs.Prelude.{ℕ, Bool, true, false, ◌||◌, ◌==◌, if◌then◌else◌, List, [], ◌∷◌, map, length, codes, bytes_eq, Option, None, Some, option_map}
+use Rattle.std.specs.Option.{option_or, is_some}
+use Rattle.std.specs.List.{join_with_byte}
 use Rattle.std.specs.Str.{is_utf8}
+use Rattle.uuid.specs.Text.{parsed_hyphenated}
 use Rattle.sctid.specs.Identifier.{fault_of, part_of}
 use Rattle.sctid.specs.declared.IdFault.{IdFault}
 use Rattle.sctid.specs.declared.IdFault.TheVariants.{Partition}
 use Rattle.sctid.specs.declared.Part.{Part}
 use Rattle.sctid.specs.declared.Part.TheVariants.{Concept, Description, Relationship}
 use Rattle.rf2_rows.specs.declared.kind.FileKind.{FileKind}
-use Rattle.rf2_rows.specs.declared.kind.FileKind.TheVariants.{Concept as ConceptFile, Description as DescriptionFile, Relationship as RelationshipFile}
+use Rattle.rf2_rows.specs.declared.kind.FileKind.TheVariants.{Concept as ConceptFile, Description as DescriptionFile, Relationship as RelationshipFile, Concrete as ConcreteFile, Member as MemberFile}
 use Rattle.rf2_rows.specs.declared.fault.RowCause.{RowCause}
-use Rattle.rf2_rows.specs.declared.fault.RowCause.TheVariants.{Fields, Id, Time, Active, Group, Utf8}
+use Rattle.rf2_rows.specs.declared.fault.RowCause.TheVariants.{Fields, Id, Time, Active, Group, Value, Utf8, Uuid}
+use Rattle.rf2_rows.specs.Numbers.{is_number}
+use Rattle.rf2_rows.specs.Values.{value_cause}
 
 -- what the texts of a column are
 pub data Format : Type 0 where
   -- the identifier of a component of the part
   id_format : Part → Format
+  -- the identifier of a component of any part
+  component_format : Format
+  -- a UUID: 36 characters, hexadecimal digits in groups of 8, 4, 4, 4 and 12 with hyphens between
+  uuid_format : Format
   -- a date of eight digits, YYYYMMDD, or nothing where the row is not published yet
   time_format : Format
   -- 0 or 1
@@ -27,6 +34,8 @@ pub data Format : Type 0 where
   group_format : Format
   -- a text in UTF-8
   text_format : Format
+  -- a number behind `#`, or else a text in UTF-8
+  value_format : Format
 
 -- a column: its name in the header, and what its texts are
 pub record Column : Type 0 where
@@ -68,6 +77,26 @@ columns_of RelationshipFile =
     ∷ column (codes "characteristicTypeId") (id_format Concept)
     ∷ column (codes "modifierId") (id_format Concept)
     ∷ []
+columns_of ConcreteFile =
+    column (codes "id") (id_format Relationship)
+    ∷ column (codes "effectiveTime") time_format
+    ∷ column (codes "active") active_format
+    ∷ column (codes "moduleId") (id_format Concept)
+    ∷ column (codes "sourceId") (id_format Concept)
+    ∷ column (codes "value") value_format
+    ∷ column (codes "relationshipGroup") group_format
+    ∷ column (codes "typeId") (id_format Concept)
+    ∷ column (codes "characteristicTypeId") (id_format Concept)
+    ∷ column (codes "modifierId") (id_format Concept)
+    ∷ []
+columns_of MemberFile =
+    column (codes "id") uuid_format
+    ∷ column (codes "effectiveTime") time_format
+    ∷ column (codes "active") active_format
+    ∷ column (codes "moduleId") (id_format Concept)
+    ∷ column (codes "refsetId") (id_format Concept)
+    ∷ column (codes "referencedComponentId") component_format
+    ∷ []
 
 -- the byte between two fields of a line
 abbrev pub tab : ℕ
@@ -89,23 +118,24 @@ is_part _ _ = false
 abbrev pub fault_for : Part → List ℕ → Option IdFault
 fault_for part text = option_or (fault_of text) (if is_part (part_of text) part then None else Some Partition)
 
--- a text of this many digits, from the least number to the greatest
-abbrev pub is_number : ℕ → ℕ → List ℕ → Bool
-is_number least most text = nat_le least (length text) && nat_le (length text) most && list_all is_ascii_digit text
-
 -- the cause for which a text is not accepted in a column, or none
 unfoldable pub cause_of : Format → List ℕ → Option RowCause
 cause_of (id_format part) text = option_map Id (fault_for part text)
+cause_of component_format text = option_map Id (fault_of text)
+cause_of uuid_format text = if is_some (parsed_hyphenated text) then None else Some Uuid
 cause_of time_format text = if length text == 0 || is_number 8 8 text then None else Some Time
 cause_of active_format text = if bytes_eq text (codes "0") || bytes_eq text (codes "1") then None else Some Active
 cause_of group_format text = if is_number 1 9 text then None else Some Group
 cause_of text_format text = if is_utf8 text then None else Some Utf8
+cause_of value_format text = value_cause text
 
--- the number of a cause; 6 and 8 are kept for causes of other kinds of row
+-- the number of a cause
 abbrev pub cause_number : RowCause → ℕ
 cause_number Fields = 1
 cause_number (Id fault) = 2
 cause_number Time = 3
 cause_number Active = 4
 cause_number Group = 5
+cause_number Value = 6
 cause_number Utf8 = 7
+cause_number Uuid = 8

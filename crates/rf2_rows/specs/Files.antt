@@ -1,10 +1,10 @@
 -- The kind of a file of a release, by its name (Release File Specification, "File naming
 -- convention": FileType_ContentType_ContentSubType_.. and at last .txt).
-use Rattle.std.specs.Prelude.{ℕ, ◌-◌, Bool, false, ◌&&◌, ◌||◌, ◌==◌, nat_eq, if◌then◌else◌, List, [], ◌∷◌, length, take, codes, bytes_eq, Option, None, Some, option_and_then}
+use Rattle.std.specs.Prelude.{ℕ, ◌-◌, Bool, false, ◌||◌, ◌==◌, nat_eq, if◌then◌else◌, List, [], ◌∷◌, length, take, codes, bytes_eq, Option, None, Some, option_and_then}
 use Rattle.std.specs.List.{after_last, starts_with, ends_with}
 use Rattle.rf2_rows.specs.Parts.{parts_at}
 use Rattle.rf2_rows.specs.declared.kind.FileKind.{FileKind}
-use Rattle.rf2_rows.specs.declared.kind.FileKind.TheVariants.{Concept, Description, Relationship}
+use Rattle.rf2_rows.specs.declared.kind.FileKind.TheVariants.{Concept, Description, Relationship, Concrete, Member}
 
 -- the file's name in a path: what follows the last `/`
 abbrev pub file_name : List ℕ → List ℕ
@@ -23,12 +23,28 @@ holds word (byte ∷ text) = starts_with nat_eq (byte ∷ text) word || holds wo
 abbrev pub is_terminology : List ℕ → Bool
 is_terminology file_type = bytes_eq file_type (codes "sct2") || bytes_eq file_type (codes "xsct2")
 
--- ContentType: what the rows describe
-abbrev pub kind_named : List ℕ → Option FileKind
-kind_named content =
+-- FileType: a file of reference sets, released or in a test release
+abbrev pub is_reference_set : List ℕ → Bool
+is_reference_set file_type = bytes_eq file_type (codes "der2") || bytes_eq file_type (codes "xder2")
+
+-- ContentType of a file of components: what the rows describe
+abbrev pub component_kind : List ℕ → Option FileKind
+component_kind content =
     if bytes_eq content (codes "Concept") then Some Concept
     else if bytes_eq content (codes "Description") then Some Description
     else if bytes_eq content (codes "Relationship") then Some Relationship
+    else if bytes_eq content (codes "RelationshipConcreteValues") then Some Concrete
+    else None
+
+-- ContentType of a file of reference sets: without letters in front it has no columns of its own
+abbrev pub reference_set_kind : List ℕ → Option FileKind
+reference_set_kind content = if bytes_eq content (codes "Refset") then Some Member else None
+
+-- the kind that a FileType and a ContentType tell of
+abbrev pub kind_named : List ℕ → List ℕ → Option FileKind
+kind_named file_type content =
+    if is_terminology file_type then component_kind content
+    else if is_reference_set file_type then reference_set_kind content
     else None
 
 -- ContentSubType: the release type Snapshot, at the end or before the code of a language
@@ -38,7 +54,7 @@ is_snapshot subtype = ends_with nat_eq subtype (codes "Snapshot") || holds (code
 -- the kind that the elements tell of
 abbrev pub kind_of_elements : List (List ℕ) → Option FileKind
 kind_of_elements (file_type ∷ content ∷ subtype ∷ others) =
-    if is_terminology file_type && is_snapshot subtype then kind_named content else None
+    if is_snapshot subtype then kind_named file_type content else None
 kind_of_elements _ = None
 
 -- a file's name without the extension .txt, if it has that

@@ -2,7 +2,9 @@ pub mod Columns
 pub mod Files
 pub mod Groups
 pub mod Hierarchy
+pub mod Numbers
 pub mod Pairs
 pub mod Parts
 pub mod Release
 pub mod Rows
+pub mod Values

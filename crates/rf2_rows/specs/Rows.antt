@@ -1,21 +1,29 @@
--- What a line of a file is as a row (Release File Specification, "Concept file", "Description file"
--- and "Relationship file"): its fields, its first fault, and the row that an accepted line stands for.
-use Rattle.std.specs.Prelude.{◌≡◌, ℕ, ◌+◌, ◌==◌, Bool, if◌then◌else◌, List, [], ◌∷◌, length, codes, bytes_eq, slice_index_or, Option, None, Some, option_map, Result, MatchResult}
+-- What a line of a file is as a row (Release File Specification, "Concept file", "Description file",
+-- "Relationship file", "Relationship concrete values file" and "Simple reference set"): its fields, its
+-- first fault, and the row that an accepted line stands for.
+use Rattle.std.specs.Prelude.{◌≡◌, ℕ, ◌+◌, ◌==◌, Bool, if◌then◌else◌, List, [], ◌∷◌, length, codes, bytes_eq, slice_index_or, Option, None, Some, option_map, unwrap_or, Result, MatchResult}
 use Rattle.std.specs.Option.{option_or}
 use Rattle.std.specs.List.{position_or_len}
-use Rattle.std.specs.Str.Parse.{digits_value}
+use Rattle.uuid.specs.Text.{parsed_hyphenated}
 use Rattle.rf2_rows.specs.declared.kind.FileKind.{FileKind}
-use Rattle.rf2_rows.specs.declared.kind.FileKind.TheVariants.{Concept as ConceptFile, Description as DescriptionFile, Relationship as RelationshipFile}
+use Rattle.rf2_rows.specs.declared.kind.FileKind.TheVariants.{Concept as ConceptFile, Description as DescriptionFile, Relationship as RelationshipFile, Concrete as ConcreteFile, Member as MemberFile}
 use Rattle.rf2_rows.specs.declared.fault.RowCause.{RowCause}
 use Rattle.rf2_rows.specs.declared.fault.RowCause.TheVariants.{Fields}
 use Rattle.rf2_rows.specs.declared.fault.RowFault.{RowFault}
 use Rattle.rf2_rows.specs.declared.row.ConceptRow.{ConceptRow}
 use Rattle.rf2_rows.specs.declared.row.DescriptionRow.{DescriptionRow}
 use Rattle.rf2_rows.specs.declared.row.RelationshipRow.{RelationshipRow}
+use Rattle.rf2_rows.specs.declared.row.ConcreteRow.{ConcreteRow}
+use Rattle.rf2_rows.specs.declared.row.MemberRow.{MemberRow}
 use Rattle.rf2_rows.specs.declared.row.Row.{Row}
-use Rattle.rf2_rows.specs.declared.row.Row.TheVariants.{Concept, Description, Relationship}
+use Rattle.rf2_rows.specs.declared.row.Row.TheVariants.{Concept, Description, Relationship, Concrete, Member}
+use Rattle.rf2_rows.specs.declared.value.Value.{Value as LentValue}
+use Rattle.rf2_rows.specs.declared.value.Value.TheVariants.{Concept as LentConcept, Decimal as LentDecimal, Other as LentOther}
 use Rattle.rf2_rows.specs.Columns.{Column, columns_of, cause_of, tab}
+use Rattle.rf2_rows.specs.Numbers.{number_of}
 use Rattle.rf2_rows.specs.Parts.{parts_at}
+use Rattle.rf2_rows.specs.Release.{Value, concept_value, number_value, text_value}
+use Rattle.rf2_rows.specs.Values.{value_of}
 
 -- the fields of a line: what stands between its tabs
 abbrev pub fields_of : List ℕ → List (List ℕ)
@@ -44,10 +52,6 @@ row_fault kind line = fields_fault kind (fields_of line)
 -- the text in the column with a name
 abbrev pub text_in : FileKind → List (List ℕ) → List ℕ → List ℕ
 text_in kind fields name = slice_index_or fields (position_or_len (λ column. bytes_eq column.name name) (columns_of kind)) []
-
--- the number that a text of digits writes
-abbrev pub number_of : List ℕ → ℕ
-number_of text = digits_value 10 text
 
 -- an effective time: the number that its digits write, or none where there are none
 abbrev pub time_of : List ℕ → Option ℕ
@@ -128,6 +132,74 @@ relationship_of fields =
       modifier_id = number_of (text (codes "modifierId"));
     }
 
+-- a value with the bytes of the text that it was lent
+abbrev pub value_lent : LentValue → Value
+value_lent (LentConcept id) = concept_value id
+value_lent (LentDecimal decimal) = number_value decimal.0
+value_lent (LentOther text) = text_value text.now
+
+-- a row of the Relationship concrete values file, whose value is that of a release
+pub record ConcreteText : Type 0 where
+  pub id : ℕ
+  pub effective_time : Option ℕ
+  pub active : Bool
+  pub module_id : ℕ
+  pub source_id : ℕ
+  pub value : Value
+  pub relationship_group : ℕ
+  pub type_id : ℕ
+  pub characteristic_type_id : ℕ
+  pub modifier_id : ℕ
+
+-- a row with the bytes of the value that it was lent
+abbrev pub concrete_text : ConcreteRow → ConcreteText
+concrete_text row = record {
+  id = row.id;
+  effective_time = row.effective_time;
+  active = row.active;
+  module_id = row.module_id;
+  source_id = row.source_id;
+  value = value_lent row.value;
+  relationship_group = row.relationship_group;
+  type_id = row.type_id;
+  characteristic_type_id = row.characteristic_type_id;
+  modifier_id = row.modifier_id;
+}
+
+-- the row of the Relationship concrete values file that fields stand for
+abbrev pub concrete_of : List (List ℕ) → ConcreteText
+concrete_of fields =
+    let text = text_in ConcreteFile fields in
+    record {
+      id = number_of (text (codes "id"));
+      effective_time = time_of (text (codes "effectiveTime"));
+      active = active_of (text (codes "active"));
+      module_id = number_of (text (codes "moduleId"));
+      source_id = number_of (text (codes "sourceId"));
+      value = value_of (text (codes "value"));
+      relationship_group = number_of (text (codes "relationshipGroup"));
+      type_id = number_of (text (codes "typeId"));
+      characteristic_type_id = number_of (text (codes "characteristicTypeId"));
+      modifier_id = number_of (text (codes "modifierId"));
+    }
+
+-- the 16 bytes of a UUID
+abbrev pub uuid_of : List ℕ → List ℕ
+uuid_of text = unwrap_or (parsed_hyphenated text) []
+
+-- the row of a simple reference set file that fields stand for
+abbrev pub member_of : List (List ℕ) → MemberRow
+member_of fields =
+    let text = text_in MemberFile fields in
+    record {
+      id = uuid_of (text (codes "id"));
+      effective_time = time_of (text (codes "effectiveTime"));
+      active = active_of (text (codes "active"));
+      module_id = number_of (text (codes "moduleId"));
+      refset_id = number_of (text (codes "refsetId"));
+      referenced_component_id = number_of (text (codes "referencedComponentId"));
+    }
+
 -- the rows that lines stand for: what they are where the line has no fault
 unfoldable pub concept_row : List ℕ → ConceptRow
 concept_row line = concept_of (fields_of line)
@@ -137,6 +209,12 @@ description_row line = description_of (fields_of line)
 
 unfoldable pub relationship_row : List ℕ → RelationshipRow
 relationship_row line = relationship_of (fields_of line)
+
+unfoldable pub concrete_row : List ℕ → ConcreteText
+concrete_row line = concrete_of (fields_of line)
+
+unfoldable pub member_row : List ℕ → MemberRow
+member_row line = member_of (fields_of line)
 
 -- what reading answers: a value where there is no fault, and else the fault
 abbrev pub IsReading : {T : Type 0} → Option RowFault → T → Result T RowFault → Type 0
@@ -151,4 +229,6 @@ abbrev pub IsRow : FileKind → List ℕ → Row → Type 0
 IsRow ConceptFile line (Concept row) = row ≡ concept_row line
 IsRow DescriptionFile line (Description row) = description_text row ≡ description_row line
 IsRow RelationshipFile line (Relationship row) = row ≡ relationship_row line
+IsRow ConcreteFile line (Concrete row) = concrete_text row ≡ concrete_row line
+IsRow MemberFile line (Member row) = row ≡ member_row line
 IsRow _ line _ = ⊥

@@ -23,9 +23,16 @@ pub enum RowCause {
     /// Not 1 to 9 digits.
     #[error("a relationship group has 1 to 9 digits")]
     Group,
+    /// Behind `#` no number: a sign or none, 1 to 18 digits, and 1 to 18 digits behind a point if
+    /// there is one.
+    #[error("a value that begins with # has 1 to 18 digits before and behind its point")]
+    Value,
     /// Not UTF-8.
     #[error("the text is not UTF-8")]
     Utf8,
+    /// No UUID of 36 characters, with hyphens.
+    #[error("a member is identified by a UUID of 36 characters")]
+    Uuid,
 }
 
 /// The first fault of a line: its cause, and the column that it is in.
@@ -41,7 +48,7 @@ pub struct RowFault {
 impl RowCause {
     ghost use Rattle.rf2_rows.specs.Columns.{cause_number};
 
-    /// The number of the cause, from 1. 6 and 8 are kept for causes of other kinds of row.
+    /// The number of the cause, from 1.
     pub fn number(self) -> u8
         ensures { result ≡ cause_number self }
     {
@@ -51,7 +58,9 @@ impl RowCause {
             RowCause::Time => 3,
             RowCause::Active => 4,
             RowCause::Group => 5,
+            RowCause::Value => 6,
             RowCause::Utf8 => 7,
+            RowCause::Uuid => 8,
         }
     }
 }

@@ -1,7 +1,7 @@
 //! The kinds of file, told by their names, and their headers.
 ghost use Rattle.std.specs.Prelude.{◌≡◌, None, Some, IsNone, IfSome};
 ghost use Rattle.rf2_rows.specs.Columns.{header_of};
-ghost use Rattle.rf2_rows.specs.Files.{file_kind_of, file_name, stem_of, elements_of, kind_of_elements, kind_named, is_snapshot, is_terminology};
+ghost use Rattle.rf2_rows.specs.Files.{file_kind_of, file_name, stem_of, elements_of, kind_of_elements, kind_named, component_kind, reference_set_kind, is_snapshot, is_terminology, is_reference_set};
 
 use crate::split::cut;
 use bstr::ByteSlice;
@@ -15,6 +15,12 @@ pub enum FileKind {
     Description,
     /// Relationships between concepts (Release File Specification, "Relationship file").
     Relationship,
+    /// Values of concepts that are no concepts themselves (Release File Specification, "Relationship
+    /// concrete values file").
+    Concrete,
+    /// Members of simple reference sets, which have no columns of their own (Release File
+    /// Specification, "Simple reference set").
+    Member,
 }
 
 /// The kind of a Snapshot file by its name (Release File Specification, "File naming convention"),
@@ -39,6 +45,10 @@ pub fn header(kind: FileKind) -> &'static str
         FileKind::Relationship => {
             "id\teffectiveTime\tactive\tmoduleId\tsourceId\tdestinationId\trelationshipGroup\ttypeId\tcharacteristicTypeId\tmodifierId"
         }
+        FileKind::Concrete => {
+            "id\teffectiveTime\tactive\tmoduleId\tsourceId\tvalue\trelationshipGroup\ttypeId\tcharacteristicTypeId\tmodifierId"
+        }
+        FileKind::Member => "id\teffectiveTime\tactive\tmoduleId\trefsetId\treferencedComponentId",
     }
 }
 
@@ -71,8 +81,21 @@ fn kind_of_stem(stem: &[u8]) -> Option<FileKind>
     let (file_type, rest) = cut(stem, b'_');
     let (content, rest) = cut(rest?, b'_');
     let (subtype, _) = cut(rest?, b'_');
-    if is_terminology(file_type) && is_snapshot(subtype) {
-        kind_named(content)
+    if is_snapshot(subtype) {
+        kind_named(file_type, content)
+    } else {
+        None
+    }
+}
+
+// The kind that the first two elements of a file's name tell of.
+fn kind_named(file_type: &[u8], content: &[u8]) -> Option<FileKind>
+    ensures { result ≡ kind_named file_type.now content.now }
+{
+    if is_terminology(file_type) {
+        component_kind(content)
+    } else if is_reference_set(file_type) {
+        reference_set_kind(content)
     } else {
         None
     }
@@ -85,9 +108,16 @@ fn is_terminology(file_type: &[u8]) -> bool
     file_type == b"sct2".as_slice() || file_type == b"xsct2".as_slice()
 }
 
-// The kind that the second element of a file's name tells of.
-fn kind_named(content: &[u8]) -> Option<FileKind>
-    ensures { result ≡ kind_named content.now }
+// Whether the first element of a file's name is that of a reference set file, released or in test.
+fn is_reference_set(file_type: &[u8]) -> bool
+    ensures { result ≡ is_reference_set file_type.now }
+{
+    file_type == b"der2".as_slice() || file_type == b"xder2".as_slice()
+}
+
+// The kind that the second element of a terminology file's name tells of.
+fn component_kind(content: &[u8]) -> Option<FileKind>
+    ensures { result ≡ component_kind content.now }
 {
     if content == b"Concept".as_slice() {
         Some(FileKind::Concept)
@@ -95,6 +125,19 @@ fn kind_named(content: &[u8]) -> Option<FileKind>
         Some(FileKind::Description)
     } else if content == b"Relationship".as_slice() {
         Some(FileKind::Relationship)
+    } else if content == b"RelationshipConcreteValues".as_slice() {
+        Some(FileKind::Concrete)
+    } else {
+        None
+    }
+}
+
+// The kind that the second element of a reference set file's name tells of.
+fn reference_set_kind(content: &[u8]) -> Option<FileKind>
+    ensures { result ≡ reference_set_kind content.now }
+{
+    if content == b"Refset".as_slice() {
+        Some(FileKind::Member)
     } else {
         None
     }

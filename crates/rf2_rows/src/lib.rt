@@ -2,7 +2,9 @@
 //! name tells of, the header of each kind, and the typed row that a line stands for.
 #![tactic(auto)]
 
+mod concrete;
 mod fault;
+mod fields;
 mod kind;
 mod laws;
 mod read;
@@ -16,5 +18,5 @@ pub use crate::fault::{RowCause, RowFault};
 pub use crate::kind::{FileKind, file_kind, header};
 pub use crate::laws::{reaches_tells_chains, same_pairs_are_told};
 pub use crate::read::read_row;
-pub use crate::row::{ConceptRow, DescriptionRow, RelationshipRow, Row};
-pub use crate::value::Decimal;
+pub use crate::row::{ConceptRow, ConcreteRow, DescriptionRow, MemberRow, RelationshipRow, Row};
+pub use crate::value::{Decimal, Value};

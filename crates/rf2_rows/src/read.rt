@@ -1,22 +1,23 @@
 //! Reading a line as a row.
-ghost use Rattle.std.specs.Prelude.{◌≡◌, ◌<◌, ◌≤◌, None, Some, IsNone, IfOk, IfErr, IfSome, is_some, length};
-ghost use Rattle.rf2_rows.specs.Columns.{cause_of, id_format, time_format, active_format, group_format, text_format, is_number};
+ghost use Rattle.std.specs.Prelude.{◌≡◌, ◌<◌, None, Some, IsNone, IfOk, IfErr, IfSome, length};
 ghost use Rattle.rf2_rows.specs.Parts.{texts_of};
-ghost use Rattle.rf2_rows.specs.Rows.{IsReading, IsReadingLent, column_fault, fields_of, fields_fault, row_fault, concept_of, description_of, description_text, relationship_of, number_of, time_of, active_of, IsRow};
+ghost use Rattle.rf2_rows.specs.Rows.{IsReading, IsReadingLent, fields_of, fields_fault, row_fault, concept_of, description_of, description_text, relationship_of, member_of, IsRow};
 
+use crate::concrete::read_concrete;
 use crate::fault::{RowCause, RowFault};
+use crate::fields::{component, fault, flag, group, hyphenated, identifier, text, time};
 use crate::kind::FileKind;
-use crate::row::{ConceptRow, DescriptionRow, RelationshipRow, Row};
+use crate::row::{ConceptRow, DescriptionRow, MemberRow, RelationshipRow, Row};
 use crate::split::cut;
 use arrayvec::ArrayVec;
-use sctid::{IdFault, Part, SctId};
+use sctid::Part;
 
 // The fields of a line, as many as the widest kind has columns at the most.
 type Fields<'a> = ArrayVec<&'a [u8], 10>;
 
 /// Reads a line, without its end, as a row of a kind. A fault is the first: the number of fields,
 /// then the columns from left to right. The texts of a row are lent from the line. Takes no memory.
-#[tactic(auto, unfolding(crate::specs::Rows::row_fault, crate::specs::Rows::concept_row, crate::specs::Rows::description_row, crate::specs::Rows::relationship_row))]
+#[tactic(auto, unfolding(crate::specs::Rows::row_fault, crate::specs::Rows::concept_row, crate::specs::Rows::description_row, crate::specs::Rows::relationship_row, crate::specs::Rows::concrete_row, crate::specs::Rows::member_row))]
 pub fn read_row<'a>(kind: FileKind, line: &'a [u8]) -> Result<Row<'a>, RowFault>
     ensures row { IfOk result (λ row. IsRow kind line.now row) }
     ensures accepted { IfOk result (λ _. row_fault kind line.now ≡ None) }
@@ -37,6 +38,14 @@ pub fn read_row<'a>(kind: FileKind, line: &'a [u8]) -> Result<Row<'a>, RowFault>
         FileKind::Relationship => {
             let row = read_relationship(fields.as_slice())?;
             Ok(Row::Relationship(row))
+        }
+        FileKind::Concrete => match read_concrete(fields.as_slice()) {
+            Ok(row) => Ok(Row::Concrete(row)),
+            Err(fault) => Err(fault),
+        },
+        FileKind::Member => {
+            let row = read_member(fields.as_slice())?;
+            Ok(Row::Member(row))
         }
     }
 }
@@ -165,91 +174,34 @@ fn read_relationship(fields: &[&[u8]]) -> Result<RelationshipRow, RowFault>
     })
 }
 
-// An identifier of the part that the column asks for.
-#[tactic(auto, unfolding(crate::specs::Columns::cause_of))]
-fn identifier(text: &[u8], part: Part, column: u8) -> Result<SctId, RowFault>
-    ensures { IsReading (column_fault column (cause_of (id_format part) text.now)) (number_of text.now)
-        result }
+// The row of a simple reference set file that the fields of a line stand for.
+fn read_member(fields: &[&[u8]]) -> Result<MemberRow, RowFault>
+    ensures { let texts = texts_of fields.now in
+        IsReading (fields_fault FileKind.Member texts) (member_of texts) result }
 {
-    match SctId::parse(text) {
-        Ok(id) if id.part() == part => Ok(id),
-        Ok(_) => Err(fault(RowCause::Id(IdFault::Partition), column)),
-        Err(cause) => Err(fault(RowCause::Id(cause), column)),
-    }
-}
-
-// Eight digits, or none where the row is unpublished.
-#[tactic(auto, unfolding(crate::specs::Columns::cause_of))]
-fn time(text: &[u8], column: u8) -> Result<Option<u32>, RowFault>
-    ensures { IsReading (column_fault column (cause_of time_format text.now)) (time_of text.now) result }
-{
-    if text.is_empty() {
-        return Ok(None);
-    }
-    match digits(text, 8, 8) {
-        Some(number) => Ok(Some(number)),
-        None => Err(fault(RowCause::Time, column)),
-    }
-}
-
-// Whether a component is active.
-#[tactic(auto, unfolding(crate::specs::Columns::cause_of))]
-fn flag(text: &[u8], column: u8) -> Result<bool, RowFault>
-    ensures { IsReading (column_fault column (cause_of active_format text.now)) (active_of text.now) result }
-{
-    if text == b"0".as_slice() {
-        Ok(false)
-    } else if text == b"1".as_slice() {
-        Ok(true)
-    } else {
-        Err(fault(RowCause::Active, column))
-    }
-}
-
-// The number of a group.
-#[tactic(auto, unfolding(crate::specs::Columns::cause_of))]
-fn group(text: &[u8], column: u8) -> Result<u32, RowFault>
-    ensures { IsReading (column_fault column (cause_of group_format text.now)) (number_of text.now) result }
-{
-    match digits(text, 1, 9) {
-        Some(number) => Ok(number),
-        None => Err(fault(RowCause::Group, column)),
-    }
-}
-
-// A text in UTF-8.
-#[tactic(auto, unfolding(crate::specs::Columns::cause_of))]
-fn text(text: &[u8], column: u8) -> Result<&str, RowFault>
-    ensures { IsReadingLent (λ found. found.now) (column_fault column (cause_of text_format text.now)) text.now
-        result }
-{
-    match str::from_utf8(text) {
-        Ok(found) => Ok(found),
-        Err(_) => Err(fault(RowCause::Utf8, column)),
-    }
-}
-
-// The number that a text of digits stands for, of so many digits at the least and the most.
-fn digits(text: &[u8], least: usize, most: usize) -> Option<u32>
-    requires { most ≤ 9 }
-    ensures digits { is_some result ≡ is_number least most text.now }
-    ensures value { IfSome result (λ number. number ≡ number_of text.now) }
-{
-    if text.len() < least || text.len() > most {
-        return None;
-    }
-    let mut number = 0u32;
-    for byte in text {
-        if !byte.is_ascii_digit() {
-            return None;
-        }
-        number = number * 10 + u32::from(*byte - b'0');
-    }
-    Some(number)
-}
-
-fn fault(cause: RowCause, column: u8) -> RowFault
-    ensures { result ≡ record { cause = cause; column = column } }
-{
-    RowFault { cause, column }
+    let [
+        id,
+        effective_time,
+        active,
+        module_id,
+        refset_id,
+        referenced_component_id,
+    ] = fields
+    else {
+        return Err(fault(RowCause::Fields, 0));
+    };
+    let id = hyphenated(id, 1)?;
+    let effective_time = time(effective_time, 2)?;
+    let active = flag(active, 3)?;
+    let module_id = identifier(module_id, Part::Concept, 4)?;
+    let refset_id = identifier(refset_id, Part::Concept, 5)?;
+    let referenced_component_id = component(referenced_component_id, 6)?;
+    Ok(MemberRow {
+        id,
+        effective_time,
+        active,
+        module_id,
+        refset_id,
+        referenced_component_id,
+    })
 }

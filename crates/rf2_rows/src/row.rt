@@ -1,5 +1,7 @@
 //! The typed rows: one field for each column, in the order of the header.
+use crate::value::Value;
 use sctid::SctId;
+use uuid::Uuid;
 
 /// A row of the Concept file (Release File Specification, "Concept file").
 #[derive(Clone, Copy, Debug, PartialEq, Eq, Hash)]
@@ -65,6 +67,49 @@ pub struct RelationshipRow {
     pub modifier_id: SctId,
 }
 
+/// A row of the Relationship concrete values file (Release File Specification, "Relationship
+/// concrete values file"). Its value may be lent from the line.
+#[derive(Clone, Copy, Debug, PartialEq, Eq, Hash)]
+pub struct ConcreteRow<'a> {
+    /// The relationship.
+    pub id: SctId,
+    /// The date from which the row counts, as a number YYYYMMDD, or `None` where it is unpublished.
+    pub effective_time: Option<u32>,
+    /// Whether the relationship is active.
+    pub active: bool,
+    /// The module that the row belongs to.
+    pub module_id: SctId,
+    /// The concept that the row says something of.
+    pub source_id: SctId,
+    /// The value: a number or another text, and never a concept.
+    pub value: Value<'a>,
+    /// The group of the relationship, 0 for none: at most 999,999,999.
+    pub relationship_group: u32,
+    /// The attribute.
+    pub type_id: SctId,
+    /// Whether the row is inferred, stated or other.
+    pub characteristic_type_id: SctId,
+    /// Always |Some| today.
+    pub modifier_id: SctId,
+}
+
+/// A row of a simple reference set file (Release File Specification, "Simple reference set").
+#[derive(Clone, Copy, Debug, PartialEq, Eq, Hash)]
+pub struct MemberRow {
+    /// The member.
+    pub id: Uuid,
+    /// The date from which the row counts, as a number YYYYMMDD, or `None` where it is unpublished.
+    pub effective_time: Option<u32>,
+    /// Whether the member is active.
+    pub active: bool,
+    /// The module that the row belongs to.
+    pub module_id: SctId,
+    /// The reference set.
+    pub refset_id: SctId,
+    /// The component that belongs to the reference set.
+    pub referenced_component_id: SctId,
+}
+
 /// The row that a line of a file stands for.
 #[derive(Clone, Copy, Debug, PartialEq, Eq, Hash)]
 pub enum Row<'a> {
@@ -74,4 +119,8 @@ pub enum Row<'a> {
     Description(DescriptionRow<'a>),
     /// A row of a Relationship file.
     Relationship(RelationshipRow),
+    /// A row of a Relationship concrete values file.
+    Concrete(ConcreteRow<'a>),
+    /// A row of a simple reference set file.
+    Member(MemberRow),
 }

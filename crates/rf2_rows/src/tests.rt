@@ -24,6 +24,19 @@ fn knows_snapshots(rt: HostRuntime) {
     ] {
         assert!(rt; file_kind(name) == Some(FileKind::Description), "{name}");
     }
+    for name in [
+        "sct2_RelationshipConcreteValues_Snapshot_INT_20240101.txt",
+        "Snapshot/Terminology/xsct2_RelationshipConcreteValues_XYSnapshot-en_XY_20240101.txt",
+    ] {
+        assert!(rt; file_kind(name) == Some(FileKind::Concrete), "{name}");
+    }
+    for name in [
+        "der2_Refset_SimpleSnapshot_INT_20240101.txt",
+        "Snapshot/Refset/Content/xder2_Refset_SimpleSnapshot-en_INT_20240101.txt",
+        "der2_Refset_Snapshot.txt",
+    ] {
+        assert!(rt; file_kind(name) == Some(FileKind::Member), "{name}");
+    }
 }
 
 #[test]
@@ -37,7 +50,14 @@ fn passes_over_other_files(rt: HostRuntime) {
         "sct2_TextDefinition_Snapshot-en_INT_20240101.txt",
         "sct2_Concept_SnapshotXY_INT_20240101.txt",
         "sct2_StatedRelationship_Snapshot_INT_20240101.txt",
-        "der2_Refset_SimpleSnapshot_INT_20240101.txt",
+        "der2_cRefset_LanguageSnapshot-en_INT_20240101.txt",
+        "der2_sRefset_SimpleMapSnapshot_INT_20240101.txt",
+        "der2_Refset_SimpleDelta_INT_20240101.txt",
+        "der2_Concept_Snapshot_INT_20240101.txt",
+        "sct2_Refset_SimpleSnapshot_INT_20240101.txt",
+        "sct2_RelationshipConcreteValues_Full_INT_20240101.txt",
+        "sct2_RelationshipConcreteValue_Snapshot_INT_20240101.txt",
+        "zder2_Refset_SimpleSnapshot_INT_20240101.txt",
         "zsct2_Concept_Snapshot_INT_20240101.txt",
         "sct2_Concept_Snapshot_INT_20240101.txt.zip",
         "sct2_Concept_Snapshot_INT_20240101.txt/",
@@ -64,6 +84,11 @@ fn has_the_headers_of_the_standard(rt: HostRuntime) {
     assert!(rt;
         header(FileKind::Relationship).ends_with("\ttypeId\tcharacteristicTypeId\tmodifierId")
     );
+    let concrete =
+        "id\teffectiveTime\tactive\tmoduleId\tsourceId\tvalue\trelationshipGroup\ttypeId\tcharacteristicTypeId\tmodifierId";
+    assert_eq!(rt; header(FileKind::Concrete), concrete);
+    let member = "id\teffectiveTime\tactive\tmoduleId\trefsetId\treferencedComponentId";
+    assert_eq!(rt; header(FileKind::Member), member);
 }
 
 #[test]
@@ -118,6 +143,141 @@ fn reads_a_relationship(rt: HostRuntime) {
         }
         _ => assert!(rt; false, "a relationship row"),
     }
+}
+
+#[test]
+fn reads_a_concrete_value(rt: HostRuntime) {
+    let line = b"100022\t20240101\t1\t100005\t101009\t#2.5\t7\t103007\t104001\t105000";
+    match read_row(FileKind::Concrete, line) {
+        Ok(Row::Concrete(row)) => {
+            assert_eq!(rt; row.id.number(), 100022);
+            assert_eq!(rt; row.effective_time, Some(20240101));
+            assert!(rt; row.active);
+            assert_eq!(rt; row.module_id.number(), 100005);
+            assert_eq!(rt; row.source_id.number(), 101009);
+            assert!(rt; row.value == Value::Decimal(Decimal(2_500_000_000_000_000_000)));
+            assert_eq!(rt; row.relationship_group, 7);
+            assert_eq!(rt; row.type_id.number(), 103007);
+            assert_eq!(rt; row.characteristic_type_id.number(), 104001);
+            assert_eq!(rt; row.modifier_id.number(), 105000);
+        }
+        _ => assert!(rt; false, "a row of a concrete value"),
+    }
+}
+
+// The value of the line is so many times 10^-18.
+fn assert_number(rt: &impl Abort, line: &[u8], number: i128) {
+    match read_row(FileKind::Concrete, line) {
+        Ok(Row::Concrete(row)) => match row.value {
+            Value::Decimal(found) => assert_eq!(rt; found.0, number),
+            _ => assert!(rt; false, "a number"),
+        },
+        _ => assert!(rt; false, "a row with {number}"),
+    }
+}
+
+// The value of the line is this text.
+fn assert_text(rt: &impl Abort, line: &[u8], text: &[u8]) {
+    match read_row(FileKind::Concrete, line) {
+        Ok(Row::Concrete(row)) => match row.value {
+            Value::Other(found) => assert!(rt; found == text),
+            _ => assert!(rt; false, "a text"),
+        },
+        _ => assert!(rt; false, "a row with a text"),
+    }
+}
+
+#[test]
+fn reads_numbers(rt: HostRuntime) {
+    const ONE: i128 = 1_000_000_000_000_000_000;
+    let numbers: [(&[u8], i128); 10] = [
+        (
+            b"100022\t\t1\t100005\t100005\t#0\t0\t100005\t100005\t100005",
+            0,
+        ),
+        (
+            b"100022\t\t1\t100005\t100005\t#007\t0\t100005\t100005\t100005",
+            7 * ONE,
+        ),
+        (
+            b"100022\t\t1\t100005\t100005\t#+12\t0\t100005\t100005\t100005",
+            12 * ONE,
+        ),
+        (
+            b"100022\t\t1\t100005\t100005\t#-12\t0\t100005\t100005\t100005",
+            -12 * ONE,
+        ),
+        (
+            b"100022\t\t1\t100005\t100005\t#-0.5\t0\t100005\t100005\t100005",
+            -ONE / 2,
+        ),
+        (
+            b"100022\t\t1\t100005\t100005\t#-0\t0\t100005\t100005\t100005",
+            0,
+        ),
+        (
+            b"100022\t\t1\t100005\t100005\t#1.05\t0\t100005\t100005\t100005",
+            ONE + ONE / 20,
+        ),
+        (
+            b"100022\t\t1\t100005\t100005\t#1.500\t0\t100005\t100005\t100005",
+            ONE + ONE / 2,
+        ),
+        (
+            b"100022\t\t1\t100005\t100005\t#-0.000000000000000001\t0\t100005\t100005\t100005",
+            -1,
+        ),
+        (
+            b"100022\t\t1\t100005\t100005\t#999999999999999999.999999999999999999\t0\t100005\t100005\t100005",
+            ONE * ONE - 1,
+        ),
+    ];
+    for (line, number) in numbers {
+        assert_number(&rt, line, number);
+    }
+}
+
+#[test]
+fn reads_other_values(rt: HostRuntime) {
+    let texts: [(&[u8], &[u8]); 4] = [
+        (
+            b"100022\t\t1\t100005\t100005\t\t0\t100005\t100005\t100005",
+            b"",
+        ),
+        (
+            b"100022\t\t1\t100005\t100005\t2.5\t0\t100005\t100005\t100005",
+            b"2.5",
+        ),
+        (
+            b"100022\t\t1\t100005\t100005\t-#2\t0\t100005\t100005\t100005",
+            b"-#2",
+        ),
+        (
+            b"100022\t\t1\t100005\t100005\ttrue\t0\t100005\t100005\t100005",
+            b"true",
+        ),
+    ];
+    for (line, text) in texts {
+        assert_text(&rt, line, text);
+    }
+}
+
+#[test]
+fn reads_a_member(rt: HostRuntime) {
+    let line = b"80000a05-c6db-5a02-9b8a-0b1c2d3e4f50\t20240101\t1\t100005\t101009\t100014";
+    let upper = b"80000A05-C6DB-5A02-9B8A-0B1C2D3E4F50\t20240101\t1\t100005\t101009\t100014";
+    match read_row(FileKind::Member, line) {
+        Ok(Row::Member(row)) => {
+            assert_eq!(rt; row.id.as_u128(), 0x80000a05_c6db_5a02_9b8a_0b1c2d3e4f50);
+            assert_eq!(rt; row.effective_time, Some(20240101));
+            assert!(rt; row.active);
+            assert_eq!(rt; row.module_id.number(), 100005);
+            assert_eq!(rt; row.refset_id.number(), 101009);
+            assert_eq!(rt; row.referenced_component_id.number(), 100014);
+        }
+        _ => assert!(rt; false, "a member row"),
+    }
+    assert!(rt; read_row(FileKind::Member, upper) == read_row(FileKind::Member, line));
 }
 
 // Each line has this fault and no row.
@@ -316,6 +476,154 @@ fn refuses_relationships(rt: HostRuntime) {
 }
 
 #[test]
+fn refuses_concrete_values(rt: HostRuntime) {
+    assert_faults(
+        &rt,
+        FileKind::Concrete,
+        &[
+            (
+                b"100022\t\t1\t100005\t100005\t#1\t0\t100005\t100005",
+                RowCause::Fields,
+                0,
+            ),
+            (
+                b"100005\t\t1\t100005\t100005\t#1\t0\t100005\t100005\t100005",
+                RowCause::Id(IdFault::Partition),
+                1,
+            ),
+            (
+                b"100022\t2024\t1\t100005\t100005\t#1\t0\t100005\t100005\t100005",
+                RowCause::Time,
+                2,
+            ),
+            (
+                b"100022\t\t\t100005\t100005\t#1\t0\t100005\t100005\t100005",
+                RowCause::Active,
+                3,
+            ),
+            (
+                b"100022\t\t1\t100022\t100005\t#1\t0\t100005\t100005\t100005",
+                RowCause::Id(IdFault::Partition),
+                4,
+            ),
+            (
+                b"100022\t\t1\t100005\t1\t#1\t0\t100005\t100005\t100005",
+                RowCause::Id(IdFault::Length),
+                5,
+            ),
+            (
+                b"100022\t\t1\t100005\t100005\t\xff\t0\t100005\t100005\t100005",
+                RowCause::Utf8,
+                6,
+            ),
+            (
+                b"100022\t\t1\t100005\t100005\t#1\t-1\t100005\t100005\t100005",
+                RowCause::Group,
+                7,
+            ),
+            (
+                b"100022\t\t1\t100005\t100005\t#1\t0\t1\t100005\t100005",
+                RowCause::Id(IdFault::Length),
+                8,
+            ),
+            (
+                b"100022\t\t1\t100005\t100005\t#1\t0\t100005\t1\t100005",
+                RowCause::Id(IdFault::Length),
+                9,
+            ),
+            (
+                b"100022\t\t1\t100005\t100005\t#1\t0\t100005\t100005\t1",
+                RowCause::Id(IdFault::Length),
+                10,
+            ),
+        ],
+    );
+}
+
+#[test]
+fn refuses_numbers(rt: HostRuntime) {
+    let lines: [&[u8]; 13] = [
+        b"100022\t\t1\t100005\t100005\t#\t0\t100005\t100005\t100005",
+        b"100022\t\t1\t100005\t100005\t#1.\t0\t100005\t100005\t100005",
+        b"100022\t\t1\t100005\t100005\t#.5\t0\t100005\t100005\t100005",
+        b"100022\t\t1\t100005\t100005\t#1.2.3\t0\t100005\t100005\t100005",
+        b"100022\t\t1\t100005\t100005\t#1,5\t0\t100005\t100005\t100005",
+        b"100022\t\t1\t100005\t100005\t#-\t0\t100005\t100005\t100005",
+        b"100022\t\t1\t100005\t100005\t#+-1\t0\t100005\t100005\t100005",
+        b"100022\t\t1\t100005\t100005\t# 1\t0\t100005\t100005\t100005",
+        b"100022\t\t1\t100005\t100005\t##1\t0\t100005\t100005\t100005",
+        b"100022\t\t1\t100005\t100005\t#true\t0\t100005\t100005\t100005",
+        b"100022\t\t1\t100005\t100005\t#\xff\t0\t100005\t100005\t100005",
+        b"100022\t\t1\t100005\t100005\t#1234567890123456789\t0\t100005\t100005\t100005",
+        b"100022\t\t1\t100005\t100005\t#0.1234567890123456789\t0\t100005\t100005\t100005",
+    ];
+    for line in lines {
+        assert_faults(&rt, FileKind::Concrete, &[(line, RowCause::Value, 6)]);
+    }
+}
+
+#[test]
+fn refuses_members(rt: HostRuntime) {
+    assert_faults(
+        &rt,
+        FileKind::Member,
+        &[
+            (
+                b"80000a05-c6db-5a02-9b8a-0b1c2d3e4f50\t\t1\t100005\t100005",
+                RowCause::Fields,
+                0,
+            ),
+            (
+                b"g0000a05-c6db-5a02-9b8a-0b1c2d3e4f50\t\t1\t100005\t100005\t100005",
+                RowCause::Uuid,
+                1,
+            ),
+            (b"\t\t1\t100005\t100005\t100005", RowCause::Uuid, 1),
+            (
+                b"80000a05c6db5a029b8a0b1c2d3e4f50\t\t1\t100005\t100005\t100005",
+                RowCause::Uuid,
+                1,
+            ),
+            (
+                b"{80000a05-c6db-5a02-9b8a-0b1c2d3e4f50}\t\t1\t100005\t100005\t100005",
+                RowCause::Uuid,
+                1,
+            ),
+            (
+                b"urn:uuid:80000a05-c6db-5a02-9b8a-0b1c2d3e4f50\t\t1\t100005\t100005\t100005",
+                RowCause::Uuid,
+                1,
+            ),
+            (
+                b"80000a05-c6db-5a02-9b8a-0b1c2d3e4f50\t2024\t1\t100005\t100005\t100005",
+                RowCause::Time,
+                2,
+            ),
+            (
+                b"80000a05-c6db-5a02-9b8a-0b1c2d3e4f50\t\t2\t100005\t100005\t100005",
+                RowCause::Active,
+                3,
+            ),
+            (
+                b"80000a05-c6db-5a02-9b8a-0b1c2d3e4f50\t\t1\t100014\t100005\t100005",
+                RowCause::Id(IdFault::Partition),
+                4,
+            ),
+            (
+                b"80000a05-c6db-5a02-9b8a-0b1c2d3e4f50\t\t1\t100005\t100022\t100005",
+                RowCause::Id(IdFault::Partition),
+                5,
+            ),
+            (
+                b"80000a05-c6db-5a02-9b8a-0b1c2d3e4f50\t\t1\t100005\t100005\t100006",
+                RowCause::Id(IdFault::Check),
+                6,
+            ),
+        ],
+    );
+}
+
+#[test]
 fn numbers_the_causes(rt: HostRuntime) {
     let causes = [
         (RowCause::Fields, 1),
@@ -323,7 +631,9 @@ fn numbers_the_causes(rt: HostRuntime) {
         (RowCause::Time, 3),
         (RowCause::Active, 4),
         (RowCause::Group, 5),
+        (RowCause::Value, 6),
         (RowCause::Utf8, 7),
+        (RowCause::Uuid, 8),
     ];
     for (cause, number) in causes {
         assert!(rt; cause.number() == number, "{cause}");

@@ -1,4 +1,5 @@
-//! The numbers that attributes have as values.
+//! The values of attributes.
+use sctid::SctId;
 
 /// A decimal number, kept as a whole number of 10^-18: at most 18 digits before the point and 18 behind it
 /// (Release File Specification, "Relationship concrete values file").
@@ -7,3 +8,14 @@ pub struct Decimal(
     /// How many 10^-18 the number is.
     pub i128,
 );
+
+/// The value of an attribute, whose text is lent from the line.
+#[derive(Clone, Copy, Debug, PartialEq, Eq, Hash)]
+pub enum Value<'a> {
+    /// A concept (Release File Specification, "Relationship file", destinationId).
+    Concept(SctId),
+    /// A number (Release File Specification, "Relationship concrete values file", value).
+    Decimal(Decimal),
+    /// Another text: its bytes, which are UTF-8.
+    Other(&'a [u8]),
+}

@@ -1,23 +1,24 @@
 -- Where reading finds no fault, no identifier stands there twice, and there are no more rows than the
 -- limits allow.
-use Rattle.std.proofs.Common.{ℕ, ◌≡◌, ◌<◌, ◌≤◌, ◌==◌, List, [], ◌∷◌, ◌++◌, length, Option, None, Some, Ok, sym, ◌∙◌, subst, refl, arith, inl, inr, Bool, true, false, cond, nat_lt, nat_eq, length-append}
-use Rattle.std.specs.Prelude.{nat_le}
+use Rattle.std.proofs.Common.{ℕ, ◌≡◌, ◌<◌, ◌≤◌, ◌+◌, ◌==◌, ◌&&◌, List, [], ◌∷◌, ◌++◌, length, Option, None, Some, Ok, sym, ◌∙◌, subst, refl, arith, inl, inr, Bool, true, false, cond, nat_lt, nat_eq, length-append}
+use Rattle.std.specs.Prelude.{nat_le, not}
 use Rattle.std.specs.List.{IsDistinct}
 use Rattle.std.specs.Cmp.{nat_eq_equiv}
 use Rattle.std.proofs.lemmas.Bool.{cases_Bool, or_cases, or_left, or_right, eqb-true, false≢true, leb-false}
 use Rattle.std.proofs.lemmas.List.Folds.{list_any-append}
 use Rattle.std.proofs.lemmas.Map.Keys.{IsDistinct-push}
 use Rattle.release_files.specs.Lines.{LineText}
-use Rattle.rf2_rows.specs.Rows.{row_fault, concept_row, description_row, relationship_row}
-use Rattle.rf2_rows.specs.Release.{Name}
+use Rattle.rf2_rows.specs.Rows.{row_fault, concept_row, concrete_row, description_row, member_row, relationship_row}
+use Rattle.rf2_rows.specs.Release.{Attribute, Name}
 use Rattle.rf2_rows.specs.declared.fault.RowFault.{RowFault}
 use Rattle.rf2_rows.specs.declared.kind.FileKind.{FileKind}
-use Rattle.rf2_rows.specs.declared.kind.FileKind.TheVariants.{Concept, Description, Relationship}
+use Rattle.rf2_rows.specs.declared.kind.FileKind.TheVariants.{Concept, Concrete, Description, Member, Relationship}
 use Rattle.snapshot.specs.Faults.{fault_after, fault_of_id, fault_of_later, fault_of_row, id_on}
 use Rattle.snapshot.specs.Files.{Place, no_line, first_line, later_line}
-use Rattle.snapshot.specs.InForce.{has, is_name, name_on}
-use Rattle.snapshot.specs.Kept.{IsApart, Kept, ids_kept, is_isa, keep, nothing_kept, read_all, unless_fault}
+use Rattle.snapshot.specs.InForce.{concrete_attribute, has, is_name, member_number, name_on, relationship_attribute}
+use Rattle.snapshot.specs.Kept.{IsApart, Kept, ids_kept, is_concrete_attribute, keep, nothing_kept, read_all, unless_fault}
 use Rattle.snapshot.specs.Limits.{row_limit}
+use Rattle.snapshot.specs.Metadata.{inferred_relationship, is_a}
 use Rattle.snapshot.specs.declared.fault.LoadFault.{LoadFault}
 use Rattle.snapshot.specs.declared.limits.Limits.{Limits}
 
@@ -28,10 +29,13 @@ record KeepsApart (limits : Limits) (kept : Kept) : Type 0 where
   active_apart : IsDistinct nat_eq kept.active_concepts
   fewer_active : length kept.active_concepts ≤ length kept.concept_ids
   fewer_names : length kept.names ≤ length kept.description_ids
-  fewer_ends : length kept.isa_ends ≤ length kept.relationship_ids
+  fewer_ends : length kept.isa_ends + length kept.attributes ≤ length kept.relationship_ids + length kept.concrete_ids
+  fewer_members : length kept.member_ends ≤ length kept.member_ids
   few_concepts : length kept.concept_ids ≤ limits.concepts
   few_descriptions : length kept.description_ids ≤ limits.descriptions
   few_relationships : length kept.relationship_ids ≤ limits.relationships
+  few_concretes : length kept.concrete_ids ≤ limits.concrete
+  few_members : length kept.member_ids ≤ limits.members
 
 -- an identifier without a fault is new and within the limit
 pub clean_id : (file line : ℕ) (earlier : List ℕ) (limit id : ℕ) → fault_of_id file line earlier limit id ≡ None
@@ -106,9 +110,12 @@ keeps_concept limits kept file line (byte ∷ bytes) apart clean =
       fewer_active = omega (arith, length-append kept.active_concepts (id ∷ []), length-append kept.concept_ids (id ∷ []), apart.fewer_active);
       fewer_names = apart.fewer_names;
       fewer_ends = apart.fewer_ends;
+      fewer_members = apart.fewer_members;
       few_concepts = omega (arith, length-append kept.concept_ids (id ∷ []));
       few_descriptions = apart.few_descriptions;
       few_relationships = apart.few_relationships;
+      few_concretes = apart.few_concretes;
+      few_members = apart.few_members;
     }
     by false id new room = record {
       all_apart = IsDistinct-push nat_eq_equiv kept.concept_ids id apart.all_apart new;
@@ -117,9 +124,12 @@ keeps_concept limits kept file line (byte ∷ bytes) apart clean =
       fewer_active = omega (arith, length-append kept.concept_ids (id ∷ []), apart.fewer_active);
       fewer_names = apart.fewer_names;
       fewer_ends = apart.fewer_ends;
+      fewer_members = apart.fewer_members;
       few_concepts = omega (arith, length-append kept.concept_ids (id ∷ []));
       few_descriptions = apart.few_descriptions;
       few_relationships = apart.few_relationships;
+      few_concretes = apart.few_concretes;
+      few_members = apart.few_members;
     }
 
 -- what a description row without a fault leaves
@@ -143,9 +153,12 @@ keeps_description limits kept file line (byte ∷ bytes) apart clean =
       fewer_active = apart.fewer_active;
       fewer_names = omega (arith, length-append kept.names (name ∷ []), length-append kept.description_ids (id ∷ []), apart.fewer_names);
       fewer_ends = apart.fewer_ends;
+      fewer_members = apart.fewer_members;
       few_concepts = apart.few_concepts;
       few_descriptions = omega (arith, length-append kept.description_ids (id ∷ []));
       few_relationships = apart.few_relationships;
+      few_concretes = apart.few_concretes;
+      few_members = apart.few_members;
     }
     by false id name room = record {
       all_apart = apart.all_apart;
@@ -154,9 +167,12 @@ keeps_description limits kept file line (byte ∷ bytes) apart clean =
       fewer_active = apart.fewer_active;
       fewer_names = omega (arith, length-append kept.description_ids (id ∷ []), apart.fewer_names);
       fewer_ends = apart.fewer_ends;
+      fewer_members = apart.fewer_members;
       few_concepts = apart.few_concepts;
       few_descriptions = omega (arith, length-append kept.description_ids (id ∷ []));
       few_relationships = apart.few_relationships;
+      few_concretes = apart.few_concretes;
+      few_members = apart.few_members;
     }
 
 -- what a relationship row without a fault leaves
@@ -166,34 +182,144 @@ keeps_relationship : (limits : Limits) (kept : Kept) (file : ℕ) (line : LineTe
 keeps_relationship limits kept file line [] apart clean = apart
 keeps_relationship limits kept file line (byte ∷ bytes) apart clean =
     let parts = clean_later file line.number Relationship kept.relationship_ids limits.relationships byte bytes clean in
-    by (is_isa (relationship_row (byte ∷ bytes))) (relationship_row (byte ∷ bytes)).id ((relationship_row (byte ∷ bytes)).source_id, (relationship_row (byte ∷ bytes)).destination_id) parts.1
+    let row = relationship_row (byte ∷ bytes) in
+    by (row.active && (row.characteristic_type_id == inferred_relationship)) (row.type_id == is_a) row.id (row.source_id, row.destination_id) (relationship_attribute row) parts.1
   where
-    by : (isa : Bool) (id : ℕ) (row : ℕ × ℕ) → length kept.relationship_ids < limits.relationships
+    by : (inferred isa : Bool) (id : ℕ) (row : ℕ × ℕ) (attribute : Attribute) → length kept.relationship_ids < limits.relationships
         → KeepsApart limits (record kept {
           relationship_ids = kept.relationship_ids ++ id ∷ [];
-          isa_ends = cond isa (kept.isa_ends ++ row ∷ []) kept.isa_ends;
+          isa_ends = cond (inferred && isa) (kept.isa_ends ++ row ∷ []) kept.isa_ends;
+          attributes = cond (inferred && not isa) (kept.attributes ++ attribute ∷ []) kept.attributes;
         })
-    by true id row room = record {
+    by true true id row attribute room = record {
       all_apart = apart.all_apart;
       active_among = apart.active_among;
       active_apart = apart.active_apart;
       fewer_active = apart.fewer_active;
       fewer_names = apart.fewer_names;
       fewer_ends = omega (arith, length-append kept.isa_ends (row ∷ []), length-append kept.relationship_ids (id ∷ []), apart.fewer_ends);
+      fewer_members = apart.fewer_members;
       few_concepts = apart.few_concepts;
       few_descriptions = apart.few_descriptions;
       few_relationships = omega (arith, length-append kept.relationship_ids (id ∷ []));
+      few_concretes = apart.few_concretes;
+      few_members = apart.few_members;
     }
-    by false id row room = record {
+    by true false id row attribute room = record {
+      all_apart = apart.all_apart;
+      active_among = apart.active_among;
+      active_apart = apart.active_apart;
+      fewer_active = apart.fewer_active;
+      fewer_names = apart.fewer_names;
+      fewer_ends = omega (arith, length-append kept.attributes (attribute ∷ []), length-append kept.relationship_ids (id ∷ []), apart.fewer_ends);
+      fewer_members = apart.fewer_members;
+      few_concepts = apart.few_concepts;
+      few_descriptions = apart.few_descriptions;
+      few_relationships = omega (arith, length-append kept.relationship_ids (id ∷ []));
+      few_concretes = apart.few_concretes;
+      few_members = apart.few_members;
+    }
+    by false isa id row attribute room = record {
       all_apart = apart.all_apart;
       active_among = apart.active_among;
       active_apart = apart.active_apart;
       fewer_active = apart.fewer_active;
       fewer_names = apart.fewer_names;
       fewer_ends = omega (arith, length-append kept.relationship_ids (id ∷ []), apart.fewer_ends);
+      fewer_members = apart.fewer_members;
       few_concepts = apart.few_concepts;
       few_descriptions = apart.few_descriptions;
       few_relationships = omega (arith, length-append kept.relationship_ids (id ∷ []));
+      few_concretes = apart.few_concretes;
+      few_members = apart.few_members;
+    }
+
+-- what a row of a concrete value without a fault leaves
+keeps_concrete : (limits : Limits) (kept : Kept) (file : ℕ) (line : LineText) (bytes : List ℕ) → KeepsApart limits kept
+    → fault_of_later file line.number Concrete kept.concrete_ids limits.concrete bytes ≡ None
+    → KeepsApart limits (keep kept (later_line file Concrete (record line { bytes = bytes })))
+keeps_concrete limits kept file line [] apart clean = apart
+keeps_concrete limits kept file line (byte ∷ bytes) apart clean =
+    let parts = clean_later file line.number Concrete kept.concrete_ids limits.concrete byte bytes clean in
+    let row = concrete_row (byte ∷ bytes) in
+    by (is_concrete_attribute row) row.id (concrete_attribute row) parts.1
+  where
+    by : (there : Bool) (id : ℕ) (attribute : Attribute) → length kept.concrete_ids < limits.concrete
+        → KeepsApart limits (record kept {
+          concrete_ids = kept.concrete_ids ++ id ∷ [];
+          attributes = cond there (kept.attributes ++ attribute ∷ []) kept.attributes;
+        })
+    by true id attribute room = record {
+      all_apart = apart.all_apart;
+      active_among = apart.active_among;
+      active_apart = apart.active_apart;
+      fewer_active = apart.fewer_active;
+      fewer_names = apart.fewer_names;
+      fewer_ends = omega (arith, length-append kept.attributes (attribute ∷ []), length-append kept.concrete_ids (id ∷ []), apart.fewer_ends);
+      fewer_members = apart.fewer_members;
+      few_concepts = apart.few_concepts;
+      few_descriptions = apart.few_descriptions;
+      few_relationships = apart.few_relationships;
+      few_concretes = omega (arith, length-append kept.concrete_ids (id ∷ []));
+      few_members = apart.few_members;
+    }
+    by false id attribute room = record {
+      all_apart = apart.all_apart;
+      active_among = apart.active_among;
+      active_apart = apart.active_apart;
+      fewer_active = apart.fewer_active;
+      fewer_names = apart.fewer_names;
+      fewer_ends = omega (arith, length-append kept.concrete_ids (id ∷ []), apart.fewer_ends);
+      fewer_members = apart.fewer_members;
+      few_concepts = apart.few_concepts;
+      few_descriptions = apart.few_descriptions;
+      few_relationships = apart.few_relationships;
+      few_concretes = omega (arith, length-append kept.concrete_ids (id ∷ []));
+      few_members = apart.few_members;
+    }
+
+-- what a member row without a fault leaves
+keeps_member : (limits : Limits) (kept : Kept) (file : ℕ) (line : LineText) (bytes : List ℕ) → KeepsApart limits kept
+    → fault_of_later file line.number Member kept.member_ids limits.members bytes ≡ None
+    → KeepsApart limits (keep kept (later_line file Member (record line { bytes = bytes })))
+keeps_member limits kept file line [] apart clean = apart
+keeps_member limits kept file line (byte ∷ bytes) apart clean =
+    let parts = clean_later file line.number Member kept.member_ids limits.members byte bytes clean in
+    let row = member_row (byte ∷ bytes) in
+    by row.active (member_number row) (row.refset_id, row.referenced_component_id) parts.1
+  where
+    by : (active : Bool) (id : ℕ) (ends : ℕ × ℕ) → length kept.member_ids < limits.members
+        → KeepsApart limits (record kept {
+          member_ids = kept.member_ids ++ id ∷ [];
+          member_ends = cond active (kept.member_ends ++ ends ∷ []) kept.member_ends;
+        })
+    by true id ends room = record {
+      all_apart = apart.all_apart;
+      active_among = apart.active_among;
+      active_apart = apart.active_apart;
+      fewer_active = apart.fewer_active;
+      fewer_names = apart.fewer_names;
+      fewer_ends = apart.fewer_ends;
+      fewer_members = omega (arith, length-append kept.member_ends (ends ∷ []), length-append kept.member_ids (id ∷ []), apart.fewer_members);
+      few_concepts = apart.few_concepts;
+      few_descriptions = apart.few_descriptions;
+      few_relationships = apart.few_relationships;
+      few_concretes = apart.few_concretes;
+      few_members = omega (arith, length-append kept.member_ids (id ∷ []));
+    }
+    by false id ends room = record {
+      all_apart = apart.all_apart;
+      active_among = apart.active_among;
+      active_apart = apart.active_apart;
+      fewer_active = apart.fewer_active;
+      fewer_names = apart.fewer_names;
+      fewer_ends = apart.fewer_ends;
+      fewer_members = omega (arith, length-append kept.member_ids (id ∷ []), apart.fewer_members);
+      few_concepts = apart.few_concepts;
+      few_descriptions = apart.few_descriptions;
+      few_relationships = apart.few_relationships;
+      few_concretes = apart.few_concretes;
+      few_members = omega (arith, length-append kept.member_ids (id ∷ []));
     }
 
 -- a place without a fault
@@ -207,6 +333,10 @@ keeps_place limits kept (later_line file Description line) apart clean =
     keeps_description limits kept file line line.bytes apart (clean_within limits (ids_kept kept) file Description line clean)
 keeps_place limits kept (later_line file Relationship line) apart clean =
     keeps_relationship limits kept file line line.bytes apart (clean_within limits (ids_kept kept) file Relationship line clean)
+keeps_place limits kept (later_line file Concrete line) apart clean =
+    keeps_concrete limits kept file line line.bytes apart (clean_within limits (ids_kept kept) file Concrete line clean)
+keeps_place limits kept (later_line file Member line) apart clean =
+    keeps_member limits kept file line line.bytes apart (clean_within limits (ids_kept kept) file Member line clean)
 
 -- places without a fault
 keeps_all : (limits : Limits) (kept after : Kept) (places : List Place) → KeepsApart limits kept → read_all limits kept places ≡ Ok after → KeepsApart limits after
@@ -226,10 +356,21 @@ none_apart = tt
 
 -- what a load kept has no identifier twice, and is few enough to number
 pub IsApart-read : (limits : Limits) (kept : Kept) (places : List Place) → limits.concepts ≤ 4000000 → limits.descriptions ≤ 20000000 → limits.relationships ≤ 20000000
+    → limits.concrete ≤ 4000000 → limits.members ≤ 20000000
     → read_all limits nothing_kept places ≡ Ok kept → IsApart kept
-IsApart-read limits kept places concepts descriptions relationships read =
-    let apart = keeps_all limits nothing_kept kept places nothing read in
-    (apart.active_apart, apart.fewer_active, apart.fewer_names, apart.fewer_ends, omega (arith, apart.few_concepts), omega (arith, apart.few_descriptions), omega (arith, apart.few_relationships))
+IsApart-read limits kept places concepts descriptions relationships concretes members read =
+    let apart = keeps_all limits nothing_kept kept places nothing read in (
+      apart.active_apart,
+      apart.fewer_active,
+      apart.fewer_names,
+      apart.fewer_ends,
+      apart.fewer_members,
+      omega (arith, apart.few_concepts),
+      omega (arith, apart.few_descriptions),
+      omega (arith, apart.few_relationships),
+      omega (arith, apart.few_concretes),
+      omega (arith, apart.few_members),
+    )
   where
     nothing : KeepsApart limits nothing_kept
     nothing = record {
@@ -239,7 +380,10 @@ IsApart-read limits kept places concepts descriptions relationships read =
       fewer_active = omega arith;
       fewer_names = omega arith;
       fewer_ends = omega arith;
+      fewer_members = omega arith;
       few_concepts = omega arith;
       few_descriptions = omega arith;
       few_relationships = omega arith;
+      few_concretes = omega arith;
+      few_members = omega arith;
     }

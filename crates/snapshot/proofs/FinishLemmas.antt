@@ -1,13 +1,13 @@
 -- From what was kept of the rows to the contents of a snapshot.
-use Rattle.std.proofs.Common.{ℕ, ◌≡◌, ◌≤◌, ◌+◌, ◌-◌, List, [], ◌∷◌, length, map, Option, None, Some, Ok, Err, sym, ◌∙◌, ap, subst, arith, Bool, true, false, cond, nat_lt, nat_eq}
+use Rattle.std.proofs.Common.{ℕ, ◌≡◌, ◌≤◌, ◌+◌, ◌-◌, List, [], ◌∷◌, length, map, Option, None, Some, Ok, Err, sym, ◌∙◌, ap, subst, arith, Bool, true, false, cond, nat_lt, nat_eq, ◌&&◌}
 use Rattle.std.proofs.lemmas.List.{length-map}
 use Rattle.std.proofs.lemmas.List.Sums.{length-filter, count_by-le-length}
 use Rattle.std.specs.Prelude.{option_map}
 use Rattle.std.specs.List.{filter_map}
-use Rattle.rf2_rows.specs.Release.{Name}
+use Rattle.rf2_rows.specs.Release.{Attribute, Name}
 use Rattle.snapshot.specs.Contents.{Contents, IsFaultOf, first_cyclic, unless_cyclic}
 use Rattle.snapshot.specs.InForce.{has, put, rising, rows_among}
-use Rattle.snapshot.specs.Kept.{Kept, IsCycle, contents_from, finished, names_among}
+use Rattle.snapshot.specs.Kept.{Kept, IsCycle, attributes_among, contents_from, finished, is_value_among, names_among, rows_read}
 use Rattle.snapshot.specs.Numbering.{numbered_row, row_of_numbers}
 use Rattle.snapshot.specs.declared.fault.LoadFault.{LoadFault}
 use Rattle.snapshot.specs.declared.fault.LoadFault.TheVariants.{Cycle}
@@ -27,39 +27,54 @@ pub length-rising : (xs : List ℕ) → length (rising xs) ≤ length xs
 length-rising [] = omega arith
 length-rising (x ∷ xs) = omega (arith, length-put x (rising xs), length-rising xs)
 
+-- rows by the numbers of concepts are those between the concepts
+pub numbered-among : (concepts : List ℕ) (rows numbered : List (ℕ × ℕ)) → numbered ≡ filter_map (numbered_row concepts) rows
+    → map (row_of_numbers concepts) numbered ≡ rows_among concepts rows
+numbered-among concepts rows numbered is = ap (λ found. map (row_of_numbers concepts) found) is ∙ rows_of_numbers concepts rows
+
 -- the contents that numbered concepts and rows stand for
-abbrev contents_by_number : List ℕ → ℕ → List ℕ → List (ℕ × ℕ) → List Name → ℕ → Contents
-contents_by_number language files concepts numbered names passed = record {
-  release = record { concepts = concepts; isa = map (row_of_numbers concepts) numbered; attributes = []; members = []; names = names };
+abbrev contents_by_number : List ℕ → ℕ → List ℕ → List (ℕ × ℕ) → List Attribute → List (ℕ × ℕ) → List Name → ℕ → Contents
+contents_by_number language files concepts isa attributes members names passed = record {
+  release = record {
+    concepts = concepts;
+    isa = map (row_of_numbers concepts) isa;
+    attributes = attributes;
+    members = map (row_of_numbers concepts) members;
+    names = names;
+  };
   language = language;
   files = files;
   passed = passed;
 }
 
 -- where no concept reaches itself, the snapshot is of the contents made of what was kept
-pub finished-Ok : (language : List ℕ) (files : ℕ) (kept : Kept) (concepts : List ℕ) (numbered : List (ℕ × ℕ)) (names : List Name) (passed : ℕ)
-    → concepts ≡ rising kept.active_concepts → numbered ≡ filter_map (numbered_row concepts) kept.isa_ends
+pub finished-Ok : (language : List ℕ) (files : ℕ) (kept : Kept) (concepts : List ℕ) (isa : List (ℕ × ℕ)) (attributes : List Attribute) (members : List (ℕ × ℕ)) (names : List Name) (passed : ℕ)
+    → concepts ≡ rising kept.active_concepts → isa ≡ filter_map (numbered_row concepts) kept.isa_ends
+    → attributes ≡ attributes_among concepts kept.attributes → members ≡ filter_map (numbered_row concepts) kept.member_ends
     → names ≡ names_among concepts kept.names
     → first_cyclic concepts (rows_among concepts kept.isa_ends) ≡ None
-    → passed ≡ length kept.concept_ids + length kept.description_ids + length kept.relationship_ids - (length concepts + length numbered + length names)
-    → finished language files kept ≡ Ok (contents_by_number language files concepts numbered names passed)
-finished-Ok language files kept concepts numbered names passed rises rows named acyclic count =
-    let isa : map (row_of_numbers concepts) numbered ≡ rows_among concepts kept.isa_ends =
-    ap (λ found. map (row_of_numbers concepts) found) rows ∙ rows_of_numbers concepts kept.isa_ends in
-    let same_rows : rows_among (rising kept.active_concepts) kept.isa_ends ≡ map (row_of_numbers concepts) numbered =
-    ap (λ (c : List ℕ). rows_among c kept.isa_ends) (sym rises) ∙ sym isa in
-    let same_length : length (rows_among (rising kept.active_concepts) kept.isa_ends) ≡ length numbered =
-    ap length same_rows ∙ simp length-map in
+    → passed ≡ rows_read kept - (length concepts + length isa + length attributes + length members + length names)
+    → finished language files kept ≡ Ok (contents_by_number language files concepts isa attributes members names passed)
+finished-Ok language files kept concepts isa attributes members names passed rises isa_is attributes_are members_are named acyclic count =
+    let same_isa : rows_among (rising kept.active_concepts) kept.isa_ends ≡ map (row_of_numbers concepts) isa =
+    ap (λ (c : List ℕ). rows_among c kept.isa_ends) (sym rises) ∙ sym (numbered-among concepts kept.isa_ends isa isa_is) in
+    let same_members : rows_among (rising kept.active_concepts) kept.member_ends ≡ map (row_of_numbers concepts) members =
+    ap (λ (c : List ℕ). rows_among c kept.member_ends) (sym rises) ∙ sym (numbered-among concepts kept.member_ends members members_are) in
+    let same_attributes : attributes_among (rising kept.active_concepts) kept.attributes ≡ attributes =
+    ap (λ (c : List ℕ). attributes_among c kept.attributes) (sym rises) ∙ sym attributes_are in
     let same_names : names_among (rising kept.active_concepts) kept.names ≡ names =
     ap (λ (c : List ℕ). names_among c kept.names) (sym rises) ∙ sym named in
-    let same_name_count : length (names_among (rising kept.active_concepts) kept.names) ≡ length names = ap length same_names in
-    let same_concepts : length (rising kept.active_concepts) ≡ length concepts = ap length (sym rises) in
+    let isa_count : length (rows_among (rising kept.active_concepts) kept.isa_ends) ≡ length isa = ap length same_isa ∙ simp length-map in
+    let member_count : length (rows_among (rising kept.active_concepts) kept.member_ends) ≡ length members = ap length same_members ∙ simp length-map in
+    let attribute_count : length (attributes_among (rising kept.active_concepts) kept.attributes) ≡ length attributes = ap length same_attributes in
+    let name_count : length (names_among (rising kept.active_concepts) kept.names) ≡ length names = ap length same_names in
+    let concept_count : length (rising kept.active_concepts) ≡ length concepts = ap length (sym rises) in
     let same_count : (contents_from language files kept).passed ≡ passed = omega arith in
     let none : first_cyclic (rising kept.active_concepts) (rows_among (rising kept.active_concepts) kept.isa_ends) ≡ None =
     subst (λ (c : List ℕ). first_cyclic c (rows_among c kept.isa_ends) ≡ None) rises acyclic in
     ap (λ cyclic. unless_cyclic (contents_from language files kept) cyclic) none
     ∙ (λ i. Ok (record {
-      release = record { concepts = sym rises i; isa = same_rows i; attributes = []; members = []; names = same_names i };
+      release = record { concepts = sym rises i; isa = same_isa i; attributes = same_attributes i; members = same_members i; names = same_names i };
       language = language;
       files = files;
       passed = same_count i;
@@ -81,3 +96,12 @@ finished-Err language files kept concepts fault rises cycle other =
 pub length-names_among : (concepts : List ℕ) (names : List Name) → length (names_among concepts names) ≤ length names
 length-names_among concepts names =
     omega (arith, length-filter (λ (name : Name). has concepts name.concept) names, count_by-le-length (λ (name : Name). has concepts name.concept) names)
+
+-- nor more attributes than attributes
+pub length-attributes_among : (concepts : List ℕ) (attributes : List Attribute) → length (attributes_among concepts attributes) ≤ length attributes
+length-attributes_among concepts attributes =
+    omega (
+      arith,
+      length-filter (λ (attribute : Attribute). has concepts attribute.source && is_value_among concepts attribute.value) attributes,
+      count_by-le-length (λ (attribute : Attribute). has concepts attribute.source && is_value_among concepts attribute.value) attributes,
+    )

@@ -1,4 +1,5 @@
 pub mod ApartLemmas
+pub mod AttributeLemmas
 pub mod FinishLemmas
 pub mod FirstRowLemmas
 pub mod LawLemmas

@@ -29,7 +29,7 @@ pub all_placed-append : (texts more : List ℕ) (rows : List NameRow) → IsUtf8
 all_placed-append texts more rows whole added placed = λ k d within. placed-append texts more (get_or rows k d) whole added (placed k d within)
 
 -- a part of the text stays what it is
-range-append : (texts more : List ℕ) (from to : ℕ) → from ≤ to → to ≤ length texts → slice_range (texts ++ more) from to ≡ slice_range texts from to
+pub range-append : (texts more : List ℕ) (from to : ℕ) → from ≤ to → to ≤ length texts → slice_range (texts ++ more) from to ≡ slice_range texts from to
 range-append texts more from to rises within =
     ap (take (to - from)) (drop-append-le from texts more (omega arith))
     ∙ take-append-le (to - from) (drop from texts) more (omega (arith, length-drop from texts))

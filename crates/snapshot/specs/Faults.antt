@@ -1,13 +1,13 @@
 -- The first fault of a list of files.
 use Rattle.std.specs.Prelude.{◌≡◌, ◌↔◌, ℕ, bytes_eq, nat_lt, nat_le, if◌then◌else◌, List, [], ◌∷◌, ◌++◌, length, Option, None, Some}
 use Rattle.rf2_rows.specs.Columns.{header_of}
-use Rattle.rf2_rows.specs.Rows.{row_fault, concept_row, description_row, relationship_row}
+use Rattle.rf2_rows.specs.Rows.{row_fault, concept_row, concrete_row, description_row, member_row, relationship_row}
 use Rattle.rf2_rows.specs.declared.fault.RowFault.{RowFault}
 use Rattle.rf2_rows.specs.declared.kind.FileKind.{FileKind}
-use Rattle.rf2_rows.specs.declared.kind.FileKind.TheVariants.{Concept, Description, Relationship}
+use Rattle.rf2_rows.specs.declared.kind.FileKind.TheVariants.{Concept, Concrete, Description, Member, Relationship}
 use Rattle.release_files.specs.Lines.{LineText}
 use Rattle.snapshot.specs.Files.{Place, no_line, first_line, later_line}
-use Rattle.snapshot.specs.InForce.{has, ids_of}
+use Rattle.snapshot.specs.InForce.{has, ids_of, member_number}
 use Rattle.snapshot.specs.Limits.{row_limit}
 use Rattle.snapshot.specs.declared.fault.LoadFault.{LoadFault}
 use Rattle.snapshot.specs.declared.fault.LoadFault.TheVariants.{Header, Row, Duplicate, TooMany}
@@ -18,6 +18,8 @@ abbrev pub id_on : FileKind → List ℕ → ℕ
 id_on Concept line = (concept_row line).id
 id_on Description line = (description_row line).id
 id_on Relationship line = (relationship_row line).id
+id_on Concrete line = (concrete_row line).id
+id_on Member line = member_number (member_row line)
 
 -- the fault of a row by its identifier, where the earlier rows of its kind have these identifiers and so
 -- many rows are allowed

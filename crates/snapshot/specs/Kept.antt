@@ -1,24 +1,25 @@
 -- What a load keeps of the rows that it has read, one place after another.
-use Rattle.std.specs.Prelude.{ℕ, ◌+◌, ◌-◌, ◌==◌, ◌&&◌, ◌≡◌, ◌≢◌, ◌≤◌, nat_eq, Bool, if◌then◌else◌, List, [], ◌∷◌, ◌++◌, filter, length, Option, None, Some, option_map, Result, Ok, Err}
+use Rattle.std.specs.Prelude.{ℕ, ◌+◌, ◌-◌, ◌==◌, ◌&&◌, ◌≡◌, ◌≢◌, ◌≤◌, nat_eq, Bool, true, not, if◌then◌else◌, List, [], ◌∷◌, ◌++◌, filter, length, Option, None, Some, option_map, Result, Ok, Err}
 use Rattle.std.specs.List.{IsDistinct}
-use Rattle.rf2_rows.specs.Release.{Name, Release}
-use Rattle.rf2_rows.specs.Rows.{DescriptionText}
+use Rattle.rf2_rows.specs.Release.{Attribute, Name, Release, Value, concept_value, number_value, text_value}
+use Rattle.rf2_rows.specs.Rows.{ConcreteText, DescriptionText}
 use Rattle.rf2_rows.specs.declared.kind.FileKind.{FileKind}
-use Rattle.rf2_rows.specs.declared.kind.FileKind.TheVariants.{Concept, Description, Relationship}
+use Rattle.rf2_rows.specs.declared.kind.FileKind.TheVariants.{Concept, Concrete, Description, Member, Relationship}
 use Rattle.rf2_rows.specs.declared.row.ConceptRow.{ConceptRow}
+use Rattle.rf2_rows.specs.declared.row.MemberRow.{MemberRow}
 use Rattle.rf2_rows.specs.declared.row.RelationshipRow.{RelationshipRow}
 use Rattle.snapshot.specs.Faults.{fault_after}
 use Rattle.snapshot.specs.Files.{Place}
-use Rattle.snapshot.specs.InForce.{concept_row_at, description_row_at, has, is_name, listed_count, name_on, relationship_row_at, rising, rows_among}
+use Rattle.snapshot.specs.InForce.{concept_row_at, concrete_attribute, concrete_row_at, description_row_at, has, is_name, listed_count, member_number, member_row_at, name_on, relationship_attribute, relationship_row_at, rising, rows_among}
 use Rattle.snapshot.specs.Contents.{Contents, unless_cyclic, least_cyclic}
 use Rattle.snapshot.specs.declared.fault.LoadFault.{LoadFault}
 use Rattle.snapshot.specs.declared.fault.LoadFault.TheVariants.{Cycle, Memory}
 use Rattle.snapshot.specs.declared.limits.Limits.{Limits}
 use Rattle.snapshot.specs.Metadata.{is_a, inferred_relationship}
 
--- the identifiers of all concept rows and of the active ones, those of all description rows, the name rows,
--- the identifiers of all relationship rows, and child and parent of the active, inferred is-a rows, all in
--- the order of the rows
+-- the identifiers of all rows of each kind, those of the active concepts, the name rows, child and parent of
+-- the active, inferred is-a rows, the other active, inferred rows of both kinds of relationship, and reference
+-- set and component of the active member rows, all in the order of the rows
 pub record Kept : Type 0 where
   pub concept_ids : List ℕ
   pub active_concepts : List ℕ
@@ -26,6 +27,10 @@ pub record Kept : Type 0 where
   pub names : List Name
   pub relationship_ids : List ℕ
   pub isa_ends : List (ℕ × ℕ)
+  pub concrete_ids : List ℕ
+  pub attributes : List Attribute
+  pub member_ids : List ℕ
+  pub member_ends : List (ℕ × ℕ)
 
 abbrev pub nothing_kept : Kept
 nothing_kept = record {
@@ -35,6 +40,10 @@ nothing_kept = record {
   names = [];
   relationship_ids = [];
   isa_ends = [];
+  concrete_ids = [];
+  attributes = [];
+  member_ids = [];
+  member_ends = [];
 }
 
 -- the identifiers of the rows of a kind
@@ -42,10 +51,19 @@ abbrev pub ids_kept : Kept → FileKind → List ℕ
 ids_kept kept Concept = kept.concept_ids
 ids_kept kept Description = kept.description_ids
 ids_kept kept Relationship = kept.relationship_ids
+ids_kept kept Concrete = kept.concrete_ids
+ids_kept kept Member = kept.member_ids
 
 -- the row itself says that it belongs to the hierarchy
 abbrev pub is_isa : RelationshipRow → Bool
 is_isa row = row.active && (row.characteristic_type_id == inferred_relationship) && (row.type_id == is_a)
+
+-- the row itself says that it is an attribute
+abbrev pub is_attribute : RelationshipRow → Bool
+is_attribute row = row.active && (row.characteristic_type_id == inferred_relationship) && not (row.type_id == is_a)
+
+abbrev pub is_concrete_attribute : ConcreteText → Bool
+is_concrete_attribute row = row.active && (row.characteristic_type_id == inferred_relationship) && not (row.type_id == is_a)
 
 -- what is kept after a concept row, if there is one
 abbrev pub keep_concept : Kept → Option ConceptRow → Kept
@@ -63,18 +81,39 @@ keep_description kept (Some row) = record kept {
   names = if is_name row then kept.names ++ name_on row ∷ [] else kept.names;
 }
 
+-- what is kept of a relationship row beside its identifier
+abbrev pub keep_inferred : Kept → RelationshipRow → Kept
+keep_inferred kept row = record kept {
+  isa_ends = if is_isa row then kept.isa_ends ++ (row.source_id, row.destination_id) ∷ [] else kept.isa_ends;
+  attributes = if is_attribute row then kept.attributes ++ relationship_attribute row ∷ [] else kept.attributes;
+}
+
 -- what is kept after a relationship row, if there is one
 abbrev pub keep_relationship : Kept → Option RelationshipRow → Kept
 keep_relationship kept None = kept
-keep_relationship kept (Some row) = record kept {
-  relationship_ids = kept.relationship_ids ++ row.id ∷ [];
-  isa_ends = if is_isa row then kept.isa_ends ++ (row.source_id, row.destination_id) ∷ [] else kept.isa_ends;
+keep_relationship kept (Some row) = record (keep_inferred kept row) { relationship_ids = kept.relationship_ids ++ row.id ∷ [] }
+
+-- what is kept after a row of a concrete value, if there is one
+abbrev pub keep_concrete : Kept → Option ConcreteText → Kept
+keep_concrete kept None = kept
+keep_concrete kept (Some row) = record kept {
+  concrete_ids = kept.concrete_ids ++ row.id ∷ [];
+  attributes = if is_concrete_attribute row then kept.attributes ++ concrete_attribute row ∷ [] else kept.attributes;
+}
+
+-- what is kept after a member row, if there is one
+abbrev pub keep_member : Kept → Option MemberRow → Kept
+keep_member kept None = kept
+keep_member kept (Some row) = record kept {
+  member_ids = kept.member_ids ++ member_number row ∷ [];
+  member_ends = if row.active then kept.member_ends ++ (row.refset_id, row.referenced_component_id) ∷ [] else kept.member_ends;
 }
 
 -- what is kept after a place
 abbrev pub keep : Kept → Place → Kept
 keep kept place =
-    keep_relationship (keep_description (keep_concept kept (concept_row_at place)) (description_row_at place)) (relationship_row_at place)
+    let components = keep_description (keep_concept kept (concept_row_at place)) (description_row_at place) in
+    keep_member (keep_concrete (keep_relationship components (relationship_row_at place)) (concrete_row_at place)) (member_row_at place)
 
 abbrev pub unless_fault : Option LoadFault → Result Kept LoadFault → Result Kept LoadFault
 unless_fault None read = read
@@ -101,6 +140,17 @@ IsCycle fault cyclic = fault ≢ Memory → option_map Cycle cyclic ≡ Some fau
 abbrev pub names_among : List ℕ → List Name → List Name
 names_among concepts names = filter (λ (name : Name). has concepts name.concept) names
 
+-- a value that is no concept, or one of some concepts
+abbrev pub is_value_among : List ℕ → Value → Bool
+is_value_among concepts (concept_value concept) = has concepts concept
+is_value_among concepts (number_value number) = true
+is_value_among concepts (text_value text) = true
+
+-- the attributes of some concepts whose values are among them, where they are concepts
+abbrev pub attributes_among : List ℕ → List Attribute → List Attribute
+attributes_among concepts attributes =
+    filter (λ (attribute : Attribute). has concepts attribute.source && is_value_among concepts attribute.value) attributes
+
 -- the release that is made of what was kept
 abbrev pub release_from : Kept → Release
 release_from kept =
@@ -108,10 +158,15 @@ release_from kept =
     record {
       concepts = concepts;
       isa = rows_among concepts kept.isa_ends;
-      attributes = [];
-      members = [];
+      attributes = attributes_among concepts kept.attributes;
+      members = rows_among concepts kept.member_ends;
       names = names_among concepts kept.names;
     }
+
+-- how many rows were read
+abbrev pub rows_read : Kept → ℕ
+rows_read kept =
+    length kept.concept_ids + length kept.description_ids + length kept.relationship_ids + length kept.concrete_ids + length kept.member_ids
 
 -- the contents that are made of what was kept
 abbrev pub contents_from : List ℕ → ℕ → Kept → Contents
@@ -119,7 +174,7 @@ contents_from language files kept = record {
   release = release_from kept;
   language = language;
   files = files;
-  passed = length kept.concept_ids + length kept.description_ids + length kept.relationship_ids - listed_count (release_from kept);
+  passed = rows_read kept - listed_count (release_from kept);
 }
 
 -- the snapshot that is made of what was kept, unless a concept reaches itself
@@ -132,7 +187,10 @@ IsApart kept =
     IsDistinct nat_eq kept.active_concepts
     × (length kept.active_concepts ≤ length kept.concept_ids)
     × (length kept.names ≤ length kept.description_ids)
-    × (length kept.isa_ends ≤ length kept.relationship_ids)
+    × (length kept.isa_ends + length kept.attributes ≤ length kept.relationship_ids + length kept.concrete_ids)
+    × (length kept.member_ends ≤ length kept.member_ids)
     × (length kept.concept_ids ≤ 4000000)
     × (length kept.description_ids ≤ 20000000)
     × (length kept.relationship_ids ≤ 20000000)
+    × (length kept.concrete_ids ≤ 4000000)
+    × (length kept.member_ids ≤ 20000000)

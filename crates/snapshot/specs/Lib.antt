@@ -1,3 +1,4 @@
+pub mod AttributesInside
 pub mod Contents
 pub mod FaultNumbers
 pub mod Faults

@@ -1,7 +1,7 @@
 -- How much a load takes in at the most.
 use Rattle.std.specs.Prelude.{ℕ, min, max}
 use Rattle.rf2_rows.specs.declared.kind.FileKind.{FileKind}
-use Rattle.rf2_rows.specs.declared.kind.FileKind.TheVariants.{Concept, Description, Relationship}
+use Rattle.rf2_rows.specs.declared.kind.FileKind.TheVariants.{Concept, Concrete, Description, Member, Relationship}
 use Rattle.snapshot.specs.declared.limits.Limits.{Limits}
 
 -- the limits that a load has by itself
@@ -32,3 +32,5 @@ abbrev pub row_limit : Limits → FileKind → ℕ
 row_limit limits Concept = limits.concepts
 row_limit limits Description = limits.descriptions
 row_limit limits Relationship = limits.relationships
+row_limit limits Concrete = limits.concrete
+row_limit limits Member = limits.members

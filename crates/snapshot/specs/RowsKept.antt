@@ -10,4 +10,8 @@ kept_in rows = record {
   names = rows.names;
   relationship_ids = rows.relationship_ids.keys;
   isa_ends = rows.isa_ends.items;
+  concrete_ids = rows.concrete_ids.keys;
+  attributes = rows.attributes;
+  member_ids = rows.member_ids.keys;
+  member_ends = rows.member_ends.items;
 }

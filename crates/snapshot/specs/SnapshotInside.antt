@@ -1,5 +1,5 @@
 -- What the fields of a snapshot say, and what they keep.
-use Rattle.std.specs.Prelude.{◌≡◌, ◌<◌, ◌^◌, [], map, length, string_bytes}
+use Rattle.std.specs.Prelude.{◌≡◌, ◌<◌, ◌^◌, map, length, string_bytes}
 use Rattle.std.specs.List.Sorted.{IsStrictlyIncreasing}
 use Rattle.snapshot.specs.Contents.{Contents}
 use Rattle.snapshot.specs.FirstRows.{AreFirstPlaces}
@@ -13,8 +13,8 @@ contents_in inside = record {
   release = record {
     concepts = inside.concepts.items;
     isa = map (row_of_numbers inside.concepts.items) inside.isa.items;
-    attributes = [];
-    members = [];
+    attributes = inside.attributes;
+    members = map (row_of_numbers inside.concepts.items) inside.members.items;
     names = inside.names;
   };
   language = string_bytes inside.language;
@@ -30,4 +30,5 @@ IsNumbered inside =
     × (inside.numbers.keys ≡ inside.concepts.items)
     × (length inside.concepts.items < 2 ^ 32)
     × IsWithin (length inside.concepts.items) inside.isa.items
+    × IsWithin (length inside.concepts.items) inside.members.items
     × AreFirstPlaces (string_bytes inside.language) inside.concepts.items inside.names inside.names inside.first_names.items

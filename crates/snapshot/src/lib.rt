@@ -1,6 +1,7 @@
 //! A release in memory: the rows in force of a list of Snapshot files, or the first fault of them.
 #![tactic(auto)]
 
+mod attributes;
 mod components;
 mod cycle;
 mod fault;

@@ -5,23 +5,25 @@ ghost use Rattle.std.specs.List.Sorted.{IsStrictlyIncreasing};
 ghost use Rattle.snapshot.specs.Contents.{IsFaultOf, first_cyclic, load_of};
 ghost use Rattle.snapshot.specs.Files.{file_text, has_kind as has_kind_of, is_concept_file as is_concept_file_of, places_from};
 ghost use Rattle.snapshot.specs.InForce.{rising as rising_of, rows_among};
-ghost use Rattle.snapshot.specs.Kept.{IsApart, IsCycle, IsFaultIn, finished, nothing_kept, read_all};
+ghost use Rattle.snapshot.specs.FirstRows.{AreFirstPlaces};
+ghost use Rattle.snapshot.specs.Kept.{IsApart, attributes_among, names_among, IsCycle, IsFaultIn, finished, nothing_kept, read_all};
 ghost use Rattle.snapshot.specs.Name.{name_of, text_lent};
 ghost use Rattle.snapshot.specs.Numbering.{number_of, numbered_row, row_of_numbers};
 ghost use Rattle.snapshot.specs.RowsKept.{kept_in};
 ghost use Rattle.snapshot.specs.Search.{IsWithin};
 
+use crate::attributes::Attributes;
 use crate::cycle::least_cyclic;
 use crate::fault::LoadFault;
 use crate::limits::Limits;
 use crate::names::Names;
 use crate::numbering::{number_concepts, number_of, number_rows};
-use crate::rows::Rows;
+use crate::rows::{ActiveRows, Rows};
 use indexmap::IndexSet;
 use release_files::NamedBytes;
 use rf2_rows::{FileKind, file_kind};
 use sctid::SctId;
-use std::alloc::Global;
+use std::alloc::{AllocError, Global};
 use std::marker::Model;
 
 /// The rows in force of a release. Its concepts have the numbers from 0, in the rising order of
@@ -35,6 +37,10 @@ pub struct Snapshot {
     numbers: IndexSet<u64>,
     // child and parent of each is-a row, in the order of the rows
     isa: Vec<(u32, u32)>,
+    // the attribute rows in the order of the rows
+    attributes: Attributes,
+    // reference set and component of each member row, in the order of the rows
+    members: Vec<(u32, u32)>,
     // the name rows in the order of the rows
     names: Names,
     // for each concept the place of the name row that names it, if there is one
@@ -129,6 +135,15 @@ impl Snapshot {
     {
         self.isa.as_slice()
     }
+
+    /// Reference set and component of each member row in force by their numbers, in the order of the
+    /// files and their lines (Release File Specification, "Simple reference set").
+    pub fn member_rows(&self) -> &[(u32, u32)]
+        ensures rows { map (row_of_numbers self.now.release.concepts) result.now ≡ self.now.release.members }
+        ensures within { IsWithin (length self.now.release.concepts) result.now }
+    {
+        self.members.as_slice()
+    }
 }
 
 // Whether a file of the list has the name of a Concept file.
@@ -179,18 +194,42 @@ fn finish(alloc: Global, rows: Rows, language: String, files: u64) -> Result<Sna
     ensures err { IfErr result (λ fault. IsFaultOf fault (finished (string_bytes language) files (kept_in rows))) }
 {
     let row_count = rows.row_count();
-    let (concepts, names, ends) = rows.into_parts();
+    let ActiveRows {
+        concepts,
+        names,
+        isa_ends,
+        attributes,
+        member_ends,
+    } = rows.into_active();
     let concepts = rising(concepts);
-    match number_hierarchy(alloc, concepts.as_slice(), ends.as_slice()) {
+    match number_hierarchy(alloc, concepts.as_slice(), isa_ends.as_slice()) {
         Ok(hierarchy) => {
             let Hierarchy { numbers, isa } = hierarchy;
-            let names = names.among(alloc, &numbers)?;
-            let first_names = names.first_places(alloc, &numbers, language.as_str())?;
-            let listed = concepts.len() as u64 + isa.len() as u64 + names.len() as u64;
+            let lists = lists_among(
+                alloc,
+                &numbers,
+                &names,
+                language.as_str(),
+                &attributes,
+                member_ends.as_slice(),
+            )?;
+            let Lists {
+                names,
+                first_names,
+                attributes,
+                members,
+            } = lists;
+            let listed = concepts.len() as u64
+                + isa.len() as u64
+                + attributes.len() as u64
+                + members.len() as u64
+                + names.len() as u64;
             Ok(Snapshot {
                 concepts,
                 numbers,
                 isa,
+                attributes,
+                members,
                 names,
                 first_names,
                 language,
@@ -200,6 +239,45 @@ fn finish(alloc: Global, rows: Rows, language: String, files: u64) -> Result<Sna
         }
         Err(fault) => Err(fault),
     }
+}
+
+// The lists of rows of some concepts beside the hierarchy.
+#[derive(Drop)]
+struct Lists {
+    names: Names,
+    first_names: Vec<Option<u32>>,
+    attributes: Attributes,
+    members: Vec<(u32, u32)>,
+}
+
+// The name rows, attribute rows and member rows of some concepts, and for each of these the place of
+// the row that names it in a language.
+fn lists_among(
+    alloc: Global,
+    numbers: &IndexSet<u64>,
+    names: &Names,
+    language: &str,
+    attributes: &Attributes,
+    member_ends: &[(SctId, SctId)],
+) -> Result<Lists, AllocError>
+    requires few { length names.now < 2 ^ 32 }
+    requires rising { IsStrictlyIncreasing numbers.now.keys }
+    requires few_concepts { length numbers.now.keys < 2 ^ 32 }
+    ensures names { IfOk result (λ lists. lists.names ≡ names_among numbers.now.keys names.now) }
+    ensures first { IfOk result (λ lists. AreFirstPlaces language.now numbers.now.keys lists.names lists.names lists.first_names.items) }
+    ensures attributes { IfOk result (λ lists. lists.attributes ≡ attributes_among numbers.now.keys attributes.now) }
+    ensures members { IfOk result (λ lists. lists.members.items ≡ filter_map (numbered_row numbers.now.keys) member_ends.now) }
+{
+    let names = names.among(alloc, numbers)?;
+    let first_names = names.first_places(alloc, numbers, language)?;
+    let attributes = attributes.among(alloc, numbers)?;
+    let members = number_rows(alloc, numbers, member_ends)?;
+    Ok(Lists {
+        names,
+        first_names,
+        attributes,
+        members,
+    })
 }
 
 // The concepts in force, each at its number, and the is-a rows by the numbers of their ends.

@@ -1,22 +1,27 @@
 //! The rows of files as they are read, one line after another.
-ghost use Rattle.std.specs.Prelude.{◌≡◌, None, Some, Ok, Err, OnOk, IfErr, IfOk, ◌++◌, ◌∷◌, [], ◌+◌, ◌<◌, ◌^◌, map, length};
+ghost use Rattle.std.specs.Prelude.{◌≡◌, ◌==◌, ◌&&◌, None, Some, Ok, Err, OnOk, IfErr, IfOk, ◌++◌, ◌∷◌, [], ◌<◌, ◌^◌, map};
+ghost use Rattle.std.specs.Int.{w128, from_be_bytes};
+ghost use Rattle.snapshot.specs.Metadata.{inferred_relationship};
 ghost use Rattle.release_files.specs.Lines.{line_text, lines_of};
 ghost use Rattle.snapshot.specs.Faults.{fault_after, fault_of_first, fault_of_id};
 ghost use Rattle.snapshot.specs.Files.{file_text, later_line, places_of_file, places_of_lines};
-ghost use Rattle.snapshot.specs.Kept.{IsFaultAt, IsFaultIn, ids_kept, is_isa as is_isa_row, keep, keep_concept, keep_description, keep_relationship, nothing_kept, read_all};
-ghost use Rattle.snapshot.specs.InForce.{is_name as is_name_row};
-ghost use Rattle.rf2_rows.specs.Rows.{description_text};
+ghost use Rattle.snapshot.specs.Kept.{IsFaultAt, IsFaultIn, ids_kept, keep, keep_concept, keep_concrete, keep_description, keep_inferred, keep_member, keep_relationship, nothing_kept, read_all, rows_read};
+ghost use Rattle.snapshot.specs.InForce.{is_name as is_name_row, member_number};
+ghost use Rattle.rf2_rows.specs.Rows.{concrete_text, description_text};
 
+use crate::attributes::Attributes;
 use crate::fault::LoadFault;
 use crate::limits::Limits;
 use crate::names::Names;
 use indexmap::IndexSet;
 use release_files::{Line, Lines, NamedBytes};
 use rf2_rows::{
-    ConceptRow, DescriptionRow, FileKind, RelationshipRow, Row, file_kind, header, read_row,
+    ConceptRow, ConcreteRow, DescriptionRow, FileKind, MemberRow, RelationshipRow, Row, Value,
+    file_kind, header, read_row,
 };
 use sctid::SctId;
-use std::alloc::Global;
+use std::alloc::{AllocError, Global};
+use uuid::Uuid;
 
 // |Is a|, the type of the rows that make the hierarchy.
 const IS_A: u64 = 116680003;
@@ -42,6 +47,29 @@ pub struct Rows {
     relationship_ids: IndexSet<u64>,
     // child and parent of the active, inferred is-a rows
     isa_ends: Vec<(SctId, SctId)>,
+    // the identifiers of all rows of concrete values
+    concrete_ids: IndexSet<u64>,
+    // the other active, inferred rows of both kinds of relationship
+    attributes: Attributes,
+    // the identifiers of all member rows
+    member_ids: IndexSet<u128>,
+    // reference set and component of the active member rows
+    member_ends: Vec<(SctId, SctId)>,
+}
+
+/// What the rows of a release are made of, as far as the rows themselves tell.
+#[derive(Drop)]
+pub struct ActiveRows {
+    /// The active concepts.
+    pub concepts: Vec<SctId>,
+    /// The active fully specified names.
+    pub names: Names,
+    /// Child and parent of the active, inferred is-a rows.
+    pub isa_ends: Vec<(SctId, SctId)>,
+    /// The other active, inferred rows of both kinds of relationship.
+    pub attributes: Attributes,
+    /// Reference set and component of the active member rows.
+    pub member_ends: Vec<(SctId, SctId)>,
 }
 
 impl Rows {
@@ -57,6 +85,10 @@ impl Rows {
             names: Names::new(alloc),
             relationship_ids: IndexSet::new(alloc),
             isa_ends: Vec::new(alloc),
+            concrete_ids: IndexSet::new(alloc),
+            attributes: Attributes::new(alloc),
+            member_ids: IndexSet::new(alloc),
+            member_ends: Vec::new(alloc),
         }
     }
 
@@ -78,12 +110,14 @@ impl Rows {
 
     /// How many rows were read.
     pub fn row_count(&self) -> u64
-        requires { length (kept_in self.now).concept_ids + length (kept_in self.now).description_ids + length (kept_in self.now).relationship_ids < 2 ^ 64 }
-        ensures { result ≡ length (kept_in self.now).concept_ids + length (kept_in self.now).description_ids + length (kept_in self.now).relationship_ids }
+        requires { rows_read (kept_in self.now) < 2 ^ 64 }
+        ensures { result ≡ rows_read (kept_in self.now) }
     {
         self.concept_ids.len() as u64
             + self.description_ids.len() as u64
             + self.relationship_ids.len() as u64
+            + self.concrete_ids.len() as u64
+            + self.member_ids.len() as u64
     }
 
     // Reads the lines of a file of a kind.
@@ -127,14 +161,21 @@ impl Rows {
         Ok(())
     }
 
-    /// The active concepts, the active fully specified names, and the ends of the active, inferred
-    /// is-a rows. What served to find repeated identifiers is freed.
-    pub fn into_parts(self) -> (Vec<SctId>, Names, Vec<(SctId, SctId)>)
-        ensures concepts { result.0.items ≡ (kept_in self).active_concepts }
-        ensures names { result.1 ≡ (kept_in self).names }
-        ensures ends { result.2.items ≡ (kept_in self).isa_ends }
+    /// What the release is made of. What served to find repeated identifiers is freed.
+    pub fn into_active(self) -> ActiveRows
+        ensures concepts { result.concepts.items ≡ (kept_in self).active_concepts }
+        ensures names { result.names ≡ (kept_in self).names }
+        ensures ends { result.isa_ends.items ≡ (kept_in self).isa_ends }
+        ensures attributes { result.attributes ≡ (kept_in self).attributes }
+        ensures members { result.member_ends.items ≡ (kept_in self).member_ends }
     {
-        (self.active_concepts, self.names, self.isa_ends)
+        ActiveRows {
+            concepts: self.active_concepts,
+            names: self.names,
+            isa_ends: self.isa_ends,
+            attributes: self.attributes,
+            member_ends: self.member_ends,
+        }
     }
 
     // Reads a line behind the header.
@@ -160,6 +201,8 @@ impl Rows {
             Ok(Row::Concept(row)) => self.add_concept(file, number, row, limits),
             Ok(Row::Description(row)) => self.add_description(file, number, &row, limits),
             Ok(Row::Relationship(row)) => self.add_relationship(file, number, row, limits),
+            Ok(Row::Concrete(row)) => self.add_concrete(file, number, &row, limits),
+            Ok(Row::Member(row)) => self.add_member(file, number, row, limits),
             Err(fault) => Err(LoadFault::Row {
                 file,
                 line: number,
@@ -229,8 +272,62 @@ impl Rows {
             line,
             limits.relationships,
         )?;
-        if is_isa(&row) {
+        self.keep_relationship(&row)?;
+        Ok(())
+    }
+
+    // Keeps a relationship row that is active and inferred, as an is-a row or as an attribute.
+    fn keep_relationship(&mut self, row: &RelationshipRow) -> Result<(), AllocError>
+        ensures { OnOk result (kept_in self.new ≡ keep_inferred (kept_in self.old) row.now) }
+    {
+        if !is_inferred(row.active, row.characteristic_type_id) {
+            return Ok(());
+        }
+        if row.type_id.number() == IS_A {
             self.isa_ends.push((row.source_id, row.destination_id))?;
+        } else {
+            let value = Value::Concept(row.destination_id);
+            self.attributes
+                .push(row.source_id, row.type_id, row.relationship_group, &value)?;
+        }
+        Ok(())
+    }
+
+    fn add_concrete(
+        &mut self,
+        file: usize,
+        line: u64,
+        row: &ConcreteRow<'_>,
+        limits: &Limits,
+    ) -> Result<(), LoadFault>
+        ensures clean { OnOk result (fault_of_id file line (kept_in self.old).concrete_ids limits.now.concrete row.now.id ≡ None) }
+        ensures kept { OnOk result (kept_in self.new ≡ keep_concrete (kept_in self.old) (Some (concrete_text row.now))) }
+        ensures err { IfErr result (λ fault. IsFaultAt fault (fault_of_id file line (kept_in self.old).concrete_ids limits.now.concrete row.now.id)) }
+    {
+        let ConcreteRow { value, .. } = row;
+        add_identifier(&mut self.concrete_ids, row.id, file, line, limits.concrete)?;
+        if is_inferred(row.active, row.characteristic_type_id) && row.type_id.number() != IS_A {
+            self.attributes
+                .push(row.source_id, row.type_id, row.relationship_group, value)?;
+        }
+        Ok(())
+    }
+
+    fn add_member(
+        &mut self,
+        file: usize,
+        line: u64,
+        row: MemberRow,
+        limits: &Limits,
+    ) -> Result<(), LoadFault>
+        ensures clean { OnOk result (fault_of_id file line (kept_in self.old).member_ids limits.now.members (member_number row) ≡ None) }
+        ensures kept { OnOk result (kept_in self.new ≡ keep_member (kept_in self.old) (Some row)) }
+        ensures err { IfErr result (λ fault. IsFaultAt fault (fault_of_id file line (kept_in self.old).member_ids limits.now.members (member_number row))) }
+    {
+        add_uuid(&mut self.member_ids, row.id, file, line, limits.members)?;
+        if row.active {
+            self.member_ends
+                .push((row.refset_id, row.referenced_component_id))?;
         }
         Ok(())
     }
@@ -280,11 +377,33 @@ fn add_identifier(
     Ok(())
 }
 
-// Whether a row belongs to the hierarchy, as far as the row itself tells.
-fn is_isa(row: &RelationshipRow) -> bool
-    ensures { result ≡ is_isa_row row.now }
+// Adds the identifier of a member row to those of all, of which there may be `limit`.
+fn add_uuid(
+    ids: &mut IndexSet<u128>,
+    id: Uuid,
+    file: usize,
+    line: u64,
+    limit: u64,
+) -> Result<(), LoadFault>
+    ensures clean { OnOk result (fault_of_id file line ids.old.keys limit (from_be_bytes w128 id) ≡ None) }
+    ensures added { OnOk result (ids.new.keys ≡ ids.old.keys ++ from_be_bytes w128 id ∷ []) }
+    ensures err { IfErr result (λ fault. IsFaultAt fault (fault_of_id file line ids.old.keys limit (from_be_bytes w128 id))) }
 {
-    row.active && row.characteristic_type_id.number() == INFERRED && row.type_id.number() == IS_A
+    let is_new = ids.insert(id.as_u128())?;
+    if !is_new {
+        return Err(LoadFault::Duplicate { file, line });
+    }
+    if ids.len() as u64 > limit {
+        return Err(LoadFault::TooMany { file, line });
+    }
+    Ok(())
+}
+
+// Whether a row of a relationship counts, as far as the row itself tells.
+fn is_inferred(active: bool, characteristic_type: SctId) -> bool
+    ensures { result ≡ (active && (characteristic_type == inferred_relationship)) }
+{
+    active && characteristic_type.number() == INFERRED
 }
 
 // Whether a row names a concept, as far as the row itself tells.

@@ -1,3 +1,4 @@
+use Rattle.std.proofs.lemmas.Result.{err_from_is_err_and}
 use Rattle.std.proofs.Common.{◌≡◌, ◌≤◌, map, Result, Ok, Err, sym, ◌∙◌, subst, arith}
 use Rattle.std.specs.Prelude.{IfOk, IfErr, string_bytes}
 use Rattle.snapshot.specs.Contents.{Contents, IsFaultOf, load_of}
@@ -16,7 +17,9 @@ finish-requires c =
     let concepts : c.in_force-limits.result.concepts ≤ 4000000 = subst (λ (l : Limits). l.concepts ≤ 4000000) (sym c.in_force-limits.ensures) (omega arith) in
     let descriptions : c.in_force-limits.result.descriptions ≤ 20000000 = subst (λ (l : Limits). l.descriptions ≤ 20000000) (sym c.in_force-limits.ensures) (omega arith) in
     let relationships : c.in_force-limits.result.relationships ≤ 20000000 = subst (λ (l : Limits). l.relationships ≤ 20000000) (sym c.in_force-limits.ensures) (omega arith) in
-    IsApart-read c.in_force-limits.result (kept_in c.in-Ok.rows) (places_from 0 (map file_text c.args.files.now)) concepts descriptions relationships c.in-Ok.ensures.ok
+    let concretes : c.in_force-limits.result.concrete ≤ 4000000 = subst (λ (l : Limits). l.concrete ≤ 4000000) (sym c.in_force-limits.ensures) (omega arith) in
+    let members : c.in_force-limits.result.members ≤ 20000000 = subst (λ (l : Limits). l.members ≤ 20000000) (sym c.in_force-limits.ensures) (omega arith) in
+    IsApart-read c.in_force-limits.result (kept_in c.in-Ok.rows) (places_from 0 (map file_text c.args.files.now)) concepts descriptions relationships concretes members c.in-Ok.ensures.ok
 
 pub returns-then-not-has_concept_file-clause-err : goal.returns-then-not-has_concept_file-clause-err
 returns-then-not-has_concept_file-clause-err c other = load_of-none c.args.limits c.args.lang.now c.args.files.now (sym c.if-not-has_concept_file.ensures)
@@ -43,3 +46,8 @@ pub returns-in-Err-clause-err : goal.returns-in-Err-clause-err
 returns-in-Err-clause-err c other =
     load_of-fault c.args.limits c.args.lang.now c.args.files.now c.in-Err.fault (sym c.if-not-has_concept_file.ensures)
     (subst (λ (l : Limits). read_all l nothing_kept (places_from 0 (map file_text c.args.files.now)) ≡ Err c.in-Err.fault) c.in_force-limits.ensures (c.in-Err.ensures.err other))
+
+pub returns-in_err-language-in-Ok-clause-err : goal.returns-in_err-language-in-Ok-clause-err
+returns-in_err-language-in-Ok-clause-err c =
+    let p = err_from_is_err_and c.from_residual.result c.from_residual.ensures.1 in
+    rw p.1 (λ other. absurd (other p.2))

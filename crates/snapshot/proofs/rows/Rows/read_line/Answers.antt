@@ -2,12 +2,12 @@ use Rattle.std.proofs.Common.{◌≡◌, ◌<◌, subst, sym, arith, length, nat
 use Rattle.std.specs.Prelude.{OnOk, IfErr}
 use Rattle.std.proofs.lemmas.Bool.Decides.{nat_tests}
 use Rattle.rf2_rows.specs.Rows.{IsRow}
-use Rattle.rf2_rows.specs.declared.row.Row.TheVariants.{Concept, Description, Relationship}
+use Rattle.rf2_rows.specs.declared.row.Row.TheVariants.{Concept, Concrete, Description, Member, Relationship}
 use Rattle.release_files.specs.Lines.{line_text}
 use Rattle.snapshot.specs.Kept.{Kept, IsFaultAt, ids_kept}
 use Rattle.snapshot.specs.RowsKept.{kept_in}
 use Rattle.snapshot.specs.declared.fault.LoadFault.{LoadFault}
-use Rattle.snapshot.proofs.PlaceLemmas.{fault_of_concept, keep_of_concept, fault_of_description, keep_of_description, fault_of_relationship, keep_of_relationship}
+use Rattle.snapshot.proofs.PlaceLemmas.{fault_of_concept, fault_of_concrete, fault_of_description, fault_of_member, fault_of_relationship, keep_of_concept, keep_of_concrete, keep_of_description, keep_of_member, keep_of_relationship}
 use Rattle.snapshot.proofs.rows.Rows.read_line.Goals as goal
 
 pub returns-in-Ok-Concept-clause-clean : goal.returns-in-Ok-Concept-clause-clean
@@ -69,3 +69,43 @@ returns-in-Ok-Relationship-clause-err c =
     let some : 0 < length c.args.line.bytes.now = grind (arith, nat_tests, c.if-is_empty.false, c.is_empty.ensures) in
     let is : IsRow c.args.kind c.args.line.bytes.now (Relationship c.in-Ok-Relationship.row) = rw c.in-Ok-Relationship.field-0-is at c.in-Ok-Relationship.ensures.row in
     subst (λ (o : Option LoadFault). IfErr c.add_relationship.result (λ fault. IsFaultAt fault o)) (sym (fault_of_relationship c.args.limits.now (ids_kept (kept_in c.args.self.now)) c.args.file c.args.kind (line_text c.args.line) c.in-Ok-Relationship.row fits some c.in-Ok-Relationship.ensures.accepted is)) c.add_relationship.ensures.err
+
+pub returns-in-Ok-Concrete-clause-clean : goal.returns-in-Ok-Concrete-clause-clean
+returns-in-Ok-Concrete-clause-clean c =
+    let fits : nat_lt c.args.limits.now.bytes c.args.line.end ≡ false = grind (arith, nat_tests, c.if-line-limits.false) in
+    let some : 0 < length c.args.line.bytes.now = grind (arith, nat_tests, c.if-is_empty.false, c.is_empty.ensures) in
+    let is : IsRow c.args.kind c.args.line.bytes.now (Concrete c.in-Ok-Concrete.row) = rw c.in-Ok-Concrete.field-0-is at c.in-Ok-Concrete.ensures.row in
+    subst (λ (o : Option LoadFault). OnOk c.add_concrete.result (o ≡ None)) (sym (fault_of_concrete c.args.limits.now (ids_kept (kept_in c.args.self.now)) c.args.file c.args.kind (line_text c.args.line) c.in-Ok-Concrete.row fits some c.in-Ok-Concrete.ensures.accepted is)) c.add_concrete.ensures.clean
+
+pub returns-in-Ok-Concrete-clause-kept : goal.returns-in-Ok-Concrete-clause-kept
+returns-in-Ok-Concrete-clause-kept c =
+    let some : 0 < length c.args.line.bytes.now = grind (arith, nat_tests, c.if-is_empty.false, c.is_empty.ensures) in
+    let is : IsRow c.args.kind c.args.line.bytes.now (Concrete c.in-Ok-Concrete.row) = rw c.in-Ok-Concrete.field-0-is at c.in-Ok-Concrete.ensures.row in
+    subst (λ (k : Kept). OnOk c.add_concrete.result (kept_in c.add_concrete.new.self ≡ k)) (sym (keep_of_concrete (kept_in c.args.self.now) c.args.file c.args.kind (line_text c.args.line) c.in-Ok-Concrete.row some is)) c.add_concrete.ensures.kept
+
+pub returns-in-Ok-Concrete-clause-err : goal.returns-in-Ok-Concrete-clause-err
+returns-in-Ok-Concrete-clause-err c =
+    let fits : nat_lt c.args.limits.now.bytes c.args.line.end ≡ false = grind (arith, nat_tests, c.if-line-limits.false) in
+    let some : 0 < length c.args.line.bytes.now = grind (arith, nat_tests, c.if-is_empty.false, c.is_empty.ensures) in
+    let is : IsRow c.args.kind c.args.line.bytes.now (Concrete c.in-Ok-Concrete.row) = rw c.in-Ok-Concrete.field-0-is at c.in-Ok-Concrete.ensures.row in
+    subst (λ (o : Option LoadFault). IfErr c.add_concrete.result (λ fault. IsFaultAt fault o)) (sym (fault_of_concrete c.args.limits.now (ids_kept (kept_in c.args.self.now)) c.args.file c.args.kind (line_text c.args.line) c.in-Ok-Concrete.row fits some c.in-Ok-Concrete.ensures.accepted is)) c.add_concrete.ensures.err
+
+pub returns-in-Ok-Member-clause-clean : goal.returns-in-Ok-Member-clause-clean
+returns-in-Ok-Member-clause-clean c =
+    let fits : nat_lt c.args.limits.now.bytes c.args.line.end ≡ false = grind (arith, nat_tests, c.if-line-limits.false) in
+    let some : 0 < length c.args.line.bytes.now = grind (arith, nat_tests, c.if-is_empty.false, c.is_empty.ensures) in
+    let is : IsRow c.args.kind c.args.line.bytes.now (Member c.in-Ok-Member.row) = rw c.in-Ok-Member.field-0-is at c.in-Ok-Member.ensures.row in
+    subst (λ (o : Option LoadFault). OnOk c.add_member.result (o ≡ None)) (sym (fault_of_member c.args.limits.now (ids_kept (kept_in c.args.self.now)) c.args.file c.args.kind (line_text c.args.line) c.in-Ok-Member.row fits some c.in-Ok-Member.ensures.accepted is)) c.add_member.ensures.clean
+
+pub returns-in-Ok-Member-clause-kept : goal.returns-in-Ok-Member-clause-kept
+returns-in-Ok-Member-clause-kept c =
+    let some : 0 < length c.args.line.bytes.now = grind (arith, nat_tests, c.if-is_empty.false, c.is_empty.ensures) in
+    let is : IsRow c.args.kind c.args.line.bytes.now (Member c.in-Ok-Member.row) = rw c.in-Ok-Member.field-0-is at c.in-Ok-Member.ensures.row in
+    subst (λ (k : Kept). OnOk c.add_member.result (kept_in c.add_member.new.self ≡ k)) (sym (keep_of_member (kept_in c.args.self.now) c.args.file c.args.kind (line_text c.args.line) c.in-Ok-Member.row some is)) c.add_member.ensures.kept
+
+pub returns-in-Ok-Member-clause-err : goal.returns-in-Ok-Member-clause-err
+returns-in-Ok-Member-clause-err c =
+    let fits : nat_lt c.args.limits.now.bytes c.args.line.end ≡ false = grind (arith, nat_tests, c.if-line-limits.false) in
+    let some : 0 < length c.args.line.bytes.now = grind (arith, nat_tests, c.if-is_empty.false, c.is_empty.ensures) in
+    let is : IsRow c.args.kind c.args.line.bytes.now (Member c.in-Ok-Member.row) = rw c.in-Ok-Member.field-0-is at c.in-Ok-Member.ensures.row in
+    subst (λ (o : Option LoadFault). IfErr c.add_member.result (λ fault. IsFaultAt fault o)) (sym (fault_of_member c.args.limits.now (ids_kept (kept_in c.args.self.now)) c.args.file c.args.kind (line_text c.args.line) c.in-Ok-Member.row fits some c.in-Ok-Member.ensures.accepted is)) c.add_member.ensures.err

@@ -1,17 +1,17 @@
--- A number of at most eight digits has room for one more.
+-- A number of at most 17 digits has room for one more.
 use Rattle.std.proofs.Common.{◌≡◌, true, get_or, arith}
 use Rattle.std.specs.Char.{is_ascii_digit}
 use Rattle.sctid.proofs.Numerals.{digits_more, value_more, front_small}
-use Rattle.rf2_rows.proofs.read.digits.Goals as goal
+use Rattle.rf2_rows.proofs.fields.digits.Goals as goal
 
 pub overflow_mul-number : goal.overflow_mul-number
 overflow_mul-number c =
-    let small = front_small c.args.text.now c.loop-byte.byte-index 8 (omega arith) c.loop-byte.invariant.digits in
+    let small = front_small c.args.text.now c.loop-byte.byte-index 17 (omega arith) c.loop-byte.invariant.digits in
     omega arith
 
 pub overflow_add-number : goal.overflow_add-number
 overflow_add-number c =
-    let small = front_small c.args.text.now c.loop-byte.byte-index 8 (omega arith) c.loop-byte.invariant.digits in
+    let small = front_small c.args.text.now c.loop-byte.byte-index 17 (omega arith) c.loop-byte.invariant.digits in
     omega (arith, c.type_inv.text c.loop-byte.byte-index)
 
 pub loop-byte-preserved : goal.loop-byte-preserved
@@ -23,3 +23,8 @@ loop-byte-preserved c =
       digits = digits_more text i c.loop-byte-test.true c.loop-byte.invariant.digits digit;
       value = omega (arith, value_more text i c.loop-byte-test.true digit);
     }
+
+pub returns-clause-small : goal.returns-clause-small
+returns-clause-small c =
+    let i = c.loop-byte.byte-index in
+    rw c.loop-byte.invariant.value (front_small c.args.text.now i c.args.most (omega arith) c.loop-byte.invariant.digits)

@@ -4,7 +4,7 @@ use Rattle.std.proofs.lemmas.Bool.{false_from_ne_true}
 use Rattle.std.proofs.lemmas.Str.{is_utf8-from_IsUtf8, IsUtf8-from_is_utf8}
 use Rattle.std.specs.Str.{is_utf8}
 use Rattle.rf2_rows.specs.Columns.{cause_of}
-use Rattle.rf2_rows.proofs.read.text.Goals as goal
+use Rattle.rf2_rows.proofs.fields.text.Goals as goal
 
 pub returns-in-Ok : goal.returns-in-Ok
 unfolding cause_of

@@ -5,7 +5,7 @@ use Rattle.sctid.specs.Identifier.{part_of}
 use Rattle.sctid.specs.contracts.Part.{the_type}
 use Rattle.rf2_rows.specs.Columns.{cause_of}
 use Rattle.rf2_rows.proofs.Identifiers.{number_of_decimal, valid_short, is_part_self}
-use Rattle.rf2_rows.proofs.read.identifier.Goals as goal
+use Rattle.rf2_rows.proofs.fields.identifier.Goals as goal
 
 pub returns-in-Ok : goal.returns-in-Ok
 unfolding cause_of

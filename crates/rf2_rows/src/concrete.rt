@@ -1,0 +1,123 @@
+//! Reading the rows of concrete values, and the numbers in them.
+ghost use Rattle.std.specs.Prelude.{◌≡◌, ◌<◌, ◌^◌, pos, IfSome, is_some, option_map};
+ghost use Rattle.rf2_rows.specs.Columns.{cause_of, value_format};
+ghost use Rattle.rf2_rows.specs.Numbers.{is_number};
+ghost use Rattle.rf2_rows.specs.Parts.{texts_of};
+ghost use Rattle.rf2_rows.specs.Rows.{IsReadingLent, column_fault, concrete_of, concrete_text, fields_fault, value_lent};
+ghost use Rattle.rf2_rows.specs.Values.{decimal_of, fraction_of, unsigned_of, value_of};
+
+use crate::fault::{RowCause, RowFault};
+use crate::fields::{digits, fault, flag, group, identifier, text, time};
+use crate::kind::FileKind;
+use crate::row::ConcreteRow;
+use crate::split::cut;
+use crate::value::{Decimal, Value};
+use sctid::Part;
+
+/// The row of the Relationship concrete values file that the fields of a line stand for.
+pub fn read_concrete<'a>(fields: &[&'a [u8]]) -> Result<ConcreteRow<'a>, RowFault>
+    ensures { let texts = texts_of fields.now in
+        IsReadingLent concrete_text (fields_fault FileKind.Concrete texts) (concrete_of texts) result }
+{
+    let [
+        id,
+        effective_time,
+        active,
+        module_id,
+        source_id,
+        value,
+        relationship_group,
+        type_id,
+        characteristic_type_id,
+        modifier_id,
+    ] = fields
+    else {
+        return Err(fault(RowCause::Fields, 0));
+    };
+    let id = identifier(id, Part::Relationship, 1)?;
+    let effective_time = time(effective_time, 2)?;
+    let active = flag(active, 3)?;
+    let module_id = identifier(module_id, Part::Concept, 4)?;
+    let source_id = identifier(source_id, Part::Concept, 5)?;
+    let value = match concrete_value(value, 6) {
+        Ok(value) => value,
+        Err(fault) => return Err(fault),
+    };
+    let relationship_group = group(relationship_group, 7)?;
+    let type_id = identifier(type_id, Part::Concept, 8)?;
+    let characteristic_type_id = identifier(characteristic_type_id, Part::Concept, 9)?;
+    let modifier_id = identifier(modifier_id, Part::Concept, 10)?;
+    Ok(ConcreteRow {
+        id,
+        effective_time,
+        active,
+        module_id,
+        source_id,
+        value,
+        relationship_group,
+        type_id,
+        characteristic_type_id,
+        modifier_id,
+    })
+}
+
+// A number behind `#`, or another text.
+#[tactic(auto, unfolding(crate::specs::Columns::cause_of))]
+fn concrete_value<'a>(field: &'a [u8], column: u8) -> Result<Value<'a>, RowFault>
+    ensures { IsReadingLent value_lent (column_fault column (cause_of value_format field.now))
+        (value_of field.now) result }
+{
+    match field {
+        [b'#', number @ ..] => match decimal(number) {
+            Some(found) => Ok(Value::Decimal(found)),
+            None => Err(fault(RowCause::Value, column)),
+        },
+        _ => match text(field, column) {
+            Ok(_) => Ok(Value::Other(field)),
+            Err(fault) => Err(fault),
+        },
+    }
+}
+
+// The number that a text writes, with or without a sign.
+fn decimal(text: &[u8]) -> Option<Decimal>
+    ensures { option_map (λ found. found.0) result ≡ decimal_of text.now }
+{
+    match text {
+        [b'-', rest @ ..] => {
+            let number = unsigned(rest)?;
+            Some(Decimal(-number))
+        }
+        [b'+', rest @ ..] => {
+            let number = unsigned(rest)?;
+            Some(Decimal(number))
+        }
+        _ => {
+            let number = unsigned(text)?;
+            Some(Decimal(number))
+        }
+    }
+}
+
+// The number that a text without a sign writes, as so many times 10^-18.
+fn unsigned(text: &[u8]) -> Option<i128>
+    ensures { result ≡ option_map pos (unsigned_of text.now) }
+{
+    let (whole, behind) = cut(text, b'.');
+    let whole = digits(whole, 1, 18)?;
+    let fraction = match behind {
+        Some(behind) => fraction(behind)?,
+        None => 0,
+    };
+    Some(i128::from(whole) * 1_000_000_000_000_000_000 + i128::from(fraction))
+}
+
+// The fraction that the text behind a point writes, as so many times 10^-18.
+fn fraction(text: &[u8]) -> Option<u64>
+    ensures digits { is_some result ≡ is_number 1 18 text.now }
+    ensures value { IfSome result (λ number. number ≡ fraction_of text.now) }
+    ensures small { IfSome result (λ number. number < 10 ^ 18) }
+{
+    let number = digits(text, 1, 18)?;
+    Some(number * 10u64.pow(18 - text.len() as u32))
+}

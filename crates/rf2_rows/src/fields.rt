@@ -1,0 +1,125 @@
+//! Reading the fields of a line, each as its column asks for.
+ghost use Rattle.std.specs.Prelude.{◌≡◌, ◌<◌, ◌≤◌, ◌^◌, IfSome, is_some};
+ghost use Rattle.rf2_rows.specs.Columns.{cause_of, id_format, component_format, uuid_format, time_format, active_format, group_format, text_format};
+ghost use Rattle.rf2_rows.specs.Numbers.{is_number, number_of};
+ghost use Rattle.rf2_rows.specs.Rows.{IsReading, IsReadingLent, column_fault, time_of, active_of, uuid_of};
+
+use crate::fault::{RowCause, RowFault};
+use sctid::{IdFault, Part, SctId};
+use uuid::Uuid;
+
+/// An identifier of the part that the column asks for.
+#[tactic(auto, unfolding(crate::specs::Columns::cause_of))]
+pub fn identifier(text: &[u8], part: Part, column: u8) -> Result<SctId, RowFault>
+    ensures { IsReading (column_fault column (cause_of (id_format part) text.now)) (number_of text.now)
+        result }
+{
+    match SctId::parse(text) {
+        Ok(id) if id.part() == part => Ok(id),
+        Ok(_) => Err(fault(RowCause::Id(IdFault::Partition), column)),
+        Err(cause) => Err(fault(RowCause::Id(cause), column)),
+    }
+}
+
+/// An identifier of a component of any part.
+#[tactic(auto, unfolding(crate::specs::Columns::cause_of))]
+pub fn component(text: &[u8], column: u8) -> Result<SctId, RowFault>
+    ensures { IsReading (column_fault column (cause_of component_format text.now)) (number_of text.now) result }
+{
+    match SctId::parse(text) {
+        Ok(id) => Ok(id),
+        Err(cause) => Err(fault(RowCause::Id(cause), column)),
+    }
+}
+
+/// A UUID of 36 characters: the other forms of a UUID have other lengths.
+#[tactic(auto, unfolding(crate::specs::Columns::cause_of))]
+pub fn hyphenated(text: &[u8], column: u8) -> Result<Uuid, RowFault>
+    ensures { IsReading (column_fault column (cause_of uuid_format text.now)) (uuid_of text.now) result }
+{
+    if text.len() != 36 {
+        return Err(fault(RowCause::Uuid, column));
+    }
+    match Uuid::try_parse_ascii(text) {
+        Ok(id) => Ok(id),
+        Err(_) => Err(fault(RowCause::Uuid, column)),
+    }
+}
+
+/// Eight digits, or none where the row is unpublished.
+#[tactic(auto, unfolding(crate::specs::Columns::cause_of))]
+pub fn time(text: &[u8], column: u8) -> Result<Option<u32>, RowFault>
+    ensures { IsReading (column_fault column (cause_of time_format text.now)) (time_of text.now) result }
+{
+    if text.is_empty() {
+        return Ok(None);
+    }
+    match digits(text, 8, 8) {
+        Some(number) => Ok(Some(number as u32)),
+        None => Err(fault(RowCause::Time, column)),
+    }
+}
+
+/// Whether a component is active.
+#[tactic(auto, unfolding(crate::specs::Columns::cause_of))]
+pub fn flag(text: &[u8], column: u8) -> Result<bool, RowFault>
+    ensures { IsReading (column_fault column (cause_of active_format text.now)) (active_of text.now) result }
+{
+    if text == b"0".as_slice() {
+        Ok(false)
+    } else if text == b"1".as_slice() {
+        Ok(true)
+    } else {
+        Err(fault(RowCause::Active, column))
+    }
+}
+
+/// The number of a group.
+#[tactic(auto, unfolding(crate::specs::Columns::cause_of))]
+pub fn group(text: &[u8], column: u8) -> Result<u32, RowFault>
+    ensures { IsReading (column_fault column (cause_of group_format text.now)) (number_of text.now) result }
+{
+    match digits(text, 1, 9) {
+        Some(number) => Ok(number as u32),
+        None => Err(fault(RowCause::Group, column)),
+    }
+}
+
+/// A text in UTF-8.
+#[tactic(auto, unfolding(crate::specs::Columns::cause_of))]
+pub fn text(text: &[u8], column: u8) -> Result<&str, RowFault>
+    ensures { IsReadingLent (λ found. found.now) (column_fault column (cause_of text_format text.now)) text.now
+        result }
+{
+    match str::from_utf8(text) {
+        Ok(found) => Ok(found),
+        Err(_) => Err(fault(RowCause::Utf8, column)),
+    }
+}
+
+/// The number that a text of digits stands for, of so many digits at the least and the most.
+pub fn digits(text: &[u8], least: usize, most: usize) -> Option<u64>
+    requires { most ≤ 18 }
+    ensures digits { is_some result ≡ is_number least most text.now }
+    ensures value { IfSome result (λ number. number ≡ number_of text.now) }
+    ensures small { IfSome result (λ number. number < 10 ^ most) }
+{
+    if text.len() < least || text.len() > most {
+        return None;
+    }
+    let mut number = 0u64;
+    for byte in text {
+        if !byte.is_ascii_digit() {
+            return None;
+        }
+        number = number * 10 + u64::from(*byte - b'0');
+    }
+    Some(number)
+}
+
+/// A fault of a column.
+pub fn fault(cause: RowCause, column: u8) -> RowFault
+    ensures { result ≡ record { cause = cause; column = column } }
+{
+    RowFault { cause, column }
+}
