@@ -1,8 +1,8 @@
 -- The group of the check digit, its permutation, and the tables that the code keeps of them. What is
 -- said of all elements is computed, element by element.
-use Rattle.std.proofs.Common.{◌≡◌, ℕ, ◌+◌, ◌%◌, ◌<◌, Bool, zero, suc, true, ◌==◌, nat_lt, [], slice_index, slice_index_or, refl, ap, ◌∙◌, arith}
+use Rattle.std.proofs.Common.{◌≡◌, ℕ, ◌+◌, ◌*◌, ◌/◌, ◌%◌, ◌<◌, Bool, zero, suc, true, ◌==◌, nat_lt, [], slice_index, slice_index_or, refl, sym, ap, ◌∙◌, arith}
 use Rattle.std.proofs.lemmas.Bool.{agree_below, agree_below_at, eqb-true, ltb-true}
-use Rattle.sctid.specs.declared.check.TheConstants.{PRODUCTS, PERMUTATIONS}
+use Rattle.sctid.specs.declared.check.TheConstants.{PRODUCTS, PERMUTATIONS, PAIR_PRODUCTS}
 use Rattle.sctid.specs.Identifier.{times, permutation, permuted}
 
 -- a test passes at each number below a bound
@@ -63,3 +63,15 @@ table-permuted zero digit is_digit =
 table-permuted (suc place) digit is_digit =
     let row_is : suc place % 8 ≡ (place % 8 + 1) % 8 = omega arith in
     ap (λ row. slice_index (slice_index_or PERMUTATIONS row []) digit) row_is ∙ next_row (place % 8) digit (omega arith) is_digit ∙ table-permuted place (slice_index permutation digit) (permutation-lt digit is_digit)
+
+-- eight places further to the left a digit is permuted to the same
+pub permuted-eight : (place digit : ℕ) → digit < 10 → permuted (place + 8) digit ≡ permuted place digit
+permuted-eight place digit is_digit =
+    let row_is : (place + 8) % 8 ≡ place % 8 = omega arith in
+    sym (table-permuted (place + 8) digit is_digit) ∙ ap (λ row. slice_index (slice_index_or PERMUTATIONS row []) digit) row_is ∙ table-permuted place digit is_digit
+
+-- the table of pairs has the products of two digits' factors
+pub table-pair : (index pair : ℕ) → index < 4 → pair < 100 → slice_index (slice_index_or PAIR_PRODUCTS index []) pair ≡ times (permuted (2 * index) (pair % 10)) (permuted (2 * index + 1) (pair / 10))
+table-pair index pair index_in pair_in =
+    let row = passes_below_at 4 (λ x. passes_below 100 (λ y. slice_index (slice_index_or PAIR_PRODUCTS x []) y == times (permuted (2 * x) (y % 10)) (permuted (2 * x + 1) (y / 10)))) index refl index_in in
+    eqb-true _ _ (passes_below_at 100 (λ y. slice_index (slice_index_or PAIR_PRODUCTS index []) y == times (permuted (2 * index) (y % 10)) (permuted (2 * index + 1) (y / 10))) pair row pair_in)

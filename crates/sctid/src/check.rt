@@ -1,13 +1,11 @@
 //! The check digit: Verhoeff's scheme over the dihedral group of order 10 (Release File
 //! Specification, "Check-digit").
 
-ghost use Rattle.std.specs.Prelude.{◌≡◌, true};
-ghost use Rattle.std.specs.Char.{is_ascii_digit};
-ghost use Rattle.std.specs.List.{list_all};
-ghost use Rattle.sctid.specs.Identifier.{check_product};
+ghost use Rattle.std.specs.Prelude.{◌≡◌, ◌+◌, ◌*◌, ◌/◌, ◌%◌, ◌<◌};
+ghost use Rattle.sctid.specs.Identifier.{times, permuted};
 
-/// The products of the dihedral group of order 10: row `a`, column `b` has `a * b`.
-pub const PRODUCTS: [[u8; 10]; 10] = [
+// The products of the dihedral group of order 10: row `a`, column `b` has `a * b`.
+const PRODUCTS: [[u8; 10]; 10] = [
     [0, 1, 2, 3, 4, 5, 6, 7, 8, 9],
     [1, 2, 3, 4, 0, 6, 7, 8, 9, 5],
     [2, 3, 4, 0, 1, 7, 8, 9, 5, 6],
@@ -20,9 +18,9 @@ pub const PRODUCTS: [[u8; 10]; 10] = [
     [9, 8, 7, 6, 5, 4, 3, 2, 1, 0],
 ];
 
-/// How a digit is permuted before it enters the product: a row for each place counted from the
-/// right, modulo 8.
-pub const PERMUTATIONS: [[u8; 10]; 8] = [
+// How a digit is permuted before it enters the product: a row for each place counted from the
+// right, modulo 8.
+const PERMUTATIONS: [[u8; 10]; 8] = [
     [0, 1, 2, 3, 4, 5, 6, 7, 8, 9],
     [1, 5, 7, 6, 2, 8, 3, 0, 9, 4],
     [5, 8, 0, 3, 7, 9, 6, 1, 4, 2],
@@ -33,18 +31,62 @@ pub const PERMUTATIONS: [[u8; 10]; 8] = [
     [7, 0, 4, 6, 9, 1, 3, 2, 5, 8],
 ];
 
-/// The product of the permuted digits of a text of digits, the factor of the rightmost first. The
-/// text is read from the left, and each digit's factor goes in front of the product so far.
-pub fn check_product(text: &[u8]) -> u8
-    requires { list_all is_ascii_digit text.now ≡ true }
-    ensures { result ≡ check_product text.now }
+// The product of two permuted digits that stand side by side, the factor of the right one first: a
+// row for each even place of the right one, modulo 8, and in it an entry for each number that the two
+// can write.
+const PAIR_PRODUCTS: [[u8; 100]; 4] = [
+    [
+        1, 2, 3, 4, 0, 9, 5, 6, 7, 8, 5, 6, 7, 8, 9, 0, 1, 2, 3, 4, 7, 8, 9, 5, 6, 3, 4, 0, 1, 2,
+        6, 7, 8, 9, 5, 4, 0, 1, 2, 3, 2, 3, 4, 0, 1, 8, 9, 5, 6, 7, 8, 9, 5, 6, 7, 2, 3, 4, 0, 1,
+        3, 4, 0, 1, 2, 7, 8, 9, 5, 6, 0, 1, 2, 3, 4, 5, 6, 7, 8, 9, 9, 5, 6, 7, 8, 1, 2, 3, 4, 0,
+        4, 0, 1, 2, 3, 6, 7, 8, 9, 5,
+    ],
+    [
+        2, 0, 8, 6, 4, 1, 3, 9, 7, 5, 1, 4, 9, 7, 3, 0, 2, 5, 8, 6, 9, 7, 1, 4, 6, 8, 5, 2, 0, 3,
+        4, 2, 6, 9, 1, 3, 0, 7, 5, 8, 5, 8, 0, 3, 7, 9, 6, 1, 4, 2, 6, 9, 4, 2, 8, 5, 7, 0, 3, 1,
+        7, 5, 3, 1, 9, 6, 8, 4, 2, 0, 0, 3, 5, 8, 2, 4, 1, 6, 9, 7, 8, 6, 2, 0, 5, 7, 9, 3, 1, 4,
+        3, 1, 7, 5, 0, 2, 4, 8, 6, 9,
+    ],
+    [
+        5, 3, 6, 2, 0, 1, 7, 9, 8, 4, 7, 1, 8, 0, 3, 4, 9, 6, 5, 2, 1, 7, 2, 6, 9, 5, 3, 0, 4, 8,
+        3, 5, 4, 9, 7, 8, 0, 2, 1, 6, 4, 9, 0, 8, 6, 7, 1, 3, 2, 5, 2, 6, 3, 5, 8, 9, 4, 1, 0, 7,
+        6, 2, 7, 1, 4, 0, 8, 5, 9, 3, 0, 8, 1, 7, 5, 6, 2, 4, 3, 9, 9, 4, 5, 3, 1, 2, 6, 8, 7, 0,
+        8, 0, 9, 4, 2, 3, 5, 7, 6, 1,
+    ],
+    [
+        9, 0, 2, 5, 1, 7, 4, 6, 8, 3, 2, 7, 9, 3, 8, 0, 6, 4, 1, 5, 1, 8, 5, 2, 9, 4, 7, 3, 0, 6,
+        8, 1, 3, 9, 2, 6, 0, 5, 7, 4, 6, 3, 0, 7, 4, 9, 2, 8, 5, 1, 3, 6, 8, 4, 7, 1, 5, 0, 2, 9,
+        0, 9, 6, 1, 5, 3, 8, 2, 4, 7, 4, 5, 7, 0, 6, 2, 9, 1, 3, 8, 7, 2, 4, 8, 3, 5, 1, 9, 6, 0,
+        5, 4, 1, 6, 0, 8, 3, 7, 9, 2,
+    ],
+];
+
+/// The product of two elements of the dihedral group of order 10.
+pub fn times(a: u8, b: u8) -> u8
+    requires left { a < 10 }
+    requires right { b < 10 }
+    ensures product { result ≡ times a b }
+    ensures element { result < 10 }
 {
-    let mut product = 0u8;
-    let mut place = text.len();
-    for byte in text {
-        place -= 1;
-        let factor = PERMUTATIONS[place % 8][usize::from(*byte - b'0')];
-        product = PRODUCTS[usize::from(factor)][usize::from(product)];
-    }
-    product
+    PRODUCTS[usize::from(a)][usize::from(b)]
+}
+
+/// A digit, permuted as its place asks. Places are counted from the right.
+pub fn permuted(place: usize, digit: u8) -> u8
+    requires { digit < 10 }
+    ensures digit { result ≡ permuted place digit }
+    ensures element { result < 10 }
+{
+    PERMUTATIONS[place % 8][usize::from(digit)]
+}
+
+/// The product of two permuted digits that stand side by side, the factor of the right one first. They
+/// write the number `pair`, and the place of the right one is `2 * index`.
+pub fn pair_product(index: usize, pair: u8) -> u8
+    requires index { index < 4 }
+    requires pair { pair < 100 }
+    ensures product { result ≡ times (permuted (2 * index) (pair % 10)) (permuted (2 * index + 1) (pair / 10)) }
+    ensures element { result < 10 }
+{
+    PAIR_PRODUCTS[index][usize::from(pair)]
 }

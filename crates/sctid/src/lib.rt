@@ -5,18 +5,18 @@
 //! valid texts and names the first fault of any other.
 #![tactic(auto)]
 
-ghost use Rattle.std.specs.Prelude.{◌≡◌, ◌^◌, ◌<◌, ◌≤◌, true, None, Some, IfOk, IfErr, IfSome, is_some, length, decimal};
+ghost use Rattle.std.specs.Prelude.{◌≡◌, ◌^◌, ◌<◌, ◌≤◌, true, None, Some, IfOk, IfErr, length, decimal};
 ghost use Rattle.std.specs.Char.{is_ascii_digit};
 ghost use Rattle.std.specs.List.{list_all};
-ghost use Rattle.std.specs.Str.Parse.{digits_value};
 ghost use Rattle.sctid.specs.Identifier.{has_partition};
 
 mod check;
+mod digits;
 #[cfg(test)]
 mod tests;
 
 use arrayvec::ArrayVec;
-use check::check_product;
+use digits::read_digits;
 use std::marker::Model;
 use thiserror::Error;
 
@@ -105,7 +105,7 @@ impl SctId {
         if text.len() < 6 || text.len() > 18 {
             return Err(IdFault::Length);
         }
-        let Some(number) = read_digits(text) else {
+        let Some(digits) = read_digits(text) else {
             return Err(IdFault::Digit);
         };
         if text[0] == b'0' {
@@ -114,10 +114,12 @@ impl SctId {
         if !has_partition(text) {
             return Err(IdFault::Partition);
         }
-        if check_product(text) != 0 {
+        if digits.check_product != 0 {
             return Err(IdFault::Check);
         }
-        Ok(SctId { number })
+        Ok(SctId {
+            number: digits.number,
+        })
     }
 
     /// The kind of component that the identifier names.
@@ -148,23 +150,6 @@ impl SctId {
         digits.clear();
         let _ = digits.try_extend_from_slice(buffer.format(self.number).as_bytes());
     }
-}
-
-// The number that a text of at most 18 digits stands for, or `None` where a byte is no digit.
-fn read_digits(text: &[u8]) -> Option<u64>
-    requires { length text.now ≤ 18 }
-    ensures digits { is_some result ≡ list_all is_ascii_digit text.now }
-    ensures value { IfSome result (λ n. n ≡ digits_value 10 text.now) }
-    ensures small { IfSome result (λ n. n < 10 ^ 18) }
-{
-    let mut number = 0u64;
-    for byte in text {
-        if !byte.is_ascii_digit() {
-            return None;
-        }
-        number = number * 10 + u64::from(*byte - b'0');
-    }
-    Some(number)
 }
 
 // Whether the two digits before the last are a partition, and the long form has room for its

@@ -1,10 +1,13 @@
 use super::*;
 
 // What each text is parsed to: its part, or the number of its fault.
-const TEXTS: [(&[u8], Result<Part, IdFault>); 16] = [
+const TEXTS: [(&[u8], Result<Part, IdFault>); 21] = [
     (b"100005", Ok(Part::Concept)),
     (b"138875005", Ok(Part::Concept)),
     (b"116680003", Ok(Part::Concept)),
+    (b"73211009", Ok(Part::Concept)),
+    (b"731000124108", Ok(Part::Concept)),
+    (b"32506021000036107", Ok(Part::Concept)),
     (b"900000000000207008", Ok(Part::Concept)),
     (b"100014", Ok(Part::Description)),
     (b"122026", Ok(Part::Relationship)),
@@ -13,6 +16,8 @@ const TEXTS: [(&[u8], Result<Part, IdFault>); 16] = [
     (b"1234567890123456789", Err(IdFault::Length)),
     (b"10000a", Err(IdFault::Digit)),
     (b"+10005", Err(IdFault::Digit)),
+    (b"13887500:", Err(IdFault::Digit)),
+    (b"9/0000000000207008", Err(IdFault::Digit)),
     (b"010005", Err(IdFault::LeadingZero)),
     (b"100035", Err(IdFault::Partition)),
     (b"100105", Err(IdFault::Partition)),

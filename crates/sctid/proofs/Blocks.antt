@@ -1,0 +1,88 @@
+-- A text of digits, read from the left by what is in front of its whole blocks of eight, and then
+-- block by block.
+use Rattle.std.proofs.Common.{◌≡◌, ℕ, ◌+◌, ◌*◌, ◌/◌, ◌%◌, ◌<◌, ◌&&◌, zero, suc, true, false, List, [], ◌∷◌, ◌++◌, length, get_or, take, drop, length-drop, refl, sym, ap, ◌∙◌, arith}
+use Rattle.std.specs.Char.{is_ascii_digit}
+use Rattle.std.specs.List.{list_all}
+use Rattle.std.specs.Simd.{first_chunks}
+use Rattle.std.specs.Str.Parse.{digits_value, digits_value_after}
+use Rattle.std.proofs.Math.Seq.{take-add}
+use Rattle.std.proofs.lemmas.List.{take-append-drop, drop-drop, length-take-le}
+use Rattle.std.proofs.lemmas.List.Folds.{list_all-append}
+use Rattle.sctid.specs.Identifier.{times, check_product}
+use Rattle.sctid.proofs.Block.{text_of, digit_in_text, spelled}
+use Rattle.sctid.proofs.Product.{check_product-block}
+
+-- what was read of a text behind so many blocks
+abbrev pub so_far : List ℕ → ℕ → List ℕ
+so_far text i = take (length text % 8 + 8 * i) text
+
+-- the block at an index of a text
+abbrev pub block_at : List ℕ → ℕ → List ℕ
+block_at text i = take 8 (drop (8 * i) (drop (length text % 8) text))
+
+-- the chunks of a list, by their indices
+chunk_at : (k i : ℕ) (xs : List ℕ) → i < k → get_or (first_chunks 8 k xs) i [] ≡ take 8 (drop (8 * i) xs)
+chunk_at zero i xs within = absurd (omega arith)
+chunk_at (suc k) zero xs within = refl
+chunk_at (suc k) (suc i) xs within =
+    let next : 8 + 8 * i ≡ 8 * suc i = omega arith in
+    chunk_at k i (drop 8 xs) (omega arith) ∙ ap (take 8) (drop-drop (8 * i) 8 xs ∙ ap (λ n. drop n xs) next)
+
+pub block_is : (text : List ℕ) (blocks : List (List ℕ)) (i : ℕ) → i < length text / 8 → blocks ≡ first_chunks 8 (length text / 8) (drop (length text % 8) text) → get_or blocks i [] ≡ block_at text i
+block_is text blocks i within blocks_are =
+    ap (λ bs. get_or bs i []) blocks_are ∙ chunk_at (length text / 8) i (drop (length text % 8) text) within
+
+-- before the first block, what is in front is read
+pub front_is : (text front : List ℕ) → front ≡ take (length text % 8) text → so_far text 0 ≡ front
+front_is text front is =
+    let same : length text % 8 + 0 ≡ length text % 8 = omega arith in
+    ap (λ n. take n text) same ∙ sym is
+
+-- a block has eight bytes
+block_long : (text : List ℕ) (i : ℕ) → i < length text / 8 → length (block_at text i) ≡ 8
+block_long text i within =
+    let behind = length-drop (8 * i) (drop (length text % 8) text) in
+    let front = length-drop (length text % 8) text in
+    length-take-le 8 (drop (8 * i) (drop (length text % 8) text)) (omega arith)
+
+-- one more block is read
+so_far-more : (text : List ℕ) (i : ℕ) → so_far text (i + 1) ≡ so_far text i ++ block_at text i
+so_far-more text i =
+    let more : length text % 8 + 8 * (i + 1) ≡ (length text % 8 + 8 * i) + 8 = omega arith in
+    ap (λ n. take n text) more
+    ∙ take-add (length text % 8 + 8 * i) 8 text
+    ∙ ap (λ rest. so_far text i ++ take 8 rest) (sym (drop-drop (8 * i) (length text % 8) text))
+
+-- a text whose front is none of digits is none
+pub not_digits : (text : List ℕ) (n : ℕ) → list_all is_ascii_digit (take n text) ≡ false → list_all is_ascii_digit text ≡ false
+not_digits text n front =
+    ap (list_all is_ascii_digit) (sym (take-append-drop n text)) ∙ list_all-append is_ascii_digit (take n text) (drop n text) ∙ ap (λ b. b && list_all is_ascii_digit (drop n text)) front
+
+-- with one more block it is digits where the block is
+pub digits-block : (text : List ℕ) (i : ℕ) → list_all is_ascii_digit (so_far text i) ≡ true → list_all is_ascii_digit (so_far text (i + 1)) ≡ list_all is_ascii_digit (block_at text i)
+digits-block text i front =
+    ap (list_all is_ascii_digit) (so_far-more text i) ∙ list_all-append is_ascii_digit (so_far text i) (block_at text i) ∙ ap (λ b. b && list_all is_ascii_digit (block_at text i)) front
+
+-- the number goes on from what was read
+value_append : (left right : List ℕ) (n : ℕ) → digits_value_after 10 n (left ++ right) ≡ digits_value_after 10 (digits_value_after 10 n left) right
+value_append [] right n = refl
+value_append (byte ∷ left) right n = value_append left right _
+
+value_after : (n : ℕ) (digit : ℕ → ℕ) → digits_value_after 10 n (text_of digit) ≡ n * 100000000 + digits_value 10 (text_of digit)
+value_after n digit = omega arith
+
+pub value-block : (text : List ℕ) (i : ℕ) → i < length text / 8 → list_all is_ascii_digit (block_at text i) ≡ true →
+    digits_value 10 (so_far text (i + 1)) ≡ digits_value 10 (so_far text i) * 100000000 + digits_value 10 (block_at text i)
+value-block text i within digits =
+    let block_is = spelled (block_at text i) (block_long text i within) digits in
+    ap (digits_value 10) (so_far-more text i)
+    ∙ value_append (so_far text i) (block_at text i) 0
+    ∙ ap (digits_value_after 10 (digits_value 10 (so_far text i))) block_is
+    ∙ value_after (digits_value 10 (so_far text i)) (digit_in_text (block_at text i))
+    ∙ ap (λ block. digits_value 10 (so_far text i) * 100000000 + digits_value 10 block) (sym block_is)
+
+-- and the product
+pub product-block : (text : List ℕ) (i : ℕ) → i < length text / 8 → list_all is_ascii_digit (so_far text i) ≡ true → list_all is_ascii_digit (block_at text i) ≡ true →
+    check_product (so_far text (i + 1)) ≡ times (check_product (block_at text i)) (check_product (so_far text i))
+product-block text i within front digits =
+    ap check_product (so_far-more text i) ∙ check_product-block (so_far text i) (block_at text i) front digits (block_long text i within)

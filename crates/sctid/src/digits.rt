@@ -1,0 +1,103 @@
+//! What the digits of a text say: the number that they write and their check product, in one pass. The
+//! text is read in blocks of eight digits that end where it ends, and digit by digit in front of them.
+
+ghost use Rattle.std.specs.Prelude.{◌≡◌, ◌^◌, ◌<◌, ◌≤◌, true, IfSome, is_some, length};
+ghost use Rattle.std.specs.Char.{is_ascii_digit};
+ghost use Rattle.std.specs.List.{list_all};
+ghost use Rattle.std.specs.Str.Parse.{digits_value};
+ghost use Rattle.sctid.specs.Identifier.{check_product};
+
+use crate::check::{pair_product, permuted, times};
+
+/// What a text of digits says.
+#[derive(Clone, Copy)]
+pub struct Digits {
+    /// The number that the digits write.
+    pub number: u64,
+    /// The product of the permuted digits, the factor of the rightmost first.
+    pub check_product: u8,
+}
+
+/// Reads a text of at most 18 digits. It answers `None` where a byte is no digit.
+pub fn read_digits(text: &[u8]) -> Option<Digits>
+    requires { length text.now ≤ 18 }
+    ensures digits { is_some result ≡ list_all is_ascii_digit text.now }
+    ensures number { IfSome result (λ read. read.number ≡ digits_value 10 text.now) }
+    ensures small { IfSome result (λ read. read.number < 10 ^ 18) }
+    ensures product { IfSome result (λ read. read.check_product ≡ check_product text.now) }
+{
+    let (front, blocks) = text.as_rchunks::<8>();
+    let Some(mut read) = read_front(front) else {
+        return None;
+    };
+    // The places of eight digits are a whole round of the permutation, so that the product of what
+    // stands in front of a block is the same as without the block.
+    for block in blocks {
+        if !is_digits(block) {
+            return None;
+        }
+        let right = read_block(block);
+        read = Digits {
+            number: read.number * 100_000_000 + right.number,
+            check_product: times(right.check_product, read.check_product),
+        };
+    }
+    Some(read)
+}
+
+// Reads what stands in front of the blocks, digit by digit from the left. Each factor goes in front of
+// the product so far.
+fn read_front(text: &[u8]) -> Option<Digits>
+    requires { length text.now ≤ 18 }
+    ensures digits { is_some result ≡ list_all is_ascii_digit text.now }
+    ensures number { IfSome result (λ read. read.number ≡ digits_value 10 text.now) }
+    ensures product { IfSome result (λ read. read.check_product ≡ check_product text.now) }
+{
+    let mut number = 0u64;
+    let mut product = 0u8;
+    let mut place = text.len();
+    for byte in text {
+        if !byte.is_ascii_digit() {
+            return None;
+        }
+        place -= 1;
+        let digit = *byte - b'0';
+        number = number * 10 + u64::from(digit);
+        product = times(permuted(place, digit), product);
+    }
+    Some(Digits {
+        number,
+        check_product: product,
+    })
+}
+
+// Whether eight bytes are digits. It looks at each of them whatever the others are, so that it compiles
+// to a few steps for all of them.
+fn is_digits(block: &[u8; 8]) -> bool
+    ensures { result ≡ list_all is_ascii_digit block.now }
+{
+    let mut all = true;
+    for byte in block {
+        all &= byte.is_ascii_digit();
+    }
+    all
+}
+
+// Reads eight digits, by the numbers of four pairs.
+fn read_block(block: &[u8; 8]) -> Digits
+    requires { list_all is_ascii_digit block.now ≡ true }
+    ensures number { result.number ≡ digits_value 10 block.now }
+    ensures product { result.check_product ≡ check_product block.now }
+{
+    // A word has a digit in each byte, the leftmost in the lowest. Ten times the word, and the word
+    // moved down by a byte, add up to the number of a digit and its right neighbour in each byte.
+    let digits = u64::from_le_bytes(*block) - 0x3030_3030_3030_3030;
+    let [first, _, second, _, third, _, last, _] = (digits * 10 + digits / 0x100).to_le_bytes();
+    let left = times(pair_product(2, second), pair_product(3, first));
+    let right = times(pair_product(0, last), pair_product(1, third));
+    let front = u64::from(first) * 100 + u64::from(second);
+    Digits {
+        number: (front * 100 + u64::from(third)) * 100 + u64::from(last),
+        check_product: times(right, left),
+    }
+}
