@@ -1,7 +1,8 @@
 -- Attribute rows keep their values while the buffer of texts grows.
-use Rattle.std.proofs.Common.{ℕ, suc, ◌≡◌, ◌<◌, ◌+◌, ◌&&◌, List, [], ◌∷◌, ◌++◌, length, map, get_or, drop, All, sym, ◌∙◌, ap, refl, arith, length-append, append_assoc, drop-cons, Bool, true, false, cond}
+use Rattle.std.proofs.Common.{ℕ, suc, ◌≡◌, ◌&&◌, List, [], ◌∷◌, ◌++◌, map, get_or, All, ◌∙◌, ap, refl, arith, length-append}
 use Rattle.std.proofs.lemmas.List.{map-append}
 use Rattle.std.proofs.lemmas.List.Elements.{All-push}
+use Rattle.std.specs.Prelude.{filter}
 use Rattle.rf2_rows.specs.Release.{Attribute, Value, text_value}
 use Rattle.snapshot.specs.AttributesInside.{IsPlacedIn, IsWithinTexts, attribute_in, value_in}
 use Rattle.snapshot.specs.InForce.{has}
@@ -9,7 +10,7 @@ use Rattle.snapshot.specs.Kept.{attributes_among, is_value_among}
 use Rattle.snapshot.specs.declared.attributes.AttributeRow.{AttributeRow}
 use Rattle.snapshot.specs.declared.attributes.KeptValue.{KeptValue}
 use Rattle.snapshot.specs.declared.attributes.KeptValue.TheVariants.{Concept, Decimal, Other}
-use Rattle.snapshot.proofs.NameLemmas.{range-append}
+use Rattle.snapshot.proofs.NameLemmas.{map-filter, range-append}
 
 value-append : (texts more : List ℕ) (value : KeptValue) → IsWithinTexts texts value → value_in (texts ++ more) value ≡ value_in texts value
 value-append texts more (Concept concept) within = refl
@@ -49,29 +50,9 @@ attributes-push texts added grown rows items row value grew pushed placed is =
     ∙ (λ i. (ap (λ (all : List ℕ). map (attribute_in all) rows) grew ∙ attributes-append texts added rows placed) i
     ++ record { source = row.source; type_id = row.type_id; group = row.group; value = is i } ∷ [])
 
--- the attributes of some concepts from a row on
-attributes_among-next : (keys texts : List ℕ) (rows : List AttributeRow) (at : ℕ) (row : AttributeRow) → at < length rows → row ≡ get_or rows at row
-    → attributes_among keys (map (attribute_in texts) (drop at rows))
-    ≡ cond (has keys row.source && is_value_among keys (value_in texts row.value)) (attribute_in texts row ∷ attributes_among keys (map (attribute_in texts) (drop (at + 1) rows))) (attributes_among keys (map (attribute_in texts) (drop (at + 1) rows)))
-attributes_among-next keys texts rows at row within is =
-    let next : suc at ≡ at + 1 = omega arith in
-    ap (λ left. attributes_among keys (map (attribute_in texts) left)) (drop-cons rows at row within ∙ (λ i. sym is i ∷ drop (next i) rows))
-
--- a row of one of the concepts is added, another is not
-pub attributes_among-kept : (keys texts : List ℕ) (rows : List AttributeRow) (at : ℕ) (row : AttributeRow) (attributes : List Attribute) → at < length rows → row ≡ get_or rows at row
-    → (has keys row.source && is_value_among keys (value_in texts row.value)) ≡ true
-    → (attributes ++ attribute_in texts row ∷ []) ++ attributes_among keys (map (attribute_in texts) (drop (at + 1) rows))
-    ≡ attributes ++ attributes_among keys (map (attribute_in texts) (drop at rows))
-attributes_among-kept keys texts rows at row attributes within is own =
-    append_assoc attributes (attribute_in texts row ∷ []) (attributes_among keys (map (attribute_in texts) (drop (at + 1) rows)))
-    ∙ ap (λ left. attributes ++ left)
-    (ap (λ (b : Bool). cond b (attribute_in texts row ∷ attributes_among keys (map (attribute_in texts) (drop (at + 1) rows))) (attributes_among keys (map (attribute_in texts) (drop (at + 1) rows)))) (sym own)
-    ∙ sym (attributes_among-next keys texts rows at row within is))
-
-pub attributes_among-passed : (keys texts : List ℕ) (rows : List AttributeRow) (at : ℕ) (row : AttributeRow) (attributes : List Attribute) → at < length rows → row ≡ get_or rows at row
-    → (has keys row.source && is_value_among keys (value_in texts row.value)) ≡ false
-    → attributes ++ attributes_among keys (map (attribute_in texts) (drop (at + 1) rows)) ≡ attributes ++ attributes_among keys (map (attribute_in texts) (drop at rows))
-attributes_among-passed keys texts rows at row attributes within is other =
-    ap (λ left. attributes ++ left)
-    (ap (λ (b : Bool). cond b (attribute_in texts row ∷ attributes_among keys (map (attribute_in texts) (drop (at + 1) rows))) (attributes_among keys (map (attribute_in texts) (drop (at + 1) rows)))) (sym other)
-    ∙ sym (attributes_among-next keys texts rows at row within is))
+-- the rows that are left stand for the attributes that are left
+pub attributes-retained : (keys texts : List ℕ) (rows : List AttributeRow)
+    → map (attribute_in texts) (filter (λ (row : AttributeRow). has keys row.source && is_value_among keys (value_in texts row.value)) rows)
+    ≡ attributes_among keys (map (attribute_in texts) rows)
+attributes-retained keys texts rows =
+    map-filter (attribute_in texts) (λ (attribute : Attribute). has keys attribute.source && is_value_among keys attribute.value) rows

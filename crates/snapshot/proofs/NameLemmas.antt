@@ -1,9 +1,10 @@
 -- Name rows keep their texts while the buffer grows.
-use Rattle.std.proofs.Common.{ℕ, suc, ◌≡◌, ◌<◌, ◌≤◌, ◌+◌, ◌-◌, List, [], ◌∷◌, ◌++◌, length, map, get_or, take, drop, All, slice_range, sym, ◌∙◌, ap, subst, refl, arith, IsUtf8, IsCharBoundary, length-append, append_assoc, drop-cons, Bool, true, false, cond}
+use Rattle.std.proofs.Common.{ℕ, suc, ◌≡◌, ◌≤◌, ◌-◌, List, [], ◌∷◌, ◌++◌, length, map, get_or, take, drop, All, slice_range, sym, ◌∙◌, ap, subst, refl, arith, IsUtf8, IsCharBoundary, length-append, Bool, true, false, cond}
 use Rattle.std.proofs.lemmas.List.{take-append-le, drop-append-le, length-drop, map-append}
 use Rattle.std.proofs.lemmas.List.Elements.{All-push}
 use Rattle.std.proofs.lemmas.Str.{IsUtf8-append, IsUtf8-take, IsCharBoundary-from_take, IsCharBoundary-at_seam, IsCharBoundary-end}
 use Rattle.std.proofs.Math.Seq.{drop-append_seam, take-length}
+use Rattle.std.specs.Prelude.{filter}
 use Rattle.rf2_rows.specs.Release.{Name}
 use Rattle.snapshot.specs.InForce.{has}
 use Rattle.snapshot.specs.Kept.{names_among}
@@ -110,28 +111,17 @@ names-push id concept start middle end texts spoken named language term rows ite
     ∙ (λ i. (names-append (texts ++ language) term rows (all_placed-append texts language rows whole said placed) ∙ names-append texts language rows placed) i
     ++ last_name id concept texts language term i ∷ []))
 
--- the names of some concepts from a row on
-names_among-next : (keys texts : List ℕ) (rows : List NameRow) (at : ℕ) (row : NameRow) → at < length rows → row ≡ get_or rows at row
-    → names_among keys (map (name_in texts) (drop at rows))
-    ≡ cond (has keys row.concept) (name_in texts row ∷ names_among keys (map (name_in texts) (drop (at + 1) rows))) (names_among keys (map (name_in texts) (drop (at + 1) rows)))
-names_among-next keys texts rows at row within is =
-    let next : suc at ≡ at + 1 = omega arith in
-    ap (λ left. names_among keys (map (name_in texts) left)) (drop-cons rows at row within ∙ (λ i. sym is i ∷ drop (next i) rows))
+-- what a test of what rows stand for leaves of them
+pub map-filter : {X Y : Type 0} (f : X → Y) (test : Y → Bool) (xs : List X) → map f (filter (λ x. test (f x)) xs) ≡ filter test (map f xs)
+map-filter f test [] = refl
+map-filter f test (x ∷ xs) = by (test (f x)) (map-filter f test xs)
+  where
+    by : (b : Bool) → map f (filter (λ x. test (f x)) xs) ≡ filter test (map f xs)
+        → map f (cond b (x ∷ filter (λ x. test (f x)) xs) (filter (λ x. test (f x)) xs)) ≡ cond b (f x ∷ filter test (map f xs)) (filter test (map f xs))
+    by true rest = ap (λ ys. f x ∷ ys) rest
+    by false rest = rest
 
--- a row of one of the concepts is added, another is not
-pub names_among-kept : (keys texts : List ℕ) (rows : List NameRow) (at : ℕ) (row : NameRow) (names : List Name) → at < length rows → row ≡ get_or rows at row
-    → has keys row.concept ≡ true
-    → (names ++ name_in texts row ∷ []) ++ names_among keys (map (name_in texts) (drop (at + 1) rows)) ≡ names ++ names_among keys (map (name_in texts) (drop at rows))
-names_among-kept keys texts rows at row names within is own =
-    append_assoc names (name_in texts row ∷ []) (names_among keys (map (name_in texts) (drop (at + 1) rows)))
-    ∙ ap (λ left. names ++ left)
-    (ap (λ (b : Bool). cond b (name_in texts row ∷ names_among keys (map (name_in texts) (drop (at + 1) rows))) (names_among keys (map (name_in texts) (drop (at + 1) rows)))) (sym own)
-    ∙ sym (names_among-next keys texts rows at row within is))
-
-pub names_among-passed : (keys texts : List ℕ) (rows : List NameRow) (at : ℕ) (row : NameRow) (names : List Name) → at < length rows → row ≡ get_or rows at row
-    → has keys row.concept ≡ false
-    → names ++ names_among keys (map (name_in texts) (drop (at + 1) rows)) ≡ names ++ names_among keys (map (name_in texts) (drop at rows))
-names_among-passed keys texts rows at row names within is other =
-    ap (λ left. names ++ left)
-    (ap (λ (b : Bool). cond b (name_in texts row ∷ names_among keys (map (name_in texts) (drop (at + 1) rows))) (names_among keys (map (name_in texts) (drop (at + 1) rows)))) (sym other)
-    ∙ sym (names_among-next keys texts rows at row within is))
+-- the rows that are left stand for the names that are left
+pub names-retained : (keys texts : List ℕ) (rows : List NameRow)
+    → map (name_in texts) (filter (λ (row : NameRow). has keys row.concept) rows) ≡ names_among keys (map (name_in texts) rows)
+names-retained keys texts rows = map-filter (name_in texts) (λ (name : Name). has keys name.concept) rows

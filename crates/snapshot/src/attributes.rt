@@ -1,7 +1,7 @@
 //! Attribute rows in the order in which they were read, with the texts of their values in one buffer.
-ghost use Rattle.std.specs.Prelude.{ℕ, ◌≡◌, ◌&&◌, ◌++◌, ◌∷◌, List, [], All, IfOk, OnOk, length, map};
+ghost use Rattle.std.specs.Prelude.{ℕ, ◌≡◌, ◌&&◌, ◌++◌, ◌∷◌, List, [], IfOk, OnOk, length};
 ghost use Rattle.rf2_rows.specs.Rows.{value_lent};
-ghost use Rattle.snapshot.specs.AttributesInside.{IsPlacedIn, IsWithinTexts, attribute_in, value_in};
+ghost use Rattle.snapshot.specs.AttributesInside.{IsWithinTexts, value_in};
 ghost use Rattle.snapshot.specs.InForce.{has};
 ghost use Rattle.snapshot.specs.Kept.{attributes_among, is_value_among};
 
@@ -86,12 +86,12 @@ impl Attributes {
         Ok(())
     }
 
-    /// The rows of some concepts whose values are no concepts or among these, with no text beside
-    /// theirs.
-    pub fn among(&self, alloc: Global, concepts: &IndexSet<u64>) -> Result<Attributes, AllocError>
-        ensures { IfOk result (λ attributes. attributes ≡ attributes_among concepts.now.keys self.now) }
+    /// Leaves the rows of some concepts whose values are no concepts or among these. The texts of the
+    /// others stay in the buffer.
+    pub fn retain_among(&mut self, concepts: &IndexSet<u64>)
+        ensures { self.new ≡ attributes_among concepts.now.keys self.old }
     {
-        rows_among(alloc, self.texts.as_slice(), self.rows.as_slice(), concepts)
+        self.rows.retain(|row| is_row_among(concepts, row));
     }
 }
 
@@ -115,18 +115,6 @@ fn keep_value(texts: &mut Vec<u8>, value: &Value<'_>) -> Result<KeptValue, Alloc
     }
 }
 
-// A kept value, whose text is lent from the buffer.
-fn lent_value(texts: &[u8], value: KeptValue) -> Value<'_>
-    requires { IsWithinTexts texts.now value }
-    ensures { value_lent result ≡ value_in texts.now value }
-{
-    match value {
-        KeptValue::Concept(concept) => Value::Concept(concept),
-        KeptValue::Decimal(decimal) => Value::Decimal(decimal),
-        KeptValue::Other { start, end } => Value::Other(&texts[start..end]),
-    }
-}
-
 // Whether a row is of one of some concepts, and its value is no concept or one of them.
 fn is_row_among(concepts: &IndexSet<u64>, row: &AttributeRow) -> bool
     ensures { (texts : List ℕ) → result ≡ (has concepts.now.keys row.now.source && is_value_among concepts.now.keys (value_in texts row.now.value)) }
@@ -142,24 +130,4 @@ fn is_value_among(concepts: &IndexSet<u64>, value: KeptValue) -> bool
         KeptValue::Concept(concept) => concepts.contains(&concept.number()),
         KeptValue::Decimal(_) | KeptValue::Other { .. } => true,
     }
-}
-
-// The rows of some concepts whose values are no concepts or among these.
-fn rows_among(
-    alloc: Global,
-    texts: &[u8],
-    rows: &[AttributeRow],
-    concepts: &IndexSet<u64>,
-) -> Result<Attributes, AllocError>
-    requires { All (IsPlacedIn texts.now) rows.now }
-    ensures { IfOk result (λ attributes. attributes ≡ attributes_among concepts.now.keys (map (attribute_in texts.now) rows.now)) }
-{
-    let mut attributes = Attributes::new(alloc);
-    for row in rows {
-        if is_row_among(concepts, row) {
-            let value = lent_value(texts, row.value);
-            attributes.push(row.source, row.type_id, row.group, &value)?;
-        }
-    }
-    Ok(attributes)
 }

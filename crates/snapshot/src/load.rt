@@ -208,9 +208,9 @@ fn finish(alloc: Global, rows: Rows, language: String, files: u64) -> Result<Sna
             let lists = lists_among(
                 alloc,
                 &numbers,
-                &names,
+                names,
                 language.as_str(),
-                &attributes,
+                attributes,
                 member_ends.as_slice(),
             )?;
             let Lists {
@@ -255,22 +255,22 @@ struct Lists {
 fn lists_among(
     alloc: Global,
     numbers: &IndexSet<u64>,
-    names: &Names,
+    mut names: Names,
     language: &str,
-    attributes: &Attributes,
+    mut attributes: Attributes,
     member_ends: &[(SctId, SctId)],
 ) -> Result<Lists, AllocError>
-    requires few { length names.now < 2 ^ 32 }
+    requires few { length names < 2 ^ 32 }
     requires rising { IsStrictlyIncreasing numbers.now.keys }
     requires few_concepts { length numbers.now.keys < 2 ^ 32 }
-    ensures names { IfOk result (λ lists. lists.names ≡ names_among numbers.now.keys names.now) }
+    ensures names { IfOk result (λ lists. lists.names ≡ names_among numbers.now.keys names) }
     ensures first { IfOk result (λ lists. AreFirstPlaces language.now numbers.now.keys lists.names lists.names lists.first_names.items) }
-    ensures attributes { IfOk result (λ lists. lists.attributes ≡ attributes_among numbers.now.keys attributes.now) }
+    ensures attributes { IfOk result (λ lists. lists.attributes ≡ attributes_among numbers.now.keys attributes) }
     ensures members { IfOk result (λ lists. lists.members.items ≡ filter_map (numbered_row numbers.now.keys) member_ends.now) }
 {
-    let names = names.among(alloc, numbers)?;
+    names.retain_among(numbers);
+    attributes.retain_among(numbers);
     let first_names = names.first_places(alloc, numbers, language)?;
-    let attributes = attributes.among(alloc, numbers)?;
     let members = number_rows(alloc, numbers, member_ends)?;
     Ok(Lists {
         names,

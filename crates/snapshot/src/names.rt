@@ -95,11 +95,12 @@ impl Names {
         term_of(self.texts.as_str(), &self.rows[place])
     }
 
-    /// The rows of some concepts, with no text beside theirs.
-    pub fn among(&self, alloc: Global, concepts: &IndexSet<u64>) -> Result<Names, AllocError>
-        ensures { IfOk result (λ names. names ≡ names_among concepts.now.keys self.now) }
+    /// Leaves the rows of some concepts. The texts of the others stay in the buffer.
+    pub fn retain_among(&mut self, concepts: &IndexSet<u64>)
+        ensures { self.new ≡ names_among concepts.now.keys self.old }
     {
-        rows_among(alloc, self.texts.as_str(), self.rows.as_slice(), concepts)
+        self.rows
+            .retain(|row| concepts.contains(&row.concept.number()));
     }
 
     /// For each of some concepts the place of the row that names it in a language, if there is one.
@@ -138,26 +139,6 @@ fn term_of<'a>(texts: &'a str, row: &NameRow) -> &'a str
     ensures { result.now ≡ (name_in texts.now row.now).term }
 {
     &texts[row.term_start..row.term_end]
-}
-
-// The rows of some concepts.
-fn rows_among(
-    alloc: Global,
-    texts: &str,
-    rows: &[NameRow],
-    concepts: &IndexSet<u64>,
-) -> Result<Names, AllocError>
-    requires { All (IsPlaced texts.now) rows.now }
-    ensures { IfOk result (λ names. names ≡ names_among concepts.now.keys (map (name_in texts.now) rows.now)) }
-{
-    let mut names = Names::new(alloc);
-    for row in rows {
-        if concepts.contains(&row.concept.number()) {
-            let language = language_of(texts, row);
-            names.push(row.id, row.concept, language, term_of(texts, row))?;
-        }
-    }
-    Ok(names)
 }
 
 // Whether a row comes before another as a name in a language.

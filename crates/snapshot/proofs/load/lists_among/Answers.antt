@@ -6,6 +6,6 @@ use Rattle.snapshot.proofs.load.lists_among.Goals as goal
 pub first_places-requires-clause-few : goal.first_places-requires-clause-few
 first_places-requires-clause-few c =
     let keys = c.args.numbers.now.keys in
-    let same : length c.in_ok-names.names ≡ length (names_among keys c.args.names.now) = ap length c.in_ok-names.ensures in
-    let short : length (names_among keys c.args.names.now) ≤ length c.args.names.now = length-names_among keys c.args.names.now in
+    let same : length c.retain_among.new.self ≡ length (names_among keys c.args.names) = ap length c.retain_among.ensures in
+    let short : length (names_among keys c.args.names) ≤ length c.args.names = length-names_among keys c.args.names in
     omega (arith, c.requires.few)
