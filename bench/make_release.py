@@ -1,10 +1,11 @@
 #!/usr/bin/env python3
 """Makes a synthetic RF2 Snapshot release: FOLDER, and a scale of which 1.0 is about an International Edition
-(520,000 concept rows, 1.6 million descriptions, 3.3 million relationships). The same scale and seed always make
-the same release. Names, identifiers and the hierarchy are made up."""
+(520,000 concept rows, 1.6 million descriptions, 3.3 million relationships, 20,000 concrete values, 400,000 members of
+reference sets). The same scale and seed always make the same release. Names, identifiers and the hierarchy are made up."""
 import argparse
 import pathlib
 import random
+import uuid
 
 PRODUCT = ["0123456789", "1234067895", "2340178956", "3401289567", "4012395678",
            "5987604321", "6598710432", "7659821043", "8765932104", "9876543210"]
@@ -84,6 +85,23 @@ def write_relationships(path, concepts, rows, source):
             write(source.randint(0, 1), child, parent, source.randint(0, 3), concepts[1 + source.randrange(50)][0], source.choice((INFERRED, STATED)))
 
 
+def write_concrete_values(path, concepts, rows, source):
+    with open(path, "w", newline="") as file:
+        file.write("id\teffectiveTime\tactive\tmoduleId\tsourceId\tvalue\trelationshipGroup\ttypeId\tcharacteristicTypeId\tmodifierId\r\n")
+        for row in range(rows):
+            concept, kind = source.choice(concepts)[0], concepts[1 + source.randrange(50)][0]
+            value = f"#{source.randint(0, 999)}" + source.choice(("", f".{source.randint(0, 99):02}"))
+            file.write(f"{identifier(50_000_000 + 3 * row, '02')}\t20240101\t1\t{MODULE}\t{concept}\t{value}\t{source.randint(0, 3)}\t{kind}\t{INFERRED}\t{SOME}\r\n")
+
+
+def write_members(path, concepts, rows, source):
+    with open(path, "w", newline="") as file:
+        file.write("id\teffectiveTime\tactive\tmoduleId\trefsetId\treferencedComponentId\r\n")
+        for _ in range(rows):
+            member = uuid.UUID(int=source.getrandbits(128), version=4)
+            file.write(f"{member}\t20240101\t{source.randint(0, 1)}\t{MODULE}\t{concepts[1 + source.randrange(50)][0]}\t{source.choice(concepts)[0]}\r\n")
+
+
 def main():
     words = argparse.ArgumentParser(description=__doc__)
     words.add_argument("folder", type=pathlib.Path)
@@ -96,6 +114,8 @@ def main():
     write_concepts(asked.folder / "sct2_Concept_Snapshot_INT_20240101.txt", concepts)
     write_descriptions(asked.folder / "sct2_Description_Snapshot-en_INT_20240101.txt", concepts)
     write_relationships(asked.folder / "sct2_Relationship_Snapshot_INT_20240101.txt", concepts, int(3_300_000 * asked.scale), source)
+    write_concrete_values(asked.folder / "sct2_RelationshipConcreteValues_Snapshot_INT_20240101.txt", concepts, int(20_000 * asked.scale), source)
+    write_members(asked.folder / "der2_Refset_SimpleSnapshot_INT_20240101.txt", concepts, int(400_000 * asked.scale), source)
 
 
 if __name__ == "__main__":
