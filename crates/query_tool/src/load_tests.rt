@@ -449,3 +449,42 @@ fn joins_files_of_a_kind(rt: HostRuntime) -> Result<(), Fail> {
     assert!(rt; fault == Some(LoadFault::Duplicate { file: 1, line: 2 }));
     Ok(())
 }
+
+// A repeated identifier is found whatever the order of the rows, and the first repetition is told.
+#[test]
+fn finds_repeated_identifiers_in_any_order(rt: HostRuntime) -> Result<(), Fail> {
+    let alloc = rt.alloc();
+    let [a, b, c, d] = [
+        id(&rt, b"100005"),
+        id(&rt, b"101009"),
+        id(&rt, b"102002"),
+        id(&rt, b"103007"),
+    ];
+    let lists = [
+        ([a, b, c, d, d], 6),
+        ([a, b, c, d, b], 6),
+        ([d, c, b, a, d], 6),
+        ([b, d, a, c, c], 6),
+        ([b, d, a, c, d], 6),
+        ([b, d, d, b, a], 4),
+    ];
+    for (concepts, line) in lists {
+        let bytes = concept_file(alloc, &concepts)?;
+        let file = NamedBytes {
+            name: NAME,
+            bytes: bytes.as_slice(),
+        };
+        let fault = fault_of(alloc, &[file], Limits::standard());
+        assert!(rt;
+            fault == Some(LoadFault::Duplicate { file: 0, line }),
+            "{fault:?}"
+        );
+    }
+    let bytes = concept_file(alloc, &[b, d, a, c])?;
+    let file = NamedBytes {
+        name: NAME,
+        bytes: bytes.as_slice(),
+    };
+    assert!(rt; fault_of(alloc, &[file], Limits::standard()).is_none());
+    Ok(())
+}

@@ -5,6 +5,7 @@ mod attributes;
 mod components;
 mod cycle;
 mod fault;
+mod identifiers;
 mod laws;
 mod limits;
 mod load;

@@ -11,6 +11,7 @@ ghost use Rattle.rf2_rows.specs.Rows.{concrete_text, description_text};
 
 use crate::attributes::Attributes;
 use crate::fault::LoadFault;
+use crate::identifiers::Identifiers;
 use crate::limits::Limits;
 use crate::names::Names;
 use indexmap::IndexSet;
@@ -36,19 +37,19 @@ const FULLY_SPECIFIED_NAME: u64 = 900000000000003001;
 #[derive(Drop)]
 pub struct Rows {
     // the identifiers of all concept rows, in the order of the rows
-    concept_ids: IndexSet<u64>,
+    concept_ids: Identifiers,
     // those of the active ones
     active_concepts: Vec<SctId>,
     // the identifiers of all description rows
-    description_ids: IndexSet<u64>,
+    description_ids: Identifiers,
     // the active fully specified names
     names: Names,
     // the identifiers of all relationship rows
-    relationship_ids: IndexSet<u64>,
+    relationship_ids: Identifiers,
     // child and parent of the active, inferred is-a rows
     isa_ends: Vec<(SctId, SctId)>,
     // the identifiers of all rows of concrete values
-    concrete_ids: IndexSet<u64>,
+    concrete_ids: Identifiers,
     // the other active, inferred rows of both kinds of relationship
     attributes: Attributes,
     // the identifiers of all member rows
@@ -79,13 +80,13 @@ impl Rows {
         ensures { kept_in result ≡ nothing_kept }
     {
         Rows {
-            concept_ids: IndexSet::new(alloc),
+            concept_ids: Identifiers::new(alloc),
             active_concepts: Vec::new(alloc),
-            description_ids: IndexSet::new(alloc),
+            description_ids: Identifiers::new(alloc),
             names: Names::new(alloc),
-            relationship_ids: IndexSet::new(alloc),
+            relationship_ids: Identifiers::new(alloc),
             isa_ends: Vec::new(alloc),
-            concrete_ids: IndexSet::new(alloc),
+            concrete_ids: Identifiers::new(alloc),
             attributes: Attributes::new(alloc),
             member_ids: IndexSet::new(alloc),
             member_ends: Vec::new(alloc),
@@ -113,10 +114,10 @@ impl Rows {
         requires { rows_read (kept_in self.now) < 2 ^ 64 }
         ensures { result ≡ rows_read (kept_in self.now) }
     {
-        self.concept_ids.len() as u64
-            + self.description_ids.len() as u64
-            + self.relationship_ids.len() as u64
-            + self.concrete_ids.len() as u64
+        self.concept_ids.len()
+            + self.description_ids.len()
+            + self.relationship_ids.len()
+            + self.concrete_ids.len()
             + self.member_ids.len() as u64
     }
 
@@ -357,21 +358,21 @@ fn check_header(
 
 // Adds the identifier of a row to those of its kind, of which there may be `limit`.
 fn add_identifier(
-    ids: &mut IndexSet<u64>,
+    ids: &mut Identifiers,
     id: SctId,
     file: usize,
     line: u64,
     limit: u64,
 ) -> Result<(), LoadFault>
-    ensures clean { OnOk result (fault_of_id file line ids.old.keys limit id ≡ None) }
-    ensures added { OnOk result (ids.new.keys ≡ ids.old.keys ++ id ∷ []) }
-    ensures err { IfErr result (λ fault. IsFaultAt fault (fault_of_id file line ids.old.keys limit id)) }
+    ensures clean { OnOk result (fault_of_id file line ids.old limit id ≡ None) }
+    ensures added { OnOk result (ids.new ≡ ids.old ++ id ∷ []) }
+    ensures err { IfErr result (λ fault. IsFaultAt fault (fault_of_id file line ids.old limit id)) }
 {
     let is_new = ids.insert(id.number())?;
     if !is_new {
         return Err(LoadFault::Duplicate { file, line });
     }
-    if ids.len() as u64 > limit {
+    if ids.len() > limit {
         return Err(LoadFault::TooMany { file, line });
     }
     Ok(())
