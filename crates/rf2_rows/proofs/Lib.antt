@@ -4,5 +4,6 @@ pub mod HierarchyLemmas
 pub mod Identifiers
 pub mod PairLemmas
 pub mod Parts
+pub mod TabBits
 pub mod Texts
 pub mod Values

@@ -7,4 +7,5 @@ pub mod Pairs
 pub mod Parts
 pub mod Release
 pub mod Rows
+pub mod Tabs
 pub mod Values

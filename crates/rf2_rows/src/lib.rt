@@ -10,6 +10,7 @@ mod laws;
 mod read;
 mod row;
 mod split;
+mod tabs;
 #[cfg(test)]
 mod tests;
 mod value;

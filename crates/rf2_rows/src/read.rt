@@ -1,19 +1,15 @@
 //! Reading a line as a row.
-ghost use Rattle.std.specs.Prelude.{◌≡◌, ◌<◌, None, Some, IsNone, IfOk, IfErr, IfSome, length};
+ghost use Rattle.std.specs.Prelude.{◌≡◌, None, Some, IfOk, IfErr};
 ghost use Rattle.rf2_rows.specs.Parts.{texts_of};
-ghost use Rattle.rf2_rows.specs.Rows.{IsReading, IsReadingLent, fields_of, fields_fault, row_fault, concept_of, description_of, description_text, relationship_of, member_of, IsRow};
+ghost use Rattle.rf2_rows.specs.Rows.{IsReading, IsReadingLent, fields_fault, row_fault, concept_of, description_of, description_text, relationship_of, member_of, IsRow};
 
 use crate::concrete::read_concrete;
 use crate::fault::{RowCause, RowFault};
 use crate::fields::{component, fault, flag, group, hyphenated, identifier, text, time};
 use crate::kind::FileKind;
 use crate::row::{ConceptRow, DescriptionRow, MemberRow, RelationshipRow, Row};
-use crate::split::cut;
-use arrayvec::ArrayVec;
+use crate::tabs::cut_fields;
 use sctid::Part;
-
-// The fields of a line, as many as the widest kind has columns at the most.
-type Fields<'a> = ArrayVec<&'a [u8], 10>;
 
 /// Reads a line, without its end, as a row of a kind. A fault is the first: the number of fields,
 /// then the columns from left to right. The texts of a row are lent from the line. Takes no memory.
@@ -48,23 +44,6 @@ pub fn read_row<'a>(kind: FileKind, line: &'a [u8]) -> Result<Row<'a>, RowFault>
             Ok(Row::Member(row))
         }
     }
-}
-
-// The fields of a line between its tabs, or `None` where there are more than 10.
-fn cut_fields(line: &[u8]) -> Option<Fields<'_>>
-    ensures more { IsNone result → 10 < length (fields_of line.now) }
-    ensures fields { IfSome result (λ fields. texts_of fields.items ≡ fields_of line.now) }
-{
-    let mut fields = Fields::new();
-    let mut rest = Some(line);
-    while let Some(text) = rest {
-        let (field, behind) = cut(text, b'\t');
-        if fields.try_push(field).is_err() {
-            return None;
-        }
-        rest = behind;
-    }
-    Some(fields)
 }
 
 // The row of the Concept file that the fields of a line stand for.

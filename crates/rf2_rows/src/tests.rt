@@ -1,5 +1,6 @@
 //! Names of files, and lines of each kind.
 use super::*;
+use crate::tabs::cut_fields;
 use sctid::IdFault;
 use std::process::Abort;
 
@@ -637,5 +638,35 @@ fn numbers_the_causes(rt: HostRuntime) {
     ];
     for (cause, number) in causes {
         assert!(rt; cause.number() == number, "{cause}");
+    }
+}
+
+// One tab at each place of two blocks of 32 bytes, and lines of each length behind it.
+#[test]
+fn cuts_at_a_tab_anywhere(rt: HostRuntime) {
+    for first in 0..66usize {
+        for second in 0..66usize {
+            let mut line = [b'x'; 132];
+            line[first] = b'\t';
+            let line = line.get(..first + 1 + second).expect(&rt, "132 bytes");
+            let fields = cut_fields(line).expect(&rt, "two fields");
+            match fields.as_slice() {
+                [one, two] => assert!(rt;
+                    one.len() == first && two.len() == second,
+                    "{first} and {second}"
+                ),
+                _ => panic!(rt; "{first} and {second}"),
+            }
+        }
+    }
+}
+
+#[test]
+fn cuts_ten_fields_at_the_most(rt: HostRuntime) {
+    for length in 0..66usize {
+        let line = [b'\t'; 66];
+        let fields = cut_fields(&line[..length]).map(|fields| fields.len());
+        let expected = if length < 10 { Some(length + 1) } else { None };
+        assert!(rt; fields == expected, "{length}");
     }
 }

@@ -1,0 +1,13 @@
+use Rattle.std.proofs.Common.{◌≡◌, ◌-◌, ◌≤◌, ◌++◌, length}
+use Rattle.rf2_rows.specs.Parts.{texts_of}
+use Rattle.rf2_rows.specs.Rows.{fields_of}
+use Rattle.rf2_rows.specs.Tabs.{NoTab, parts_from}
+use Rattle.rf2_rows.proofs.tabs.cut_fields.Given as goal
+
+-- the fields so far and the parts that are left are the line's
+abbrev pub invariant-loop-looked : goal.invariant-loop-looked
+invariant-loop-looked l =
+    (l.start ≤ l.looked) × (l.start ≤ length l.line) × NoTab l.line l.start l.looked × (texts_of l.fields.items ++ parts_from l.line l.start ≡ fields_of l.line)
+
+abbrev pub decreases-loop-looked : goal.decreases-loop-looked
+decreases-loop-looked l = length l.line - l.looked

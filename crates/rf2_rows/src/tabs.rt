@@ -1,0 +1,100 @@
+//! Cutting a line at its tabs, 32 bytes at a time.
+ghost use Rattle.std.specs.Prelude.{◌≡◌, ◌+◌, ◌<◌, ◌≤◌, ◌++◌, length, IsNone, IfSome};
+ghost use Rattle.rf2_rows.specs.Parts.{texts_of};
+ghost use Rattle.rf2_rows.specs.Rows.{fields_of};
+ghost use Rattle.rf2_rows.specs.Tabs.{NoTab, parts_from, tab_bits, tabs_in};
+
+use arrayvec::ArrayVec;
+use std::simd::prelude::*;
+
+/// The fields of a line, as many as the widest kind has columns at the most.
+pub type Fields<'a> = ArrayVec<&'a [u8], 10>;
+
+/// The fields of a line between its tabs, or `None` where there are more than 10. Takes no memory.
+pub fn cut_fields(line: &[u8]) -> Option<Fields<'_>>
+    ensures more { IsNone result → 10 < length (fields_of line.now) }
+    ensures fields { IfSome result (λ fields. texts_of fields.items ≡ fields_of line.now) }
+{
+    let mut fields = Fields::new();
+    let mut start = 0;
+    let mut looked = 0;
+    while looked < line.len() {
+        let marks = tabs_from(line, looked);
+        start = push_ended(&mut fields, line, start, looked, marks)?;
+        looked += 32;
+    }
+    match fields.try_push(&line[start..]) {
+        Ok(()) => Some(fields),
+        Err(_) => None,
+    }
+}
+
+// Adds the fields that end at the tabs among 32 bytes of a line, which are marked, one bit to a byte.
+// Tells where the field behind them starts, or `None` where there is no room.
+#[inline]
+fn push_ended<'a>(
+    fields: &mut Fields<'a>,
+    line: &'a [u8],
+    start: usize,
+    from: usize,
+    marks: u64,
+) -> Option<usize>
+    requires ahead { start ≤ from }
+    requires in_line { from < length line.now }
+    requires marked { marks ≡ tabs_in line.now from (from + 32) }
+    requires clear { NoTab line.now start from }
+    ensures more { IsNone result → 10 < length (texts_of fields.old.items ++ parts_from line.now start) }
+    ensures parts { IfSome result (λ next. texts_of fields.new.items ++ parts_from line.now next ≡ texts_of fields.old.items ++ parts_from line.now start) }
+    ensures next { IfSome result (λ next. (next ≤ from + 32) × (next ≤ length line.now) × NoTab line.now next (from + 32)) }
+{
+    let mut start = start;
+    let mut place = from;
+    let mut left = marks;
+    while left != 0 {
+        let lane = left.trailing_zeros();
+        let end = place + lane as usize;
+        match fields.try_push(&line[start..end]) {
+            Ok(()) => {}
+            Err(_) => return None,
+        }
+        start = end + 1;
+        place = start;
+        left = left >> lane >> 1;
+    }
+    Some(start)
+}
+
+// The tabs among the next 32 bytes of a line, or as many as there are, one bit to a byte.
+#[inline]
+fn tabs_from(line: &[u8], from: usize) -> u64
+    requires { from < length line.now }
+    ensures { result ≡ tabs_in line.now from (from + 32) }
+{
+    let length = line.len();
+    if length - from >= 32 {
+        tabs(u8x32::from_slice(&line[from..]))
+    } else if length >= 32 {
+        // the last 32 bytes, without those that were looked at before
+        tabs(u8x32::from_slice(&line[length - 32..])) >> (from + 32 - length)
+    } else {
+        tabs_of_short(line) >> from
+    }
+}
+
+// The tabs of a line that is shorter than a block.
+fn tabs_of_short(line: &[u8]) -> u64
+    requires { length line.now < 32 }
+    ensures { result ≡ tab_bits line.now }
+{
+    let mut block = [0; 32];
+    block[..line.len()].copy_from_slice(line);
+    tabs(u8x32::from_array(block))
+}
+
+// The tabs among 32 bytes.
+#[inline]
+fn tabs(block: u8x32) -> u64
+    ensures { result ≡ tab_bits block }
+{
+    block.simd_eq(u8x32::splat(b'\t')).to_bitmask()
+}
