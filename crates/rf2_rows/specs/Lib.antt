@@ -5,6 +5,7 @@ pub mod Hierarchy
 pub mod Numbers
 pub mod Pairs
 pub mod Parts
+pub mod RecentInside
 pub mod Release
 pub mod Rows
 pub mod Tabs

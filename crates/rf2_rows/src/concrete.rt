@@ -9,13 +9,17 @@ ghost use Rattle.rf2_rows.specs.Values.{decimal_of, fraction_of, unsigned_of, va
 use crate::fault::{RowCause, RowFault};
 use crate::fields::{digits, fault, flag, group, identifier, text, time};
 use crate::kind::FileKind;
+use crate::recent::RecentConcepts;
 use crate::row::ConcreteRow;
 use crate::split::cut;
 use crate::value::{Decimal, Value};
 use sctid::Part;
 
 /// The row of the Relationship concrete values file that the fields of a line stand for.
-pub fn read_concrete<'a>(fields: &[&'a [u8]]) -> Result<ConcreteRow<'a>, RowFault>
+pub fn read_concrete<'a>(
+    recent: &mut RecentConcepts,
+    fields: &[&'a [u8]],
+) -> Result<ConcreteRow<'a>, RowFault>
     ensures { let texts = texts_of fields.now in
         IsReadingLent concrete_text (fields_fault FileKind.Concrete texts) (concrete_of texts) result }
 {
@@ -37,7 +41,7 @@ pub fn read_concrete<'a>(fields: &[&'a [u8]]) -> Result<ConcreteRow<'a>, RowFaul
     let id = identifier(id, Part::Relationship, 1)?;
     let effective_time = time(effective_time, 2)?;
     let active = flag(active, 3)?;
-    let module_id = identifier(module_id, Part::Concept, 4)?;
+    let module_id = recent.module.read(module_id, 4)?;
     let source_id = identifier(source_id, Part::Concept, 5)?;
     let value = match concrete_value(value, 6) {
         Ok(value) => value,
@@ -45,8 +49,8 @@ pub fn read_concrete<'a>(fields: &[&'a [u8]]) -> Result<ConcreteRow<'a>, RowFaul
     };
     let relationship_group = group(relationship_group, 7)?;
     let type_id = identifier(type_id, Part::Concept, 8)?;
-    let characteristic_type_id = identifier(characteristic_type_id, Part::Concept, 9)?;
-    let modifier_id = identifier(modifier_id, Part::Concept, 10)?;
+    let characteristic_type_id = recent.characteristic_type.read(characteristic_type_id, 9)?;
+    let modifier_id = recent.modifier.read(modifier_id, 10)?;
     Ok(ConcreteRow {
         id,
         effective_time,

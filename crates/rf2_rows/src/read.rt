@@ -7,47 +7,76 @@ use crate::concrete::read_concrete;
 use crate::fault::{RowCause, RowFault};
 use crate::fields::{component, fault, flag, group, hyphenated, identifier, text, time};
 use crate::kind::FileKind;
+use crate::recent::RecentConcepts;
 use crate::row::{ConceptRow, DescriptionRow, MemberRow, RelationshipRow, Row};
 use crate::tabs::cut_fields;
 use sctid::Part;
 
 /// Reads a line, without its end, as a row of a kind. A fault is the first: the number of fields,
 /// then the columns from left to right. The texts of a row are lent from the line. Takes no memory.
-#[tactic(auto, unfolding(crate::specs::Rows::row_fault, crate::specs::Rows::concept_row, crate::specs::Rows::description_row, crate::specs::Rows::relationship_row, crate::specs::Rows::concrete_row, crate::specs::Rows::member_row))]
 pub fn read_row<'a>(kind: FileKind, line: &'a [u8]) -> Result<Row<'a>, RowFault>
     ensures row { IfOk result (λ row. IsRow kind line.now row) }
     ensures accepted { IfOk result (λ _. row_fault kind line.now ≡ None) }
     ensures fault { IfErr result (λ fault. row_fault kind line.now ≡ Some fault) }
 {
-    let Some(fields) = cut_fields(line) else {
-        return Err(fault(RowCause::Fields, 0));
-    };
-    match kind {
-        FileKind::Concept => {
-            let row = read_concept(fields.as_slice())?;
-            Ok(Row::Concept(row))
+    RowReader::new().read_row(kind, line)
+}
+
+/// Reads lines as rows, one after another, as `read_row` does, and faster: in the columns in which
+/// most rows are alike, as that of the module, an identifier is not read again where its text is that
+/// of the row before.
+#[derive(Drop)]
+pub struct RowReader {
+    recent: RecentConcepts,
+}
+
+impl RowReader {
+    /// A reader that has read no row yet. Takes no memory.
+    pub fn new() -> RowReader {
+        RowReader {
+            recent: RecentConcepts::new(),
         }
-        FileKind::Description => match read_description(fields.as_slice()) {
-            Ok(row) => Ok(Row::Description(row)),
-            Err(fault) => Err(fault),
-        },
-        FileKind::Relationship => {
-            let row = read_relationship(fields.as_slice())?;
-            Ok(Row::Relationship(row))
-        }
-        FileKind::Concrete => match read_concrete(fields.as_slice()) {
-            Ok(row) => Ok(Row::Concrete(row)),
-            Err(fault) => Err(fault),
-        },
-        FileKind::Member => {
-            let row = read_member(fields.as_slice())?;
-            Ok(Row::Member(row))
+    }
+
+    /// Reads a line as `read_row` does. Takes no memory.
+    #[tactic(auto, unfolding(crate::specs::Rows::row_fault, crate::specs::Rows::concept_row, crate::specs::Rows::description_row, crate::specs::Rows::relationship_row, crate::specs::Rows::concrete_row, crate::specs::Rows::member_row))]
+    pub fn read_row<'a>(&mut self, kind: FileKind, line: &'a [u8]) -> Result<Row<'a>, RowFault>
+        ensures row { IfOk result (λ row. IsRow kind line.now row) }
+        ensures accepted { IfOk result (λ _. row_fault kind line.now ≡ None) }
+        ensures fault { IfErr result (λ fault. row_fault kind line.now ≡ Some fault) }
+    {
+        let Some(fields) = cut_fields(line) else {
+            return Err(fault(RowCause::Fields, 0));
+        };
+        let fields = fields.as_slice();
+        let recent = &mut self.recent;
+        match kind {
+            FileKind::Concept => {
+                let row = read_concept(recent, fields)?;
+                Ok(Row::Concept(row))
+            }
+            FileKind::Description => match read_description(recent, fields) {
+                Ok(row) => Ok(Row::Description(row)),
+                Err(fault) => Err(fault),
+            },
+            FileKind::Relationship => {
+                let row = read_relationship(recent, fields)?;
+                Ok(Row::Relationship(row))
+            }
+            FileKind::Concrete => match read_concrete(recent, fields) {
+                Ok(row) => Ok(Row::Concrete(row)),
+                Err(fault) => Err(fault),
+            },
+            FileKind::Member => {
+                let row = read_member(recent, fields)?;
+                Ok(Row::Member(row))
+            }
         }
     }
 }
 
 // The row of the Concept file that the fields of a line stand for.
-fn read_concept(fields: &[&[u8]]) -> Result<ConceptRow, RowFault>
+fn read_concept(recent: &mut RecentConcepts, fields: &[&[u8]]) -> Result<ConceptRow, RowFault>
     ensures { let texts = texts_of fields.now in
         IsReading (fields_fault FileKind.Concept texts) (concept_of texts) result }
 {
@@ -57,8 +86,8 @@ fn read_concept(fields: &[&[u8]]) -> Result<ConceptRow, RowFault>
     let id = identifier(id, Part::Concept, 1)?;
     let effective_time = time(effective_time, 2)?;
     let active = flag(active, 3)?;
-    let module_id = identifier(module_id, Part::Concept, 4)?;
-    let definition_status_id = identifier(definition_status_id, Part::Concept, 5)?;
+    let module_id = recent.module.read(module_id, 4)?;
+    let definition_status_id = recent.definition_status.read(definition_status_id, 5)?;
     Ok(ConceptRow {
         id,
         effective_time,
@@ -69,7 +98,10 @@ fn read_concept(fields: &[&[u8]]) -> Result<ConceptRow, RowFault>
 }
 
 // The row of the Description file that the fields of a line stand for.
-fn read_description<'a>(fields: &[&'a [u8]]) -> Result<DescriptionRow<'a>, RowFault>
+fn read_description<'a>(
+    recent: &mut RecentConcepts,
+    fields: &[&'a [u8]],
+) -> Result<DescriptionRow<'a>, RowFault>
     ensures { let texts = texts_of fields.now in
         IsReadingLent description_text (fields_fault FileKind.Description texts) (description_of texts) result }
 {
@@ -90,12 +122,12 @@ fn read_description<'a>(fields: &[&'a [u8]]) -> Result<DescriptionRow<'a>, RowFa
     let id = identifier(id, Part::Description, 1)?;
     let effective_time = time(effective_time, 2)?;
     let active = flag(active, 3)?;
-    let module_id = identifier(module_id, Part::Concept, 4)?;
+    let module_id = recent.module.read(module_id, 4)?;
     let concept_id = identifier(concept_id, Part::Concept, 5)?;
     let language_code = text(language_code, 6)?;
-    let type_id = identifier(type_id, Part::Concept, 7)?;
+    let type_id = recent.description_type.read(type_id, 7)?;
     let term = text(term, 8)?;
-    let case_significance_id = identifier(case_significance_id, Part::Concept, 9)?;
+    let case_significance_id = recent.case_significance.read(case_significance_id, 9)?;
     Ok(DescriptionRow {
         id,
         effective_time,
@@ -110,7 +142,10 @@ fn read_description<'a>(fields: &[&'a [u8]]) -> Result<DescriptionRow<'a>, RowFa
 }
 
 // The row of the Relationship file that the fields of a line stand for.
-fn read_relationship(fields: &[&[u8]]) -> Result<RelationshipRow, RowFault>
+fn read_relationship(
+    recent: &mut RecentConcepts,
+    fields: &[&[u8]],
+) -> Result<RelationshipRow, RowFault>
     ensures { let texts = texts_of fields.now in
         IsReading (fields_fault FileKind.Relationship texts) (relationship_of texts) result }
 {
@@ -132,13 +167,13 @@ fn read_relationship(fields: &[&[u8]]) -> Result<RelationshipRow, RowFault>
     let id = identifier(id, Part::Relationship, 1)?;
     let effective_time = time(effective_time, 2)?;
     let active = flag(active, 3)?;
-    let module_id = identifier(module_id, Part::Concept, 4)?;
+    let module_id = recent.module.read(module_id, 4)?;
     let source_id = identifier(source_id, Part::Concept, 5)?;
     let destination_id = identifier(destination_id, Part::Concept, 6)?;
     let relationship_group = group(relationship_group, 7)?;
     let type_id = identifier(type_id, Part::Concept, 8)?;
-    let characteristic_type_id = identifier(characteristic_type_id, Part::Concept, 9)?;
-    let modifier_id = identifier(modifier_id, Part::Concept, 10)?;
+    let characteristic_type_id = recent.characteristic_type.read(characteristic_type_id, 9)?;
+    let modifier_id = recent.modifier.read(modifier_id, 10)?;
     Ok(RelationshipRow {
         id,
         effective_time,
@@ -154,7 +189,7 @@ fn read_relationship(fields: &[&[u8]]) -> Result<RelationshipRow, RowFault>
 }
 
 // The row of a simple reference set file that the fields of a line stand for.
-fn read_member(fields: &[&[u8]]) -> Result<MemberRow, RowFault>
+fn read_member(recent: &mut RecentConcepts, fields: &[&[u8]]) -> Result<MemberRow, RowFault>
     ensures { let texts = texts_of fields.now in
         IsReading (fields_fault FileKind.Member texts) (member_of texts) result }
 {
@@ -172,7 +207,7 @@ fn read_member(fields: &[&[u8]]) -> Result<MemberRow, RowFault>
     let id = hyphenated(id, 1)?;
     let effective_time = time(effective_time, 2)?;
     let active = flag(active, 3)?;
-    let module_id = identifier(module_id, Part::Concept, 4)?;
+    let module_id = recent.module.read(module_id, 4)?;
     let refset_id = identifier(refset_id, Part::Concept, 5)?;
     let referenced_component_id = component(referenced_component_id, 6)?;
     Ok(MemberRow {

@@ -670,3 +670,88 @@ fn cuts_ten_fields_at_the_most(rt: HostRuntime) {
         assert!(rt; fields == expected, "{length}");
     }
 }
+
+// The module and the definition status of each line, or its fault, read by one reader in turn.
+#[test]
+fn reads_concepts_in_turn(rt: HostRuntime) {
+    let fault = |cause, column| Err(RowFault { cause, column });
+    let check = RowCause::Id(IdFault::Check);
+    let rows = [
+        (
+            b"100005\t20240101\t1\t900000000000207008\t900000000000074008".as_slice(),
+            Ok((900000000000207008, 900000000000074008)),
+        ),
+        (
+            b"101009\t20240101\t1\t900000000000207008\t900000000000073002",
+            Ok((900000000000207008, 900000000000073002)),
+        ),
+        (
+            b"102002\t20240101\t1\t900000000000012004\t900000000000073002",
+            Ok((900000000000012004, 900000000000073002)),
+        ),
+        (
+            b"103007\t20240101\t1\t900000000000012005\t900000000000073002",
+            fault(check, 4),
+        ),
+        (
+            b"104001\t20240101\t1\t9000000000000120044\t900000000000073002",
+            fault(RowCause::Id(IdFault::Length), 4),
+        ),
+        (
+            b"105000\t20240101\t1\t900000000000012004\t900000000000073003",
+            fault(check, 5),
+        ),
+        (
+            b"106004\t20240101\t1\t\t900000000000073002",
+            fault(RowCause::Id(IdFault::Length), 4),
+        ),
+        (
+            b"107008\t20240101\t1\t900000000000012004\t900000000000074008",
+            Ok((900000000000012004, 900000000000074008)),
+        ),
+    ];
+    let mut reader = RowReader::new();
+    for (line, expected) in rows {
+        let found = match reader.read_row(FileKind::Concept, line) {
+            Ok(Row::Concept(row)) => Ok((
+                row.module_id.number(),
+                row.definition_status_id.number(),
+            )),
+            Ok(_) => panic!(rt; "a row of another kind"),
+            Err(fault) => Err(fault),
+        };
+        assert!(rt; found == expected, "{found:?} in place of {expected:?}");
+    }
+}
+
+// The same of the characteristic type and the modifier of relationships.
+#[test]
+fn reads_relationships_in_turn(rt: HostRuntime) {
+    let rows = [
+        (
+            b"100022\t20240101\t1\t900000000000207008\t100005\t138875005\t0\t116680003\t900000000000011006\t900000000000451002".as_slice(),
+            (900000000000011006, 900000000000451002),
+        ),
+        (
+            b"101021\t20240101\t1\t900000000000207008\t100005\t138875005\t0\t116680003\t900000000000010007\t900000000000451002",
+            (900000000000010007, 900000000000451002),
+        ),
+        (
+            b"102025\t20240101\t1\t900000000000207008\t100005\t138875005\t0\t116680003\t900000000000011006\t900000000000450001",
+            (900000000000011006, 900000000000450001),
+        ),
+    ];
+    let mut reader = RowReader::new();
+    for (line, expected) in rows {
+        match reader.read_row(FileKind::Relationship, line) {
+            Ok(Row::Relationship(row)) => {
+                let found = (
+                    row.characteristic_type_id.number(),
+                    row.modifier_id.number(),
+                );
+                assert!(rt; found == expected, "{found:?} in place of {expected:?}");
+            }
+            _ => panic!(rt; "no relationship"),
+        }
+    }
+}

@@ -17,8 +17,8 @@ use crate::names::Names;
 use indexmap::IndexSet;
 use release_files::{Line, Lines, NamedBytes};
 use rf2_rows::{
-    ConceptRow, ConcreteRow, DescriptionRow, FileKind, MemberRow, RelationshipRow, Row, Value,
-    file_kind, header, read_row,
+    ConceptRow, ConcreteRow, DescriptionRow, FileKind, MemberRow, RelationshipRow, Row, RowReader,
+    Value, file_kind, header,
 };
 use sctid::SctId;
 use std::alloc::{AllocError, Global};
@@ -36,6 +36,8 @@ const FULLY_SPECIFIED_NAME: u64 = 900000000000003001;
 /// What is kept of the rows read so far.
 #[derive(Drop)]
 pub struct Rows {
+    // what reads the lines as rows
+    reader: RowReader,
     // the identifiers of all concept rows, in the order of the rows
     concept_ids: Identifiers,
     // those of the active ones
@@ -80,6 +82,7 @@ impl Rows {
         ensures { kept_in result ≡ nothing_kept }
     {
         Rows {
+            reader: RowReader::new(),
             concept_ids: Identifiers::new(alloc),
             active_concepts: Vec::new(alloc),
             description_ids: Identifiers::new(alloc),
@@ -198,7 +201,7 @@ impl Rows {
         if line.bytes.is_empty() {
             return Ok(());
         }
-        match read_row(kind, line.bytes) {
+        match self.reader.read_row(kind, line.bytes) {
             Ok(Row::Concept(row)) => self.add_concept(file, number, row, limits),
             Ok(Row::Description(row)) => self.add_description(file, number, &row, limits),
             Ok(Row::Relationship(row)) => self.add_relationship(file, number, row, limits),
