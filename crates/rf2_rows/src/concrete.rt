@@ -9,7 +9,7 @@ ghost use Rattle.rf2_rows.specs.Values.{decimal_of, fraction_of, unsigned_of, va
 use crate::fault::{RowCause, RowFault};
 use crate::fields::{digits, fault, flag, group, identifier, text, time};
 use crate::kind::FileKind;
-use crate::recent::RecentConcepts;
+use crate::recent_concepts::RecentConcepts;
 use crate::row::ConcreteRow;
 use crate::split::cut;
 use crate::value::{Decimal, Value};
@@ -41,7 +41,7 @@ pub fn read_concrete<'a>(
     let id = identifier(id, Part::Relationship, 1)?;
     let effective_time = time(effective_time, 2)?;
     let active = flag(active, 3)?;
-    let module_id = recent.module.read(module_id, 4)?;
+    let module_id = recent.module_id.read(module_id, 4)?;
     let source_id = identifier(source_id, Part::Concept, 5)?;
     let value = match concrete_value(value, 6) {
         Ok(value) => value,
@@ -49,8 +49,10 @@ pub fn read_concrete<'a>(
     };
     let relationship_group = group(relationship_group, 7)?;
     let type_id = identifier(type_id, Part::Concept, 8)?;
-    let characteristic_type_id = recent.characteristic_type.read(characteristic_type_id, 9)?;
-    let modifier_id = recent.modifier.read(modifier_id, 10)?;
+    let characteristic_type_id = recent
+        .characteristic_type_id
+        .read(characteristic_type_id, 9)?;
+    let modifier_id = recent.modifier_id.read(modifier_id, 10)?;
     Ok(ConcreteRow {
         id,
         effective_time,

@@ -9,6 +9,7 @@ mod kind;
 mod laws;
 mod read;
 mod recent;
+mod recent_concepts;
 mod row;
 mod split;
 mod tabs;

@@ -1,13 +1,14 @@
 //! Reading a line as a row.
 ghost use Rattle.std.specs.Prelude.{◌≡◌, None, Some, IfOk, IfErr};
 ghost use Rattle.rf2_rows.specs.Parts.{texts_of};
+ghost use Rattle.rf2_rows.specs.NothingRecent.{nothing_recent};
 ghost use Rattle.rf2_rows.specs.Rows.{IsReading, IsReadingLent, fields_fault, row_fault, concept_of, description_of, description_text, relationship_of, member_of, IsRow};
 
 use crate::concrete::read_concrete;
 use crate::fault::{RowCause, RowFault};
 use crate::fields::{component, fault, flag, group, hyphenated, identifier, text, time};
 use crate::kind::FileKind;
-use crate::recent::RecentConcepts;
+use crate::recent_concepts::RecentConcepts;
 use crate::row::{ConceptRow, DescriptionRow, MemberRow, RelationshipRow, Row};
 use crate::tabs::cut_fields;
 use sctid::Part;
@@ -32,7 +33,9 @@ pub struct RowReader {
 
 impl RowReader {
     /// A reader that has read no row yet. Takes no memory.
-    pub fn new() -> RowReader {
+    pub fn new() -> RowReader
+        ensures { result.recent ≡ nothing_recent }
+    {
         RowReader {
             recent: RecentConcepts::new(),
         }
@@ -86,8 +89,8 @@ fn read_concept(recent: &mut RecentConcepts, fields: &[&[u8]]) -> Result<Concept
     let id = identifier(id, Part::Concept, 1)?;
     let effective_time = time(effective_time, 2)?;
     let active = flag(active, 3)?;
-    let module_id = recent.module.read(module_id, 4)?;
-    let definition_status_id = recent.definition_status.read(definition_status_id, 5)?;
+    let module_id = recent.module_id.read(module_id, 4)?;
+    let definition_status_id = recent.definition_status_id.read(definition_status_id, 5)?;
     Ok(ConceptRow {
         id,
         effective_time,
@@ -122,12 +125,12 @@ fn read_description<'a>(
     let id = identifier(id, Part::Description, 1)?;
     let effective_time = time(effective_time, 2)?;
     let active = flag(active, 3)?;
-    let module_id = recent.module.read(module_id, 4)?;
+    let module_id = recent.module_id.read(module_id, 4)?;
     let concept_id = identifier(concept_id, Part::Concept, 5)?;
     let language_code = text(language_code, 6)?;
-    let type_id = recent.description_type.read(type_id, 7)?;
+    let type_id = recent.description_type_id.read(type_id, 7)?;
     let term = text(term, 8)?;
-    let case_significance_id = recent.case_significance.read(case_significance_id, 9)?;
+    let case_significance_id = recent.case_significance_id.read(case_significance_id, 9)?;
     Ok(DescriptionRow {
         id,
         effective_time,
@@ -167,13 +170,15 @@ fn read_relationship(
     let id = identifier(id, Part::Relationship, 1)?;
     let effective_time = time(effective_time, 2)?;
     let active = flag(active, 3)?;
-    let module_id = recent.module.read(module_id, 4)?;
+    let module_id = recent.module_id.read(module_id, 4)?;
     let source_id = identifier(source_id, Part::Concept, 5)?;
     let destination_id = identifier(destination_id, Part::Concept, 6)?;
     let relationship_group = group(relationship_group, 7)?;
     let type_id = identifier(type_id, Part::Concept, 8)?;
-    let characteristic_type_id = recent.characteristic_type.read(characteristic_type_id, 9)?;
-    let modifier_id = recent.modifier.read(modifier_id, 10)?;
+    let characteristic_type_id = recent
+        .characteristic_type_id
+        .read(characteristic_type_id, 9)?;
+    let modifier_id = recent.modifier_id.read(modifier_id, 10)?;
     Ok(RelationshipRow {
         id,
         effective_time,
@@ -207,7 +212,7 @@ fn read_member(recent: &mut RecentConcepts, fields: &[&[u8]]) -> Result<MemberRo
     let id = hyphenated(id, 1)?;
     let effective_time = time(effective_time, 2)?;
     let active = flag(active, 3)?;
-    let module_id = recent.module.read(module_id, 4)?;
+    let module_id = recent.module_id.read(module_id, 4)?;
     let refset_id = identifier(refset_id, Part::Concept, 5)?;
     let referenced_component_id = component(referenced_component_id, 6)?;
     Ok(MemberRow {

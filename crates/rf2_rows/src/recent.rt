@@ -63,27 +63,3 @@ impl Recent {
         Ok(concept)
     }
 }
-
-/// The concepts that the columns had last in which most rows are alike.
-#[derive(Drop)]
-pub struct RecentConcepts {
-    pub module: Recent,
-    pub definition_status: Recent,
-    pub description_type: Recent,
-    pub case_significance: Recent,
-    pub characteristic_type: Recent,
-    pub modifier: Recent,
-}
-
-impl RecentConcepts {
-    pub fn new() -> RecentConcepts {
-        RecentConcepts {
-            module: Recent::new(),
-            definition_status: Recent::new(),
-            description_type: Recent::new(),
-            case_significance: Recent::new(),
-            characteristic_type: Recent::new(),
-            modifier: Recent::new(),
-        }
-    }
-}

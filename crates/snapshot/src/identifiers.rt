@@ -67,6 +67,7 @@ impl Identifiers {
 fn is_above(rising: &[u64], id: u64) -> bool
     requires { IsStrictlyIncreasing rising.now }
     ensures rises { IsTrue result → IsStrictlyIncreasing (rising.now ++ id ∷ []) }
+    ensures only { IsStrictlyIncreasing (rising.now ++ id ∷ []) → IsTrue result }
     ensures new { IsTrue result → has rising.now id ≡ false }
 {
     match rising.last() {
