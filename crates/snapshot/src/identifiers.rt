@@ -7,9 +7,9 @@ use indexmap::IndexSet;
 use std::alloc::{AllocError, Global};
 use std::marker::Model;
 
-/// Identifiers in the order in which they were added, each once. The files of a release are mostly
-/// in the rising order of their identifiers: so far, each need only be compared with the one before.
-/// From the first that does not rise on, they are in a table. Contracts see the list of them.
+/// Identifiers in the order in which they were added, each once. As long as they rise, each need
+/// only be compared with the one before. From the first that does not rise on, they are in a table.
+/// Contracts see the list of them.
 #[derive(Drop)]
 pub struct Identifiers {
     // those before the first that does not rise
