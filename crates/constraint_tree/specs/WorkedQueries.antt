@@ -2,9 +2,9 @@
 -- computing. Above each query stands its text, with numbers in place of names.
 use Rattle.std.specs.Prelude.{ℕ, ℤ, pos, ◌≡◌, false, true, Some, None, List, [], ◌∷◌}
 use Rattle.constraint_tree.specs.declared.operator.Cardinality.{Cardinality}
-use Rattle.constraint_tree.specs.declared.operator.Compare.TheVariants.{Equal, NotEqual, Less, Greater}
-use Rattle.constraint_tree.specs.declared.operator.Operator.TheVariants.{Descendants, DescendantsOrSelf, Children, Ancestors, Parents, ParentsOrSelf, Top, Bottom}
-use Rattle.constraint_tree.specs.Tree.{Tree, concept_tree, any_tree, walk_tree, member_tree, and_tree, or_tree, dotted_tree, refined_tree, trees_from, one_refinement, group_refinement, and_refinement, refinements_from, AttributeSetTree, one_set, and_set, or_set, sets_from, AttributeTree, attribute_tree, TestTree, within_test, outside_test, number_test}
+use Rattle.constraint_tree.specs.declared.operator.Compare.TheVariants.{Equal, NotEqual, Less, LessOrEqual, Greater, GreaterOrEqual}
+use Rattle.constraint_tree.specs.declared.operator.Operator.TheVariants.{Descendants, DescendantsOrSelf, Children, ChildrenOrSelf, Ancestors, AncestorsOrSelf, Parents, ParentsOrSelf, Top, Bottom}
+use Rattle.constraint_tree.specs.Tree.{Tree, concept_tree, any_tree, walk_tree, member_tree, and_tree, or_tree, minus_tree, dotted_tree, refined_tree, trees_from, one_refinement, group_refinement, and_refinement, or_refinement, refinements_from, AttributeSetTree, one_set, and_set, or_set, sets_from, AttributeTree, attribute_tree, TestTree, within_test, outside_test, number_test}
 use Rattle.constraint_tree.specs.Denotation.{denotation}
 use Rattle.constraint_tree.specs.Sample.{sample, sample_concepts, alpha, beta, gamma, delta, type_t, type_u, value_x, value_y, reference_set, root}
 
@@ -202,6 +202,40 @@ GivesNumbers =
     × Gives (with_attribute any_tree (has type_u (number_test Equal two_and_a_half))) (gamma ∷ [])
     × Gives (with_attribute any_tree (has type_u (number_test Less two_point_six))) (gamma ∷ [])
 
+-- a bound that is met, and one that is not
+-- *:105000<=#2.5
+-- *:105000<#2.5
+-- *:105000>=#2.5
+-- *:105000>=#2.6
+abbrev pub GivesBounds : Type 0
+GivesBounds =
+    Gives (with_attribute any_tree (has type_u (number_test LessOrEqual two_and_a_half))) (gamma ∷ [])
+    × Gives (with_attribute any_tree (has type_u (number_test Less two_and_a_half))) []
+    × Gives (with_attribute any_tree (has type_u (number_test GreaterOrEqual two_and_a_half))) (gamma ∷ delta ∷ [])
+    × Gives (with_attribute any_tree (has type_u (number_test GreaterOrEqual two_point_six))) (delta ∷ [])
+
+-- what is in the first and not in the second
+-- <<100005 MINUS 101009
+-- <<100005 MINUS <<101009
+-- 101009 MINUS <<100005
+abbrev pub GivesDifferences : Type 0
+GivesDifferences =
+    Gives (minus_tree alpha_or_below (concept_tree beta)) (alpha ∷ gamma ∷ delta ∷ [])
+    × Gives (minus_tree alpha_or_below (self_or_descendants_of beta)) (alpha ∷ gamma ∷ [])
+    × Gives (minus_tree (concept_tree beta) alpha_or_below) []
+
+-- either of two attributes is enough, and both are not asked for
+-- <100005:105000=#3 OR 104001=106004
+-- <100005:105000=#3 OR 105000=#2
+abbrev pub either_of : AttributeTree → AttributeTree → Tree
+either_of first second =
+    refined_tree below_alpha (or_refinement (refinements_from (one_refinement first ∷ one_refinement second ∷ [])))
+
+abbrev pub GivesEither : Type 0
+GivesEither =
+    Gives (either_of (has type_u (number_test Equal three)) (has type_t (within_test (concept_tree value_x)))) (beta ∷ gamma ∷ delta ∷ [])
+    × Gives (either_of (has type_u (number_test Equal three)) (has type_u (number_test Equal two))) (delta ∷ [])
+
 -- !!>(100005 OR 103007)
 abbrev pub alpha_or_delta : Tree
 alpha_or_delta = some_of (concept_tree alpha ∷ concept_tree delta ∷ [])
@@ -223,6 +257,8 @@ parents_query = walk_tree Parents (concept_tree delta)
 -- >103007
 -- >!103007
 -- <!138875005
+-- <<!100005
+-- >>103007
 -- >>!107008
 abbrev pub GivesWalks : Type 0
 GivesWalks =
@@ -232,6 +268,8 @@ GivesWalks =
     × Gives ancestors_query (alpha ∷ beta ∷ gamma ∷ root ∷ [])
     × Gives parents_query (beta ∷ gamma ∷ [])
     × Gives (walk_tree Children (concept_tree root)) (alpha ∷ type_t ∷ type_u ∷ value_x ∷ reference_set ∷ [])
+    × Gives (walk_tree ChildrenOrSelf (concept_tree alpha)) (alpha ∷ beta ∷ gamma ∷ [])
+    × Gives (walk_tree AncestorsOrSelf (concept_tree delta)) (alpha ∷ beta ∷ gamma ∷ delta ∷ root ∷ [])
     × Gives (walk_tree ParentsOrSelf (concept_tree value_y)) (value_x ∷ value_y ∷ [])
 
 -- <<(101009 AND 102002)

@@ -1,7 +1,7 @@
 //! Laws about the definitions of this crate: functions that do nothing, each with laws as its contract.
 ghost use Rattle.constraint_tree.specs.Denotation.{DenotesConceptsInForce};
 ghost use Rattle.constraint_tree.specs.Walks.{TellsInForce, TellsChild, TellsBelow, TellsAbove};
-ghost use Rattle.constraint_tree.specs.WorkedQueries.{GivesEverything, GivesDescendants, GivesBraces, GivesDistinctPairs, GivesBraceCounts, GivesNoneInBraces, GivesReverse, GivesDotted, GivesNotEqual, GivesRowsInForce, GivesNumbers, GivesWalks, GivesOperands, GivesEmptyAnswers};
+ghost use Rattle.constraint_tree.specs.WorkedQueries.{GivesEverything, GivesDescendants, GivesBraces, GivesDistinctPairs, GivesBraceCounts, GivesNoneInBraces, GivesReverse, GivesDotted, GivesNotEqual, GivesRowsInForce, GivesNumbers, GivesBounds, GivesDifferences, GivesEither, GivesWalks, GivesOperands, GivesEmptyAnswers};
 ghost use Rattle.constraint_tree.specs.WrongReadings.{MisreadsSplitBraces, MisreadsNotEqual, MisreadsNoneInBraces, MisreadsGroupZero, MisreadsRows, MisreadsTop, MisreadsDepth, MisreadsSecondParent, MisreadsWalkOfAnd};
 
 /// The tests that operators are made of say what they are named for: that a concept is one of the release's,
@@ -31,6 +31,9 @@ pub fn worked_queries_hold()
     ensures not_equal { GivesNotEqual }
     ensures rows_in_force { GivesRowsInForce }
     ensures numbers { GivesNumbers }
+    ensures bounds { GivesBounds }
+    ensures differences { GivesDifferences }
+    ensures either { GivesEither }
     ensures walks { GivesWalks }
     ensures operands { GivesOperands }
     ensures empty_answers { GivesEmptyAnswers }

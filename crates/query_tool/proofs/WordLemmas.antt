@@ -1,5 +1,5 @@
 -- What a command that was named has, by the matches of the words.
-use Rattle.std.proofs.Common.{◌≡◌, ◌⊎◌, inl, inr, List, Option, None, Some, Box, Global, option_map, box_value, Result, Ok, Err, IfOk, IfErr, codes, refl, sym, subst}
+use Rattle.std.proofs.Common.{◌≡◌, ◌⊎◌, inl, inr, List, [], Option, None, Some, Box, Global, option_map, box_value, Result, Ok, Err, IfOk, IfErr, codes, refl, sym, subst}
 use Rattle.std.specs.Borrow.{Bor}
 use Rattle.std.specs.Prelude.{unwrap_or}
 use Rattle.clap.specs.Words.{IsAmong, Row, Text, fault_of, first_of, found_of, rows_of, subcommand_of, subcommand_rows, subcommand_rows_of}
@@ -39,10 +39,10 @@ lent_or (Some lent) other (Some text) is = (cc)
 
 -- where the command is that of the words, so is the request
 pub request_is : (words : List Text) (command : Option (Text × List Row)) (result : Result Request WordFault) → command ≡ subcommand_of program words
-    → IfOk result (λ (request : Request). request.mode ≡ Query) → IfOk result (AsksQuery command) → IfOk result (IsRequest words)
-request_is words command (Ok request) named mode asked =
-    subst (λ (m : Mode). Asks m words request) (sym mode) (subst (λ (c : Option (Text × List Row)). AsksQuery c request) named asked)
-request_is words command (Err fault) named mode asked = tt
+    → fault_of program words ≡ [] → IfOk result (λ (request : Request). request.mode ≡ Query) → IfOk result (AsksQuery command) → IfOk result (IsRequest words)
+request_is words command (Ok request) named clean mode asked =
+    subst (λ (m : Mode). Asks m words request) (sym mode) (clean, subst (λ (c : Option (Text × List Row)). AsksQuery c request) named asked)
+request_is words command (Err fault) named clean mode asked = tt
 
 -- a command without a folder among its rows names none
 pub names_no_folder : (command : Option (Text × List Row)) (rows : List Row) → option_map (λ (found : Text × List Row). found.1) command ≡ Some rows
@@ -60,11 +60,11 @@ is_no_request command Memory by none = tt
 
 -- where the command is that of the words, so is the refusal
 pub refusal_is : (words : List Text) (command : Option (Text × List Row)) (result : Result Request WordFault) → command ≡ subcommand_of program words
-    → IfErr result (IsNoRequest command) → IfErr result (IsRefusal words)
-refusal_is words command (Ok request) named none = tt
-refusal_is words command (Err (Usage text)) named none = inr (subst (λ (c : Option (Text × List Row)). ¬ NamesFolder c) named none)
-refusal_is words command (Err (Help text)) named none = absurd none
-refusal_is words command (Err Memory) named none = tt
+    → fault_of program words ≡ [] → IfErr result (IsNoRequest command) → IfErr result (IsRefusal words)
+refusal_is words command (Ok request) named clean none = tt
+refusal_is words command (Err (Usage text)) named clean none = inr (clean, subst (λ (c : Option (Text × List Row)). ¬ NamesFolder c) named none)
+refusal_is words command (Err (Help text)) named clean none = absurd none
+refusal_is words command (Err Memory) named clean none = tt
 
 -- a fault that tells of clap's error is a refusal of the words
 pub refusal_by : (words : List Text) (kind : ErrorKind) (fault : WordFault) → IsFaultBy kind fault

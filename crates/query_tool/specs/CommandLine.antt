@@ -44,10 +44,10 @@ AsksQuery command request =
     × (first_of (codes "FOLDER") rows ≡ Some (string_bytes request.folder))
     × (unwrap_or (first_of (codes "lang") rows) default_language ≡ string_bytes request.lang)
 
--- what words ask for in each mode
+-- what words ask for in each mode: a command is one in which clap finds no fault
 abbrev pub Asks : Mode → List Text → Request → Type 0
 Asks Sample words request = AsksSample words request
-Asks Query words request = AsksQuery (subcommand_of program words) request
+Asks Query words request = (fault_of program words ≡ []) × AsksQuery (subcommand_of program words) request
 
 -- the request is that of the words
 abbrev pub IsRequest : List Text → Request → Type 0
@@ -70,11 +70,12 @@ IsFaultBy kind (Usage text) = (kind ≢ DisplayHelp) × (kind ≢ OutOfMemory)
 IsFaultBy kind (Help text) = kind ≡ DisplayHelp
 IsFaultBy kind Memory = ⊤
 
--- why words are refused: clap finds a fault in them that is no call for help, or they name no folder for
--- `query`; or they call for help; or memory was refused
+-- why words are refused: clap finds a fault in them that is no call for help; or it finds none, and they name
+-- no folder for `query`; or they call for help; or memory was refused
 abbrev pub IsRefusal : List Text → WordFault → Type 0
 IsRefusal words (Usage text) =
-    ((kind : ErrorKind) × IsAmong kind (fault_of program words) × (kind ≢ DisplayHelp)) ⊎ ¬ NamesFolder (subcommand_of program words)
+    ((kind : ErrorKind) × IsAmong kind (fault_of program words) × (kind ≢ DisplayHelp))
+    ⊎ ((fault_of program words ≡ []) × ¬ NamesFolder (subcommand_of program words))
 IsRefusal words (Help text) = IsAmong DisplayHelp (fault_of program words)
 IsRefusal words Memory = ⊤
 

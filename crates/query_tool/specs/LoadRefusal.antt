@@ -1,10 +1,12 @@
--- The line that tells why a list of files was refused.
-use Rattle.std.specs.Prelude.{ℕ, ◌++◌, List, [], ◌∷◌, codes, decimal, slice_index_or}
+-- The line that tells why a list of files was refused, or why the files of a folder can't be had.
+use Rattle.std.specs.Prelude.{ℕ, ◌++◌, List, [], ◌∷◌, codes, decimal, slice_index_or, string_bytes}
 use Rattle.std.specs.List.{flat_map}
 use Rattle.sctid.specs.declared.IdFault.{IdFault}
 use Rattle.sctid.specs.declared.IdFault.TheVariants.{Length, Digit, LeadingZero, Partition, Check}
 use Rattle.rf2_rows.specs.declared.fault.RowCause.{RowCause}
 use Rattle.rf2_rows.specs.declared.fault.RowCause.TheVariants.{Fields, Id, Time, Active, Group, Value, Utf8, Uuid}
+use Rattle.query_tool.specs.declared.folder.FolderFault.{FolderFault}
+use Rattle.query_tool.specs.declared.folder.FolderFault.TheVariants as folder
 use Rattle.snapshot.specs.declared.fault.LoadFault.{LoadFault}
 use Rattle.snapshot.specs.declared.fault.LoadFault.TheVariants.{NoConceptFile, Header, Row, Duplicate, TooMany, Cycle, Memory}
 
@@ -43,3 +45,9 @@ refusal_words names Memory = codes "memory" ∷ []
 
 abbrev pub load_refusal : List (List ℕ) → LoadFault → List ℕ
 load_refusal names fault = refused_line (refusal_words names fault)
+
+-- a listing is told without a name, and a file by its name
+abbrev pub folder_refusal : FolderFault → List ℕ
+folder_refusal folder.Listing = refused_line (codes "device" ∷ [])
+folder_refusal (folder.File name) = refused_line (codes "device" ∷ string_bytes name ∷ [])
+folder_refusal folder.Memory = refused_line (codes "memory" ∷ [])

@@ -1,5 +1,5 @@
 -- What the built-in files are to load as.
-use Rattle.std.specs.Prelude.{codes}
+use Rattle.std.specs.Prelude.{ℕ, List, [], ◌∷◌, codes}
 use Rattle.constraint_tree.specs.Sample.{sample}
 use Rattle.snapshot.specs.Contents.{Contents}
 
@@ -11,3 +11,13 @@ sample_contents = record {
   files = 5;
   passed = 6;
 }
+
+-- the names of the five files, in byte order
+abbrev pub sample_names : List (List ℕ)
+sample_names =
+    codes "der2_Refset_SimpleSnapshot_INT_20240101.txt"
+    ∷ codes "sct2_Concept_Snapshot_INT_20240101.txt"
+    ∷ codes "sct2_Description_Snapshot-en_INT_20240101.txt"
+    ∷ codes "sct2_RelationshipConcreteValues_Snapshot_INT_20240101.txt"
+    ∷ codes "sct2_Relationship_Snapshot_INT_20240101.txt"
+    ∷ []

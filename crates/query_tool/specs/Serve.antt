@@ -1,5 +1,5 @@
 -- What a request is answered by: a status, answers, and a line that tells of a refusal or a fault.
-use Rattle.std.specs.Prelude.{ℕ, ◌≡◌, Bool, false, List, codes, Option, IfSome, Result, Ok}
+use Rattle.std.specs.Prelude.{ℕ, ◌≡◌, Bool, false, List, codes, take, Option, IfSome, Result, Ok}
 use Rattle.std.specs.Io.KnownBytes.{Appends, IsAtEnd}
 use Rattle.snapshot.specs.Contents.{Contents, load_of}
 use Rattle.snapshot.specs.Files.{FileText}
@@ -47,6 +47,7 @@ status_of (Write count) = DeviceFault
 status_of (Memory count) = MemoryRefused
 status_of (Turns count) = DeviceFault
 
--- a line was written, unless the writer has failed
-abbrev pub IsTold : Bool → Option (List ℕ) → Option (List ℕ) → List ℕ → Type 0
-IsTold failed before after line = failed ≡ false → Appends before after line
+-- a line was written: a front of it, and all of it unless the writer has failed
+pub record IsTold (failed : Bool) (before after : Option (List ℕ)) (line : List ℕ) : Type 0 where
+  pub whole : failed ≡ false → Appends before after line
+  pub front : (place : ℕ) × Appends before after (take place line)

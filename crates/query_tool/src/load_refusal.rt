@@ -54,7 +54,8 @@ fn plain_line(alloc: Global, kind: &[u8]) -> Result<Vec<u8>, AllocError>
     Ok(line)
 }
 
-fn file_line(alloc: Global, kind: &[u8], name: &str) -> Result<Vec<u8>, AllocError>
+/// The line of a kind of refusal and the name of a file.
+pub fn file_line(alloc: Global, kind: &[u8], name: &str) -> Result<Vec<u8>, AllocError>
     ensures { IfOk result (λ line. line.items ≡ refused_line (kind.now ∷ name.now ∷ [])) }
 {
     let mut line = begun(alloc, kind)?;

@@ -21,13 +21,15 @@ const CONCRETE_VALUES: usize = 3;
 
 const RELATIONSHIPS: usize = 4;
 
-const NAME: &str = "sct2_Concept_Snapshot_INT_20240101.txt";
+/// The name of the sample's concept file.
+pub const NAME: &str = "sct2_Concept_Snapshot_INT_20240101.txt";
 
 const HEADER: &[u8] = b"id\teffectiveTime\tactive\tmoduleId\tdefinitionStatusId\r\n";
 
 const CONCEPT_REST: &[u8] = b"\t20240101\t1\t900000000000207008\t900000000000074008\r\n";
 
-const RELATIONSHIP_NAME: &str = "sct2_Relationship_Snapshot_INT_20240101.txt";
+/// The name of the sample's relationship file.
+pub const RELATIONSHIP_NAME: &str = "sct2_Relationship_Snapshot_INT_20240101.txt";
 
 const RELATIONSHIP_HEADER: &[u8] =
     b"id\teffectiveTime\tactive\tmoduleId\tsourceId\tdestinationId\trelationshipGroup\ttypeId\tcharacteristicTypeId\tmodifierId\r\n";
@@ -320,8 +322,8 @@ fn holds_the_sample_release(rt: HostRuntime) {
     }
 }
 
-// The first identifiers with a partition, of numbers from 10,000 on, one for each `\n`-ended line.
-fn identifiers(
+/// The first identifiers with a partition, of numbers from 10,000 on, one for each `\n`-ended line.
+pub fn identifiers(
     rt: &impl Abort,
     alloc: Global,
     partition: &[u8],
@@ -345,13 +347,14 @@ fn identifiers(
     Ok(found)
 }
 
-fn push_number(bytes: &mut Vec<u8>, id: SctId) -> Result<(), AllocError> {
+/// Adds an identifier's digits.
+pub fn push_number(bytes: &mut Vec<u8>, id: SctId) -> Result<(), AllocError> {
     let mut digits = itoa::Buffer::new();
     bytes.extend_from_slice(digits.format(id.number()).as_bytes())
 }
 
-// A concept file with a row for each identifier.
-fn concept_file(alloc: Global, ids: &[SctId]) -> Result<Vec<u8>, AllocError> {
+/// A concept file with a row for each identifier.
+pub fn concept_file(alloc: Global, ids: &[SctId]) -> Result<Vec<u8>, AllocError> {
     let mut bytes = Vec::from_slice(alloc, HEADER)?;
     for id in ids {
         push_number(&mut bytes, *id)?;
@@ -360,8 +363,8 @@ fn concept_file(alloc: Global, ids: &[SctId]) -> Result<Vec<u8>, AllocError> {
     Ok(bytes)
 }
 
-// A relationship file whose rows lead from each concept to the one before it.
-fn chain_file(alloc: Global, ids: &[SctId], concepts: &[SctId]) -> Result<Vec<u8>, AllocError> {
+/// A relationship file whose rows lead from each concept to the one before it.
+pub fn chain_file(alloc: Global, ids: &[SctId], concepts: &[SctId]) -> Result<Vec<u8>, AllocError> {
     let mut bytes = Vec::from_slice(alloc, RELATIONSHIP_HEADER)?;
     for (id, ends) in ids.iter().zip(concepts.windows(2)) {
         if let [parent, child] = ends {

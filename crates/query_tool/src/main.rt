@@ -9,15 +9,21 @@ mod lexer;
 mod load_refusal;
 #[cfg(test)]
 mod load_tests;
+#[cfg(test)]
+mod many_rows_tests;
 mod printer;
 mod query;
 mod run;
 #[cfg(test)]
 mod run_tests;
 mod sample;
+#[cfg(test)]
+mod sample_tests;
 mod serve;
 #[cfg(test)]
 mod serve_tests;
+#[cfg(test)]
+mod stream_tests;
 mod streams;
 #[cfg(test)]
 mod test_streams;
@@ -28,7 +34,7 @@ mod words;
 
 use folder::{FolderFault, FolderFile, read_folder};
 use release_files::NamedBytes;
-use serve::{Status, serve};
+use serve::{Status, refuse_folder, serve};
 use snapshot::Limits;
 use std::alloc::AllocError;
 use std::io::ErrorKind;
@@ -87,9 +93,9 @@ fn answer(rt: &HostRuntime, request: &Request) -> Status {
     match files_asked(rt, request) {
         Ok(files) => match named(rt, files.as_slice()) {
             Ok(named) => serve_streams(rt, request, named.as_slice()),
-            Err(_) => refuse_folder(rt, &FolderFault::Memory),
+            Err(_) => tell_folder_fault(rt, &FolderFault::Memory),
         },
-        Err(fault) => refuse_folder(rt, &fault),
+        Err(fault) => tell_folder_fault(rt, &fault),
     }
 }
 
@@ -123,19 +129,6 @@ fn serve_streams(rt: &HostRuntime, request: &Request, files: &[NamedBytes<'_>]) 
 }
 
 // Tells why the files of a folder can't be had.
-fn refuse_folder(rt: &HostRuntime, fault: &FolderFault) -> Status {
-    match fault {
-        FolderFault::Listing => {
-            let _ = eprintln!(rt; "REFUSED device");
-            Status::DeviceFault
-        }
-        FolderFault::File(name) => {
-            let _ = eprintln!(rt; "REFUSED device {name}");
-            Status::DeviceFault
-        }
-        FolderFault::Memory => {
-            let _ = eprintln!(rt; "REFUSED memory");
-            Status::MemoryRefused
-        }
-    }
+fn tell_folder_fault(rt: &HostRuntime, fault: &FolderFault) -> Status {
+    refuse_folder(rt.alloc(), fault, &mut StreamOutput::new(rt.stderr()))
 }

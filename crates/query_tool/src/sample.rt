@@ -1,16 +1,17 @@
 //! The sample release: a small release of eleven concepts, built into the program.
 ghost use Rattle.std.specs.Prelude.{◌≡◌, Ok, codes, map};
 ghost use Rattle.snapshot.specs.Contents.{load_of};
-ghost use Rattle.snapshot.specs.Files.{file_text};
+ghost use Rattle.snapshot.specs.Files.{FileText, file_text};
 ghost use Rattle.snapshot.specs.Limits.{standard_limits};
-ghost use Rattle.query_tool.specs.SampleContents.{sample_contents};
+ghost use Rattle.query_tool.specs.SampleContents.{sample_contents, sample_names};
 
 use release_files::NamedBytes;
 
 /// The five files of the sample release, in the byte order of their names. They load as the
 /// sample release. Lines end in CR LF.
 pub fn sample_files() -> [NamedBytes<'static>; 5]
-    ensures { load_of standard_limits (codes "en") (map file_text result) ≡ Ok sample_contents }
+    ensures release { load_of standard_limits (codes "en") (map file_text result) ≡ Ok sample_contents }
+    ensures names { map (λ (file : FileText). file.name) (map file_text result) ≡ sample_names }
 {
     [
         NamedBytes {

@@ -5,11 +5,12 @@ ghost use Rattle.snapshot.specs.Files.{FileText, file_text};
 ghost use Rattle.snapshot.specs.Limits.{standard_limits};
 ghost use Rattle.rf2_rows.specs.Parts.{texts_of};
 ghost use Rattle.query_tool.specs.Fault.{CountsTurns, EndsAt, HaveFailed};
-ghost use Rattle.query_tool.specs.LoadRefusal.{load_refusal};
+ghost use Rattle.query_tool.specs.LoadRefusal.{folder_refusal, load_refusal};
 ghost use Rattle.query_tool.specs.Serve.{IsAnswered, IsTold, fault_text, loaded, status_code, status_of};
 
 use crate::engine::Engine;
-use crate::load_refusal::print_load_fault;
+use crate::folder::FolderFault;
+use crate::load_refusal::{file_line, print_load_fault};
 use crate::run::{RunFault, run, write_all};
 use crate::sample::sample_files;
 use crate::streams::{AnswerOutput, QueryInput};
@@ -78,6 +79,7 @@ pub fn serve<R: QueryInput, W: AnswerOutput, E: AnswerOutput>(
         × CountsTurns fault (R.read_count input.old) (R.read_count input.new)
         × IsTold (E.AnswerOutput.has_failed errors.new) (E.written errors.old) (E.written errors.new) (fault_text fault) }
     ensures quiet { result ≡ Status.Done → E.written errors.new ≡ E.written errors.old }
+    ensures sound { result ≡ Status.Done → (R.has_failed input.new ≡ false) × (W.has_failed output.new ≡ false) }
     ensures known { result ≢ Status.WordsFault }
     ensures memory { result ≡ Status.MemoryRefused →
         ((input.new ≡ input.old) × (output.new ≡ output.old) × IsTold (E.AnswerOutput.has_failed errors.new) (E.written errors.old) (E.written errors.new) (codes "REFUSED memory\n"))
@@ -123,6 +125,7 @@ fn serve_files<R: QueryInput, W: AnswerOutput, E: AnswerOutput>(
         × CountsTurns fault (R.read_count input.old) (R.read_count input.new)
         × IsTold (E.AnswerOutput.has_failed errors.new) (E.written errors.old) (E.written errors.new) (fault_text fault) }
     ensures quiet { result ≡ Status.Done → E.written errors.new ≡ E.written errors.old }
+    ensures sound { result ≡ Status.Done → (R.has_failed input.new ≡ false) × (W.has_failed output.new ≡ false) }
     ensures known { result ≢ Status.WordsFault }
     ensures memory { result ≡ Status.MemoryRefused →
         ((input.new ≡ input.old) × (output.new ≡ output.old) × IsTold (E.AnswerOutput.has_failed errors.new) (E.written errors.old) (E.written errors.new) (codes "REFUSED memory\n"))
@@ -160,6 +163,7 @@ fn answer_all<R: QueryInput, W: AnswerOutput, E: AnswerOutput>(
         × CountsTurns fault (R.read_count input.old) (R.read_count input.new)
         × IsTold (E.AnswerOutput.has_failed errors.new) (E.written errors.old) (E.written errors.new) (fault_text fault) }
     ensures quiet { result ≡ Status.Done → E.written errors.new ≡ E.written errors.old }
+    ensures sound { result ≡ Status.Done → (R.has_failed input.new ≡ false) × (W.has_failed output.new ≡ false) }
     ensures known { result ≢ Status.WordsFault }
 {
     match run(alloc, engine, input, output) {
@@ -226,6 +230,39 @@ fn tell<E: AnswerOutput>(line: &[u8], errors: &mut E)
     ensures { IsTold (E.AnswerOutput.has_failed errors.new) (E.written errors.old) (E.written errors.new) line.now }
 {
     let _ = write_all(line, errors);
+}
+
+/// Tells by one line on `errors` why the files of a folder can't be had. Want of memory for the line
+/// of a file is told as want of memory.
+pub fn refuse_folder<E: AnswerOutput>(alloc: Global, fault: &FolderFault, errors: &mut E) -> Status
+    requires { E.AnswerOutput.has_failed errors.old ≡ false }
+    ensures device { result ≡ Status.DeviceFault → (fault.now ≢ FolderFault.Memory)
+        × IsTold (E.AnswerOutput.has_failed errors.new) (E.written errors.old) (E.written errors.new) (folder_refusal fault.now) }
+    ensures memory { result ≡ Status.MemoryRefused →
+        IsTold (E.AnswerOutput.has_failed errors.new) (E.written errors.old) (E.written errors.new) (codes "REFUSED memory\n") }
+    ensures refusing { (result ≡ Status.DeviceFault) ⊎ (result ≡ Status.MemoryRefused) }
+    ensures listing { fault.now ≡ FolderFault.Listing → result ≡ Status.DeviceFault }
+{
+    match fault {
+        FolderFault::Listing => {
+            tell(b"REFUSED device\n", errors);
+            Status::DeviceFault
+        }
+        FolderFault::File(name) => match file_line(alloc, b"device", name.as_str()) {
+            Ok(line) => {
+                tell(line.as_slice(), errors);
+                Status::DeviceFault
+            }
+            Err(_) => {
+                tell(b"REFUSED memory\n", errors);
+                Status::MemoryRefused
+            }
+        },
+        FolderFault::Memory => {
+            tell(b"REFUSED memory\n", errors);
+            Status::MemoryRefused
+        }
+    }
 }
 
 fn refusal_status(fault: &LoadFault) -> Status

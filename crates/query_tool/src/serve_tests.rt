@@ -1,8 +1,9 @@
 //! What the program answers to its words, and to releases that are refused.
+use crate::folder::FolderFault;
 use crate::load_refusal::print_load_fault;
 use crate::load_tests::replaced;
 use crate::sample::sample_files;
-use crate::serve::{Status, serve};
+use crate::serve::{Status, refuse_folder, serve};
 use crate::test_streams::{PieceInput, PieceOutput, ROOM};
 use crate::words::{Mode, Request, WordFault, read_words};
 use release_files::NamedBytes;
@@ -252,4 +253,38 @@ fn ends_with_its_status(rt: HostRuntime) {
         Status::MemoryRefused,
     ];
     assert!(rt; statuses.map(|status| status.code()) == [0, 1, 2, 3, 4]);
+}
+
+// What is told of a folder whose files can't be had.
+#[test]
+fn refuses_folders(rt: HostRuntime) -> Result<(), Fail> {
+    let alloc = rt.alloc();
+    let name = String::from_str(alloc, "a/c.txt")?;
+    let faults = [
+        (
+            FolderFault::Listing,
+            Status::DeviceFault,
+            b"REFUSED device\n".as_slice(),
+        ),
+        (
+            FolderFault::File(name),
+            Status::DeviceFault,
+            b"REFUSED device a/c.txt\n",
+        ),
+        (
+            FolderFault::Memory,
+            Status::MemoryRefused,
+            b"REFUSED memory\n",
+        ),
+    ];
+    for (fault, status, line) in &faults {
+        let mut errors = PieceOutput::new(alloc, ROOM, ROOM)?;
+        assert!(rt; refuse_folder(alloc, fault, &mut errors) == *status);
+        assert!(rt; errors.bytes.as_slice() == *line);
+        // a failing output changes no status
+        let mut errors = PieceOutput::new(alloc, ROOM, 3)?;
+        assert!(rt; refuse_folder(alloc, fault, &mut errors) == *status);
+        assert!(rt; errors.bytes.as_slice() == b"REF".as_slice());
+    }
+    Ok(())
 }

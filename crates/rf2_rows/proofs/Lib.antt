@@ -1,4 +1,5 @@
 pub mod Columns
+pub mod DistinctLemmas
 pub mod Examples
 pub mod HierarchyLemmas
 pub mod Identifiers

@@ -2,7 +2,6 @@ pub mod Columns
 pub mod Files
 pub mod Groups
 pub mod Hierarchy
-pub mod NothingRecent
 pub mod Numbers
 pub mod Pairs
 pub mod Parts

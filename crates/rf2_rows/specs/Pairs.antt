@@ -1,7 +1,8 @@
 -- Attributes as pairs of a type and a value (Release File Specification, "Relationship file" and
 -- "Relationship concrete values file"). What a query counts are distinct pairs, and not rows (this
 -- project's choice).
-use Rattle.std.specs.Prelude.{ℕ, ◌≡◌, ◌↔◌, ◌==◌, ◌&&◌, Bool, false, not, IsTrue, List, [], ◌∷◌, map, filter, bytes_eq}
+use Rattle.std.specs.Prelude.{ℕ, ◌≡◌, ◌↔◌, ◌==◌, ◌&&◌, Bool, false, not, nat_eq, IsTrue, List, [], ◌∷◌, map, filter, bytes_eq}
+use Rattle.std.specs.List.{Contains, IsDistinct}
 use Rattle.std.specs.Ordering.{int_eq}
 use Rattle.rf2_rows.specs.Release.{Value, concept_value, number_value, text_value, Attribute, Release}
 
@@ -51,3 +52,15 @@ TellsSamePair = (one other : Pair) → IsTrue (pair_eq one other) ↔ (one ≡ o
 
 abbrev pub TellsSameValue : Type 0
 TellsSameValue = (one other : Value) → IsTrue (value_eq one other) ↔ (one ≡ other)
+
+-- what is kept of a list has the same members, each once
+abbrev pub KeepsEachOnce : {X : Type 0} → (X → X → Bool) → List X → Type 0
+KeepsEachOnce {X} same items =
+    IsDistinct same (distinct same items)
+    × ((item : X) → Contains (distinct same items) item ↔ Contains items item)
+
+abbrev pub KeepsEachNumberOnce : Type 0
+KeepsEachNumberOnce = (numbers : List ℕ) → KeepsEachOnce nat_eq numbers
+
+abbrev pub KeepsEachPairOnce : Type 0
+KeepsEachPairOnce = (pairs : List Pair) → KeepsEachOnce pair_eq pairs

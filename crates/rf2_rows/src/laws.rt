@@ -1,6 +1,6 @@
 //! Laws about the definitions of this crate: functions that do nothing, each with the law as its contract.
 ghost use Rattle.rf2_rows.specs.Hierarchy.{TellsReaches};
-ghost use Rattle.rf2_rows.specs.Pairs.{TellsSamePair, TellsSameValue};
+ghost use Rattle.rf2_rows.specs.Pairs.{KeepsEachNumberOnce, KeepsEachPairOnce, TellsSamePair, TellsSameValue};
 
 /// The test of what a concept reaches, which computes, says exactly that a chain of is-a rows leads there.
 pub fn reaches_tells_chains()
@@ -11,4 +11,10 @@ pub fn reaches_tells_chains()
 pub fn same_pairs_are_told()
     ensures value { TellsSameValue }
     ensures pair { TellsSamePair }
+{}
+
+/// Of numbers, and of pairs, the distinct ones are the same members, each once.
+pub fn distinct_keeps_each_once()
+    ensures numbers { KeepsEachNumberOnce }
+    ensures pairs { KeepsEachPairOnce }
 {}

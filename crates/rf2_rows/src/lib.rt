@@ -19,7 +19,7 @@ mod value;
 
 pub use crate::fault::{RowCause, RowFault};
 pub use crate::kind::{FileKind, file_kind, header};
-pub use crate::laws::{reaches_tells_chains, same_pairs_are_told};
+pub use crate::laws::{distinct_keeps_each_once, reaches_tells_chains, same_pairs_are_told};
 pub use crate::read::{RowReader, read_row};
 pub use crate::row::{ConceptRow, ConcreteRow, DescriptionRow, MemberRow, RelationshipRow, Row};
 pub use crate::value::{Decimal, Value};

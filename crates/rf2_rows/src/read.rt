@@ -1,7 +1,6 @@
 //! Reading a line as a row.
 ghost use Rattle.std.specs.Prelude.{◌≡◌, None, Some, IfOk, IfErr};
 ghost use Rattle.rf2_rows.specs.Parts.{texts_of};
-ghost use Rattle.rf2_rows.specs.NothingRecent.{nothing_recent};
 ghost use Rattle.rf2_rows.specs.Rows.{IsReading, IsReadingLent, fields_fault, row_fault, concept_of, description_of, description_text, relationship_of, member_of, IsRow};
 
 use crate::concrete::read_concrete;
@@ -33,9 +32,7 @@ pub struct RowReader {
 
 impl RowReader {
     /// A reader that has read no row yet. Takes no memory.
-    pub fn new() -> RowReader
-        ensures { result.recent ≡ nothing_recent }
-    {
+    pub fn new() -> RowReader {
         RowReader {
             recent: RecentConcepts::new(),
         }

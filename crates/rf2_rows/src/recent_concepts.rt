@@ -1,7 +1,4 @@
 //! The identifiers that are kept from row to row.
-ghost use Rattle.std.specs.Prelude.{◌≡◌};
-ghost use Rattle.rf2_rows.specs.NothingRecent.{nothing_recent};
-
 use crate::recent::Recent;
 
 /// The concepts that the columns had last in which most rows are alike.
@@ -16,9 +13,7 @@ pub struct RecentConcepts {
 }
 
 impl RecentConcepts {
-    pub fn new() -> RecentConcepts
-        ensures { result ≡ nothing_recent }
-    {
+    pub fn new() -> RecentConcepts {
         RecentConcepts {
             module_id: Recent::new(),
             definition_status_id: Recent::new(),

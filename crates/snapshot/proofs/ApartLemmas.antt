@@ -354,12 +354,28 @@ none_apart : IsDistinct nat_eq []
 unfolding IsDistinct
 none_apart = tt
 
+nothing_apart : (limits : Limits) → KeepsApart limits nothing_kept
+nothing_apart limits = record {
+  all_apart = none_apart;
+  active_among = λ q there. absurd (false≢true there);
+  active_apart = none_apart;
+  fewer_active = omega arith;
+  fewer_names = omega arith;
+  fewer_ends = omega arith;
+  fewer_members = omega arith;
+  few_concepts = omega arith;
+  few_descriptions = omega arith;
+  few_relationships = omega arith;
+  few_concretes = omega arith;
+  few_members = omega arith;
+}
+
 -- what a load kept has no identifier twice, and is few enough to number
 pub IsApart-read : (limits : Limits) (kept : Kept) (places : List Place) → limits.concepts ≤ 4000000 → limits.descriptions ≤ 20000000 → limits.relationships ≤ 20000000
     → limits.concrete ≤ 4000000 → limits.members ≤ 20000000
     → read_all limits nothing_kept places ≡ Ok kept → IsApart kept
 IsApart-read limits kept places concepts descriptions relationships concretes members read =
-    let apart = keeps_all limits nothing_kept kept places nothing read in (
+    let apart = keeps_all limits nothing_kept kept places (nothing_apart limits) read in (
       apart.active_apart,
       apart.fewer_active,
       apart.fewer_names,
@@ -371,19 +387,7 @@ IsApart-read limits kept places concepts descriptions relationships concretes me
       omega (arith, apart.few_concretes),
       omega (arith, apart.few_members),
     )
-  where
-    nothing : KeepsApart limits nothing_kept
-    nothing = record {
-      all_apart = none_apart;
-      active_among = λ q there. absurd (false≢true there);
-      active_apart = none_apart;
-      fewer_active = omega arith;
-      fewer_names = omega arith;
-      fewer_ends = omega arith;
-      fewer_members = omega arith;
-      few_concepts = omega arith;
-      few_descriptions = omega arith;
-      few_relationships = omega arith;
-      few_concretes = omega arith;
-      few_members = omega arith;
-    }
+
+-- no identifier of an active concept was read twice
+pub active_apart-read : (limits : Limits) (kept : Kept) (places : List Place) → read_all limits nothing_kept places ≡ Ok kept → IsDistinct nat_eq kept.active_concepts
+active_apart-read limits kept places read = (keeps_all limits nothing_kept kept places (nothing_apart limits) read).active_apart

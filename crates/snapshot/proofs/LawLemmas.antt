@@ -1,30 +1,19 @@
 -- What the definitions of a load say in the words of a reader.
-use Rattle.std.proofs.Common.{ℕ, zero, suc, ◌≡◌, ◌<◌, ◌≤◌, ◌+◌, ◌&&◌, ◌==◌, List, [], ◌∷◌, ◌++◌, length, get_or, map, Option, None, Some, sym, ◌∙◌, ap, subst, refl, arith, inl, inr, ◌⊎◌, append_assoc, Bool, true, false, cond}
-use Rattle.std.specs.Prelude.{Contains, filter, find, not, option_and_then}
-use Rattle.std.specs.List.{cons_option}
-use Rattle.std.specs.Option.{option_or}
+use Rattle.std.proofs.Common.{ℕ, zero, suc, ◌≡◌, ◌<◌, List, [], ◌∷◌, ◌++◌, length, get_or, Option, None, Some, sym, ◌∙◌, ap, subst, refl, arith, inl, inr, ◌⊎◌, append_assoc, Bool, true, false, cond}
+use Rattle.std.specs.Prelude.{Contains, find}
 use Rattle.std.specs.List.Sorted.{IsStrictlyIncreasing}
 use Rattle.std.proofs.lemmas.Bool.{cases_Bool, cases_lt, false≢true}
-use Rattle.std.proofs.lemmas.List.{append-nil, length-map}
-use Rattle.std.proofs.lemmas.List.Sums.{length-filter, count_by-le-length}
+use Rattle.std.proofs.lemmas.List.{append-nil}
 use Rattle.rf2_rows.specs.Hierarchy.{Reaches, reaches}
 use Rattle.rf2_rows.specs.Release.{Release}
-use Rattle.rf2_rows.specs.Release.{Attribute}
-use Rattle.rf2_rows.specs.Rows.{ConcreteText, DescriptionText}
 use Rattle.rf2_rows.proofs.HierarchyLemmas.{chain_from_test, test_from_chain, contained_cases}
 use Rattle.snapshot.specs.Contents.{NamesLeastCyclic, least_cyclic}
 use Rattle.snapshot.specs.Faults.{NamesFirstFault, fault_at, first_fault, first_of}
 use Rattle.snapshot.specs.Files.{Place}
-use Rattle.snapshot.specs.InForce.{CountsEachRow, attribute_of_concrete, attribute_of_relationship, attributes_in_force, concept_rows, concepts_in_force, concrete_attribute, concrete_row_at, concrete_rows, description_rows, has, is_concrete_in_force, is_in_force, is_member_in_force, is_name, isa_in_force, member_rows, members_in_force, name_on, names_in_force, relationship_attribute, relationship_row_at, relationship_rows}
-use Rattle.rf2_rows.specs.declared.row.ConceptRow.{ConceptRow}
-use Rattle.rf2_rows.specs.declared.row.MemberRow.{MemberRow}
-use Rattle.rf2_rows.specs.declared.row.RelationshipRow.{RelationshipRow}
 use Rattle.snapshot.specs.declared.fault.LoadFault.{LoadFault}
-use Rattle.snapshot.specs.Metadata.{is_a}
 use Rattle.snapshot.specs.declared.limits.Limits.{Limits}
 use Rattle.std.proofs.lemmas.List.{get_or_default}
 use Rattle.std.proofs.lemmas.List.Elements.{Contains-get_or}
-use Rattle.snapshot.proofs.FinishLemmas.{length-rising}
 use Rattle.snapshot.proofs.NumberingLemmas.{find-first, find-none}
 use Rattle.snapshot.proofs.RisingLemmas.{earlier_below}
 
@@ -124,74 +113,6 @@ names_first_fault limits places = (
     λ none. first_fault-complete_none limits [] places none,
   ),
 )
-
--- a filter and a map leave no more rows than there were
-length-kept : {X Y : Type 0} (f : X → Y) (p : X → Bool) (xs : List X) → length (map f (filter p xs)) ≤ length xs
-length-kept f p xs = omega (arith, length-map (filter p xs) f, length-filter p xs, count_by-le-length p xs)
-
--- a row of either kind of relationship is one is-a row at the most, or one attribute
-count_row : (concepts : List ℕ) (attributes : List Attribute) (relationships : List RelationshipRow) (concretes : List ConcreteText)
-    (relationship : Option RelationshipRow) (concrete : Option ConcreteText)
-    → length attributes + length (filter (λ (row : RelationshipRow). is_in_force concepts row && (row.type_id == is_a)) relationships) ≤ length relationships + length concretes
-    → length (cons_option (option_or (option_and_then (attribute_of_relationship concepts) relationship) (option_and_then (attribute_of_concrete concepts) concrete)) attributes)
-    + length (filter (λ (row : RelationshipRow). is_in_force concepts row && (row.type_id == is_a)) (cons_option relationship relationships))
-    ≤ length (cons_option relationship relationships) + length (cons_option concrete concretes)
-count_row concepts attributes relationships concretes None None fewer = fewer
-count_row concepts attributes relationships concretes None (Some row) fewer = by (is_concrete_in_force concepts row && not (row.type_id == is_a))
-  where
-    by : (there : Bool)
-        → length (cons_option (cond there (Some (concrete_attribute row)) None) attributes) + length (filter (λ (row : RelationshipRow). is_in_force concepts row && (row.type_id == is_a)) relationships)
-        ≤ length relationships + suc (length concretes)
-    by true = omega (arith, fewer)
-    by false = omega (arith, fewer)
-count_row concepts attributes relationships concretes (Some row) concrete fewer =
-    by (is_in_force concepts row) (row.type_id == is_a) (option_and_then (attribute_of_concrete concepts) concrete) (more concrete)
-  where
-    found : ℕ
-    found = length (filter (λ (row : RelationshipRow). is_in_force concepts row && (row.type_id == is_a)) relationships)
-
-    more : (other : Option ConcreteText) → length (cons_option (option_and_then (attribute_of_concrete concepts) other) attributes) + found ≤ length relationships + length (cons_option other concretes)
-    more None = fewer
-    more (Some other) = there (is_concrete_in_force concepts other && not (other.type_id == is_a))
-      where
-        there : (b : Bool) → length (cons_option (cond b (Some (concrete_attribute other)) None) attributes) + found ≤ length relationships + suc (length concretes)
-        there true = omega (arith, fewer)
-        there false = omega (arith, fewer)
-
-    least : (other : Option ConcreteText) → length attributes + found ≤ length relationships + length (cons_option other concretes)
-    least None = fewer
-    least (Some other) = omega (arith, fewer)
-
-    by : (in_force is : Bool) (other : Option Attribute)
-        → length (cons_option other attributes) + found ≤ length relationships + length (cons_option concrete concretes)
-        → length (cons_option (option_or (cond (in_force && not is) (Some (relationship_attribute row)) None) other) attributes)
-        + length (cond (in_force && is) (row ∷ filter (λ (row : RelationshipRow). is_in_force concepts row && (row.type_id == is_a)) relationships) (filter (λ (row : RelationshipRow). is_in_force concepts row && (row.type_id == is_a)) relationships))
-        ≤ suc (length relationships) + length (cons_option concrete concretes)
-    by true true other most = omega (arith, most)
-    by true false other most = omega (arith, least concrete)
-    by false is other most = omega (arith, most)
-
-counts_relationships : (concepts : List ℕ) (places : List Place)
-    → length (attributes_in_force concepts places) + length (filter (λ (row : RelationshipRow). is_in_force concepts row && (row.type_id == is_a)) (relationship_rows places))
-    ≤ length (relationship_rows places) + length (concrete_rows places)
-counts_relationships concepts [] = omega arith
-counts_relationships concepts (place ∷ places) =
-    count_row concepts (attributes_in_force concepts places) (relationship_rows places) (concrete_rows places)
-    (relationship_row_at place) (concrete_row_at place) (counts_relationships concepts places)
-
-pub counts_each_row : CountsEachRow
-counts_each_row places =
-    let in_force = concepts_in_force places in
-    let concepts : length in_force ≤ length (concept_rows places) =
-    omega (arith, length-rising (map (λ (row : ConceptRow). row.id) (filter (λ (row : ConceptRow). row.active) (concept_rows places))), length-kept (λ (row : ConceptRow). row.id) (λ (row : ConceptRow). row.active) (concept_rows places)) in
-    let isa : length (isa_in_force in_force places) ≡ length (filter (λ (row : RelationshipRow). is_in_force in_force row && (row.type_id == is_a)) (relationship_rows places)) =
-    length-map (filter (λ (row : RelationshipRow). is_in_force in_force row && (row.type_id == is_a)) (relationship_rows places)) (λ (row : RelationshipRow). (row.source_id, row.destination_id)) in
-    let relationships = counts_relationships in_force places in
-    let members : length (members_in_force in_force places) ≤ length (member_rows places) =
-    length-kept (λ (row : MemberRow). (row.refset_id, row.referenced_component_id)) (λ (row : MemberRow). is_member_in_force in_force row) (member_rows places) in
-    let names : length (names_in_force in_force places) ≤ length (description_rows places) =
-    length-kept name_on (λ (row : DescriptionText). is_name row && has in_force row.concept_id) (description_rows places) in
-    omega (arith, relationships, isa)
 
 -- what is found passes the test, and no item before it does
 find-Some : (test : ℕ → Bool) (xs : List ℕ) (x : ℕ) → find test xs ≡ Some x

@@ -7,6 +7,7 @@ pub mod LoadLemmas
 pub mod NameLawLemmas
 pub mod NameLemmas
 pub mod NumberingLemmas
+pub mod PassedLemmas
 pub mod PlaceLemmas
 pub mod ReadLemmas
 pub mod RisingLemmas

@@ -1,9 +1,10 @@
 -- The rows of a release that are in force (Release File Specification, "Concept file", "Description
 -- file", "Relationship file", "Relationship concrete values file" and "Simple reference set"; the
 -- inferred view).
-use Rattle.std.specs.Prelude.{◌≤◌, ℕ, ◌+◌, ◌==◌, ◌&&◌, Bool, not, nat_lt, if◌then◌else◌, List, [], ◌∷◌, length, map, filter, Option, None, Some, option_and_then}
+use Rattle.std.specs.Prelude.{◌↔◌, ℕ, ◌+◌, ◌==◌, ◌&&◌, Bool, not, nat_lt, if◌then◌else◌, List, [], ◌∷◌, length, map, filter, Option, None, Some, option_and_then}
 use Rattle.std.specs.Int.{w128, from_be_bytes}
-use Rattle.std.specs.List.{filter_map, list_any}
+use Rattle.std.specs.List.{Contains, filter_map, list_any}
+use Rattle.std.specs.List.Sorted.{IsStrictlyIncreasing}
 use Rattle.std.specs.Option.{option_or}
 use Rattle.rf2_rows.specs.Rows.{ConcreteText, DescriptionText, concept_row, concrete_row, description_row, member_row, relationship_row}
 use Rattle.rf2_rows.specs.Release.{Attribute, Name, Release, concept_value}
@@ -102,6 +103,11 @@ put id (first ∷ others) =
 abbrev pub rising : List ℕ → List ℕ
 rising [] = []
 rising (id ∷ ids) = put id (rising ids)
+
+-- they are in rising order, and the same members
+abbrev pub KeepsRising : Type 0
+KeepsRising =
+    (ids : List ℕ) → IsStrictlyIncreasing (rising ids) × ((id : ℕ) → Contains (rising ids) id ↔ Contains ids id)
 
 -- the rows between two of some concepts
 abbrev pub rows_among : List ℕ → List (ℕ × ℕ) → List (ℕ × ℕ)
@@ -207,7 +213,3 @@ row_count places =
 abbrev pub listed_count : Release → ℕ
 listed_count release =
     length release.concepts + length release.isa + length release.attributes + length release.members + length release.names
-
--- the rows of the lists are among those that were read, so that the others are as many as the difference
-abbrev pub CountsEachRow : Type 0
-CountsEachRow = (places : List Place) → listed_count (release_of places) ≤ row_count places

@@ -11,6 +11,7 @@ pub mod Metadata
 pub mod Name
 pub mod NamesInside
 pub mod Numbering
+pub mod Passed
 pub mod RowsKept
 pub mod Search
 pub mod SnapshotInside

@@ -2,8 +2,9 @@
 //! with the law as its contract.
 ghost use Rattle.snapshot.specs.Contents.{NamesLeastCyclic};
 ghost use Rattle.snapshot.specs.Faults.{NamesFirstFault};
-ghost use Rattle.snapshot.specs.InForce.{CountsEachRow};
+ghost use Rattle.snapshot.specs.InForce.{KeepsRising};
 ghost use Rattle.snapshot.specs.Name.{NamesFirstRow};
+ghost use Rattle.snapshot.specs.Passed.{CountsPassedRows};
 
 /// The first fault of a list of places is the fault of a place before which no place has any.
 pub fn first_fault_is_the_first()
@@ -15,9 +16,15 @@ pub fn cyclic_concept_is_the_least()
     ensures { NamesLeastCyclic }
 {}
 
-/// No list of a release has a row twice or out of nothing: its lists have no more rows than were read.
+/// Of files without a fault by file and line, the rows that are counted as passed over are those in none
+/// of the release's lists: the sum over the kinds of the rows that are not in force.
 pub fn rows_are_listed_or_passed()
-    ensures { CountsEachRow }
+    ensures { CountsPassedRows }
+{}
+
+/// Identifiers in rising order are the same members, each once.
+pub fn rising_keeps_the_members()
+    ensures { KeepsRising }
 {}
 
 /// The name row that names a concept is one of its rows, and none of them comes before it.

@@ -16,7 +16,7 @@ mod rows;
 pub use crate::fault::LoadFault;
 pub use crate::laws::{
     cyclic_concept_is_the_least, first_fault_is_the_first, naming_row_comes_first,
-    rows_are_listed_or_passed,
+    rising_keeps_the_members, rows_are_listed_or_passed,
 };
 pub use crate::limits::Limits;
 pub use crate::load::Snapshot;

@@ -1,5 +1,5 @@
 //! Loading a release, and reading it.
-ghost use Rattle.std.specs.Prelude.{◌≡◌, ◌<◌, ◌^◌, None, Ok, IfOk, IfErr, OnOk, map, length, slice_index, string_bytes, count_by, nat_eq};
+ghost use Rattle.std.specs.Prelude.{◌≡◌, ◌<◌, ◌^◌, Err, None, Ok, false, IfOk, IfErr, OnOk, map, length, slice_index, string_bytes, count_by, nat_eq};
 ghost use Rattle.std.specs.List.{filter_map, list_any, IsDistinct};
 ghost use Rattle.std.specs.List.Sorted.{IsStrictlyIncreasing};
 ghost use Rattle.snapshot.specs.Contents.{IsFaultOf, first_cyclic, load_of};
@@ -70,7 +70,8 @@ impl Snapshot {
     /// first is answered, are looked for in this order: `NoConceptFile` on the names alone; then
     /// file by file and line by line `TooMany` by bytes, `Header` on line 1 or in a file without
     /// lines, `Row`, `Duplicate`, `TooMany` by rows; last `Cycle`. `Memory` is answered where a
-    /// growth is refused. `lang` is the language code whose names come first.
+    /// growth is refused, and never where no file has the name of a Concept file. `lang` is the
+    /// language code whose names come first.
     pub fn load(
         alloc: Global,
         files: &[NamedBytes<'_>],
@@ -79,6 +80,7 @@ impl Snapshot {
     ) -> Result<Snapshot, LoadFault>
         ensures ok { IfOk result (λ snapshot. load_of limits lang.now (map file_text files.now) ≡ Ok snapshot) }
         ensures err { IfErr result (λ fault. IsFaultOf fault (load_of limits lang.now (map file_text files.now))) }
+        ensures unnamed { list_any (λ file. is_concept_file_of (file_text file)) files.now ≡ false → result ≡ Err LoadFault.NoConceptFile }
     {
         if !has_concept_file(files) {
             return Err(LoadFault::NoConceptFile);

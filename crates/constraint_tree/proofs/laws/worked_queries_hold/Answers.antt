@@ -35,10 +35,19 @@ pub returns-clause-numbers : goal.returns-clause-numbers
 returns-clause-numbers c = (refl, refl, refl)
 
 pub returns-clause-walks : goal.returns-clause-walks
-returns-clause-walks c = (refl, refl, refl, refl, refl, refl, refl)
+returns-clause-walks c = (refl, refl, refl, refl, refl, refl, refl, refl, refl)
 
 pub returns-clause-operands : goal.returns-clause-operands
 returns-clause-operands c = (refl, refl, refl)
 
 pub returns-clause-empty_answers : goal.returns-clause-empty_answers
 returns-clause-empty_answers c = (refl, refl, refl, refl)
+
+pub returns-clause-bounds : goal.returns-clause-bounds
+returns-clause-bounds c = (refl, refl, refl, refl)
+
+pub returns-clause-differences : goal.returns-clause-differences
+returns-clause-differences c = (refl, refl, refl)
+
+pub returns-clause-either : goal.returns-clause-either
+returns-clause-either c = (refl, refl)

@@ -9,6 +9,6 @@ use Rattle.uuid.specs.Text.{by_index}
 use Rattle.query_tool.proofs.sample.sample_files.Goals as goal
 
 -- by computing the load
-pub returns : goal.returns
+pub returns-clause-release : goal.returns-clause-release
 unfolding header_of cause_of file_kind_of row_fault concept_row concrete_row description_row member_row relationship_row by_index lines_of chars is_utf8 encode
-returns c = refl
+returns-clause-release c = refl

@@ -1,4 +1,4 @@
-use Rattle.std.proofs.Common.{◌≡◌, ◌∙◌, ap, refl, subst, true}
+use Rattle.std.proofs.Common.{◌≡◌, ◌∙◌, ap, refl, subst, true, []}
 use Rattle.rf2_rows.specs.Parts.{texts_of}
 use Rattle.clap.specs.Words.{App, app_of, is_simple, is_simple_and_free, HasKind, fault_of, kind_of, subcommand_of, subcommand_rows_of}
 use Rattle.clap.proofs.OnLiterals.{clap_on_literals}
@@ -21,14 +21,18 @@ returns-in-Ok-clause-asked c =
     let is : app_of c.in_ok-command.command ≡ program = c.in_ok-command.ensures in
     let named : subcommand_rows_of c.in-Ok.matches ≡ subcommand_of program (texts_of c.args.words.now) =
     (c.in-Ok.ensures.matches (ap is_simple is ∙ program_is_simple)).1 ∙ ap (λ (app : App). subcommand_of app (texts_of c.args.words.now)) is in
-    request_is (texts_of c.args.words.now) (subcommand_rows_of c.in-Ok.matches) c.query_request.result named c.query_request.ensures.mode c.query_request.ensures.asked
+    let clean : fault_of program (texts_of c.args.words.now) ≡ [] =
+    subst (λ (app : App). fault_of app (texts_of c.args.words.now) ≡ []) is (c.in-Ok.ensures.kinds (ap is_simple_and_free is ∙ program_is_free)) in
+    request_is (texts_of c.args.words.now) (subcommand_rows_of c.in-Ok.matches) c.query_request.result named clean c.query_request.ensures.mode c.query_request.ensures.asked
 
 pub returns-in-Ok-clause-refused : goal.returns-in-Ok-clause-refused
 returns-in-Ok-clause-refused c =
     let is : app_of c.in_ok-command.command ≡ program = c.in_ok-command.ensures in
     let named : subcommand_rows_of c.in-Ok.matches ≡ subcommand_of program (texts_of c.args.words.now) =
     (c.in-Ok.ensures.matches (ap is_simple is ∙ program_is_simple)).1 ∙ ap (λ (app : App). subcommand_of app (texts_of c.args.words.now)) is in
-    refusal_is (texts_of c.args.words.now) (subcommand_rows_of c.in-Ok.matches) c.query_request.result named c.query_request.ensures.refused
+    let clean : fault_of program (texts_of c.args.words.now) ≡ [] =
+    subst (λ (app : App). fault_of app (texts_of c.args.words.now) ≡ []) is (c.in-Ok.ensures.kinds (ap is_simple_and_free is ∙ program_is_free)) in
+    refusal_is (texts_of c.args.words.now) (subcommand_rows_of c.in-Ok.matches) c.query_request.result named clean c.query_request.ensures.refused
 
 pub returns-in-Err-clause-refused : goal.returns-in-Err-clause-refused
 returns-in-Err-clause-refused c =

@@ -1,0 +1,8 @@
+use Rattle.rf2_rows.proofs.DistinctLemmas.{keeps_each_number_once, keeps_each_pair_once}
+use Rattle.rf2_rows.proofs.laws.distinct_keeps_each_once.Goals as goal
+
+pub returns-clause-numbers : goal.returns-clause-numbers
+returns-clause-numbers c = keeps_each_number_once
+
+pub returns-clause-pairs : goal.returns-clause-pairs
+returns-clause-pairs c = keeps_each_pair_once
