@@ -1,6 +1,8 @@
 pub mod Denotation
 pub mod Depth
+pub mod Grammar
 pub mod Passing
+pub mod Refusal
 pub mod Sample
 pub mod Tree
 pub mod Walks

@@ -85,8 +85,9 @@ fn concrete_value<'a>(field: &'a [u8], column: u8) -> Result<Value<'a>, RowFault
     }
 }
 
-// The number that a text writes, with or without a sign.
-fn decimal(text: &[u8]) -> Option<Decimal>
+/// The number that a text writes behind `#`: a sign or none, 1 to 18 digits and, behind a point,
+/// another 1 to 18 (Release File Specification, "Relationship concrete values file"). Takes no memory.
+pub fn decimal(text: &[u8]) -> Option<Decimal>
     ensures { option_map (λ found. found.0) result ≡ decimal_of text.now }
 {
     match text {

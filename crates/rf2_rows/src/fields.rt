@@ -97,7 +97,8 @@ pub fn text(text: &[u8], column: u8) -> Result<&str, RowFault>
     }
 }
 
-/// The number that a text of digits stands for, of so many digits at the least and the most.
+/// The number that a text of ASCII digits writes, of `least` to `most` digits, of which 18 may be the
+/// most; `None` for any other text. Takes no memory.
 pub fn digits(text: &[u8], least: usize, most: usize) -> Option<u64>
     requires { most ≤ 18 }
     ensures digits { is_some result ≡ is_number least most text.now }

@@ -17,7 +17,9 @@ mod tabs;
 mod tests;
 mod value;
 
+pub use crate::concrete::decimal;
 pub use crate::fault::{RowCause, RowFault};
+pub use crate::fields::digits;
 pub use crate::kind::{FileKind, file_kind, header};
 pub use crate::laws::{distinct_keeps_each_once, reaches_tells_chains, same_pairs_are_told};
 pub use crate::read::{RowReader, read_row};

@@ -1,0 +1,290 @@
+-- The grammar of expression constraints over tokens (Expression Constraint Language 2.2, 5.1 "Brief syntax"), and
+-- the tree of a list of tokens. A form is a way to derive tokens by the rules of the grammar, with one constructor for
+-- each alternative of a rule: it has the tokens that it derives, and a tree, in which brackets and terms leave no trace.
+-- The tokens of a form are written in front of those that follow it.
+use Rattle.std.specs.Prelude.{◌≡◌, ◌==◌, ◌||◌, ℕ, ◌+◌, ◌-◌, ℤ, Bool, true, false, cond, if◌then◌else◌, List, [], ◌∷◌, map, drop, Option, None, Some, IsTrue}
+use Rattle.ecl_lexer.specs.Tokens.{Spelled}
+use Rattle.ecl_lexer.specs.declared.token.TokenKind.{TokenKind}
+use Rattle.ecl_lexer.specs.declared.token.TokenKind.TheVariants.{DescendantOf, DescendantOrSelfOf, ChildOf, ChildOrSelfOf, AncestorOf, AncestorOrSelfOf, ParentOf, ParentOrSelfOf, Top as TopOf, Bottom as BottomOf, MemberOf, Wildcard, RoundOpen, RoundClose, BraceOpen, BraceClose, BracketOpen, BracketClose, Colon, Dot, Dots, Equal as EqualSign, NotEqual as NotEqualSign, LessOrEqual as LessOrEqualSign, GreaterOrEqual as GreaterOrEqualSign, And, Or, Minus, Reverse, Digits, Number, Term}
+use Rattle.rf2_rows.specs.Numbers.{is_number, number_of}
+use Rattle.rf2_rows.specs.Values.{decimal_of}
+use Rattle.constraint_tree.specs.declared.operator.Cardinality.{Cardinality}
+use Rattle.constraint_tree.specs.declared.operator.Compare.{Compare}
+use Rattle.constraint_tree.specs.declared.operator.Compare.TheVariants.{Equal, NotEqual, Less, LessOrEqual, Greater, GreaterOrEqual}
+use Rattle.constraint_tree.specs.declared.operator.Operator.{Operator}
+use Rattle.constraint_tree.specs.declared.operator.Operator.TheVariants.{Descendants, DescendantsOrSelf, Children, ChildrenOrSelf, Ancestors, AncestorsOrSelf, Parents, ParentsOrSelf, Top, Bottom}
+use Rattle.constraint_tree.specs.Tree.{Tree, concept_tree, any_tree, walk_tree, member_tree, and_tree, or_tree, minus_tree, dotted_tree, refined_tree, Trees, no_trees, tree_then, RefinementTree, one_refinement, group_refinement, and_refinement, or_refinement, RefinementTrees, no_refinements, refinement_then, AttributeSetTree, one_set, and_set, or_set, AttributeSetTrees, no_sets, set_then, AttributeTree, attribute_tree, TestTree, within_test, outside_test, number_test}
+
+-- a cardinality: the digits of its minimum, and those of its maximum or `*`
+pub data CountForm : Type 0 where
+  at_least : (least : List ℕ) → IsTrue (is_number 1 18 least) → CountForm
+  between : (least most : List ℕ) → IsTrue (is_number 1 18 least) → IsTrue (is_number 1 18 most) → CountForm
+
+mutual
+  pub data ConstraintForm : Type 0 where
+    -- Sub
+    alone : SubForm → ConstraintForm
+    -- Sub ":" Refinement
+    refined : SubForm → RefinementForm → ConstraintForm
+    -- Sub (AND Sub)+, Sub (OR Sub)+
+    conjunction : SubForm → SubForm → SubForms → ConstraintForm
+    disjunction : SubForm → SubForm → SubForms → ConstraintForm
+    -- Sub MINUS Sub
+    exclusion : SubForm → SubForm → ConstraintForm
+    -- Sub ("." Sub)+
+    dotted : SubForm → SubForm → SubForms → ConstraintForm
+
+  pub data SubForms : Type 0 where
+    no_subs : SubForms
+    sub_then : SubForm → SubForms → SubForms
+
+  -- [Operator] ["^"] Focus
+  pub data SubForm : Type 0 where
+    plain : FocusForm → SubForm
+    member : FocusForm → SubForm
+    walk : Operator → FocusForm → SubForm
+    walk_member : Operator → FocusForm → SubForm
+
+  pub data FocusForm : Type 0 where
+    -- Digits [Term]
+    concept : (run : List ℕ) → IsTrue (is_number 6 18 run) → FocusForm
+    concept_term : (run : List ℕ) → IsTrue (is_number 6 18 run) → FocusForm
+    -- "*"
+    any : FocusForm
+    -- "(" Constraint ")"
+    round : ConstraintForm → FocusForm
+
+  pub data RefinementForm : Type 0 where
+    -- Item, Item (AND Item)+, Item (OR Item)+
+    one_item : ItemForm → RefinementForm
+    all_items : ItemForm → ItemForm → ItemForms → RefinementForm
+    some_items : ItemForm → ItemForm → ItemForms → RefinementForm
+
+  pub data ItemForms : Type 0 where
+    no_items : ItemForms
+    item_then : ItemForm → ItemForms → ItemForms
+
+  pub data ItemForm : Type 0 where
+    -- [Count] ["R"] Pair
+    attribute : Option CountForm → (reverse : Bool) → PairForm → ItemForm
+    -- [Count] "{" Set "}"
+    group : Option CountForm → SetForm → ItemForm
+    -- "(" Refinement ")"
+    round_refinement : RefinementForm → ItemForm
+
+  pub data SetForm : Type 0 where
+    -- Part, Part (AND Part)+, Part (OR Part)+
+    one_part : PartForm → SetForm
+    all_parts : PartForm → PartForm → PartForms → SetForm
+    some_parts : PartForm → PartForm → PartForms → SetForm
+
+  pub data PartForms : Type 0 where
+    no_parts : PartForms
+    part_then : PartForm → PartForms → PartForms
+
+  pub data PartForm : Type 0 where
+    -- [Count] Pair
+    counted_part : Option CountForm → PairForm → PartForm
+    -- "(" Set ")"
+    round_set : SetForm → PartForm
+
+  pub data PairForm : Type 0 where
+    -- Sub "=" Sub, Sub "!=" Sub
+    within : SubForm → SubForm → PairForm
+    outside : SubForm → SubForm → PairForm
+    -- Sub Comparison Number
+    number : SubForm → Compare → (text : List ℕ) → (value : ℤ) → decimal_of (drop 1 text) ≡ Some value → PairForm
+
+-- a token as the grammar sees it: digits and a number by their bytes, any other by its kind alone
+pub data Symbol : Type 0 where
+  digits : List ℕ → Symbol
+  decimal : List ℕ → Symbol
+  mark : TokenKind → Symbol
+
+abbrev pub symbol_of : Spelled → Symbol
+symbol_of token = by token.kind
+  where
+    by : TokenKind → Symbol
+    by Digits = digits token.bytes
+    by Number = decimal token.bytes
+    by other = mark token.kind
+
+-- the token of an operator, and of a comparison
+abbrev pub operator_kind : Operator → TokenKind
+operator_kind Descendants = DescendantOf
+operator_kind DescendantsOrSelf = DescendantOrSelfOf
+operator_kind Children = ChildOf
+operator_kind ChildrenOrSelf = ChildOrSelfOf
+operator_kind Ancestors = AncestorOf
+operator_kind AncestorsOrSelf = AncestorOrSelfOf
+operator_kind Parents = ParentOf
+operator_kind ParentsOrSelf = ParentOrSelfOf
+operator_kind Top = TopOf
+operator_kind Bottom = BottomOf
+
+abbrev pub compare_kind : Compare → TokenKind
+compare_kind Equal = EqualSign
+compare_kind NotEqual = NotEqualSign
+compare_kind Less = DescendantOf
+compare_kind LessOrEqual = LessOrEqualSign
+compare_kind Greater = AncestorOf
+compare_kind GreaterOrEqual = GreaterOrEqualSign
+
+-- the tokens of a cardinality, if there is one, and then some tokens
+abbrev pub count_tokens : CountForm → List Symbol → List Symbol
+count_tokens (at_least least is) rest =
+    mark BracketOpen ∷ digits least ∷ mark Dots ∷ mark Wildcard ∷ mark BracketClose ∷ rest
+count_tokens (between least most is also) rest =
+    mark BracketOpen ∷ digits least ∷ mark Dots ∷ digits most ∷ mark BracketClose ∷ rest
+
+abbrev pub counted_tokens : Option CountForm → List Symbol → List Symbol
+counted_tokens None rest = rest
+counted_tokens (Some count) rest = count_tokens count rest
+
+abbrev pub reverse_tokens : Bool → List Symbol → List Symbol
+reverse_tokens true rest = mark Reverse ∷ rest
+reverse_tokens false rest = rest
+
+-- the tokens of a form, and then some tokens
+abbrev mutual
+  pub constraint_tokens : ConstraintForm → List Symbol → List Symbol
+  constraint_tokens (alone sub) rest = sub_tokens sub rest
+  constraint_tokens (refined focus refinement) rest = sub_tokens focus (mark Colon ∷ refinement_tokens refinement rest)
+  constraint_tokens (conjunction first second more) rest =
+      sub_tokens first (mark And ∷ sub_tokens second (subs_tokens And more rest))
+  constraint_tokens (disjunction first second more) rest =
+      sub_tokens first (mark Or ∷ sub_tokens second (subs_tokens Or more rest))
+  constraint_tokens (exclusion first second) rest = sub_tokens first (mark Minus ∷ sub_tokens second rest)
+  constraint_tokens (dotted start name more) rest = sub_tokens start (mark Dot ∷ sub_tokens name (subs_tokens Dot more rest))
+
+  -- each behind a token of a kind
+  pub subs_tokens : TokenKind → SubForms → List Symbol → List Symbol
+  subs_tokens kind no_subs rest = rest
+  subs_tokens kind (sub_then sub more) rest = mark kind ∷ sub_tokens sub (subs_tokens kind more rest)
+
+  pub sub_tokens : SubForm → List Symbol → List Symbol
+  sub_tokens (plain focus) rest = focus_tokens focus rest
+  sub_tokens (member focus) rest = mark MemberOf ∷ focus_tokens focus rest
+  sub_tokens (walk operator focus) rest = mark (operator_kind operator) ∷ focus_tokens focus rest
+  sub_tokens (walk_member operator focus) rest = mark (operator_kind operator) ∷ mark MemberOf ∷ focus_tokens focus rest
+
+  pub focus_tokens : FocusForm → List Symbol → List Symbol
+  focus_tokens (concept run is) rest = digits run ∷ rest
+  focus_tokens (concept_term run is) rest = digits run ∷ mark Term ∷ rest
+  focus_tokens any rest = mark Wildcard ∷ rest
+  focus_tokens (round constraint) rest = mark RoundOpen ∷ constraint_tokens constraint (mark RoundClose ∷ rest)
+
+  pub refinement_tokens : RefinementForm → List Symbol → List Symbol
+  refinement_tokens (one_item item) rest = item_tokens item rest
+  refinement_tokens (all_items first second more) rest =
+      item_tokens first (mark And ∷ item_tokens second (items_tokens And more rest))
+  refinement_tokens (some_items first second more) rest =
+      item_tokens first (mark Or ∷ item_tokens second (items_tokens Or more rest))
+
+  pub items_tokens : TokenKind → ItemForms → List Symbol → List Symbol
+  items_tokens kind no_items rest = rest
+  items_tokens kind (item_then item more) rest = mark kind ∷ item_tokens item (items_tokens kind more rest)
+
+  pub item_tokens : ItemForm → List Symbol → List Symbol
+  item_tokens (attribute count reverse pair) rest = counted_tokens count (reverse_tokens reverse (pair_tokens pair rest))
+  item_tokens (group count set) rest = counted_tokens count (mark BraceOpen ∷ set_tokens set (mark BraceClose ∷ rest))
+  item_tokens (round_refinement refinement) rest = mark RoundOpen ∷ refinement_tokens refinement (mark RoundClose ∷ rest)
+
+  pub set_tokens : SetForm → List Symbol → List Symbol
+  set_tokens (one_part part) rest = part_tokens part rest
+  set_tokens (all_parts first second more) rest = part_tokens first (mark And ∷ part_tokens second (parts_tokens And more rest))
+  set_tokens (some_parts first second more) rest = part_tokens first (mark Or ∷ part_tokens second (parts_tokens Or more rest))
+
+  pub parts_tokens : TokenKind → PartForms → List Symbol → List Symbol
+  parts_tokens kind no_parts rest = rest
+  parts_tokens kind (part_then part more) rest = mark kind ∷ part_tokens part (parts_tokens kind more rest)
+
+  pub part_tokens : PartForm → List Symbol → List Symbol
+  part_tokens (counted_part count pair) rest = counted_tokens count (pair_tokens pair rest)
+  part_tokens (round_set set) rest = mark RoundOpen ∷ set_tokens set (mark RoundClose ∷ rest)
+
+  pub pair_tokens : PairForm → List Symbol → List Symbol
+  pair_tokens (within name value) rest = sub_tokens name (mark EqualSign ∷ sub_tokens value rest)
+  pair_tokens (outside name value) rest = sub_tokens name (mark NotEqualSign ∷ sub_tokens value rest)
+  pair_tokens (number name compare text value is) rest =
+      sub_tokens name (mark (compare_kind compare) ∷ decimal text ∷ rest)
+
+-- the cardinality that is written, or `[1..*]` where none is
+abbrev pub cardinality_of : Option CountForm → Cardinality
+cardinality_of None = record { min = 1; max = None }
+cardinality_of (Some (at_least least is)) = record { min = number_of least; max = None }
+cardinality_of (Some (between least most is also)) = record { min = number_of least; max = Some (number_of most) }
+
+-- the tree of a form
+abbrev mutual
+  pub constraint_tree : ConstraintForm → Tree
+  constraint_tree (alone sub) = sub_tree sub
+  constraint_tree (refined focus refinement) = refined_tree (sub_tree focus) (refinement_tree refinement)
+  constraint_tree (conjunction first second more) = and_tree (tree_then (sub_tree first) (tree_then (sub_tree second) (sub_trees more)))
+  constraint_tree (disjunction first second more) = or_tree (tree_then (sub_tree first) (tree_then (sub_tree second) (sub_trees more)))
+  constraint_tree (exclusion first second) = minus_tree (sub_tree first) (sub_tree second)
+  constraint_tree (dotted start name more) = dotted_tree (sub_tree start) (tree_then (sub_tree name) (sub_trees more))
+
+  pub sub_trees : SubForms → Trees
+  sub_trees no_subs = no_trees
+  sub_trees (sub_then sub more) = tree_then (sub_tree sub) (sub_trees more)
+
+  -- an operator is for the members, where there is `^`
+  pub sub_tree : SubForm → Tree
+  sub_tree (plain focus) = focus_tree focus
+  sub_tree (member focus) = member_tree (focus_tree focus)
+  sub_tree (walk operator focus) = walk_tree operator (focus_tree focus)
+  sub_tree (walk_member operator focus) = walk_tree operator (member_tree (focus_tree focus))
+
+  pub focus_tree : FocusForm → Tree
+  focus_tree (concept run is) = concept_tree (number_of run)
+  focus_tree (concept_term run is) = concept_tree (number_of run)
+  focus_tree any = any_tree
+  focus_tree (round constraint) = constraint_tree constraint
+
+  pub refinement_tree : RefinementForm → RefinementTree
+  refinement_tree (one_item item) = item_tree item
+  refinement_tree (all_items first second more) =
+      and_refinement (refinement_then (item_tree first) (refinement_then (item_tree second) (item_trees more)))
+  refinement_tree (some_items first second more) =
+      or_refinement (refinement_then (item_tree first) (refinement_then (item_tree second) (item_trees more)))
+
+  pub item_trees : ItemForms → RefinementTrees
+  item_trees no_items = no_refinements
+  item_trees (item_then item more) = refinement_then (item_tree item) (item_trees more)
+
+  pub item_tree : ItemForm → RefinementTree
+  item_tree (attribute count reverse pair) = one_refinement (pair_tree count reverse pair)
+  item_tree (group count set) = group_refinement (cardinality_of count) (set_tree set)
+  item_tree (round_refinement refinement) = refinement_tree refinement
+
+  pub set_tree : SetForm → AttributeSetTree
+  set_tree (one_part part) = part_tree part
+  set_tree (all_parts first second more) = and_set (set_then (part_tree first) (set_then (part_tree second) (part_trees more)))
+  set_tree (some_parts first second more) = or_set (set_then (part_tree first) (set_then (part_tree second) (part_trees more)))
+
+  pub part_trees : PartForms → AttributeSetTrees
+  part_trees no_parts = no_sets
+  part_trees (part_then part more) = set_then (part_tree part) (part_trees more)
+
+  pub part_tree : PartForm → AttributeSetTree
+  part_tree (counted_part count pair) = one_set (pair_tree count false pair)
+  part_tree (round_set set) = set_tree set
+
+  -- with its cardinality, and whether it is read backwards
+  pub pair_tree : Option CountForm → Bool → PairForm → AttributeTree
+  pair_tree count reverse (within name value) =
+      attribute_tree (cardinality_of count) reverse (sub_tree name) (within_test (sub_tree value))
+  pair_tree count reverse (outside name value) =
+      attribute_tree (cardinality_of count) reverse (sub_tree name) (outside_test (sub_tree value))
+  pair_tree count reverse (number name compare text value is) =
+      attribute_tree (cardinality_of count) reverse (sub_tree name) (number_test compare value)
+
+-- tokens derive from a constraint with this tree
+abbrev pub IsTreeOf : List Spelled → Tree → Type 0
+IsTreeOf tokens tree =
+    (form : ConstraintForm) × (map symbol_of tokens ≡ constraint_tokens form []) × (tree ≡ constraint_tree form)
+
+-- no tokens derive from constraints with two trees
+abbrev pub HaveOneTree : Type 0
+HaveOneTree = (tokens : List Spelled) (one other : Tree) → IsTreeOf tokens one → IsTreeOf tokens other → one ≡ other

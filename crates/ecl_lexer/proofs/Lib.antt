@@ -1,0 +1,12 @@
+pub mod AnswerLemmas
+pub mod ByteLemmas
+pub mod CommentLemmas
+pub mod CutLemmas
+pub mod ReadLemmas
+pub mod LawLemmas
+pub mod NumberLemmas
+pub mod RunLemmas
+pub mod SymbolLemmas
+pub mod StandsLemmas
+pub mod FaultLemmas
+pub mod FoundLemmas

@@ -1,0 +1,5 @@
+use Rattle.ecl_lexer.proofs.CommentLemmas.{close_place-is}
+use Rattle.ecl_lexer.proofs.pieces.close_place.Goals as goal
+
+pub returns-clause-place : goal.returns-clause-place
+returns-clause-place c = close_place-is c.args.text.now c.find.result c.find.ensures

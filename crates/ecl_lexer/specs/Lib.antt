@@ -1,0 +1,5 @@
+pub mod Bytes
+pub mod Pieces
+pub mod Reading
+pub mod Refusals
+pub mod Tokens

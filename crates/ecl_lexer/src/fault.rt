@@ -1,0 +1,108 @@
+//! Why a text is no expression constraint.
+ghost use Rattle.std.specs.Prelude.{◌≡◌, codes};
+
+use std::alloc::{AllocError, AllocFailed};
+use thiserror::Error;
+
+/// A form of the language (Expression Constraint Language 2.2) that is not read.
+#[derive(Clone, Copy, Debug, PartialEq, Eq, Hash)]
+pub enum Feature {
+    /// A filter, as `{{ C active = 1 }}` ("Description Filters", "Concept Filters", "Member Filters").
+    Filter,
+    /// A history supplement, as `{{ +HISTORY-MIN }}` ("History Supplements").
+    History,
+    /// Fields of a reference set, as `^ [targetComponentId]` ("Simple Expression Constraints").
+    Fields,
+    /// An alternate identifier, as `LOINC#54486-6` ("Simple Expression Constraints").
+    Identifier,
+    /// A comparison with `true` or `false` ("Refinements").
+    Boolean,
+    /// A comparison with a string, as `"PANADOL"` ("Refinements").
+    String,
+}
+
+impl Feature {
+    ghost use Rattle.ecl_lexer.specs.Refusals.{feature_name};
+
+    /// The name of the form, in lower case.
+    pub fn name(self) -> &'static str
+        ensures { result.now ≡ feature_name self }
+    {
+        match self {
+            Feature::Filter => "filter",
+            Feature::History => "history",
+            Feature::Fields => "fields",
+            Feature::Identifier => "identifier",
+            Feature::Boolean => "boolean",
+            Feature::String => "string",
+        }
+    }
+}
+
+/// The first refusal of a text, in the order of the numbers; among those of number 3 it is the one at
+/// the least offset. An offset counts bytes, from 0.
+#[derive(Clone, Copy, Debug, PartialEq, Eq, Hash, Error)]
+pub enum QueryFault {
+    /// More than 65,535 bytes.
+    #[error("the text has more than 65,535 bytes")]
+    Long,
+    /// Not UTF-8.
+    #[error("the text is not UTF-8")]
+    Utf8,
+    /// No token begins at the offset.
+    #[error("no token begins at byte {0}")]
+    Token(usize),
+    /// A form of the language that is not read begins at the offset.
+    #[error("at byte {0} a form begins that is not read: {name}", name = .1.name())]
+    Unsupported(usize, Feature),
+    /// A run of more than 18 digits begins at the offset, or a number that has one.
+    #[error("more than 18 digits at byte {0}")]
+    Limit(usize),
+    /// More than 64 brackets are open at once.
+    #[error("more than 64 brackets are open at once")]
+    Depth,
+    /// The tokens are no constraint.
+    #[error("the text is no expression constraint")]
+    Syntax,
+    /// Memory ran out.
+    #[error("out of memory")]
+    Memory,
+}
+
+impl QueryFault {
+    ghost use Rattle.ecl_lexer.specs.Refusals.{fault_number};
+
+    /// The number of the fault, from 1 in the order in which faults are looked for.
+    pub fn number(self) -> u8
+        ensures { result ≡ fault_number self }
+    {
+        match self {
+            QueryFault::Long => 1,
+            QueryFault::Utf8 => 2,
+            QueryFault::Token(_) | QueryFault::Unsupported(_, _) | QueryFault::Limit(_) => 3,
+            QueryFault::Depth => 4,
+            QueryFault::Syntax => 5,
+            QueryFault::Memory => 6,
+        }
+    }
+}
+
+impl From<AllocError> for QueryFault {
+    ghost use Rattle.ecl_lexer.specs.declared.fault.QueryFault.TheVariants.{Memory};
+
+    ghost from_gives = { λ _ fault. fault ≡ Memory };
+
+    fn from(_error: AllocError) -> QueryFault {
+        QueryFault::Memory
+    }
+}
+
+impl<T: Drop> From<AllocFailed<T>> for QueryFault {
+    ghost use Rattle.ecl_lexer.specs.declared.fault.QueryFault.TheVariants.{Memory};
+
+    ghost from_gives = { λ _ fault. fault ≡ Memory };
+
+    fn from(_error: AllocFailed<T>) -> QueryFault {
+        QueryFault::Memory
+    }
+}

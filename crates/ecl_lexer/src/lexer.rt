@@ -1,0 +1,99 @@
+//! Cutting a text into tokens.
+ghost use Rattle.std.specs.Prelude.{◌≡◌, ◌⊎◌, ◌↔◌, ℕ, ◌+◌, ◌<◌, ◌≤◌, List, [], map, length, Err, IsOk, IfOk, IfErr, IsOkAnd, OnOk};
+ghost use Rattle.std.specs.List.{prefix_len};
+ghost use Rattle.ecl_lexer.specs.Bytes.{is_code_byte};
+ghost use Rattle.ecl_lexer.specs.Reading.{found_of, reading};
+ghost use Rattle.ecl_lexer.specs.Tokens.{AreTokensOf, ArePlacedIn, BeginsWithToken, FollowOn, IsFaultOf, IsReadable, Spelled, spelled, placed};
+ghost use Rattle.ecl_lexer.specs.declared.fault.QueryFault.{QueryFault};
+ghost use Rattle.ecl_lexer.specs.declared.fault.QueryFault.TheVariants.{Long, Utf8, Memory};
+
+use crate::fault::QueryFault;
+use crate::pieces::{Piece, first_piece};
+use crate::runs::code_count;
+use crate::token::Token;
+use crate::unsupported::unsupported;
+use std::alloc::Global;
+use std::str::from_utf8;
+
+// No text that is read has more bytes.
+const MOST_BYTES: usize = 65_535;
+
+/// The tokens of a text in their order, or its first refusal before the grammar is asked for
+/// (Expression Constraint Language 2.2, 5.1 "Brief syntax"): `Long`, `Utf8`, or else `Unsupported`,
+/// `Token` or `Limit` at the least offset, at one offset in this order. `Memory` is answered where it
+/// runs out; a text without a token takes none. `Depth` and `Syntax` are never answered.
+pub fn lex(alloc: Global, text: &[u8]) -> Result<Vec<Token<'_>>, QueryFault>
+    // The tokens, as the grammar sees them and with their places.
+    ensures found { IfOk result (λ tokens. AreTokensOf text.now (map spelled tokens.items)) }
+    ensures places { IfOk result (λ tokens. ArePlacedIn text.now (map placed tokens.items)) }
+    ensures spans { IfOk result (λ tokens. FollowOn text.now 0 (map placed tokens.items)) }
+    ensures readable { OnOk result (IsReadable text.now) }
+
+    // A refusal is the text's. Where the text has a refusal, or tokens, no other answer comes.
+    ensures fault { IfErr result (λ fault. (fault ≡ Memory) ⊎ IsFaultOf text.now fault) }
+    ensures only { (fault : QueryFault) → IsFaultOf text.now fault → (result ≡ Err fault) ⊎ (result ≡ Err Memory) }
+    ensures whole { (tokens : List Spelled) → IsReadable text.now → AreTokensOf text.now tokens
+        → IsOk result ⊎ (result ≡ Err Memory) }
+    ensures long { (result ≡ Err Long) ↔ IsFaultOf text.now Long }
+    ensures utf8 { (result ≡ Err Utf8) ↔ IsFaultOf text.now Utf8 }
+
+    // Memory is taken for tokens alone.
+    ensures memory { result ≡ Err Memory → BeginsWithToken text.now }
+    ensures empty { text.now ≡ [] → IsOkAnd result (λ tokens. tokens.items ≡ []) }
+{
+    if text.len() > MOST_BYTES {
+        return Err(QueryFault::Long);
+    }
+    if from_utf8(text).is_err() {
+        return Err(QueryFault::Utf8);
+    }
+    cut(alloc, text)
+}
+
+// The tokens of a text that is not too long and UTF-8.
+fn cut(alloc: Global, text: &[u8]) -> Result<Vec<Token<'_>>, QueryFault>
+    requires { IsReadable text.now }
+    ensures found { IfOk result (λ tokens. AreTokensOf text.now (map spelled tokens.items)) }
+    ensures places { IfOk result (λ tokens. ArePlacedIn text.now (map placed tokens.items)) }
+    ensures fault { IfErr result (λ fault. (fault ≡ Memory) ⊎ IsFaultOf text.now fault) }
+    ensures memory { result ≡ Err Memory → BeginsWithToken text.now }
+    ensures empty { text.now ≡ [] → IsOkAnd result (λ tokens. tokens.items ≡ []) }
+{
+    let mut tokens = Vec::new(alloc);
+    let mut at = 0;
+    let mut run_end = 0;
+    while at < text.len() {
+        let rest = &text[at..];
+        if run_end <= at {
+            run_end = at + code_count(rest);
+        }
+        let piece = read(rest, run_end - at, at)?;
+        let end = at + piece.length;
+        if let Some(kind) = piece.kind {
+            tokens.push(Token {
+                kind,
+                span: (at, end),
+                text: &rest[..piece.length],
+            })?;
+        }
+        at = end;
+    }
+    Ok(tokens)
+}
+
+// The piece that stands where the rest of a text begins, which stands at an offset, or the refusal there.
+fn read(rest: &[u8], code_count: usize, offset: usize) -> Result<Piece, QueryFault>
+    requires { code_count ≡ prefix_len is_code_byte rest.now }
+    ensures { result ≡ found_of (reading offset rest.now) }
+{
+    if let Some(feature) = unsupported(rest, code_count) {
+        return Err(QueryFault::Unsupported(offset, feature));
+    }
+    let Some(piece) = first_piece(rest) else {
+        return Err(QueryFault::Token(offset));
+    };
+    if !piece.is_within_limit {
+        return Err(QueryFault::Limit(offset));
+    }
+    Ok(piece)
+}

@@ -1,0 +1,83 @@
+//! The symbols of the language.
+ghost use Rattle.std.specs.Prelude.{◌≡◌, [], ◌∷◌, option_map};
+ghost use Rattle.ecl_lexer.specs.Pieces.{symbol_kind};
+ghost use Rattle.ecl_lexer.specs.Reading.{found, symbol_at};
+
+use crate::pieces::Piece;
+use crate::token::TokenKind;
+
+/// The longest symbol that begins a text.
+pub fn symbol(text: &[u8]) -> Option<Piece>
+    ensures { result ≡ option_map found (symbol_at text.now) }
+{
+    if text.len() >= 3
+        && let Some(kind) = three_bytes(text[0], text[1], text[2])
+    {
+        return Some(Piece::token(kind, 3));
+    }
+    if text.len() >= 2
+        && let Some(kind) = two_bytes(text[0], text[1])
+    {
+        return Some(Piece::token(kind, 2));
+    }
+    if text.is_empty() {
+        return None;
+    }
+    match one_byte(text[0]) {
+        Some(kind) => Some(Piece::token(kind, 1)),
+        None => None,
+    }
+}
+
+// The symbol that is three bytes.
+fn three_bytes(first: u8, second: u8, third: u8) -> Option<TokenKind>
+    ensures { result ≡ symbol_kind (first ∷ second ∷ third ∷ []) }
+{
+    match (first, second, third) {
+        (b'<', b'<', b'!') => Some(TokenKind::ChildOrSelfOf),
+        (b'>', b'>', b'!') => Some(TokenKind::ParentOrSelfOf),
+        (b'!', b'!', b'>') => Some(TokenKind::Top),
+        (b'!', b'!', b'<') => Some(TokenKind::Bottom),
+        _ => None,
+    }
+}
+
+// The symbol that is two bytes.
+fn two_bytes(first: u8, second: u8) -> Option<TokenKind>
+    ensures { result ≡ symbol_kind (first ∷ second ∷ []) }
+{
+    match (first, second) {
+        (b'<', b'<') => Some(TokenKind::DescendantOrSelfOf),
+        (b'<', b'!') => Some(TokenKind::ChildOf),
+        (b'>', b'>') => Some(TokenKind::AncestorOrSelfOf),
+        (b'>', b'!') => Some(TokenKind::ParentOf),
+        (b'.', b'.') => Some(TokenKind::Dots),
+        (b'!', b'=') => Some(TokenKind::NotEqual),
+        (b'<', b'=') => Some(TokenKind::LessOrEqual),
+        (b'>', b'=') => Some(TokenKind::GreaterOrEqual),
+        _ => None,
+    }
+}
+
+// The symbol that is one byte.
+fn one_byte(byte: u8) -> Option<TokenKind>
+    ensures { result ≡ symbol_kind (byte ∷ []) }
+{
+    match byte {
+        b'<' => Some(TokenKind::DescendantOf),
+        b'>' => Some(TokenKind::AncestorOf),
+        b'^' => Some(TokenKind::MemberOf),
+        b'*' => Some(TokenKind::Wildcard),
+        b'(' => Some(TokenKind::RoundOpen),
+        b')' => Some(TokenKind::RoundClose),
+        b'{' => Some(TokenKind::BraceOpen),
+        b'}' => Some(TokenKind::BraceClose),
+        b'[' => Some(TokenKind::BracketOpen),
+        b']' => Some(TokenKind::BracketClose),
+        b':' => Some(TokenKind::Colon),
+        b'.' => Some(TokenKind::Dot),
+        b'=' => Some(TokenKind::Equal),
+        b',' => Some(TokenKind::And),
+        _ => None,
+    }
+}

@@ -1,0 +1,474 @@
+-- Reading finds the tree of each form, in front of what may follow it.
+use Rattle.std.proofs.Common.{◌≡◌, ◌≤◌, ℕ, zero, suc, Bool, true, false, List, [], ◌∷◌, length, Option, None, Some, cond, option_map, refl, ap, ◌∙◌, arith}
+use Rattle.std.specs.Prelude.{is_some}
+use Rattle.constraint_tree.specs.declared.operator.Compare.{Compare}
+use Rattle.constraint_tree.specs.declared.operator.Compare.TheVariants as compare
+use Rattle.constraint_tree.specs.declared.operator.Operator.{Operator}
+use Rattle.constraint_tree.specs.declared.operator.Operator.TheVariants as operator
+use Rattle.ecl_lexer.specs.declared.token.TokenKind.{TokenKind}
+use Rattle.ecl_lexer.specs.declared.token.TokenKind.TheVariants as token
+use Rattle.constraint_tree.specs.Grammar.{Symbol, decimal, mark, CountForm, at_least, between, ConstraintForm, alone, refined, conjunction, disjunction, exclusion, dotted, SubForms, no_subs, sub_then, SubForm, plain, member, walk, walk_member, FocusForm, concept, concept_term, any, round, RefinementForm, one_item, all_items, some_items, ItemForms, no_items, item_then, ItemForm, attribute, group, round_refinement, SetForm, one_part, all_parts, some_parts, PartForms, no_parts, part_then, PartForm, counted_part, round_set, PairForm, within, outside, number, operator_kind, compare_kind, count_tokens, counted_tokens, constraint_tokens, subs_tokens, sub_tokens, focus_tokens, refinement_tokens, items_tokens, item_tokens, set_tokens, parts_tokens, part_tokens, pair_tokens, cardinality_of, constraint_tree, sub_trees, sub_tree, focus_tree, refinement_tree, item_trees, item_tree, set_tree, part_trees, part_tree, pair_tree}
+use Rattle.constraint_tree.specs.Tree.{Tree, trees_from, tree_then, RefinementTree, refinements_from, refinement_then, AttributeSetTree, sets_from, set_then}
+use Rattle.ecl_parser.specs.Reading.{Found, Readers, behind, behind_close, bounds_at, bracketed_at, compare_at, compare_of, constraint_behind, constraint_in, count_at, focus_in, is_mark, item_behind, item_in, many, member_in, number_at, operator_of, otherwise, pair_in, part_in, readers, refinement_behind, refinement_in, set_behind, set_in, sub_in, test_in}
+use Rattle.ecl_parser.specs.declared.tokens.Mark.{Mark}
+use Rattle.ecl_parser.specs.declared.tokens.Mark.TheVariants as marks
+use Rattle.ecl_parser.proofs.Forms.{constraint_depth, subs_depth, sub_depth, focus_depth, refinement_depth, items_depth, item_depth, set_depth, parts_depth, part_depth, pair_depth, close_constraint, close_refinement, close_set, longer_sub, longer_item, longer_part}
+
+-- what may follow a form: no term behind a Sub; behind an item no comparison either; behind a whole form no joint
+pub record AfterItem (rest : List Symbol) : Type 0 where
+  pub term : behind marks.Term rest ≡ None
+  pub compare : compare_at rest ≡ None
+
+pub record AfterWhole (rest : List Symbol) : Type 0 where
+  pub item : AfterItem rest
+  pub joins_and : behind marks.And rest ≡ None
+  pub joins_or : behind marks.Or rest ≡ None
+  pub joins_dot : behind marks.Dot rest ≡ None
+  pub colon : behind marks.Colon rest ≡ None
+  pub minus : behind marks.Minus rest ≡ None
+
+pub at_end : AfterWhole []
+at_end = record { item = record { term = refl; compare = refl }; joins_and = refl; joins_or = refl; joins_dot = refl; colon = refl; minus = refl }
+
+before_round : (rest : List Symbol) → AfterWhole (mark token.RoundClose ∷ rest)
+before_round rest = record { item = record { term = refl; compare = refl }; joins_and = refl; joins_or = refl; joins_dot = refl; colon = refl; minus = refl }
+
+before_brace : (rest : List Symbol) → AfterWhole (mark token.BraceClose ∷ rest)
+before_brace rest = record { item = record { term = refl; compare = refl }; joins_and = refl; joins_or = refl; joins_dot = refl; colon = refl; minus = refl }
+
+-- what a mark, and the token that joins forms, is to reading
+pub record Joins (wanted : Mark) (kind : TokenKind) : Type 0 where
+  pub is : is_mark wanted kind ≡ true
+  pub no_term : is_mark marks.Term kind ≡ false
+  pub no_compare : compare_of kind ≡ None
+
+by_and : Joins marks.And token.And
+by_and = record { is = refl; no_term = refl; no_compare = refl }
+
+by_or : Joins marks.Or token.Or
+by_or = record { is = refl; no_term = refl; no_compare = refl }
+
+by_dot : Joins marks.Dot token.Dot
+by_dot = record { is = refl; no_term = refl; no_compare = refl }
+
+-- a token that joins forms may stand behind each
+before_joint : (wanted : Mark) (kind : TokenKind) → Joins wanted kind → (rest : List Symbol) → AfterItem (mark kind ∷ rest)
+before_joint wanted kind joint rest = record {
+  term = ap (λ (b : Bool). cond b (Some rest) None) joint.no_term;
+  compare = ap (λ (c : Option Compare). option_map (λ compare. (compare, rest)) c) joint.no_compare;
+}
+
+-- the tokens of operators and comparisons are read as what they are, and as no other
+operator_back : (o : Operator) → operator_of (operator_kind o) ≡ Some o
+operator_back operator.Descendants = refl
+operator_back operator.DescendantsOrSelf = refl
+operator_back operator.Children = refl
+operator_back operator.ChildrenOrSelf = refl
+operator_back operator.Ancestors = refl
+operator_back operator.AncestorsOrSelf = refl
+operator_back operator.Parents = refl
+operator_back operator.ParentsOrSelf = refl
+operator_back operator.Top = refl
+operator_back operator.Bottom = refl
+
+compare_back : (c : Compare) → compare_of (compare_kind c) ≡ Some c
+compare_back compare.Equal = refl
+compare_back compare.NotEqual = refl
+compare_back compare.Less = refl
+compare_back compare.LessOrEqual = refl
+compare_back compare.Greater = refl
+compare_back compare.GreaterOrEqual = refl
+
+no_RoundOpen : (o : Operator) → is_mark marks.RoundOpen (operator_kind o) ≡ false
+no_RoundOpen operator.Descendants = refl
+no_RoundOpen operator.DescendantsOrSelf = refl
+no_RoundOpen operator.Children = refl
+no_RoundOpen operator.ChildrenOrSelf = refl
+no_RoundOpen operator.Ancestors = refl
+no_RoundOpen operator.AncestorsOrSelf = refl
+no_RoundOpen operator.Parents = refl
+no_RoundOpen operator.ParentsOrSelf = refl
+no_RoundOpen operator.Top = refl
+no_RoundOpen operator.Bottom = refl
+
+no_BraceOpen : (o : Operator) → is_mark marks.BraceOpen (operator_kind o) ≡ false
+no_BraceOpen operator.Descendants = refl
+no_BraceOpen operator.DescendantsOrSelf = refl
+no_BraceOpen operator.Children = refl
+no_BraceOpen operator.ChildrenOrSelf = refl
+no_BraceOpen operator.Ancestors = refl
+no_BraceOpen operator.AncestorsOrSelf = refl
+no_BraceOpen operator.Parents = refl
+no_BraceOpen operator.ParentsOrSelf = refl
+no_BraceOpen operator.Top = refl
+no_BraceOpen operator.Bottom = refl
+
+no_BracketOpen : (o : Operator) → is_mark marks.BracketOpen (operator_kind o) ≡ false
+no_BracketOpen operator.Descendants = refl
+no_BracketOpen operator.DescendantsOrSelf = refl
+no_BracketOpen operator.Children = refl
+no_BracketOpen operator.ChildrenOrSelf = refl
+no_BracketOpen operator.Ancestors = refl
+no_BracketOpen operator.AncestorsOrSelf = refl
+no_BracketOpen operator.Parents = refl
+no_BracketOpen operator.ParentsOrSelf = refl
+no_BracketOpen operator.Top = refl
+no_BracketOpen operator.Bottom = refl
+
+no_Reverse : (o : Operator) → is_mark marks.Reverse (operator_kind o) ≡ false
+no_Reverse operator.Descendants = refl
+no_Reverse operator.DescendantsOrSelf = refl
+no_Reverse operator.Children = refl
+no_Reverse operator.ChildrenOrSelf = refl
+no_Reverse operator.Ancestors = refl
+no_Reverse operator.AncestorsOrSelf = refl
+no_Reverse operator.Parents = refl
+no_Reverse operator.ParentsOrSelf = refl
+no_Reverse operator.Top = refl
+no_Reverse operator.Bottom = refl
+
+compare_term : (c : Compare) → is_mark marks.Term (compare_kind c) ≡ false
+compare_term compare.Equal = refl
+compare_term compare.NotEqual = refl
+compare_term compare.Less = refl
+compare_term compare.LessOrEqual = refl
+compare_term compare.Greater = refl
+compare_term compare.GreaterOrEqual = refl
+
+-- no Sub begins with such a token
+sub_no_BraceOpen : (form : SubForm) (rest : List Symbol) → behind marks.BraceOpen (sub_tokens form rest) ≡ None
+sub_no_BraceOpen (plain (concept run is)) rest = refl
+sub_no_BraceOpen (plain (concept_term run is)) rest = refl
+sub_no_BraceOpen (plain any) rest = refl
+sub_no_BraceOpen (plain (round constraint)) rest = refl
+sub_no_BraceOpen (member focus) rest = refl
+sub_no_BraceOpen (walk o focus) rest = ap (λ (b : Bool). cond b (Some (focus_tokens focus rest)) None) (no_BraceOpen o)
+sub_no_BraceOpen (walk_member o focus) rest = ap (λ (b : Bool). cond b (Some (mark token.MemberOf ∷ focus_tokens focus rest)) None) (no_BraceOpen o)
+
+-- no Sub begins with such a token
+sub_no_BracketOpen : (form : SubForm) (rest : List Symbol) → behind marks.BracketOpen (sub_tokens form rest) ≡ None
+sub_no_BracketOpen (plain (concept run is)) rest = refl
+sub_no_BracketOpen (plain (concept_term run is)) rest = refl
+sub_no_BracketOpen (plain any) rest = refl
+sub_no_BracketOpen (plain (round constraint)) rest = refl
+sub_no_BracketOpen (member focus) rest = refl
+sub_no_BracketOpen (walk o focus) rest = ap (λ (b : Bool). cond b (Some (focus_tokens focus rest)) None) (no_BracketOpen o)
+sub_no_BracketOpen (walk_member o focus) rest = ap (λ (b : Bool). cond b (Some (mark token.MemberOf ∷ focus_tokens focus rest)) None) (no_BracketOpen o)
+
+-- no Sub begins with such a token
+sub_no_Reverse : (form : SubForm) (rest : List Symbol) → behind marks.Reverse (sub_tokens form rest) ≡ None
+sub_no_Reverse (plain (concept run is)) rest = refl
+sub_no_Reverse (plain (concept_term run is)) rest = refl
+sub_no_Reverse (plain any) rest = refl
+sub_no_Reverse (plain (round constraint)) rest = refl
+sub_no_Reverse (member focus) rest = refl
+sub_no_Reverse (walk o focus) rest = ap (λ (b : Bool). cond b (Some (focus_tokens focus rest)) None) (no_Reverse o)
+sub_no_Reverse (walk_member o focus) rest = ap (λ (b : Bool). cond b (Some (mark token.MemberOf ∷ focus_tokens focus rest)) None) (no_Reverse o)
+
+sub_no_number : (form : SubForm) (rest : List Symbol) → number_at (sub_tokens form rest) ≡ None
+sub_no_number (plain (concept run is)) rest = refl
+sub_no_number (plain (concept_term run is)) rest = refl
+sub_no_number (plain any) rest = refl
+sub_no_number (plain (round constraint)) rest = refl
+sub_no_number (member focus) rest = refl
+sub_no_number (walk o focus) rest = refl
+sub_no_number (walk_member o focus) rest = refl
+
+-- brackets with a comparison behind them are the name of an attribute
+name_no_brackets : (form : SubForm) (c : Compare) (rest : List Symbol) → bracketed_at (sub_tokens form (mark (compare_kind c) ∷ rest)) ≡ None
+name_no_brackets (plain (concept run is)) c rest = refl
+name_no_brackets (plain (concept_term run is)) c rest = refl
+name_no_brackets (plain any) c rest = refl
+name_no_brackets (plain (round constraint)) c rest =
+    ap (λ (left : List Symbol). cond (is_some {T = Compare × List Symbol} (compare_at left)) None (Some (constraint_tokens constraint (mark token.RoundClose ∷ mark (compare_kind c) ∷ rest))))
+    (close_constraint constraint 0 (mark token.RoundClose ∷ mark (compare_kind c) ∷ rest))
+    ∙ ap (λ (found : Option Compare). cond (is_some {T = Compare × List Symbol} (option_map (λ compare. (compare, rest)) found)) None (Some (constraint_tokens constraint (mark token.RoundClose ∷ mark (compare_kind c) ∷ rest)))) (compare_back c)
+name_no_brackets (member focus) c rest = refl
+name_no_brackets (walk o focus) c rest =
+    ap (λ (b : Bool). otherwise (cond b (Some (focus_tokens focus (mark (compare_kind c) ∷ rest))) None) None (λ left. cond (is_some {T = Compare × List Symbol} (compare_at (behind_close 0 left))) None (Some left))) (no_RoundOpen o)
+name_no_brackets (walk_member o focus) c rest =
+    ap (λ (b : Bool). otherwise (cond b (Some (mark token.MemberOf ∷ focus_tokens focus (mark (compare_kind c) ∷ rest))) None) None (λ left. cond (is_some {T = Compare × List Symbol} (compare_at (behind_close 0 left))) None (Some left))) (no_RoundOpen o)
+
+pair_no_brackets : (form : PairForm) (rest : List Symbol) → bracketed_at (pair_tokens form rest) ≡ None
+pair_no_brackets (within name value) rest = name_no_brackets name compare.Equal (sub_tokens value rest)
+pair_no_brackets (outside name value) rest = name_no_brackets name compare.NotEqual (sub_tokens value rest)
+pair_no_brackets (number name c text value is) rest = name_no_brackets name c (decimal text ∷ rest)
+
+pair_no_BraceOpen : (form : PairForm) (rest : List Symbol) → behind marks.BraceOpen (pair_tokens form rest) ≡ None
+pair_no_BraceOpen (within name value) rest = sub_no_BraceOpen name (mark token.Equal ∷ sub_tokens value rest)
+pair_no_BraceOpen (outside name value) rest = sub_no_BraceOpen name (mark token.NotEqual ∷ sub_tokens value rest)
+pair_no_BraceOpen (number name c text value is) rest = sub_no_BraceOpen name (mark (compare_kind c) ∷ decimal text ∷ rest)
+
+pair_no_BracketOpen : (form : PairForm) (rest : List Symbol) → behind marks.BracketOpen (pair_tokens form rest) ≡ None
+pair_no_BracketOpen (within name value) rest = sub_no_BracketOpen name (mark token.Equal ∷ sub_tokens value rest)
+pair_no_BracketOpen (outside name value) rest = sub_no_BracketOpen name (mark token.NotEqual ∷ sub_tokens value rest)
+pair_no_BracketOpen (number name c text value is) rest = sub_no_BracketOpen name (mark (compare_kind c) ∷ decimal text ∷ rest)
+
+pair_no_Reverse : (form : PairForm) (rest : List Symbol) → behind marks.Reverse (pair_tokens form rest) ≡ None
+pair_no_Reverse (within name value) rest = sub_no_Reverse name (mark token.Equal ∷ sub_tokens value rest)
+pair_no_Reverse (outside name value) rest = sub_no_Reverse name (mark token.NotEqual ∷ sub_tokens value rest)
+pair_no_Reverse (number name c text value is) rest = sub_no_Reverse name (mark (compare_kind c) ∷ decimal text ∷ rest)
+
+-- a cardinality, or none in front of what begins with no bracket
+count_complete : (count : Option CountForm) (rest : List Symbol) → behind marks.BracketOpen rest ≡ None
+    → count_at (counted_tokens count rest) ≡ Some (cardinality_of count, rest)
+unfolding bounds_at
+count_complete None rest none = rw none refl
+count_complete (Some (at_least least is)) rest none = rw is refl
+count_complete (Some (between least most is also)) rest none = rw (is, also) refl
+
+-- how many forms there are, and their trees as lists
+abbrev sub_count : SubForms → ℕ
+sub_count no_subs = 0
+sub_count (sub_then sub more) = suc (sub_count more)
+
+abbrev sub_list : SubForms → List Tree
+sub_list no_subs = []
+sub_list (sub_then sub more) = sub_tree sub ∷ sub_list more
+
+sub_list-trees : (forms : SubForms) → trees_from (sub_list forms) ≡ sub_trees forms
+sub_list-trees no_subs = refl
+sub_list-trees (sub_then sub more) = ap (tree_then (sub_tree sub)) (sub_list-trees more)
+
+abbrev item_count : ItemForms → ℕ
+item_count no_items = 0
+item_count (item_then item more) = suc (item_count more)
+
+abbrev item_list : ItemForms → List RefinementTree
+item_list no_items = []
+item_list (item_then item more) = item_tree item ∷ item_list more
+
+item_list-trees : (forms : ItemForms) → refinements_from (item_list forms) ≡ item_trees forms
+item_list-trees no_items = refl
+item_list-trees (item_then item more) = ap (refinement_then (item_tree item)) (item_list-trees more)
+
+abbrev part_count : PartForms → ℕ
+part_count no_parts = 0
+part_count (part_then part more) = suc (part_count more)
+
+abbrev part_list : PartForms → List AttributeSetTree
+part_list no_parts = []
+part_list (part_then part more) = part_tree part ∷ part_list more
+
+part_list-trees : (forms : PartForms) → sets_from (part_list forms) ≡ part_trees forms
+part_list-trees no_parts = refl
+part_list-trees (part_then part more) = ap (set_then (part_tree part)) (part_list-trees more)
+
+subs_fit : (kind : TokenKind) (forms : SubForms) (rest : List Symbol) → sub_count forms ≤ length (subs_tokens kind forms rest)
+subs_fit kind no_subs rest = omega arith
+subs_fit kind (sub_then form more) rest = omega (arith, longer_sub form (subs_tokens kind more rest), subs_fit kind more rest)
+
+items_fit : (kind : TokenKind) (forms : ItemForms) (rest : List Symbol) → item_count forms ≤ length (items_tokens kind forms rest)
+items_fit kind no_items rest = omega arith
+items_fit kind (item_then form more) rest = omega (arith, longer_item form (items_tokens kind more rest), items_fit kind more rest)
+
+parts_fit : (kind : TokenKind) (forms : PartForms) (rest : List Symbol) → part_count forms ≤ length (parts_tokens kind forms rest)
+parts_fit kind no_parts rest = omega arith
+parts_fit kind (part_then form more) rest = omega (arith, longer_part form (parts_tokens kind more rest), parts_fit kind more rest)
+
+-- one of several joined forms is read behind its joint
+many_step : {T : Type 0} (reader : List Symbol → Found T) (wanted : Mark) (kind : TokenKind) → Joins wanted kind → (turns : ℕ) (item : T) (more : List T) (tokens after rest : List Symbol)
+    → reader tokens ≡ Some (item, after) → many reader wanted turns after ≡ Some (more, rest)
+    → many reader wanted (suc turns) (mark kind ∷ tokens) ≡ Some (item ∷ more, rest)
+unfolding many
+many_step reader wanted kind joint turns item more tokens after rest read others = rw (joint.is, read, others) refl
+
+-- and none where none stands
+many_stop : {T : Type 0} (reader : List Symbol → Found T) (wanted : Mark) (turns : ℕ) (rest : List Symbol) → behind wanted rest ≡ None
+    → many reader wanted turns rest ≡ Some ([], rest)
+unfolding many
+many_stop reader wanted zero rest none = refl
+many_stop reader wanted (suc turns) rest none = rw none refl
+
+-- a focus stands alone where no operator and no `^` is before it
+sub_plain : (inner : Readers) (form : FocusForm) (rest : List Symbol) → sub_in inner (focus_tokens form rest) ≡ member_in inner (focus_tokens form rest)
+unfolding sub_in
+sub_plain inner (concept run is) rest = refl
+sub_plain inner (concept_term run is) rest = refl
+sub_plain inner any rest = refl
+sub_plain inner (round constraint) rest = refl
+
+member_plain : (inner : Readers) (form : FocusForm) (rest : List Symbol) → member_in inner (focus_tokens form rest) ≡ focus_in inner (focus_tokens form rest)
+unfolding member_in
+member_plain inner (concept run is) rest = refl
+member_plain inner (concept_term run is) rest = refl
+member_plain inner any rest = refl
+member_plain inner (round constraint) rest = refl
+
+count_no_brackets : (count : CountForm) (rest : List Symbol) → bracketed_at (count_tokens count rest) ≡ None
+count_no_brackets (at_least least is) rest = refl
+count_no_brackets (between least most is also) rest = refl
+
+-- forms are read in front of what may follow them, where the brackets in them may be opened
+mutual
+  unfolding constraint_in constraint_behind sub_in member_in focus_in readers refinement_in refinement_behind item_in item_behind set_in set_behind part_in pair_in test_in
+
+  pub constraint_complete : (most : ℕ) (form : ConstraintForm) (rest : List Symbol) → constraint_depth form ≤ most → AfterWhole rest
+      → constraint_in (readers most) (constraint_tokens form rest) ≡ Some (constraint_tree form, rest)
+  constraint_complete most (alone sub) rest fits after =
+      rw (sub_complete most sub rest fits after.item.term, after.joins_and, after.joins_or, after.joins_dot, after.colon, after.minus) refl
+  constraint_complete most (refined focus refinement) rest fits after =
+      rw (sub_complete most focus (mark token.Colon ∷ refinement_tokens refinement rest) (omega arith) refl, refinement_complete most refinement rest (omega arith) after) refl
+  constraint_complete most (conjunction first second more) rest fits after =
+      rw (
+        sub_complete most first (mark token.And ∷ sub_tokens second (subs_tokens token.And more rest)) (omega arith) refl,
+        many_step (sub_in (readers most)) marks.And token.And by_and (length (sub_tokens second (subs_tokens token.And more rest))) (sub_tree second) (sub_list more) (sub_tokens second (subs_tokens token.And more rest)) (subs_tokens token.And more rest) rest
+            (sub_complete most second (subs_tokens token.And more rest) (omega arith) (subs_term marks.And token.And by_and more rest after.item.term))
+            (subs_complete most marks.And token.And by_and more (length (sub_tokens second (subs_tokens token.And more rest))) rest (omega arith) (omega (arith, subs_fit token.And more rest, longer_sub second (subs_tokens token.And more rest))) after.joins_and after.item.term),
+        sub_list-trees more,
+      ) refl
+  constraint_complete most (disjunction first second more) rest fits after =
+      rw (
+        sub_complete most first (mark token.Or ∷ sub_tokens second (subs_tokens token.Or more rest)) (omega arith) refl,
+        many_step (sub_in (readers most)) marks.Or token.Or by_or (length (sub_tokens second (subs_tokens token.Or more rest))) (sub_tree second) (sub_list more) (sub_tokens second (subs_tokens token.Or more rest)) (subs_tokens token.Or more rest) rest
+            (sub_complete most second (subs_tokens token.Or more rest) (omega arith) (subs_term marks.Or token.Or by_or more rest after.item.term))
+            (subs_complete most marks.Or token.Or by_or more (length (sub_tokens second (subs_tokens token.Or more rest))) rest (omega arith) (omega (arith, subs_fit token.Or more rest, longer_sub second (subs_tokens token.Or more rest))) after.joins_or after.item.term),
+        sub_list-trees more,
+      ) refl
+  constraint_complete most (exclusion first second) rest fits after =
+      rw (sub_complete most first (mark token.Minus ∷ sub_tokens second rest) (omega arith) refl, sub_complete most second rest (omega arith) after.item.term) refl
+  constraint_complete most (dotted start name more) rest fits after =
+      rw (
+        sub_complete most start (mark token.Dot ∷ sub_tokens name (subs_tokens token.Dot more rest)) (omega arith) refl,
+        many_step (sub_in (readers most)) marks.Dot token.Dot by_dot (length (sub_tokens name (subs_tokens token.Dot more rest))) (sub_tree name) (sub_list more) (sub_tokens name (subs_tokens token.Dot more rest)) (subs_tokens token.Dot more rest) rest
+            (sub_complete most name (subs_tokens token.Dot more rest) (omega arith) (subs_term marks.Dot token.Dot by_dot more rest after.item.term))
+            (subs_complete most marks.Dot token.Dot by_dot more (length (sub_tokens name (subs_tokens token.Dot more rest))) rest (omega arith) (omega (arith, subs_fit token.Dot more rest, longer_sub name (subs_tokens token.Dot more rest))) after.joins_dot after.item.term),
+        sub_list-trees more,
+      ) refl
+
+  subs_complete : (most : ℕ) (wanted : Mark) (kind : TokenKind) → Joins wanted kind → (forms : SubForms) (turns : ℕ) (rest : List Symbol) → subs_depth forms ≤ most → sub_count forms ≤ turns
+      → behind wanted rest ≡ None → behind marks.Term rest ≡ None
+      → many (sub_in (readers most)) wanted turns (subs_tokens kind forms rest) ≡ Some (sub_list forms, rest)
+  subs_complete most wanted kind joint no_subs turns rest fits enough none term = many_stop (sub_in (readers most)) wanted turns rest none
+  subs_complete most wanted kind joint (sub_then sub more) zero rest fits enough none term = absurd (omega arith)
+  subs_complete most wanted kind joint (sub_then sub more) (suc turns) rest fits enough none term =
+      many_step (sub_in (readers most)) wanted kind joint turns (sub_tree sub) (sub_list more) (sub_tokens sub (subs_tokens kind more rest)) (subs_tokens kind more rest) rest
+      (sub_complete most sub (subs_tokens kind more rest) (omega arith) (subs_term wanted kind joint more rest term))
+      (subs_complete most wanted kind joint more turns rest (omega arith) (omega arith) none term)
+
+  subs_term : (wanted : Mark) (kind : TokenKind) → Joins wanted kind → (forms : SubForms) (rest : List Symbol) → behind marks.Term rest ≡ None → behind marks.Term (subs_tokens kind forms rest) ≡ None
+  subs_term wanted kind joint no_subs rest term = term
+  subs_term wanted kind joint (sub_then sub more) rest term = (before_joint wanted kind joint (sub_tokens sub (subs_tokens kind more rest))).term
+
+  sub_complete : (most : ℕ) (form : SubForm) (rest : List Symbol) → sub_depth form ≤ most → behind marks.Term rest ≡ None
+      → sub_in (readers most) (sub_tokens form rest) ≡ Some (sub_tree form, rest)
+  sub_complete most (plain focus) rest fits term = sub_plain (readers most) focus rest ∙ member_plain (readers most) focus rest ∙ focus_complete most focus rest fits term
+  sub_complete most (member focus) rest fits term = rw (focus_complete most focus rest fits term) refl
+  sub_complete most (walk o focus) rest fits term = rw (operator_back o, member_plain (readers most) focus rest, focus_complete most focus rest fits term) refl
+  sub_complete most (walk_member o focus) rest fits term = rw (operator_back o, focus_complete most focus rest fits term) refl
+
+  focus_complete : (most : ℕ) (form : FocusForm) (rest : List Symbol) → focus_depth form ≤ most → behind marks.Term rest ≡ None
+      → focus_in (readers most) (focus_tokens form rest) ≡ Some (focus_tree form, rest)
+  focus_complete most (concept run is) rest fits term = rw (is, term) refl
+  focus_complete most (concept_term run is) rest fits term = rw is refl
+  focus_complete most any rest fits term = refl
+  focus_complete zero (round constraint) rest fits term = absurd (omega arith)
+  focus_complete (suc most) (round constraint) rest fits term =
+      rw (constraint_complete most constraint (mark token.RoundClose ∷ rest) (omega arith) (before_round rest)) refl
+
+  refinement_complete : (most : ℕ) (form : RefinementForm) (rest : List Symbol) → refinement_depth form ≤ most → AfterWhole rest
+      → refinement_in (readers most) (refinement_tokens form rest) ≡ Some (refinement_tree form, rest)
+  refinement_complete most (one_item item) rest fits after =
+      rw (item_complete most item rest fits after.item, after.joins_and, after.joins_or) refl
+  refinement_complete most (all_items first second more) rest fits after =
+      rw (
+        item_complete most first (mark token.And ∷ item_tokens second (items_tokens token.And more rest)) (omega arith) (before_joint marks.And token.And by_and (item_tokens second (items_tokens token.And more rest))),
+        many_step (item_in (readers most)) marks.And token.And by_and (length (item_tokens second (items_tokens token.And more rest))) (item_tree second) (item_list more) (item_tokens second (items_tokens token.And more rest)) (items_tokens token.And more rest) rest
+            (item_complete most second (items_tokens token.And more rest) (omega arith) (items_after marks.And token.And by_and more rest after.item))
+            (items_complete most marks.And token.And by_and more (length (item_tokens second (items_tokens token.And more rest))) rest (omega arith) (omega (arith, items_fit token.And more rest, longer_item second (items_tokens token.And more rest))) after.joins_and after.item),
+        item_list-trees more,
+      ) refl
+  refinement_complete most (some_items first second more) rest fits after =
+      rw (
+        item_complete most first (mark token.Or ∷ item_tokens second (items_tokens token.Or more rest)) (omega arith) (before_joint marks.Or token.Or by_or (item_tokens second (items_tokens token.Or more rest))),
+        many_step (item_in (readers most)) marks.Or token.Or by_or (length (item_tokens second (items_tokens token.Or more rest))) (item_tree second) (item_list more) (item_tokens second (items_tokens token.Or more rest)) (items_tokens token.Or more rest) rest
+            (item_complete most second (items_tokens token.Or more rest) (omega arith) (items_after marks.Or token.Or by_or more rest after.item))
+            (items_complete most marks.Or token.Or by_or more (length (item_tokens second (items_tokens token.Or more rest))) rest (omega arith) (omega (arith, items_fit token.Or more rest, longer_item second (items_tokens token.Or more rest))) after.joins_or after.item),
+        item_list-trees more,
+      ) refl
+
+  items_complete : (most : ℕ) (wanted : Mark) (kind : TokenKind) → Joins wanted kind → (forms : ItemForms) (turns : ℕ) (rest : List Symbol) → items_depth forms ≤ most → item_count forms ≤ turns
+      → behind wanted rest ≡ None → AfterItem rest
+      → many (item_in (readers most)) wanted turns (items_tokens kind forms rest) ≡ Some (item_list forms, rest)
+  items_complete most wanted kind joint no_items turns rest fits enough none after = many_stop (item_in (readers most)) wanted turns rest none
+  items_complete most wanted kind joint (item_then item more) zero rest fits enough none after = absurd (omega arith)
+  items_complete most wanted kind joint (item_then item more) (suc turns) rest fits enough none after =
+      many_step (item_in (readers most)) wanted kind joint turns (item_tree item) (item_list more) (item_tokens item (items_tokens kind more rest)) (items_tokens kind more rest) rest
+      (item_complete most item (items_tokens kind more rest) (omega arith) (items_after wanted kind joint more rest after))
+      (items_complete most wanted kind joint more turns rest (omega arith) (omega arith) none after)
+
+  items_after : (wanted : Mark) (kind : TokenKind) → Joins wanted kind → (forms : ItemForms) (rest : List Symbol) → AfterItem rest → AfterItem (items_tokens kind forms rest)
+  items_after wanted kind joint no_items rest after = after
+  items_after wanted kind joint (item_then item more) rest after = before_joint wanted kind joint (item_tokens item (items_tokens kind more rest))
+
+  item_complete : (most : ℕ) (form : ItemForm) (rest : List Symbol) → item_depth form ≤ most → AfterItem rest
+      → item_in (readers most) (item_tokens form rest) ≡ Some (item_tree form, rest)
+  item_complete most (attribute None false pair) rest fits after =
+      rw (pair_no_brackets pair rest, pair_no_BracketOpen pair rest, pair_no_BraceOpen pair rest, pair_no_Reverse pair rest, pair_complete most None false pair rest fits after.term) refl
+  item_complete most (attribute None true pair) rest fits after = rw (pair_complete most None true pair rest fits after.term) refl
+  item_complete most (attribute (Some count) false pair) rest fits after =
+      rw (count_no_brackets count (pair_tokens pair rest), count_complete (Some count) (pair_tokens pair rest) (pair_no_BracketOpen pair rest), pair_no_BraceOpen pair rest, pair_no_Reverse pair rest, pair_complete most (Some count) false pair rest fits after.term) refl
+  item_complete most (attribute (Some count) true pair) rest fits after =
+      rw (count_no_brackets count (mark token.Reverse ∷ pair_tokens pair rest), count_complete (Some count) (mark token.Reverse ∷ pair_tokens pair rest) refl, pair_complete most (Some count) true pair rest fits after.term) refl
+  item_complete zero (group count set) rest fits after = absurd (omega arith)
+  item_complete (suc most) (group None set) rest fits after =
+      rw (set_complete most set (mark token.BraceClose ∷ rest) (omega arith) (before_brace rest)) refl
+  item_complete (suc most) (group (Some count) set) rest fits after =
+      rw (count_no_brackets count (mark token.BraceOpen ∷ set_tokens set (mark token.BraceClose ∷ rest)), count_complete (Some count) (mark token.BraceOpen ∷ set_tokens set (mark token.BraceClose ∷ rest)) refl, set_complete most set (mark token.BraceClose ∷ rest) (omega arith) (before_brace rest)) refl
+  item_complete zero (round_refinement refinement) rest fits after = absurd (omega arith)
+  item_complete (suc most) (round_refinement refinement) rest fits after =
+      rw (close_refinement refinement 0 (mark token.RoundClose ∷ rest), after.compare, refinement_complete most refinement (mark token.RoundClose ∷ rest) (omega arith) (before_round rest)) refl
+
+  set_complete : (most : ℕ) (form : SetForm) (rest : List Symbol) → set_depth form ≤ most → AfterWhole rest
+      → set_in (readers most) (set_tokens form rest) ≡ Some (set_tree form, rest)
+  set_complete most (one_part part) rest fits after =
+      rw (part_complete most part rest fits after.item, after.joins_and, after.joins_or) refl
+  set_complete most (all_parts first second more) rest fits after =
+      rw (
+        part_complete most first (mark token.And ∷ part_tokens second (parts_tokens token.And more rest)) (omega arith) (before_joint marks.And token.And by_and (part_tokens second (parts_tokens token.And more rest))),
+        many_step (part_in (readers most)) marks.And token.And by_and (length (part_tokens second (parts_tokens token.And more rest))) (part_tree second) (part_list more) (part_tokens second (parts_tokens token.And more rest)) (parts_tokens token.And more rest) rest
+            (part_complete most second (parts_tokens token.And more rest) (omega arith) (parts_after marks.And token.And by_and more rest after.item))
+            (parts_complete most marks.And token.And by_and more (length (part_tokens second (parts_tokens token.And more rest))) rest (omega arith) (omega (arith, parts_fit token.And more rest, longer_part second (parts_tokens token.And more rest))) after.joins_and after.item),
+        part_list-trees more,
+      ) refl
+  set_complete most (some_parts first second more) rest fits after =
+      rw (
+        part_complete most first (mark token.Or ∷ part_tokens second (parts_tokens token.Or more rest)) (omega arith) (before_joint marks.Or token.Or by_or (part_tokens second (parts_tokens token.Or more rest))),
+        many_step (part_in (readers most)) marks.Or token.Or by_or (length (part_tokens second (parts_tokens token.Or more rest))) (part_tree second) (part_list more) (part_tokens second (parts_tokens token.Or more rest)) (parts_tokens token.Or more rest) rest
+            (part_complete most second (parts_tokens token.Or more rest) (omega arith) (parts_after marks.Or token.Or by_or more rest after.item))
+            (parts_complete most marks.Or token.Or by_or more (length (part_tokens second (parts_tokens token.Or more rest))) rest (omega arith) (omega (arith, parts_fit token.Or more rest, longer_part second (parts_tokens token.Or more rest))) after.joins_or after.item),
+        part_list-trees more,
+      ) refl
+
+  parts_complete : (most : ℕ) (wanted : Mark) (kind : TokenKind) → Joins wanted kind → (forms : PartForms) (turns : ℕ) (rest : List Symbol) → parts_depth forms ≤ most → part_count forms ≤ turns
+      → behind wanted rest ≡ None → AfterItem rest
+      → many (part_in (readers most)) wanted turns (parts_tokens kind forms rest) ≡ Some (part_list forms, rest)
+  parts_complete most wanted kind joint no_parts turns rest fits enough none after = many_stop (part_in (readers most)) wanted turns rest none
+  parts_complete most wanted kind joint (part_then part more) zero rest fits enough none after = absurd (omega arith)
+  parts_complete most wanted kind joint (part_then part more) (suc turns) rest fits enough none after =
+      many_step (part_in (readers most)) wanted kind joint turns (part_tree part) (part_list more) (part_tokens part (parts_tokens kind more rest)) (parts_tokens kind more rest) rest
+      (part_complete most part (parts_tokens kind more rest) (omega arith) (parts_after wanted kind joint more rest after))
+      (parts_complete most wanted kind joint more turns rest (omega arith) (omega arith) none after)
+
+  parts_after : (wanted : Mark) (kind : TokenKind) → Joins wanted kind → (forms : PartForms) (rest : List Symbol) → AfterItem rest → AfterItem (parts_tokens kind forms rest)
+  parts_after wanted kind joint no_parts rest after = after
+  parts_after wanted kind joint (part_then part more) rest after = before_joint wanted kind joint (part_tokens part (parts_tokens kind more rest))
+
+  part_complete : (most : ℕ) (form : PartForm) (rest : List Symbol) → part_depth form ≤ most → AfterItem rest
+      → part_in (readers most) (part_tokens form rest) ≡ Some (part_tree form, rest)
+  part_complete most (counted_part None pair) rest fits after =
+      rw (pair_no_brackets pair rest, pair_no_BracketOpen pair rest, pair_complete most None false pair rest fits after.term) refl
+  part_complete most (counted_part (Some count) pair) rest fits after =
+      rw (count_no_brackets count (pair_tokens pair rest), count_complete (Some count) (pair_tokens pair rest) (pair_no_BracketOpen pair rest), pair_complete most (Some count) false pair rest fits after.term) refl
+  part_complete zero (round_set set) rest fits after = absurd (omega arith)
+  part_complete (suc most) (round_set set) rest fits after =
+      rw (close_set set 0 (mark token.RoundClose ∷ rest), after.compare, set_complete most set (mark token.RoundClose ∷ rest) (omega arith) (before_round rest)) refl
+
+  pair_complete : (most : ℕ) (count : Option CountForm) (reverse : Bool) (form : PairForm) (rest : List Symbol) → pair_depth form ≤ most → behind marks.Term rest ≡ None
+      → pair_in (readers most) (cardinality_of count) reverse (pair_tokens form rest) ≡ Some (pair_tree count reverse form, rest)
+  pair_complete most count reverse (within name value) rest fits term =
+      rw (sub_complete most name (mark token.Equal ∷ sub_tokens value rest) (omega arith) refl, sub_no_number value rest, sub_complete most value rest (omega arith) term) refl
+  pair_complete most count reverse (outside name value) rest fits term =
+      rw (sub_complete most name (mark token.NotEqual ∷ sub_tokens value rest) (omega arith) refl, sub_no_number value rest, sub_complete most value rest (omega arith) term) refl
+  pair_complete most count reverse (number name c text value is) rest fits term =
+      rw (sub_complete most name (mark (compare_kind c) ∷ decimal text ∷ rest) fits (ap (λ (b : Bool). cond b (Some (decimal text ∷ rest)) None) (compare_term c)), compare_back c, is) refl

@@ -1,0 +1,14 @@
+use Rattle.ecl_parser.proofs.ParseLemmas.{constraint_not_refused, same_refusal, same_tree, trees_equal}
+use Rattle.ecl_parser.proofs.laws.one_reading.Goals as goal
+
+pub returns-clause-tokens : goal.returns-clause-tokens
+returns-clause-tokens c = trees_equal
+
+pub returns-clause-tree : goal.returns-clause-tree
+returns-clause-tree c = same_tree
+
+pub returns-clause-refusal : goal.returns-clause-refusal
+returns-clause-refusal c = same_refusal
+
+pub returns-clause-not_both : goal.returns-clause-not_both
+returns-clause-not_both c = constraint_not_refused

@@ -1,0 +1,15 @@
+-- Why the tokens of a text are no constraint.
+use Rattle.std.specs.Prelude.{◌≡◌, true, false, List}
+use Rattle.ecl_lexer.specs.Tokens.{Spelled}
+use Rattle.ecl_lexer.specs.declared.fault.QueryFault.{QueryFault}
+use Rattle.ecl_lexer.specs.declared.fault.QueryFault.TheVariants.{Depth, Memory, Syntax}
+use Rattle.constraint_tree.specs.Grammar.{IsTreeOf}
+use Rattle.constraint_tree.specs.Refusal.{is_deep}
+use Rattle.constraint_tree.specs.Tree.{Tree}
+
+-- their brackets are too deep; or they are not, and there is no tree of them; or memory ran out
+abbrev pub AreFaulty : List Spelled → QueryFault → Type 0
+AreFaulty tokens Depth = is_deep 0 tokens ≡ true
+AreFaulty tokens Syntax = (is_deep 0 tokens ≡ false) × ((tree : Tree) → ¬ IsTreeOf tokens tree)
+AreFaulty tokens Memory = Unit {0}
+AreFaulty tokens other = ⊥

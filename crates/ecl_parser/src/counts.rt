@@ -1,0 +1,50 @@
+//! Reading a cardinality.
+ghost use Rattle.std.specs.Prelude.{◌≡◌, None, Some, IfSome};
+ghost use Rattle.ecl_parser.specs.Gives.{Gives, symbols_from};
+ghost use Rattle.ecl_parser.specs.Reading.{bounds_at, count_at, most_at};
+
+use crate::tokens::{Mark, take, take_digits};
+use constraint_tree::Cardinality;
+use ecl_lexer::{QueryFault, Token};
+
+/// Count: the cardinality at a place, or `[1..*]` where none stands there.
+pub fn count(tokens: &[Token<'_>], at: &mut usize) -> Result<Cardinality, QueryFault>
+    ensures { Gives (λ found. (found, symbols_from tokens.now at.new)) result (count_at (symbols_from tokens.now at.old)) }
+{
+    if !take(Mark::BracketOpen, tokens, at) {
+        return Ok(Cardinality { min: 1, max: None });
+    }
+    match bounds(tokens, at) {
+        Some(found) => Ok(found),
+        None => Err(QueryFault::Syntax),
+    }
+}
+
+// The bounds of a cardinality, and the bracket that closes it.
+#[tactic(auto, unfolding(crate::specs::Reading::bounds_at))]
+fn bounds(tokens: &[Token<'_>], at: &mut usize) -> Option<Cardinality>
+    ensures some { IfSome result (λ found. bounds_at (symbols_from tokens.now at.old) ≡ Some (found, symbols_from tokens.now at.new)) }
+    ensures none { result ≡ None → bounds_at (symbols_from tokens.now at.old) ≡ None }
+{
+    let min = take_digits(1, tokens, at)?;
+    if !take(Mark::Dots, tokens, at) {
+        return None;
+    }
+    let max = most(tokens, at)?;
+    if !take(Mark::BracketClose, tokens, at) {
+        return None;
+    }
+    Some(Cardinality { min, max })
+}
+
+// The maximum of a cardinality: `*` is none.
+fn most(tokens: &[Token<'_>], at: &mut usize) -> Option<Option<u64>>
+    ensures some { IfSome result (λ found. most_at (symbols_from tokens.now at.old) ≡ Some (found, symbols_from tokens.now at.new)) }
+    ensures none { result ≡ None → most_at (symbols_from tokens.now at.old) ≡ None }
+{
+    if take(Mark::Wildcard, tokens, at) {
+        return Some(None);
+    }
+    let max = take_digits(1, tokens, at)?;
+    Some(Some(max))
+}

@@ -1,0 +1,16 @@
+//! Reads expression constraints (Expression Constraint Language 2.2, brief syntax).
+//!
+//! `parse` answers the one tree of a text, or the first refusal of the text. What a text means stands in
+//! `constraint_tree`: the grammar and the refusals that the contract of `parse` speaks of.
+#![tactic(auto)]
+
+mod counts;
+mod laws;
+mod parser;
+#[cfg(test)]
+mod tests;
+mod text;
+mod tokens;
+
+pub use crate::laws::one_reading;
+pub use crate::text::parse;

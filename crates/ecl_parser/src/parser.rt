@@ -1,0 +1,406 @@
+//! The descent over the tokens. Each function reads one form of the grammar from a place on, answers
+//! its tree, and leaves the place behind it. `depth` says how many more brackets may be opened: it falls
+//! at each, so the descent ends.
+ghost use Rattle.std.specs.Prelude.{◌≡◌, ◌∷◌, [], IfOk, map};
+ghost use Rattle.constraint_tree.specs.Tree.{attribute_tree_of, refinement_tree_of, set_tree_of, test_tree_of, tree_of};
+ghost use Rattle.ecl_parser.specs.Gives.{Gives, symbols_from};
+ghost use Rattle.ecl_parser.specs.Reading.{all_behind, constraint_in, focus_in, item_behind, item_in, member_in, pair_in, part_in, readers, refinement_in, set_in, sub_in, test_in, value_test, with_front};
+
+use crate::counts::count;
+use crate::tokens::{
+    Mark, is_ahead, take, take_bracket, take_compare, take_digits, take_number, take_operator,
+};
+use constraint_tree::{
+    Attribute, AttributeSet, Cardinality, Compare, Constraint, Refinement, Test,
+};
+use ecl_lexer::{QueryFault, Token};
+use std::alloc::{AllocError, Global};
+
+/// Constraint: a Sub, alone or joined with others, refined, or dotted.
+#[cycle(parser)]
+#[tactic(auto, using(constraint_tree::proofs::TreeLemmas::trees_of_items), unfolding(crate::specs::Reading::constraint_in, crate::specs::Reading::constraint_behind))]
+pub fn constraint(
+    alloc: Global,
+    tokens: &[Token<'_>],
+    at: &mut usize,
+    depth: u8,
+) -> Result<Constraint, QueryFault>
+    ensures { Gives (λ found. (tree_of found, symbols_from tokens.now at.new)) result (constraint_in (readers depth) (symbols_from tokens.now at.old)) }
+{
+    let first = sub(alloc, tokens, at, depth)?;
+    if is_ahead(Mark::And, tokens, *at) {
+        let parts = single(alloc, first)?;
+        let parts = subs(alloc, parts, Mark::And, tokens, at, depth)?;
+        return Ok(Constraint::And(parts));
+    }
+    if is_ahead(Mark::Or, tokens, *at) {
+        let parts = single(alloc, first)?;
+        let parts = subs(alloc, parts, Mark::Or, tokens, at, depth)?;
+        return Ok(Constraint::Or(parts));
+    }
+    if is_ahead(Mark::Dot, tokens, *at) {
+        let start = Box::new(alloc, first)?;
+        let names = subs(alloc, Vec::new(alloc), Mark::Dot, tokens, at, depth)?;
+        return Ok(Constraint::Dotted(start, names));
+    }
+    if take(Mark::Colon, tokens, at) {
+        let what = refinement(alloc, tokens, at, depth)?;
+        let focus = Box::new(alloc, first)?;
+        let what = Box::new(alloc, what)?;
+        return Ok(Constraint::Refined(focus, what));
+    }
+    if take(Mark::Minus, tokens, at) {
+        let second = sub(alloc, tokens, at, depth)?;
+        let first = Box::new(alloc, first)?;
+        let second = Box::new(alloc, second)?;
+        return Ok(Constraint::Minus(first, second));
+    }
+    Ok(first)
+}
+
+// Subs, each behind a token, added to those that stand before them.
+#[cycle(parser)]
+fn subs(
+    alloc: Global,
+    mut parts: Vec<Constraint>,
+    joint: Mark,
+    tokens: &[Token<'_>],
+    at: &mut usize,
+    depth: u8,
+) -> Result<Vec<Constraint>, QueryFault>
+    ensures { Gives (λ found. (map tree_of found.items, symbols_from tokens.now at.new)) result
+        (with_front (map tree_of parts.items) (all_behind (sub_in (readers depth)) joint (symbols_from tokens.now at.old))) }
+{
+    for _turn in *at..tokens.len() {
+        if !take(joint, tokens, at) {
+            break;
+        }
+        let part = match sub(alloc, tokens, at, depth) {
+            Ok(part) => part,
+            Err(fault) => return Err(fault),
+        };
+        parts.push(part)?;
+    }
+    Ok(parts)
+}
+
+// Sub: an operator or none, and its operand.
+#[cycle(parser)]
+#[tactic(auto, unfolding(crate::specs::Reading::sub_in))]
+fn sub(
+    alloc: Global,
+    tokens: &[Token<'_>],
+    at: &mut usize,
+    depth: u8,
+) -> Result<Constraint, QueryFault>
+    ensures { Gives (λ found. (tree_of found, symbols_from tokens.now at.new)) result (sub_in (readers depth) (symbols_from tokens.now at.old)) }
+{
+    match take_operator(tokens, at) {
+        Some(operator) => {
+            let operand = member(alloc, tokens, at, depth)?;
+            let operand = Box::new(alloc, operand)?;
+            Ok(Constraint::Walk(operator, operand))
+        }
+        None => {
+            let found = member(alloc, tokens, at, depth)?;
+            Ok(found)
+        }
+    }
+}
+
+// A focus, behind `^` or not.
+#[cycle(parser)]
+#[tactic(auto, unfolding(crate::specs::Reading::member_in))]
+fn member(
+    alloc: Global,
+    tokens: &[Token<'_>],
+    at: &mut usize,
+    depth: u8,
+) -> Result<Constraint, QueryFault>
+    ensures { Gives (λ found. (tree_of found, symbols_from tokens.now at.new)) result (member_in (readers depth) (symbols_from tokens.now at.old)) }
+{
+    if take(Mark::MemberOf, tokens, at) {
+        let sets = focus(alloc, tokens, at, depth)?;
+        let sets = Box::new(alloc, sets)?;
+        return Ok(Constraint::MemberOf(sets));
+    }
+    let found = focus(alloc, tokens, at, depth)?;
+    Ok(found)
+}
+
+// Focus: a concept, `*`, or a constraint in brackets.
+#[cycle(parser)]
+#[tactic(auto, unfolding(crate::specs::Reading::focus_in, crate::specs::Reading::readers))]
+fn focus(
+    alloc: Global,
+    tokens: &[Token<'_>],
+    at: &mut usize,
+    depth: u8,
+) -> Result<Constraint, QueryFault>
+    ensures { Gives (λ found. (tree_of found, symbols_from tokens.now at.new)) result (focus_in (readers depth) (symbols_from tokens.now at.old)) }
+{
+    if let Some(number) = take_digits(6, tokens, at) {
+        let _is_term = take(Mark::Term, tokens, at);
+        return Ok(Constraint::Concept(number));
+    }
+    if take(Mark::Wildcard, tokens, at) {
+        return Ok(Constraint::Any);
+    }
+    if !take(Mark::RoundOpen, tokens, at) || depth == 0 {
+        return Err(QueryFault::Syntax);
+    }
+    let found = constraint(alloc, tokens, at, depth - 1)?;
+    if !take(Mark::RoundClose, tokens, at) {
+        return Err(QueryFault::Syntax);
+    }
+    Ok(found)
+}
+
+// Refinement: items, joined by AND or by OR.
+#[cycle(parser)]
+#[tactic(auto, using(constraint_tree::proofs::TreeLemmas::trees_of_items), unfolding(crate::specs::Reading::refinement_in, crate::specs::Reading::refinement_behind))]
+fn refinement(
+    alloc: Global,
+    tokens: &[Token<'_>],
+    at: &mut usize,
+    depth: u8,
+) -> Result<Refinement, QueryFault>
+    ensures { Gives (λ found. (refinement_tree_of found, symbols_from tokens.now at.new)) result (refinement_in (readers depth) (symbols_from tokens.now at.old)) }
+{
+    let first = item(alloc, tokens, at, depth)?;
+    if is_ahead(Mark::And, tokens, *at) {
+        let parts = single(alloc, first)?;
+        let parts = items(alloc, parts, Mark::And, tokens, at, depth)?;
+        return Ok(Refinement::And(parts));
+    }
+    if is_ahead(Mark::Or, tokens, *at) {
+        let parts = single(alloc, first)?;
+        let parts = items(alloc, parts, Mark::Or, tokens, at, depth)?;
+        return Ok(Refinement::Or(parts));
+    }
+    Ok(first)
+}
+
+// Items, each behind a token, added to those that stand before them.
+#[cycle(parser)]
+fn items(
+    alloc: Global,
+    mut parts: Vec<Refinement>,
+    joint: Mark,
+    tokens: &[Token<'_>],
+    at: &mut usize,
+    depth: u8,
+) -> Result<Vec<Refinement>, QueryFault>
+    ensures { Gives (λ found. (map refinement_tree_of found.items, symbols_from tokens.now at.new)) result
+        (with_front (map refinement_tree_of parts.items) (all_behind (item_in (readers depth)) joint (symbols_from tokens.now at.old))) }
+{
+    for _turn in *at..tokens.len() {
+        if !take(joint, tokens, at) {
+            break;
+        }
+        let part = match item(alloc, tokens, at, depth) {
+            Ok(part) => part,
+            Err(fault) => return Err(fault),
+        };
+        parts.push(part)?;
+    }
+    Ok(parts)
+}
+
+// Item: a refinement in brackets, or an attribute or a group of attributes, behind its cardinality.
+#[cycle(parser)]
+#[tactic(auto, unfolding(crate::specs::Reading::item_in, crate::specs::Reading::readers))]
+fn item(
+    alloc: Global,
+    tokens: &[Token<'_>],
+    at: &mut usize,
+    depth: u8,
+) -> Result<Refinement, QueryFault>
+    ensures { Gives (λ found. (refinement_tree_of found, symbols_from tokens.now at.new)) result (item_in (readers depth) (symbols_from tokens.now at.old)) }
+{
+    if take_bracket(tokens, at) {
+        if depth == 0 {
+            return Err(QueryFault::Syntax);
+        }
+        let found = refinement(alloc, tokens, at, depth - 1)?;
+        if !take(Mark::RoundClose, tokens, at) {
+            return Err(QueryFault::Syntax);
+        }
+        return Ok(found);
+    }
+    let cardinality = count(tokens, at)?;
+    let found = counted_item(alloc, cardinality, tokens, at, depth)?;
+    Ok(found)
+}
+
+// An attribute, or a group of attributes in braces.
+#[cycle(parser)]
+#[tactic(auto, unfolding(crate::specs::Reading::item_behind, crate::specs::Reading::readers))]
+fn counted_item(
+    alloc: Global,
+    cardinality: Cardinality,
+    tokens: &[Token<'_>],
+    at: &mut usize,
+    depth: u8,
+) -> Result<Refinement, QueryFault>
+    ensures { Gives (λ found. (refinement_tree_of found, symbols_from tokens.now at.new)) result (item_behind (readers depth) cardinality (symbols_from tokens.now at.old)) }
+{
+    if take(Mark::BraceOpen, tokens, at) {
+        if depth == 0 {
+            return Err(QueryFault::Syntax);
+        }
+        let found = set(alloc, tokens, at, depth - 1)?;
+        if !take(Mark::BraceClose, tokens, at) {
+            return Err(QueryFault::Syntax);
+        }
+        return Ok(Refinement::Group(cardinality, found));
+    }
+    if take(Mark::Reverse, tokens, at) {
+        let found = pair(alloc, cardinality, true, tokens, at, depth)?;
+        return Ok(Refinement::One(found));
+    }
+    let found = pair(alloc, cardinality, false, tokens, at, depth)?;
+    Ok(Refinement::One(found))
+}
+
+// Set: parts, joined by AND or by OR.
+#[cycle(parser)]
+#[tactic(auto, using(constraint_tree::proofs::TreeLemmas::trees_of_items), unfolding(crate::specs::Reading::set_in, crate::specs::Reading::set_behind))]
+fn set(
+    alloc: Global,
+    tokens: &[Token<'_>],
+    at: &mut usize,
+    depth: u8,
+) -> Result<AttributeSet, QueryFault>
+    ensures { Gives (λ found. (set_tree_of found, symbols_from tokens.now at.new)) result (set_in (readers depth) (symbols_from tokens.now at.old)) }
+{
+    let first = part(alloc, tokens, at, depth)?;
+    if is_ahead(Mark::And, tokens, *at) {
+        let list = single(alloc, first)?;
+        let list = parts(alloc, list, Mark::And, tokens, at, depth)?;
+        return Ok(AttributeSet::And(list));
+    }
+    if is_ahead(Mark::Or, tokens, *at) {
+        let list = single(alloc, first)?;
+        let list = parts(alloc, list, Mark::Or, tokens, at, depth)?;
+        return Ok(AttributeSet::Or(list));
+    }
+    Ok(first)
+}
+
+// Parts, each behind a token, added to those that stand before them.
+#[cycle(parser)]
+fn parts(
+    alloc: Global,
+    mut list: Vec<AttributeSet>,
+    joint: Mark,
+    tokens: &[Token<'_>],
+    at: &mut usize,
+    depth: u8,
+) -> Result<Vec<AttributeSet>, QueryFault>
+    ensures { Gives (λ found. (map set_tree_of found.items, symbols_from tokens.now at.new)) result
+        (with_front (map set_tree_of list.items) (all_behind (part_in (readers depth)) joint (symbols_from tokens.now at.old))) }
+{
+    for _turn in *at..tokens.len() {
+        if !take(joint, tokens, at) {
+            break;
+        }
+        let found = match part(alloc, tokens, at, depth) {
+            Ok(found) => found,
+            Err(fault) => return Err(fault),
+        };
+        list.push(found)?;
+    }
+    Ok(list)
+}
+
+// Part: a set in brackets, or an attribute behind its cardinality.
+#[cycle(parser)]
+#[tactic(auto, unfolding(crate::specs::Reading::part_in, crate::specs::Reading::readers))]
+fn part(
+    alloc: Global,
+    tokens: &[Token<'_>],
+    at: &mut usize,
+    depth: u8,
+) -> Result<AttributeSet, QueryFault>
+    ensures { Gives (λ found. (set_tree_of found, symbols_from tokens.now at.new)) result (part_in (readers depth) (symbols_from tokens.now at.old)) }
+{
+    if take_bracket(tokens, at) {
+        if depth == 0 {
+            return Err(QueryFault::Syntax);
+        }
+        let found = set(alloc, tokens, at, depth - 1)?;
+        if !take(Mark::RoundClose, tokens, at) {
+            return Err(QueryFault::Syntax);
+        }
+        return Ok(found);
+    }
+    let cardinality = count(tokens, at)?;
+    let found = pair(alloc, cardinality, false, tokens, at, depth)?;
+    Ok(AttributeSet::One(found))
+}
+
+// Pair: a name, a comparison, and what the value is compared with.
+#[cycle(parser)]
+#[tactic(auto, unfolding(crate::specs::Reading::pair_in))]
+fn pair(
+    alloc: Global,
+    count: Cardinality,
+    reverse: bool,
+    tokens: &[Token<'_>],
+    at: &mut usize,
+    depth: u8,
+) -> Result<Attribute, QueryFault>
+    ensures { Gives (λ found. (attribute_tree_of found, symbols_from tokens.now at.new)) result (pair_in (readers depth) count reverse (symbols_from tokens.now at.old)) }
+{
+    let name = sub(alloc, tokens, at, depth)?;
+    let Some(compare) = take_compare(tokens, at) else {
+        return Err(QueryFault::Syntax);
+    };
+    let test = test(alloc, compare, tokens, at, depth)?;
+    Ok(Attribute {
+        count,
+        reverse,
+        name,
+        test,
+    })
+}
+
+// What a value is compared with: a number, or by `=` and `!=` a Sub.
+#[cycle(parser)]
+#[tactic(auto, unfolding(crate::specs::Reading::test_in))]
+fn test(
+    alloc: Global,
+    compare: Compare,
+    tokens: &[Token<'_>],
+    at: &mut usize,
+    depth: u8,
+) -> Result<Test, QueryFault>
+    ensures { Gives (λ found. (test_tree_of found, symbols_from tokens.now at.new)) result (test_in (readers depth) compare (symbols_from tokens.now at.old)) }
+{
+    if let Some(number) = take_number(tokens, at) {
+        return Ok(Test::Number(compare, number));
+    }
+    match compare {
+        Compare::Equal => {
+            let value = sub(alloc, tokens, at, depth)?;
+            let value = Box::new(alloc, value)?;
+            Ok(Test::Within(value))
+        }
+        Compare::NotEqual => {
+            let value = sub(alloc, tokens, at, depth)?;
+            let value = Box::new(alloc, value)?;
+            Ok(Test::Outside(value))
+        }
+        _ => Err(QueryFault::Syntax),
+    }
+}
+
+// A list of one part.
+fn single<T: Drop>(alloc: Global, first: T) -> Result<Vec<T>, AllocError>
+    ensures { IfOk result (λ parts. parts.items ≡ first ∷ []) }
+{
+    let mut parts = Vec::new(alloc);
+    parts.push(first)?;
+    Ok(parts)
+}

@@ -1,0 +1,83 @@
+//! From a text to the tree of its constraint.
+ghost use Rattle.std.specs.Prelude.{◌≡◌, ◌⊎◌, false, List, [], map, Err, IfErr, IfOk, MatchResult};
+ghost use Rattle.ecl_lexer.specs.Tokens.{spelled};
+ghost use Rattle.ecl_lexer.specs.declared.fault.QueryFault.{QueryFault};
+ghost use Rattle.ecl_lexer.specs.declared.fault.QueryFault.TheVariants.{Memory, Syntax};
+ghost use Rattle.constraint_tree.specs.Grammar.{IsTreeOf};
+ghost use Rattle.constraint_tree.specs.Refusal.{IsConstraint, IsRefusalOf, is_deep as is_deep_at};
+ghost use Rattle.constraint_tree.specs.Tree.{Tree, tree_of};
+ghost use Rattle.ecl_parser.specs.Answers.{AreFaulty};
+
+use crate::parser::constraint;
+use constraint_tree::Constraint;
+use ecl_lexer::{QueryFault, Token, TokenKind, lex};
+use std::alloc::Global;
+
+// So many brackets may be open at once.
+const MOST_OPEN: u8 = 64;
+
+/// The constraint that a text is (Expression Constraint Language 2.2, 5.1 "Brief syntax"), or its first
+/// refusal: `Long` above 65,535 bytes; `Utf8`; at the least offset the first of `Unsupported`, `Token`
+/// and `Limit`; `Depth` where more than 64 brackets are open at once; `Syntax` where the grammar has no
+/// tree. `Memory` is answered where it runs out; the empty text takes none.
+pub fn parse(alloc: Global, text: &[u8]) -> Result<Constraint, QueryFault>
+    // What is answered is the constraint that the text is, or its refusal.
+    ensures found { IfOk result (λ found. IsConstraint text.now (tree_of found)) }
+    ensures fault { IfErr result (λ fault. (fault ≡ Memory) ⊎ IsRefusalOf text.now fault) }
+
+    // Where the text is a constraint, or has a refusal, no other answer comes.
+    ensures whole { (tree : Tree) → IsConstraint text.now tree → MatchResult result (λ found. tree_of found ≡ tree) (λ fault. fault ≡ Memory) }
+    ensures only { (fault : QueryFault) → IsRefusalOf text.now fault → (result ≡ Err fault) ⊎ (result ≡ Err Memory) }
+    ensures empty { text.now ≡ [] → result ≡ Err Syntax }
+{
+    let tokens = match lex(alloc, text) {
+        Ok(tokens) => tokens,
+        Err(fault) => return Err(fault),
+    };
+    tree(alloc, tokens.as_slice())
+}
+
+// The constraint that the tokens of a text are.
+fn tree(alloc: Global, tokens: &[Token<'_>]) -> Result<Constraint, QueryFault>
+    ensures shallow { IfOk result (λ _. is_deep_at 0 (map spelled tokens.now) ≡ false) }
+    ensures found { IfOk result (λ found. IsTreeOf (map spelled tokens.now) (tree_of found)) }
+    ensures fault { IfErr result (AreFaulty (map spelled tokens.now)) }
+    ensures empty { tokens.now ≡ [] → result ≡ Err Syntax }
+{
+    if is_deep(tokens) {
+        return Err(QueryFault::Depth);
+    }
+    if tokens.is_empty() {
+        return Err(QueryFault::Syntax);
+    }
+    let mut at = 0usize;
+    let found = match constraint(alloc, tokens, &mut at, MOST_OPEN) {
+        Ok(found) => found,
+        Err(fault) => return Err(fault),
+    };
+    if at < tokens.len() {
+        return Err(QueryFault::Syntax);
+    }
+    Ok(found)
+}
+
+// Whether more brackets are open at once than may be. A closing bracket closes one, if any is open,
+// whether it is round or a brace.
+fn is_deep(tokens: &[Token<'_>]) -> bool
+    ensures { result ≡ is_deep_at 0 (map spelled tokens.now) }
+{
+    let mut count = 0u8;
+    for token in tokens {
+        match token.kind {
+            TokenKind::RoundOpen | TokenKind::BraceOpen => {
+                if count == MOST_OPEN {
+                    return true;
+                }
+                count += 1;
+            }
+            TokenKind::RoundClose | TokenKind::BraceClose => count = count.saturating_sub(1),
+            _ => {}
+        }
+    }
+    false
+}

@@ -1,0 +1,245 @@
+//! The tokens of a text one after another, from a place on.
+ghost use Rattle.std.specs.Prelude.{◌≡◌, ◌+◌, ◌<◌, ◌≤◌, ◌∷◌, [], false, true, None, Some, IfSome, drop, length, option_map};
+ghost use Rattle.rf2_rows.specs.Values.{decimal_of};
+ghost use Rattle.ecl_lexer.specs.Tokens.{spelled};
+ghost use Rattle.constraint_tree.specs.Grammar.{symbol_of};
+ghost use Rattle.ecl_parser.specs.Gives.{symbols_from};
+ghost use Rattle.ecl_parser.specs.Reading.{behind, behind_close as behind_close_of, bracketed_at, compare_at, compare_of as comparison_of, digits_at, is_mark as is_marked, number_at, operator_at, operator_of as walk_of, stands};
+
+use constraint_tree::{Compare, Operator};
+use ecl_lexer::{Token, TokenKind};
+use rf2_rows::{Decimal, decimal, digits};
+
+/// The kinds of token that say nothing but where they stand.
+#[derive(Clone, Copy)]
+pub enum Mark {
+    And,
+    Or,
+    Minus,
+    Colon,
+    Dot,
+    Dots,
+    RoundOpen,
+    RoundClose,
+    BraceOpen,
+    BraceClose,
+    BracketOpen,
+    BracketClose,
+    Wildcard,
+    MemberOf,
+    Reverse,
+    Term,
+}
+
+// Whether a token is of a kind.
+fn is_mark(wanted: Mark, kind: TokenKind) -> bool
+    ensures { result ≡ is_marked wanted kind }
+{
+    match wanted {
+        Mark::And => matches!(kind, TokenKind::And),
+        Mark::Or => matches!(kind, TokenKind::Or),
+        Mark::Minus => matches!(kind, TokenKind::Minus),
+        Mark::Colon => matches!(kind, TokenKind::Colon),
+        Mark::Dot => matches!(kind, TokenKind::Dot),
+        Mark::Dots => matches!(kind, TokenKind::Dots),
+        Mark::RoundOpen => matches!(kind, TokenKind::RoundOpen),
+        Mark::RoundClose => matches!(kind, TokenKind::RoundClose),
+        Mark::BraceOpen => matches!(kind, TokenKind::BraceOpen),
+        Mark::BraceClose => matches!(kind, TokenKind::BraceClose),
+        Mark::BracketOpen => matches!(kind, TokenKind::BracketOpen),
+        Mark::BracketClose => matches!(kind, TokenKind::BracketClose),
+        Mark::Wildcard => matches!(kind, TokenKind::Wildcard),
+        Mark::MemberOf => matches!(kind, TokenKind::MemberOf),
+        Mark::Reverse => matches!(kind, TokenKind::Reverse),
+        Mark::Term => matches!(kind, TokenKind::Term),
+    }
+}
+
+// The operator that a token is.
+fn operator_of(kind: TokenKind) -> Option<Operator>
+    ensures { result ≡ walk_of kind }
+{
+    match kind {
+        TokenKind::DescendantOf => Some(Operator::Descendants),
+        TokenKind::DescendantOrSelfOf => Some(Operator::DescendantsOrSelf),
+        TokenKind::ChildOf => Some(Operator::Children),
+        TokenKind::ChildOrSelfOf => Some(Operator::ChildrenOrSelf),
+        TokenKind::AncestorOf => Some(Operator::Ancestors),
+        TokenKind::AncestorOrSelfOf => Some(Operator::AncestorsOrSelf),
+        TokenKind::ParentOf => Some(Operator::Parents),
+        TokenKind::ParentOrSelfOf => Some(Operator::ParentsOrSelf),
+        TokenKind::Top => Some(Operator::Top),
+        TokenKind::Bottom => Some(Operator::Bottom),
+        _ => None,
+    }
+}
+
+// The comparison that a token is.
+fn compare_of(kind: TokenKind) -> Option<Compare>
+    ensures { result ≡ comparison_of kind }
+{
+    match kind {
+        TokenKind::Equal => Some(Compare::Equal),
+        TokenKind::NotEqual => Some(Compare::NotEqual),
+        TokenKind::DescendantOf => Some(Compare::Less),
+        TokenKind::LessOrEqual => Some(Compare::LessOrEqual),
+        TokenKind::AncestorOf => Some(Compare::Greater),
+        TokenKind::GreaterOrEqual => Some(Compare::GreaterOrEqual),
+        _ => None,
+    }
+}
+
+/// The token at a place, if the tokens go so far.
+pub fn token_at<'t>(tokens: &[Token<'t>], at: usize) -> Option<Token<'t>>
+    ensures front { IfSome result (λ token. symbols_from tokens.now at ≡ symbol_of (spelled token) ∷ symbols_from tokens.now (at + 1)) }
+    ensures within { IfSome result (λ token. at < length tokens.now) }
+    ensures none { result ≡ None → symbols_from tokens.now at ≡ [] }
+{
+    match tokens.get(at) {
+        Some(token) => Some(*token),
+        None => None,
+    }
+}
+
+/// Whether a token of a kind stands at a place.
+#[tactic(auto, using(crate::proofs::TokenLemmas::behind_symbol))]
+pub fn is_ahead(wanted: Mark, tokens: &[Token<'_>], at: usize) -> bool
+    ensures kind { result ≡ stands wanted (symbols_from tokens.now at) }
+    ensures within { result ≡ true → at < length tokens.now }
+    ensures rest { result ≡ true → behind wanted (symbols_from tokens.now at) ≡ Some (symbols_from tokens.now (at + 1)) }
+{
+    match token_at(tokens, at) {
+        Some(token) => is_mark(wanted, token.kind),
+        None => false,
+    }
+}
+
+/// Goes on behind a token of a kind, if one stands there.
+pub fn take(wanted: Mark, tokens: &[Token<'_>], at: &mut usize) -> bool
+    ensures taken { result ≡ true → behind wanted (symbols_from tokens.now at.old) ≡ Some (symbols_from tokens.now at.new) }
+    ensures left { result ≡ false → behind wanted (symbols_from tokens.now at.old) ≡ None }
+    ensures same { result ≡ false → at.new ≡ at.old }
+{
+    let place = *at;
+    if is_ahead(wanted, tokens, place) {
+        *at = place + 1;
+        return true;
+    }
+    false
+}
+
+/// Goes on behind an operator, if one stands there.
+#[tactic(auto, using(crate::proofs::TokenLemmas::operator_symbol))]
+pub fn take_operator(tokens: &[Token<'_>], at: &mut usize) -> Option<Operator>
+    ensures taken { IfSome result (λ operator. operator_at (symbols_from tokens.now at.old) ≡ Some (operator, symbols_from tokens.now at.new)) }
+    ensures left { result ≡ None → operator_at (symbols_from tokens.now at.old) ≡ None }
+    ensures same { result ≡ None → at.new ≡ at.old }
+{
+    let place = *at;
+    let token = token_at(tokens, place)?;
+    let operator = operator_of(token.kind)?;
+    *at = place + 1;
+    Some(operator)
+}
+
+/// Goes on behind a comparison, if one stands there.
+#[tactic(auto, using(crate::proofs::TokenLemmas::compare_symbol))]
+pub fn take_compare(tokens: &[Token<'_>], at: &mut usize) -> Option<Compare>
+    ensures taken { IfSome result (λ compare. compare_at (symbols_from tokens.now at.old) ≡ Some (compare, symbols_from tokens.now at.new)) }
+    ensures left { result ≡ None → compare_at (symbols_from tokens.now at.old) ≡ None }
+{
+    let place = *at;
+    let token = token_at(tokens, place)?;
+    let compare = compare_of(token.kind)?;
+    *at = place + 1;
+    Some(compare)
+}
+
+/// Goes on behind digits, 18 at the most and no fewer than `least`, if they stand there: their number.
+pub fn take_digits(least: usize, tokens: &[Token<'_>], at: &mut usize) -> Option<u64>
+    ensures taken { IfSome result (λ number. digits_at least (symbols_from tokens.now at.old) ≡ Some (number, symbols_from tokens.now at.new)) }
+    ensures left { result ≡ None → digits_at least (symbols_from tokens.now at.old) ≡ None }
+    ensures same { result ≡ None → at.new ≡ at.old }
+{
+    let place = *at;
+    let token = token_at(tokens, place)?;
+    match token.kind {
+        TokenKind::Digits => {
+            let number = digits(token.text, least, 18)?;
+            *at = place + 1;
+            Some(number)
+        }
+        _ => None,
+    }
+}
+
+/// Goes on behind a number, if one stands there.
+pub fn take_number(tokens: &[Token<'_>], at: &mut usize) -> Option<Decimal>
+    ensures taken { IfSome result (λ number. number_at (symbols_from tokens.now at.old) ≡ Some (number.0, symbols_from tokens.now at.new)) }
+    ensures left { result ≡ None → number_at (symbols_from tokens.now at.old) ≡ None }
+    ensures same { result ≡ None → at.new ≡ at.old }
+{
+    let place = *at;
+    let token = token_at(tokens, place)?;
+    match token.kind {
+        TokenKind::Number => {
+            let number = number(token.text)?;
+            *at = place + 1;
+            Some(number)
+        }
+        _ => None,
+    }
+}
+
+// The number that a token is, behind its `#`.
+fn number(text: &[u8]) -> Option<Decimal>
+    ensures { option_map (λ found. found.0) result ≡ decimal_of (drop 1 text.now) }
+{
+    match text.split_first() {
+        Some((_, rest)) => decimal(rest),
+        None => decimal(text),
+    }
+}
+
+/// Goes on behind a `(` that does not begin the name of an attribute, if one stands there: no
+/// comparison follows the brackets.
+pub fn take_bracket(tokens: &[Token<'_>], at: &mut usize) -> bool
+    ensures taken { result ≡ true → bracketed_at (symbols_from tokens.now at.old) ≡ Some (symbols_from tokens.now at.new) }
+    ensures left { result ≡ false → bracketed_at (symbols_from tokens.now at.old) ≡ None }
+    ensures same { result ≡ false → at.new ≡ at.old }
+{
+    let place = *at;
+    if !is_ahead(Mark::RoundOpen, tokens, place) {
+        return false;
+    }
+    let mut behind = behind_close(tokens, place + 1);
+    if take_compare(tokens, &mut behind).is_some() {
+        return false;
+    }
+    *at = place + 1;
+    true
+}
+
+// The place behind the bracket that closes the one before a place.
+fn behind_close(tokens: &[Token<'_>], from: usize) -> usize
+    requires { from ≤ length tokens.now }
+    ensures { symbols_from tokens.now result ≡ behind_close_of 0 (symbols_from tokens.now from) }
+{
+    let mut level = 0usize;
+    for place in from..tokens.len() {
+        let Some(token) = token_at(tokens, place) else {
+            break;
+        };
+        match token.kind {
+            TokenKind::RoundOpen => level += 1,
+            TokenKind::RoundClose => {
+                if level == 0 {
+                    return place + 1;
+                }
+                level -= 1;
+            }
+            _ => {}
+        }
+    }
+    tokens.len()
+}

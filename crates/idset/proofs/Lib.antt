@@ -1,0 +1,10 @@
+pub mod Bits
+pub mod Counting
+pub mod MarkLemmas
+pub mod Merging
+pub mod Normal
+pub mod Places
+pub mod Rising
+pub mod Sorting
+pub mod Vectors
+pub mod WordLemmas

@@ -1,0 +1,112 @@
+-- The set as words: what each operation leaves is what its list says.
+use Rattle.std.proofs.Common.{ℕ, ◌<◌, ◌≡◌, Bool, true, false, not, ◌&&◌, ◌||◌, ltb, List, length, refl, sym, ap, ◌∙◌, subst, inl, inr, bit_and, bit_or}
+use Rattle.std.specs.Bool.{beq}
+use Rattle.std.specs.List.{All, filter, range_with_len}
+use Rattle.std.proofs.lemmas.List.Elements.{filter_agree}
+use Rattle.std.specs.Simd.Lanes.{zip2}
+use Rattle.std.proofs.lemmas.Bool.{lt-ltb, cases_lt}
+use Rattle.std.proofs.lemmas.List.{get_or_default}
+use Rattle.idset.specs.Sets.{all_items, common_items, has_item, IsRisingBelow, numbers_where, other_items}
+use Rattle.idset.specs.Words.{AreWordsBelow, bit_minus, is_set, MarkedBelow}
+use Rattle.idset.proofs.Bits.{and_words_below, and_words_items, minus_words_below, minus_words_items, or_words_below, or_words_items}
+use Rattle.idset.proofs.Normal.{filter-numbers_where, has_item-numbers_where, has_item-numbers_where_past, numbers_where-agree, numbers_where-all}
+use Rattle.idset.proofs.Places.{get_or-below}
+use Rattle.idset.proofs.Rising.{has_item-past_bound, numbers_where-rising, rising_is_numbers_where}
+
+-- words of a set with the same bound
+pub below_too : (bound other_bound : ℕ) (words : List ℕ) → bound ≡ other_bound → AreWordsBelow other_bound words → AreWordsBelow bound words
+below_too bound other_bound words same below = subst (λ (b : ℕ). AreWordsBelow b words) (sym same) below
+
+pub same_words : (bound other_bound : ℕ) (xs ys : List ℕ) → bound ≡ other_bound → AreWordsBelow bound xs → AreWordsBelow other_bound ys → length ys ≡ length xs
+same_words bound other_bound xs ys same below below' = (below_too bound other_bound ys same below').enough ∙ sym below.enough
+
+-- what words hold, and what a set of them keeps
+pub record Holds (bound : ℕ) (words content : List ℕ) : Type 0 where
+  pub held : AreWordsBelow bound words
+  pub rising : IsRisingBelow bound (numbers_where bound (is_set words))
+  pub items : numbers_where bound (is_set words) ≡ content
+
+pub holds_and : (bound other_bound : ℕ) (xs ys made : List ℕ) → bound ≡ other_bound → AreWordsBelow bound xs → AreWordsBelow other_bound ys → made ≡ zip2 bit_and xs ys → Holds bound made (common_items (numbers_where bound (is_set xs)) (numbers_where other_bound (is_set ys)))
+holds_and bound other_bound xs ys made same below below' is =
+    let too = below_too bound other_bound ys same below' in
+    record {
+      held = subst (λ (words : List ℕ). AreWordsBelow bound words) (sym is) (and_words_below bound xs ys below too);
+      rising = numbers_where-rising bound (is_set made);
+      items = (λ i. numbers_where bound (is_set (is i))) ∙ and_words_items bound xs ys below too ∙ (λ i. common_items (numbers_where bound (is_set xs)) (numbers_where (same i) (is_set ys)));
+    }
+
+pub holds_or : (bound other_bound : ℕ) (xs ys made : List ℕ) → bound ≡ other_bound → AreWordsBelow bound xs → AreWordsBelow other_bound ys → made ≡ zip2 bit_or xs ys → Holds bound made (all_items bound (numbers_where bound (is_set xs)) (numbers_where other_bound (is_set ys)))
+holds_or bound other_bound xs ys made same below below' is =
+    let too = below_too bound other_bound ys same below' in
+    record {
+      held = subst (λ (words : List ℕ). AreWordsBelow bound words) (sym is) (or_words_below bound xs ys below too);
+      rising = numbers_where-rising bound (is_set made);
+      items = (λ i. numbers_where bound (is_set (is i))) ∙ or_words_items bound xs ys below too ∙ (λ i. all_items bound (numbers_where bound (is_set xs)) (numbers_where (same i) (is_set ys)));
+    }
+
+pub holds_minus : (bound other_bound : ℕ) (xs ys made : List ℕ) → bound ≡ other_bound → AreWordsBelow bound xs → AreWordsBelow other_bound ys → made ≡ zip2 bit_minus xs ys → Holds bound made (other_items (numbers_where bound (is_set xs)) (numbers_where other_bound (is_set ys)))
+holds_minus bound other_bound xs ys made same below below' is =
+    let too = below_too bound other_bound ys same below' in
+    record {
+      held = subst (λ (words : List ℕ). AreWordsBelow bound words) (sym is) (minus_words_below bound xs ys below too);
+      rising = numbers_where-rising bound (is_set made);
+      items = (λ i. numbers_where bound (is_set (is i))) ∙ minus_words_items bound xs ys below too ∙ (λ i. other_items (numbers_where bound (is_set xs)) (numbers_where (same i) (is_set ys)));
+    }
+
+-- marked numbers
+pub items_below : (bound : ℕ) (items : List ℕ) → IsRisingBelow bound items → All (λ item. item < bound) items
+items_below bound items rises k d in' = subst (λ (item : ℕ). item < bound) (get_or_default items k 0 d in') (get_or-below 0 bound items k rises in')
+
+pub marked_items : (bound : ℕ) (words items : List ℕ) → IsRisingBelow bound items → MarkedBelow bound words (has_item items) → numbers_where bound (is_set words) ≡ items
+marked_items bound words items rises marked =
+    numbers_where-agree bound (is_set words) (has_item items) (λ n _. marked.marked n) ∙ sym (rising_is_numbers_where bound items rises)
+
+pub marked_numbers : (bound : ℕ) (words : List ℕ) (test : ℕ → Bool) → MarkedBelow bound words test → numbers_where bound (is_set words) ≡ numbers_where bound test
+marked_numbers bound words test marked = numbers_where-agree bound (is_set words) test (λ n _. marked.marked n)
+
+pub marked_every : (bound : ℕ) (words : List ℕ) → MarkedBelow bound words (λ n. ltb n bound) → numbers_where bound (is_set words) ≡ range_with_len 0 bound
+marked_every bound words marked =
+    numbers_where-agree bound (is_set words) (λ _. true) (λ n below. marked.marked n ∙ lt-ltb n bound below) ∙ numbers_where-all bound
+
+-- marks added to those of a set
+pub holds_more : (bound : ℕ) (words made items : List ℕ) → AreWordsBelow bound words → IsRisingBelow bound items → length made ≡ length words → ((n : ℕ) → is_set made n ≡ (is_set words n || has_item items n)) → Holds bound made (all_items bound (numbers_where bound (is_set words)) items)
+holds_more bound words made items below rises long marked = record {
+  held = record { enough = long ∙ below.enough; clear = λ n past. marked n ∙ (λ i. below.clear n past i || has_item-past_bound 0 bound items n rises past i) };
+  rising = numbers_where-rising bound (is_set made);
+  items = numbers_where-agree bound (is_set made) (λ n. has_item (numbers_where bound (is_set words)) n || has_item items n) (λ n lt. marked n ∙ (λ i. sym (has_item-numbers_where bound (is_set words) n lt) i || has_item items n));
+}
+
+-- a set has the numbers whose bit is set
+pub has_marked : (bound : ℕ) (words : List ℕ) (n : ℕ) → AreWordsBelow bound words → is_set words n ≡ has_item (numbers_where bound (is_set words)) n
+has_marked bound words n below =
+    elim (cases_lt n bound) [
+      | inl lt ↦ sym (has_item-numbers_where bound (is_set words) n lt)
+      | inr past ↦ below.clear n past ∙ sym (has_item-numbers_where_past bound (is_set words) n past)
+    ]
+
+-- marks taken from those of a set
+pub holds_less : (bound : ℕ) (words made items : List ℕ) → AreWordsBelow bound words → IsRisingBelow bound items → length made ≡ length words → ((n : ℕ) → is_set made n ≡ (is_set words n && not (has_item items n))) → Holds bound made (other_items (numbers_where bound (is_set words)) items)
+holds_less bound words made items below rises long marked = record {
+  held = record { enough = long ∙ below.enough; clear = λ n past. marked n ∙ (λ i. below.clear n past i && not (has_item items n)) };
+  rising = numbers_where-rising bound (is_set made);
+  items = numbers_where-agree bound (is_set made) (λ n. is_set words n && not (has_item items n)) (λ n _. marked n) ∙ sym (filter-numbers_where bound (is_set words) (λ n. not (has_item items n)));
+}
+
+-- the items of a list that are marked, and those that are not
+beq_true : (a : Bool) → beq a true ≡ a
+beq_true true = refl
+beq_true false = refl
+
+beq_false : (a : Bool) → beq a false ≡ not a
+beq_false true = refl
+beq_false false = refl
+
+pub kept_common : (bound : ℕ) (words items own kept : List ℕ) → AreWordsBelow bound words → items ≡ own → kept ≡ filter (λ n. beq (is_set words n) true) items → kept ≡ common_items own (numbers_where bound (is_set words))
+kept_common bound words items own kept below same is =
+    is ∙ filter_agree (λ n. beq (is_set words n) true) (has_item (numbers_where bound (is_set words))) (λ n. beq_true (is_set words n) ∙ has_marked bound words n below) items
+    ∙ ap (filter (has_item (numbers_where bound (is_set words)))) same
+
+pub kept_other : (bound : ℕ) (words items own kept : List ℕ) → AreWordsBelow bound words → items ≡ own → kept ≡ filter (λ n. beq (is_set words n) false) items → kept ≡ other_items own (numbers_where bound (is_set words))
+kept_other bound words items own kept below same is =
+    is ∙ filter_agree (λ n. beq (is_set words n) false) (λ n. not (has_item (numbers_where bound (is_set words)) n)) (λ n. beq_false (is_set words n) ∙ ap not (has_marked bound words n below)) items
+    ∙ ap (filter (λ n. not (has_item (numbers_where bound (is_set words)) n))) same

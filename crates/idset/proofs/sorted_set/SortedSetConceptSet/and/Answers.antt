@@ -1,0 +1,12 @@
+use Rattle.std.proofs.Common.{◌∙◌, ◌^◌}
+use Rattle.idset.specs.Sets.{common_items}
+use Rattle.idset.proofs.Rising.{common_items-swap, rising_fits}
+use Rattle.idset.proofs.sorted_set.SortedSetConceptSet.and.Goals as goal
+
+pub returns-in_ok-items-2-clause-items : goal.returns-in_ok-items-2-clause-items
+returns-in_ok-items-2-clause-items c =
+    let mine = c.args.self.now in
+    let theirs = c.args.other.now in
+    c.in_ok-items-2.ensures
+    ∙ (λ i. common_items (c.deref-else-len.ensures.value i) (c.deref-else-len-2.ensures.value i))
+    ∙ common_items-swap (2 ^ 32) theirs.items.items mine.items.items (rising_fits theirs.bound theirs.items.items theirs.rising theirs.small) (rising_fits mine.bound mine.items.items mine.rising mine.small)

@@ -1,0 +1,8 @@
+use Rattle.idset.proofs.WordLemmas.{items_below, marked_items}
+use Rattle.idset.proofs.word_set.WordSetConceptSet.from_items.Goals as goal
+
+pub marks_of-requires : goal.marks_of-requires
+marks_of-requires c = items_below c.args.bound c.args.items.now c.requires
+
+pub returns-clause-items : goal.returns-clause-items
+returns-clause-items c = marked_items c.args.bound c.in_ok-words.words.items c.args.items.now c.requires c.in_ok-words.ensures

@@ -1,0 +1,26 @@
+use Rattle.std.proofs.Common.{◌≡◌, ◌∙◌, ap, sym, length}
+use Rattle.std.specs.Simd.Lanes.{zip2}
+use Rattle.idset.specs.Words.{bit_minus}
+use Rattle.idset.proofs.WordLemmas.{holds_minus, same_words}
+use Rattle.idset.proofs.word_set.WordSetConceptSet.minus.Goals as goal
+
+pub minus_words-requires : goal.minus_words-requires
+minus_words-requires c =
+    let mine = c.args.self.now in
+    let theirs = c.args.other.now in
+    ap length c.deref-2.ensures.value ∙ same_words mine.bound theirs.bound mine.words.items theirs.words.items c.requires mine.held theirs.held ∙ sym (ap length c.deref.ensures.value)
+
+pub invariant_of-result : goal.invariant_of-result
+invariant_of-result c =
+    let mine = c.args.self.now in
+    let theirs = c.args.other.now in
+    let made : c.in_ok-words.words.items ≡ zip2 bit_minus mine.words.items theirs.words.items = c.in_ok-words.ensures ∙ (λ i. zip2 bit_minus (c.deref.ensures.value i) (c.deref-2.ensures.value i)) in
+    let holds = holds_minus mine.bound theirs.bound mine.words.items theirs.words.items c.in_ok-words.words.items c.requires mine.held theirs.held made in
+    record { held = holds.held; small = mine.small; rising = holds.rising }
+
+pub returns-clause-items : goal.returns-clause-items
+returns-clause-items c =
+    let mine = c.args.self.now in
+    let theirs = c.args.other.now in
+    let made : c.in_ok-words.words.items ≡ zip2 bit_minus mine.words.items theirs.words.items = c.in_ok-words.ensures ∙ (λ i. zip2 bit_minus (c.deref.ensures.value i) (c.deref-2.ensures.value i)) in
+    (holds_minus mine.bound theirs.bound mine.words.items theirs.words.items c.in_ok-words.words.items c.requires mine.held theirs.held made).items

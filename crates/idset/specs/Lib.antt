@@ -1,0 +1,3 @@
+pub mod MixedForm
+pub mod Sets
+pub mod Words

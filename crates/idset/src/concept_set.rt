@@ -1,0 +1,102 @@
+//! What every form of set gives.
+ghost use Rattle.std.specs.Prelude.{◌≡◌, ◌<◌, ◌^◌, ℕ, List, All, IfOk, length, OnErr, OnOk};
+ghost use Rattle.std.specs.List.{range_with_len};
+ghost use Rattle.idset.specs.Sets.{all_items, common_items, has_item, IsRisingBelow, listed_numbers, missing_numbers, numbers_where, other_items};
+ghost use Rattle.idset.specs.Words.{AreWordsBelow, is_set};
+
+use std::alloc::{AllocError, Global};
+
+/// A set of numbers below a bound. Contracts see it as the list of its items, which rises strictly.
+///
+/// A call that answers `AllocError` found no memory; nothing is changed then.
+pub trait ConceptSet: Drop {
+    /// The items, in rising order.
+    ghost items_of: { Self → List ℕ };
+
+    /// The bound: every item is below it.
+    ghost bound_of: { Self → ℕ };
+
+    /// The set of the items of a rising list.
+    fn from_items(alloc: Global, items: &[u32], bound: u32) -> Result<Self, AllocError>
+        requires { IsRisingBelow bound items.now }
+        ensures items { IfOk result (λ set. items_of set ≡ items.now) }
+        ensures bound { IfOk result (λ set. bound_of set ≡ bound) };
+
+    /// The set of the numbers of a list in any order, which may name a number more than once: for
+    /// what a pass over rows finds.
+    fn from_numbers(alloc: Global, numbers: &[u32], bound: u32) -> Result<Self, AllocError>
+        requires { All (λ number. number < bound) numbers.now }
+        ensures items { IfOk result (λ set. items_of set ≡ listed_numbers bound numbers.now) }
+        ensures bound { IfOk result (λ set. bound_of set ≡ bound) };
+
+    /// The set of the numbers whose bit is set in words of 64 bits, the lowest bit first: for marks,
+    /// and for a wide list that an index keeps as words, which are copied as they are.
+    fn from_words(alloc: Global, words: &[u64], bound: u32) -> Result<Self, AllocError>
+        requires { AreWordsBelow bound words.now }
+        ensures items { IfOk result (λ set. items_of set ≡ numbers_where bound (is_set words.now)) }
+        ensures bound { IfOk result (λ set. bound_of set ≡ bound) };
+
+    /// The set of all numbers below a bound.
+    fn every(alloc: Global, bound: u32) -> Result<Self, AllocError>
+        ensures items { IfOk result (λ set. items_of set ≡ range_with_len 0 bound) }
+        ensures bound { IfOk result (λ set. bound_of set ≡ bound) };
+
+    /// The items that both sets have.
+    fn and(&self, alloc: Global, other: &Self) -> Result<Self, AllocError>
+        requires { bound_of self.now ≡ bound_of other.now }
+        ensures items { IfOk result
+            (λ set. items_of set ≡ common_items (items_of self.now) (items_of other.now)) }
+        ensures bound { IfOk result (λ set. bound_of set ≡ bound_of self.now) };
+
+    /// The items that one of the sets has, or both.
+    fn or(&self, alloc: Global, other: &Self) -> Result<Self, AllocError>
+        requires { bound_of self.now ≡ bound_of other.now }
+        ensures items { IfOk result
+            (λ set. items_of set ≡ all_items (bound_of self.now) (items_of self.now) (items_of other.now)) }
+        ensures bound { IfOk result (λ set. bound_of set ≡ bound_of self.now) };
+
+    /// The items that this set has and the other has not.
+    fn minus(&self, alloc: Global, other: &Self) -> Result<Self, AllocError>
+        requires { bound_of self.now ≡ bound_of other.now }
+        ensures items { IfOk result
+            (λ set. items_of set ≡ other_items (items_of self.now) (items_of other.now)) }
+        ensures bound { IfOk result (λ set. bound_of set ≡ bound_of self.now) };
+
+    /// The numbers below the bound that the set has not.
+    fn others(&self, alloc: Global) -> Result<Self, AllocError>
+        ensures items { IfOk result
+            (λ set. items_of set ≡ missing_numbers (bound_of self.now) (items_of self.now)) }
+        ensures bound { IfOk result (λ set. bound_of set ≡ bound_of self.now) };
+
+    /// Adds the items of a rising list: for a union of many lists of an index, taken one by one.
+    fn add_all(&mut self, alloc: Global, items: &[u32]) -> Result<(), AllocError>
+        requires { IsRisingBelow (bound_of self.old) items.now }
+        ensures items { OnOk result
+            (items_of self.new ≡ all_items (bound_of self.old) (items_of self.old) items.now) }
+        ensures err { OnErr result (items_of self.new ≡ items_of self.old) }
+        ensures bound { bound_of self.new ≡ bound_of self.old };
+
+    /// The items in rising order, as a list of their own.
+    fn items(&self, alloc: Global) -> Result<Vec<u32>, AllocError>
+        ensures { IfOk result (λ items. items.items ≡ items_of self.now) };
+
+    /// A set of the same items.
+    fn copy(&self, alloc: Global) -> Result<Self, AllocError>
+        ensures items { IfOk result (λ set. items_of set ≡ items_of self.now) }
+        ensures bound { IfOk result (λ set. bound_of set ≡ bound_of self.now) };
+
+    /// The bound.
+    fn bound(&self) -> u32
+        ensures { result ≡ bound_of self.now };
+
+    /// Whether a number is in the set; one that is not below the bound is not.
+    fn has(&self, number: u32) -> bool
+        ensures { result ≡ has_item (items_of self.now) number };
+
+    /// How many items there are, which is the bound at the most.
+    fn count(&self) -> u32
+        ensures { result ≡ length (items_of self.now) };
+
+    /// The items of a set rise strictly and are below its bound.
+    ghost rising: { (set : Self) → IsRisingBelow (bound_of set) (items_of set) };
+}

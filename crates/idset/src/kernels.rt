@@ -1,0 +1,205 @@
+//! The operations on words of bits, four words at a time.
+ghost use Rattle.std.specs.Prelude.{◌≡◌, ◌≤◌, ◌^◌, ◌/◌, ◌*◌, ℕ, List, IfOk, length, drop, take, sum_by, bit_and, bit_or, count_ones};
+ghost use Rattle.std.specs.Simd.Lanes.{zip2};
+ghost use Rattle.idset.specs.Words.{bit_minus};
+
+use std::alloc::{AllocError, Global};
+use std::simd::prelude::*;
+
+// How many words a vector holds.
+const LANES: usize = 4;
+
+// How many words a vector holds where bits are counted, since its sum is taken once for all.
+const COUNTED: usize = 16;
+
+/// What is done to each pair of words.
+trait WordOperation {
+    /// The word that two words give.
+    ghost of: { ℕ → ℕ → ℕ };
+
+    /// One pair.
+    fn word(one: u64, other: u64) -> u64
+        ensures { result ≡ of one other };
+
+    /// A vector of pairs.
+    fn lanes(one: u64x4, other: u64x4) -> u64x4
+        ensures { result ≡ zip2 of one other };
+}
+
+struct And;
+
+impl WordOperation for And {
+    ghost of = { bit_and };
+
+    #[inline]
+    fn word(one: u64, other: u64) -> u64 {
+        one & other
+    }
+
+    #[inline]
+    fn lanes(one: u64x4, other: u64x4) -> u64x4 {
+        one & other
+    }
+}
+
+struct Or;
+
+impl WordOperation for Or {
+    ghost of = { bit_or };
+
+    #[inline]
+    fn word(one: u64, other: u64) -> u64 {
+        one | other
+    }
+
+    #[inline]
+    fn lanes(one: u64x4, other: u64x4) -> u64x4 {
+        one | other
+    }
+}
+
+struct Minus;
+
+impl WordOperation for Minus {
+    ghost of = { bit_minus };
+
+    #[inline]
+    fn word(one: u64, other: u64) -> u64 {
+        one & (one ^ other)
+    }
+
+    #[inline]
+    fn lanes(one: u64x4, other: u64x4) -> u64x4 {
+        one & (one ^ other)
+    }
+}
+
+/// The bits that both words have, word by word.
+pub fn and_words(alloc: Global, words: &[u64], others: &[u64]) -> Result<Vec<u64>, AllocError>
+    requires { length others.now ≡ length words.now }
+    ensures { IfOk result (λ made. made.items ≡ zip2 bit_and words.now others.now) }
+{
+    let made = combined::<And>(alloc, words, others)?;
+    Ok(made)
+}
+
+/// The bits that one of the words has, or both, word by word.
+pub fn or_words(alloc: Global, words: &[u64], others: &[u64]) -> Result<Vec<u64>, AllocError>
+    requires { length others.now ≡ length words.now }
+    ensures { IfOk result (λ made. made.items ≡ zip2 bit_or words.now others.now) }
+{
+    let made = combined::<Or>(alloc, words, others)?;
+    Ok(made)
+}
+
+/// The bits that the one word has and the other has not, word by word.
+pub fn minus_words(alloc: Global, words: &[u64], others: &[u64]) -> Result<Vec<u64>, AllocError>
+    requires { length others.now ≡ length words.now }
+    ensures { IfOk result (λ made. made.items ≡ zip2 bit_minus words.now others.now) }
+{
+    let made = combined::<Minus>(alloc, words, others)?;
+    Ok(made)
+}
+
+// Each word of the one with its word of the other, in words of their own.
+#[inline]
+fn combined<O: WordOperation>(
+    alloc: Global,
+    words: &[u64],
+    others: &[u64],
+) -> Result<Vec<u64>, AllocError>
+    requires { length others.now ≡ length words.now }
+    ensures { IfOk result (λ made. made.items ≡ zip2 O.of words.now others.now) }
+{
+    let mut made = vec![in alloc; 0u64; words.len()]?;
+    combine::<O>(words, others, &mut made);
+    Ok(made)
+}
+
+// Each word of the one with its word of the other.
+#[inline]
+fn combine<O: WordOperation>(words: &[u64], others: &[u64], out: &mut [u64])
+    requires others { length others.now ≡ length words.now }
+    requires out { length out.old ≡ length words.now }
+    ensures { out.new ≡ zip2 O.of words.now others.now }
+{
+    let place = combine_vectors::<O>(words, others, out);
+    combine_rest::<O>(words, others, out, place);
+}
+
+// As many whole vectors as there are. Tells how many words that is.
+#[inline]
+fn combine_vectors<O: WordOperation>(words: &[u64], others: &[u64], out: &mut [u64]) -> usize
+    requires others { length others.now ≡ length words.now }
+    requires out { length out.old ≡ length words.now }
+    ensures within { result ≤ length words.now }
+    ensures done { take result out.new ≡ zip2 O.of (take result words.now) (take result others.now) }
+{
+    let mut place = 0;
+    while words.len() - place >= LANES {
+        let one = u64x4::from_slice(&words[place..]);
+        let other = u64x4::from_slice(&others[place..]);
+        O::lanes(one, other).copy_to_slice(&mut out[place..]);
+        place += LANES;
+    }
+    place
+}
+
+// The words from a place on, one by one.
+#[inline]
+fn combine_rest<O: WordOperation>(words: &[u64], others: &[u64], out: &mut [u64], from: usize)
+    requires others { length others.now ≡ length words.now }
+    requires out { length out.old ≡ length words.now }
+    requires within { from ≤ length words.now }
+    requires done { take from out.old ≡ zip2 O.of (take from words.now) (take from others.now) }
+    ensures { out.new ≡ zip2 O.of words.now others.now }
+{
+    for place in from..words.len() {
+        out[place] = O::word(words[place], others[place]);
+    }
+}
+
+/// How many bits are set in all words.
+pub fn count_words(words: &[u64]) -> u64
+    requires { length words.now ≤ 2 ^ 26 }
+    ensures { result ≡ sum_by count_ones words.now }
+{
+    let whole = words.len() / COUNTED * COUNTED;
+    count_vectors(words) + count_rest(words, whole)
+}
+
+// How many bits are set in as many whole vectors as there are.
+#[inline]
+fn count_vectors(words: &[u64]) -> u64
+    requires { length words.now ≤ 2 ^ 26 }
+    ensures { result ≡ sum_by count_ones (take (length words.now / 16 * 16) words.now) }
+{
+    let mut count = 0;
+    for block in 0..words.len() / COUNTED {
+        count += count_vector(u64x16::from_slice(&words[block * COUNTED..]));
+    }
+    count
+}
+
+// How many bits are set in one vector.
+#[inline]
+fn count_vector(words: u64x16) -> u64
+    requires { length words ≡ 16 }
+    ensures { result ≡ sum_by count_ones words }
+{
+    words.count_ones().reduce_sum()
+}
+
+// How many bits are set in the words from a place on.
+#[inline]
+fn count_rest(words: &[u64], from: usize) -> u64
+    requires short { length words.now ≤ 2 ^ 26 }
+    requires within { from ≤ length words.now }
+    ensures { result ≡ sum_by count_ones (drop from words.now) }
+{
+    let mut count = 0;
+    for place in from..words.len() {
+        count += u64::from(words[place].count_ones());
+    }
+    count
+}

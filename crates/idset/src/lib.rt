@@ -1,0 +1,21 @@
+//! Sets of concept numbers.
+//!
+//! A set is a strictly rising list of numbers below a bound. `ConceptSet` says what its operations
+//! give, in terms of such lists; the forms behind it are `SortedSet`, the list itself, `WordSet`, a bit
+//! for each number below the bound, and `MixedSet`, whichever of the two is the smaller.
+#![tactic(auto)]
+
+mod concept_set;
+mod kernels;
+mod lists;
+mod marks;
+mod mixed_set;
+mod sorted_set;
+#[cfg(test)]
+mod tests;
+mod word_set;
+
+pub use concept_set::ConceptSet;
+pub use mixed_set::MixedSet;
+pub use sorted_set::SortedSet;
+pub use word_set::WordSet;
