@@ -1,5 +1,5 @@
 #!/bin/sh
-# Times the operations of `idset` (idset_main.rt) beside plain loops built by `rustc -O` (idset_plain.rs), in a
+# Times the operations of `idset` (idset_main.rt.in, the text of main.rt) beside plain loops built by `rustc -O` (idset_plain.rs), in a
 # folder of its own. Give another folder to keep what was made for the next run.
 set -eu
 here=$(cd "$(dirname "$0")" && pwd)
@@ -13,9 +13,10 @@ if [ ! -d crates/idset_bench ]; then
         crates/idset_bench/proofs crates/idset_bench/stdin crates/idset_bench/stdout
     mkdir -p crates/idset_bench/src
 fi
-cp "$here/idset_main.rt" crates/idset_bench/src/main.rt
+cp "$here/idset_main.rt.in" crates/idset_bench/src/main.rt
 rm -rf crates/idset_bench/proofs
 cp -r "$here/idset_proofs" crates/idset_bench/proofs
+find crates/idset_bench/proofs -name "*.in" | while read -r file; do mv "$file" "${file%.in}"; done
 printf 'idset:\nidset_bench: idset anyhow\n' > crates.txt
 (cd crates/idset_bench && rt run)
 rustc -O -o plain "$here/idset_plain.rs"
