@@ -142,9 +142,10 @@ fn allows_so_many_brackets(rt: HostRuntime) -> Result<(), Fail> {
     check_refused(&rt, alloc, deep.as_slice(), QueryFault::Depth);
     let unread = nested(alloc, 65, b'(', b"?", b')')?;
     check_refused(&rt, alloc, unread.as_slice(), QueryFault::Token(65));
-    let spaces = nested(alloc, 65_535, b' ', b"", b' ')?;
-    check_refused(&rt, alloc, &spaces.as_slice()[..65_535], QueryFault::Syntax);
-    check_refused(&rt, alloc, &spaces.as_slice()[..65_536], QueryFault::Long);
+    let longest = nested(alloc, 32_767, b' ', b" ", b' ')?;
+    check_refused(&rt, alloc, longest.as_slice(), QueryFault::Syntax);
+    let long = nested(alloc, 32_768, b' ', b"", b' ')?;
+    check_refused(&rt, alloc, long.as_slice(), QueryFault::Long);
     Ok(())
 }
 
