@@ -1,5 +1,13 @@
+pub mod CanonLemmas
 pub mod DenotationLemmas
 pub mod DepthLemmas
+pub mod FitLemmas
+pub mod FormLemmas
+pub mod LevelLemmas
+pub mod FractionLemmas
 pub mod Lists
+pub mod NumberLemmas
+pub mod Symbols
+pub mod TextLemmas
 pub mod TreeLemmas
 pub mod WalkLemmas

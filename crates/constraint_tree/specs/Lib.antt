@@ -4,6 +4,7 @@ pub mod Grammar
 pub mod Passing
 pub mod Refusal
 pub mod Sample
+pub mod Text
 pub mod Tree
 pub mod Walks
 pub mod WorkedQueries

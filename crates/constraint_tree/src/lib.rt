@@ -4,6 +4,7 @@
 mod depth;
 mod laws;
 mod operator;
+mod print;
 #[cfg(test)]
 mod tests;
 mod tree;

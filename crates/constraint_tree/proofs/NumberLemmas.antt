@@ -1,0 +1,173 @@
+-- The text of a number reads back as that number.
+use Rattle.std.proofs.Common.{ℕ, ℤ, pos, negsuc, neg_ℤ, ◌≡◌, ◌==◌, ◌&&◌, ◌+◌, ◌-◌, ◌*◌, ◌/◌, ◌%◌, ◌^◌, ◌≤◌, ◌<◌, Bool, true, false, if◌then◌else◌, List, [], ◌∷◌, ◌++◌, Option, None, Some, length, drop, zero, suc, nat_eq, nat_le, decimal, refl, ap, ◌∙◌, sym, subst, arith}
+use Rattle.std.specs.Char.{is_ascii_digit}
+use Rattle.std.specs.List.{list_all, onto_first, starts_with}
+use Rattle.std.specs.Option.{option_map}
+use Rattle.std.proofs.lemmas.Bool.{and_from, and_parts, eqb-true, false_from_ne_true, le-leb, leb-true}
+use Rattle.std.proofs.lemmas.Bool.Decides.{nat_tests}
+use Rattle.std.proofs.lemmas.Fmt.{decimal_is_IsNumeral, decimal_nonempty, length-decimal-le}
+use Rattle.std.proofs.lemmas.Str.Parse.{digits_value_short}
+use Rattle.std.proofs.Math.Nat.{div-add-mod', div-lt_iff_lt-mul, mod-lt}
+use Rattle.sctid.proofs.Numerals.{numerals}
+use Rattle.rf2_rows.proofs.Parts.{parts_onto}
+use Rattle.rf2_rows.proofs.Values.{fraction_small, negative_of, number_with_fraction}
+use Rattle.rf2_rows.specs.Numbers.{is_number, number_of}
+use Rattle.rf2_rows.specs.Parts.{parts_at}
+use Rattle.rf2_rows.specs.Values.{point, whole_of, fraction_of, number_in, unsigned_of, decimal_of}
+use Rattle.constraint_tree.specs.Text.{fraction_digits, fraction_text, number_text, unsigned_text}
+use Rattle.constraint_tree.proofs.FitLemmas.{NumbersRead}
+use Rattle.constraint_tree.proofs.FractionLemmas.{fraction_written}
+use Rattle.constraint_tree.proofs.TextLemmas.{no_more}
+
+digit_other : (byte other : ℕ) → is_ascii_digit byte ≡ true → other < 48 → (byte == other) ≡ true → ⊥
+digit_other byte other digit low is =
+    let bounds = and_parts (nat_le 48 byte) (nat_le byte 57) digit in
+    let high : 48 ≤ byte = leb-true 48 byte bounds.0 in
+    let same : byte ≡ other = eqb-true byte other is in
+    omega arith
+
+-- digits are one part, and a point ends them
+one_part : (run : List ℕ) → list_all is_ascii_digit run ≡ true → parts_at 46 run ≡ run ∷ []
+one_part [] each = refl
+one_part (byte ∷ run) each =
+    let tests = and_parts (is_ascii_digit byte) (list_all is_ascii_digit run) each in
+    parts_onto 46 byte run (digit_other byte 46 tests.0 (omega arith)) ∙ ap (onto_first byte) (one_part run tests.1)
+
+parts_behind : (run more : List ℕ) → list_all is_ascii_digit run ≡ true → parts_at 46 (run ++ 46 ∷ more) ≡ run ∷ parts_at 46 more
+parts_behind [] more each = refl
+parts_behind (byte ∷ run) more each =
+    let tests = and_parts (is_ascii_digit byte) (list_all is_ascii_digit run) each in
+    parts_onto 46 byte (run ++ 46 ∷ more) (digit_other byte 46 tests.0 (omega arith)) ∙ ap (onto_first byte) (parts_behind run more tests.1)
+
+is_number_from : (text : List ℕ) → 0 < length text → length text ≤ 18 → list_all is_ascii_digit text ≡ true → is_number 1 18 text ≡ true
+is_number_from text some few each =
+    and_from (nat_le 1 (length text) && nat_le (length text) 18) (list_all is_ascii_digit text)
+    (and_from (nat_le 1 (length text)) (nat_le (length text) 18) (le-leb 1 (length text) (omega arith)) (le-leb (length text) 18 few)) each
+
+record WritesWhole (number : ℕ) : Type 0 where
+  each : list_all is_ascii_digit (decimal number) ≡ true
+  some : 0 < length (decimal number)
+  is : is_number 1 18 (decimal number) ≡ true
+  value : number_of (decimal number) ≡ number
+
+whole_written : (number : ℕ) → number < 10 ^ 18 → WritesWhole number
+whole_written number small =
+    let numeral = decimal_is_IsNumeral number (omega arith) in
+    let each : list_all is_ascii_digit (decimal number) ≡ true = numerals.from (decimal number) numeral.0.1 in
+    let some : 0 < length (decimal number) = decimal_nonempty number (omega arith) in
+    let few : length (decimal number) ≤ 18 = length-decimal-le 18 number (omega arith) small (omega arith) in
+    record { each = each; some = some; is = is_number_from (decimal number) some few each; value = numeral.1 }
+
+-- a whole number, and one with a fraction
+whole_reads : (whole : ℕ) → WritesWhole whole → unsigned_of (decimal whole) ≡ Some (whole * 10 ^ 18)
+whole_reads whole written =
+    ap number_in (one_part (decimal whole) written.each)
+    ∙ ap (λ (test : Bool). if test then Some (whole_of (decimal whole)) else None) written.is
+    ∙ ap (λ (number : ℕ). Some (number * 10 ^ 18)) written.value
+
+fraction_reads : (whole fraction : ℕ) → WritesWhole whole → (fraction ≡ 0 → ⊥) → fraction < 10 ^ 18 → unsigned_of (decimal whole ++ 46 ∷ fraction_digits 18 fraction) ≡ Some (whole * 10 ^ 18 + fraction)
+fraction_reads whole fraction written other small =
+    let behind = fraction_written 18 fraction small in
+    let is : is_number 1 18 (fraction_digits 18 fraction) ≡ true = is_number_from (fraction_digits 18 fraction) (behind.some other) behind.few behind.each in
+    ap number_in (parts_behind (decimal whole) (fraction_digits 18 fraction) written.each)
+    ∙ number_with_fraction (decimal whole) (fraction_digits 18 fraction) written.is is
+    ∙ ap (λ (number : ℕ). Some (number * 10 ^ 18 + fraction_of (fraction_digits 18 fraction))) written.value
+    ∙ ap (λ (number : ℕ). Some (whole * 10 ^ 18 + number)) behind.value
+
+parts_read : (whole fraction : ℕ) → whole < 10 ^ 18 → fraction < 10 ^ 18 → unsigned_of (decimal whole ++ fraction_text fraction) ≡ Some (whole * 10 ^ 18 + fraction)
+parts_read whole fraction small below = by (fraction == 0) refl
+  where
+    by : (test : Bool) → (fraction == 0) ≡ test → unsigned_of (decimal whole ++ fraction_text fraction) ≡ Some (whole * 10 ^ 18 + fraction)
+    by true test =
+        let none : fraction ≡ 0 = eqb-true fraction 0 test in
+        let nothing : fraction_text fraction ≡ [] = ap (λ (empty : Bool). if empty then [] else 46 ∷ fraction_digits 18 fraction) test in
+        let sum : whole * 10 ^ 18 ≡ whole * 10 ^ 18 + fraction = omega (arith, none) in
+        ap unsigned_of (sym (no_more (decimal whole) (fraction_text fraction) nothing)) ∙ whole_reads whole (whole_written whole small) ∙ ap (λ (number : ℕ). Some number) sum
+    by false test =
+        let other : (fraction ≡ 0) → ⊥ = λ none. grind (arith, nat_tests, test) in
+        let something : fraction_text fraction ≡ 46 ∷ fraction_digits 18 fraction = ap (λ (empty : Bool). if empty then [] else 46 ∷ fraction_digits 18 fraction) test in
+        ap (λ (text : List ℕ). unsigned_of (decimal whole ++ text)) something ∙ fraction_reads whole fraction (whole_written whole small) other below
+
+unsigned_reads : (number : ℕ) → number < 10 ^ 36 → unsigned_of (unsigned_text number) ≡ Some number
+unsigned_reads number small =
+    let whole : number / 10 ^ 18 < 10 ^ 18 = omega arith in
+    let below : number % 10 ^ 18 < 10 ^ 18 = omega arith in
+    let sum : number / 10 ^ 18 * 10 ^ 18 + number % 10 ^ 18 ≡ number = div-add-mod' number (10 ^ 18) in
+    parts_read (number / 10 ^ 18) (number % 10 ^ 18) whole below ∙ ap (λ (read : ℕ). Some read) sum
+
+-- digits have no sign
+positive_of : (run rest : List ℕ) → 0 < length run → list_all is_ascii_digit run ≡ true → decimal_of (run ++ rest) ≡ option_map pos (unsigned_of (run ++ rest))
+positive_of [] rest some each = absurd (omega arith)
+positive_of (byte ∷ run) rest some each =
+    let digit = (and_parts (is_ascii_digit byte) (list_all is_ascii_digit run) each).0 in
+    let no_minus : (45 == byte) ≡ false = false_from_ne_true (45 == byte) (λ is. unlike 45 digit (omega arith) is) in
+    let no_plus : (43 == byte) ≡ false = false_from_ne_true (43 == byte) (λ is. unlike 43 digit (omega arith) is) in
+    rw (no_minus, no_plus) refl
+  where
+    unlike : (other : ℕ) → is_ascii_digit byte ≡ true → other < 48 → (other == byte) ≡ true → ⊥
+    unlike other digit low is =
+        let high : 48 ≤ byte = leb-true 48 byte (and_parts (nat_le 48 byte) (nat_le byte 57) digit).0 in
+        let same : other ≡ byte = eqb-true other byte is in
+        omega arith
+
+-- how great a number is that a text writes
+digits_small : (text : List ℕ) → is_number 1 18 text ≡ true → number_of text < 10 ^ 18
+digits_small text is =
+    let tests = and_parts (nat_le 1 (length text) && nat_le (length text) 18) (list_all is_ascii_digit text) is in
+    let lengths = and_parts (nat_le 1 (length text)) (nat_le (length text) 18) tests.0 in
+    digits_value_short numerals text 18 tests.1 (leb-true (length text) 18 lengths.1)
+
+tested_small : (test : Bool) (number found : ℕ) → (test ≡ true → number < 10 ^ 36) → (if test then Some number else None) ≡ Some found → found < 10 ^ 36
+tested_small true number found small is =
+    let same : number ≡ found = cc in
+    subst (λ (n : ℕ). n < 10 ^ 36) same (small refl)
+tested_small false number found small is = absurd (cc)
+
+number_small : (parts : List (List ℕ)) (found : ℕ) → number_in parts ≡ Some found → found < 10 ^ 36
+number_small [] found is = absurd (cc)
+number_small (whole ∷ []) found is = tested_small (is_number 1 18 whole) (whole_of whole) found (λ test. omega (arith, digits_small whole test)) is
+number_small (whole ∷ behind ∷ []) found is =
+    tested_small (is_number 1 18 whole && is_number 1 18 behind) (whole_of whole + fraction_of behind) found (λ test. both test) is
+  where
+    both : (is_number 1 18 whole && is_number 1 18 behind) ≡ true → whole_of whole + fraction_of behind < 10 ^ 36
+    both test =
+        let tests = and_parts (is_number 1 18 whole) (is_number 1 18 behind) test in
+        omega (arith, digits_small whole tests.0, fraction_small behind tests.1)
+number_small (whole ∷ behind ∷ another ∷ others) found is = absurd (cc)
+
+abbrev IsSmall : ℤ → Type 0
+IsSmall (pos number) = number < 10 ^ 36
+IsSmall (negsuc below) = suc below < 10 ^ 36
+
+negated_small : (number : ℕ) → number < 10 ^ 36 → IsSmall (neg_ℤ (pos number))
+negated_small zero small = small
+negated_small (suc below) small = small
+
+positive_small : (found : Option ℕ) (value : ℤ) → ((number : ℕ) → found ≡ Some number → number < 10 ^ 36) → option_map pos found ≡ Some value → IsSmall value
+positive_small None value small is = absurd (cc)
+positive_small (Some number) value small is =
+    let same : pos number ≡ value = cc in
+    subst (λ (z : ℤ). IsSmall z) same (small number refl)
+
+negative_small : (found : Option ℕ) (value : ℤ) → ((number : ℕ) → found ≡ Some number → number < 10 ^ 36) → option_map (λ number. neg_ℤ (pos number)) found ≡ Some value → IsSmall value
+negative_small None value small is = absurd (cc)
+negative_small (Some number) value small is =
+    let same : neg_ℤ (pos number) ≡ value = cc in
+    subst (λ (z : ℤ). IsSmall z) same (negated_small number (small number refl))
+
+signed_small : (minus plus : Bool) (text : List ℕ) (value : ℤ) → (if minus then option_map (λ number. neg_ℤ (pos number)) (unsigned_of (drop 1 text)) else if plus then option_map pos (unsigned_of (drop 1 text)) else option_map pos (unsigned_of text)) ≡ Some value → IsSmall value
+signed_small true plus text value is = negative_small (unsigned_of (drop 1 text)) value (number_small (parts_at point (drop 1 text))) is
+signed_small false true text value is = positive_small (unsigned_of (drop 1 text)) value (number_small (parts_at point (drop 1 text))) is
+signed_small false false text value is = positive_small (unsigned_of text) value (number_small (parts_at point text)) is
+
+value_reads : (value : ℤ) → IsSmall value → decimal_of (drop 1 (number_text value)) ≡ Some value
+value_reads (pos number) small =
+    let written = whole_written (number / 10 ^ 18) (omega arith) in
+    positive_of (decimal (number / 10 ^ 18)) (fraction_text (number % 10 ^ 18)) written.some written.each
+    ∙ ap (option_map pos) (unsigned_reads number small)
+value_reads (negsuc below) small =
+    negative_of (45 ∷ unsigned_text (suc below)) (omega arith) refl
+    ∙ ap (option_map (λ number. neg_ℤ (pos number))) (unsigned_reads (suc below) small)
+
+pub numbers_read : NumbersRead
+numbers_read text value is = value_reads value (signed_small (starts_with nat_eq text (45 ∷ [])) (starts_with nat_eq text (43 ∷ [])) text value is)

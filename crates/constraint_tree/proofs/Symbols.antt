@@ -1,0 +1,186 @@
+-- The symbols that the text of a tree spells, and the forms that derive them. A tree with a form is printable: the numbers
+-- in it have as many digits as the grammar asks for, and its lists have two parts at the least.
+use Rattle.std.proofs.Common.{ℕ, ◌≡◌, ◌+◌, ◌==◌, ℤ, Bool, true, false, cond, if◌then◌else◌, List, [], ◌∷◌, Option, None, Some, drop, decimal, IsTrue, refl, ap, ◌∙◌, sym}
+use Rattle.ecl_lexer.specs.declared.token.TokenKind.{TokenKind}
+use Rattle.ecl_lexer.specs.declared.token.TokenKind.TheVariants.{MemberOf, Wildcard, RoundOpen, RoundClose, BraceOpen, BraceClose, BracketOpen, BracketClose, Colon, Dot, Dots, Equal as EqualSign, NotEqual as NotEqualSign, And, Or, Minus, Reverse}
+use Rattle.rf2_rows.specs.Numbers.{is_number, number_of}
+use Rattle.rf2_rows.specs.Values.{decimal_of}
+use Rattle.constraint_tree.specs.declared.operator.Cardinality.{Cardinality}
+use Rattle.constraint_tree.specs.declared.operator.Compare.{Compare}
+use Rattle.constraint_tree.specs.declared.operator.Operator.{Operator}
+use Rattle.constraint_tree.specs.Grammar.{CountForm, at_least, between, ConstraintForm, alone, refined, conjunction, disjunction, exclusion, dotted, SubForms, no_subs, sub_then, SubForm, plain, member, walk, walk_member, FocusForm, concept, any, round, RefinementForm, one_item, all_items, some_items, ItemForms, no_items, item_then, ItemForm, attribute, group, round_refinement, SetForm, one_part, all_parts, some_parts, PartForms, no_parts, part_then, PartForm, counted_part, round_set, PairForm, within, outside, number, Symbol, digits, decimal as decimal_symbol, mark, operator_kind, compare_kind, counted_tokens, reverse_tokens, constraint_tokens, subs_tokens, sub_tokens, focus_tokens, refinement_tokens, items_tokens, item_tokens, set_tokens, parts_tokens, part_tokens, pair_tokens, cardinality_of, constraint_tree, sub_trees, sub_tree, focus_tree, refinement_tree, item_trees, item_tree, set_tree, part_trees, part_tree, pair_tree}
+use Rattle.constraint_tree.specs.Text.{is_focus, is_item, is_member_or_focus, is_part, is_sub, number_text}
+use Rattle.constraint_tree.specs.Tree.{Tree, concept_tree, any_tree, walk_tree, member_tree, and_tree, or_tree, minus_tree, dotted_tree, refined_tree, Trees, no_trees, tree_then, RefinementTree, one_refinement, group_refinement, and_refinement, or_refinement, RefinementTrees, no_refinements, refinement_then, AttributeSetTree, one_set, and_set, or_set, AttributeSetTrees, no_sets, set_then, AttributeTree, attribute_tree, TestTree, within_test, outside_test, number_test}
+
+-- the brackets around what does not stand without, in front of the symbols that follow
+abbrev pub opened : Bool → List Symbol → List Symbol
+opened true rest = rest
+opened false rest = mark RoundOpen ∷ rest
+
+abbrev pub closed : Bool → List Symbol → List Symbol
+closed true rest = rest
+closed false rest = mark RoundClose ∷ rest
+
+abbrev pub most_symbols : Option ℕ → List Symbol → List Symbol
+most_symbols None rest = mark Wildcard ∷ rest
+most_symbols (Some most) rest = digits (decimal most) ∷ rest
+
+abbrev pub range_symbols : ℕ → Option ℕ → List Symbol → List Symbol
+range_symbols least most rest =
+    mark BracketOpen ∷ digits (decimal least) ∷ mark Dots ∷ most_symbols most (mark BracketClose ∷ rest)
+
+abbrev pub count_symbols : ℕ → Option ℕ → List Symbol → List Symbol
+count_symbols least None rest = if least == 1 then rest else range_symbols least None rest
+count_symbols least (Some most) rest = range_symbols least (Some most) rest
+
+-- the symbols of the text of a tree, and then some symbols
+abbrev mutual
+  pub constraint_symbols : Tree → List Symbol → List Symbol
+  constraint_symbols (concept_tree id) rest = digits (decimal id) ∷ rest
+  constraint_symbols any_tree rest = mark Wildcard ∷ rest
+  constraint_symbols (walk_tree operator operand) rest =
+      mark (operator_kind operator)
+      ∷ opened (is_member_or_focus operand) (constraint_symbols operand (closed (is_member_or_focus operand) rest))
+  constraint_symbols (member_tree operand) rest =
+      mark MemberOf ∷ opened (is_focus operand) (constraint_symbols operand (closed (is_focus operand) rest))
+  constraint_symbols (and_tree parts) rest = joined_symbols And parts rest
+  constraint_symbols (or_tree parts) rest = joined_symbols Or parts rest
+  constraint_symbols (minus_tree first second) rest =
+      opened (is_sub first) (constraint_symbols first (closed (is_sub first)
+      (mark Minus ∷ opened (is_sub second) (constraint_symbols second (closed (is_sub second) rest)))))
+  constraint_symbols (dotted_tree start names) rest =
+      opened (is_sub start) (constraint_symbols start (closed (is_sub start) (listed_symbols Dot names rest)))
+  constraint_symbols (refined_tree focus refinement) rest =
+      opened (is_sub focus) (constraint_symbols focus (closed (is_sub focus) (mark Colon ∷ refinement_symbols refinement rest)))
+
+  pub joined_symbols : TokenKind → Trees → List Symbol → List Symbol
+  joined_symbols kind no_trees rest = rest
+  joined_symbols kind (tree_then first more) rest =
+      opened (is_sub first) (constraint_symbols first (closed (is_sub first) (listed_symbols kind more rest)))
+
+  pub listed_symbols : TokenKind → Trees → List Symbol → List Symbol
+  listed_symbols kind no_trees rest = rest
+  listed_symbols kind (tree_then first more) rest =
+      mark kind ∷ opened (is_sub first) (constraint_symbols first (closed (is_sub first) (listed_symbols kind more rest)))
+
+  pub refinement_symbols : RefinementTree → List Symbol → List Symbol
+  refinement_symbols (one_refinement what) rest = attribute_symbols what rest
+  refinement_symbols (group_refinement count set) rest =
+      count_symbols count.min count.max (mark BraceOpen ∷ set_symbols set (mark BraceClose ∷ rest))
+  refinement_symbols (and_refinement parts) rest = joined_item_symbols And parts rest
+  refinement_symbols (or_refinement parts) rest = joined_item_symbols Or parts rest
+
+  pub joined_item_symbols : TokenKind → RefinementTrees → List Symbol → List Symbol
+  joined_item_symbols kind no_refinements rest = rest
+  joined_item_symbols kind (refinement_then first more) rest =
+      opened (is_item first) (refinement_symbols first (closed (is_item first) (listed_item_symbols kind more rest)))
+
+  pub listed_item_symbols : TokenKind → RefinementTrees → List Symbol → List Symbol
+  listed_item_symbols kind no_refinements rest = rest
+  listed_item_symbols kind (refinement_then first more) rest =
+      mark kind ∷ opened (is_item first) (refinement_symbols first (closed (is_item first) (listed_item_symbols kind more rest)))
+
+  pub set_symbols : AttributeSetTree → List Symbol → List Symbol
+  set_symbols (one_set what) rest = attribute_symbols what rest
+  set_symbols (and_set parts) rest = joined_part_symbols And parts rest
+  set_symbols (or_set parts) rest = joined_part_symbols Or parts rest
+
+  pub joined_part_symbols : TokenKind → AttributeSetTrees → List Symbol → List Symbol
+  joined_part_symbols kind no_sets rest = rest
+  joined_part_symbols kind (set_then first more) rest =
+      opened (is_part first) (set_symbols first (closed (is_part first) (listed_part_symbols kind more rest)))
+
+  pub listed_part_symbols : TokenKind → AttributeSetTrees → List Symbol → List Symbol
+  listed_part_symbols kind no_sets rest = rest
+  listed_part_symbols kind (set_then first more) rest =
+      mark kind ∷ opened (is_part first) (set_symbols first (closed (is_part first) (listed_part_symbols kind more rest)))
+
+  pub attribute_symbols : AttributeTree → List Symbol → List Symbol
+  attribute_symbols (attribute_tree count reverse name test) rest =
+      count_symbols count.min count.max (reverse_tokens reverse
+      (opened (is_sub name) (constraint_symbols name (closed (is_sub name) (test_symbols test rest)))))
+
+  pub test_symbols : TestTree → List Symbol → List Symbol
+  test_symbols (within_test operand) rest =
+      mark EqualSign ∷ opened (is_sub operand) (constraint_symbols operand (closed (is_sub operand) rest))
+  test_symbols (outside_test operand) rest =
+      mark NotEqualSign ∷ opened (is_sub operand) (constraint_symbols operand (closed (is_sub operand) rest))
+  test_symbols (number_test compare value) rest = mark (compare_kind compare) ∷ decimal_symbol (number_text value) ∷ rest
+
+-- a number of so many digits, which its decimal digits are
+pub record HasDigits (least most written : ℕ) : Type 0 where
+  pub is : IsTrue (is_number least most (decimal written))
+  pub value : number_of (decimal written) ≡ written
+
+abbrev pub IsPrintableMost : Option ℕ → Type 0
+IsPrintableMost None = Unit {0}
+IsPrintableMost (Some most) = HasDigits 1 18 most
+
+abbrev pub IsPrintableCount : Cardinality → Type 0
+IsPrintableCount count = HasDigits 1 18 count.min × IsPrintableMost count.max
+
+-- two parts at the least, and one
+abbrev pub HasOne : Trees → Type 0
+HasOne no_trees = ⊥
+HasOne (tree_then first rest) = Unit {0}
+
+abbrev pub HasTwo : Trees → Type 0
+HasTwo no_trees = ⊥
+HasTwo (tree_then first rest) = HasOne rest
+
+abbrev pub HasTwoItems : RefinementTrees → Type 0
+HasTwoItems no_refinements = ⊥
+HasTwoItems (refinement_then first no_refinements) = ⊥
+HasTwoItems (refinement_then first (refinement_then second rest)) = Unit {0}
+
+abbrev pub HasTwoParts : AttributeSetTrees → Type 0
+HasTwoParts no_sets = ⊥
+HasTwoParts (set_then first no_sets) = ⊥
+HasTwoParts (set_then first (set_then second rest)) = Unit {0}
+
+abbrev pub IsForward : AttributeTree → Type 0
+IsForward (attribute_tree count reverse name test) = reverse ≡ false
+
+abbrev mutual
+  pub IsPrintable : Tree → Type 0
+  IsPrintable (concept_tree id) = HasDigits 6 18 id
+  IsPrintable any_tree = Unit {0}
+  IsPrintable (walk_tree operator operand) = IsPrintable operand
+  IsPrintable (member_tree operand) = IsPrintable operand
+  IsPrintable (and_tree parts) = HasTwo parts × ArePrintable parts
+  IsPrintable (or_tree parts) = HasTwo parts × ArePrintable parts
+  IsPrintable (minus_tree first second) = IsPrintable first × IsPrintable second
+  IsPrintable (dotted_tree start names) = IsPrintable start × HasOne names × ArePrintable names
+  IsPrintable (refined_tree focus refinement) = IsPrintable focus × IsPrintableRefinement refinement
+
+  pub ArePrintable : Trees → Type 0
+  ArePrintable no_trees = Unit {0}
+  ArePrintable (tree_then first rest) = IsPrintable first × ArePrintable rest
+
+  pub IsPrintableRefinement : RefinementTree → Type 0
+  IsPrintableRefinement (one_refinement what) = IsPrintableAttribute what
+  IsPrintableRefinement (group_refinement count set) = IsPrintableCount count × IsPrintableSet set
+  IsPrintableRefinement (and_refinement parts) = HasTwoItems parts × ArePrintableItems parts
+  IsPrintableRefinement (or_refinement parts) = HasTwoItems parts × ArePrintableItems parts
+
+  pub ArePrintableItems : RefinementTrees → Type 0
+  ArePrintableItems no_refinements = Unit {0}
+  ArePrintableItems (refinement_then first rest) = IsPrintableRefinement first × ArePrintableItems rest
+
+  pub IsPrintableSet : AttributeSetTree → Type 0
+  IsPrintableSet (one_set what) = IsForward what × IsPrintableAttribute what
+  IsPrintableSet (and_set parts) = HasTwoParts parts × ArePrintableParts parts
+  IsPrintableSet (or_set parts) = HasTwoParts parts × ArePrintableParts parts
+
+  pub ArePrintableParts : AttributeSetTrees → Type 0
+  ArePrintableParts no_sets = Unit {0}
+  ArePrintableParts (set_then first rest) = IsPrintableSet first × ArePrintableParts rest
+
+  pub IsPrintableAttribute : AttributeTree → Type 0
+  IsPrintableAttribute (attribute_tree count reverse name test) =
+      IsPrintableCount count × IsPrintable name × IsPrintableTest test
+
+  pub IsPrintableTest : TestTree → Type 0
+  IsPrintableTest (within_test operand) = IsPrintable operand
+  IsPrintableTest (outside_test operand) = IsPrintable operand
+  IsPrintableTest (number_test compare value) = decimal_of (drop 1 (number_text value)) ≡ Some value
