@@ -4,14 +4,16 @@ use Rattle.std.proofs.lemmas.List.{length-map}
 use Rattle.std.proofs.lemmas.List.Sums.{length-filter, count_by-le-length}
 use Rattle.std.specs.Prelude.{option_map}
 use Rattle.std.specs.List.{filter_map}
+use Rattle.std.specs.List.Sorted.{IsStrictlyIncreasing}
+use Rattle.snapshot.specs.Search.{IsLeastCycle}
 use Rattle.rf2_rows.specs.Release.{Attribute, Name}
 use Rattle.snapshot.specs.Contents.{Contents, IsFaultOf, first_cyclic, unless_cyclic}
 use Rattle.snapshot.specs.InForce.{has, put, rising, rows_among}
 use Rattle.snapshot.specs.Kept.{Kept, IsCycle, attributes_among, contents_from, finished, is_value_among, names_among, rows_read}
 use Rattle.snapshot.specs.Numbering.{numbered_row, row_of_numbers}
 use Rattle.snapshot.specs.declared.fault.LoadFault.{LoadFault}
-use Rattle.snapshot.specs.declared.fault.LoadFault.TheVariants.{Cycle}
-use Rattle.snapshot.proofs.NumberingLemmas.{rows_of_numbers}
+use Rattle.snapshot.specs.declared.fault.LoadFault.TheVariants.{Cycle, Memory}
+use Rattle.snapshot.proofs.NumberingLemmas.{first_cyclic-Some, rows_of_numbers}
 
 -- a list does not grow by being brought in rising order
 length-put : (id : ℕ) (xs : List ℕ) → length (put id xs) ≤ length xs + 1
@@ -105,3 +107,10 @@ length-attributes_among concepts attributes =
       length-filter (λ (attribute : Attribute). has concepts attribute.source && is_value_among concepts attribute.value) attributes,
       count_by-le-length (λ (attribute : Attribute). has concepts attribute.source && is_value_among concepts attribute.value) attributes,
     )
+
+-- the fault that names the least concept that reaches itself is that of the load
+pub least_cycle : (fault : LoadFault) (concepts : List ℕ) → IsStrictlyIncreasing concepts → (ends : List (ℕ × ℕ)) → IsLeastCycle fault concepts (filter_map (numbered_row concepts) ends) → IsCycle fault (first_cyclic concepts (rows_among concepts ends))
+least_cycle (Cycle id) concepts rises ends (concept, below, is, chain, least) other =
+    ap (λ cyclic. option_map Cycle cyclic) (first_cyclic-Some concepts rises ends concept below chain least ∙ ap (λ (id : ℕ). Some id) is)
+least_cycle Memory concepts rises ends cycle other = absurd (other (λ i. Memory))
+least_cycle fault concepts rises ends cycle other = absurd cycle

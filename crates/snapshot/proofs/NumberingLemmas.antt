@@ -10,6 +10,7 @@ use Rattle.std.proofs.lemmas.Bool.{cases_Bool, eqb-true, eq-eqb, ltb-true}
 use Rattle.std.proofs.lemmas.Bool.Decides.{nat_tests}
 use Rattle.rf2_rows.specs.Hierarchy.{Reaches, one_row, more_rows, reaches}
 use Rattle.rf2_rows.proofs.HierarchyLemmas.{chain_from_test, test_from_chain, rest_contained}
+use Rattle.std.proofs.lemmas.List.{get_or-map, length-map, same_lists}
 use Rattle.snapshot.specs.Contents.{first_cyclic}
 use Rattle.snapshot.specs.InForce.{has, rows_among}
 use Rattle.snapshot.specs.Numbering.{number_of, numbered_row, row_of_numbers}
@@ -160,3 +161,24 @@ IsWithin-numbered concepts (row ∷ ends) = elim (cases_Bool (has concepts row.0
     All-cons : (first : ℕ × ℕ) (rest : List (ℕ × ℕ)) → (first.0 < length concepts) × (first.1 < length concepts) → IsWithin (length concepts) rest → IsWithin (length concepts) (first ∷ rest)
     All-cons first rest here later zero d below = here
     All-cons first rest here later (suc k) d below = later k d (omega arith)
+
+-- rows of numbers of concepts are told apart by the concepts' identifiers
+numbers_again : (concepts : List ℕ) → IsStrictlyIncreasing concepts → (rows : List (ℕ × ℕ)) → IsWithin (length concepts) rows
+    → map (λ (row : ℕ × ℕ). (place_of concepts row.0, place_of concepts row.1)) (map (row_of_numbers concepts) rows) ≡ rows
+numbers_again concepts rises rows within =
+    let back : ℕ × ℕ → ℕ × ℕ = λ row. (place_of concepts row.0, place_of concepts row.1) in
+    same_lists (map back (map (row_of_numbers concepts) rows)) rows (length-map (map (row_of_numbers concepts) rows) back ∙ length-map rows (row_of_numbers concepts))
+    (λ k d inside.
+    let below : k < length rows = omega (arith, inside, length-map (map (row_of_numbers concepts) rows) back, length-map rows (row_of_numbers concepts)) in
+    let row = get_or rows k d in
+    let near = within k d below in
+    get_or-map back (map (row_of_numbers concepts) rows) k (row_of_numbers concepts d) d (omega (arith, below, length-map rows (row_of_numbers concepts)))
+    ∙ ap back (get_or-map (row_of_numbers concepts) rows k d (row_of_numbers concepts d) below)
+    ∙ (λ i. (place_of-get_or concepts rises row.0 near.0 i, place_of-get_or concepts rises row.1 near.1 i)))
+
+pub same_numbers : (concepts : List ℕ) → IsStrictlyIncreasing concepts → (rows others : List (ℕ × ℕ)) → IsWithin (length concepts) rows → IsWithin (length concepts) others
+    → map (row_of_numbers concepts) rows ≡ map (row_of_numbers concepts) others → rows ≡ others
+same_numbers concepts rises rows others within near same =
+    sym (numbers_again concepts rises rows within)
+    ∙ ap (map (λ (row : ℕ × ℕ). (place_of concepts row.0, place_of concepts row.1))) same
+    ∙ numbers_again concepts rises others near

@@ -6,12 +6,16 @@ pub mod Files
 pub mod FirstRows
 pub mod InForce
 pub mod Kept
+pub mod KeyedLists
+pub mod KeyedListsInside
 pub mod Limits
 pub mod Metadata
 pub mod Name
 pub mod NamesInside
 pub mod Numbering
+pub mod ParentsFirst
 pub mod Passed
+pub mod Released
 pub mod RowsKept
 pub mod Search
 pub mod SnapshotInside

@@ -1,7 +1,9 @@
 -- What the search for cycles keeps: which concepts a concept was found to reach, and ranks that no row
 -- lowers. Both are of this search alone; what a cycle is stands in the definition of `Reaches`.
-use Rattle.std.specs.Prelude.{ℕ, ◌≡◌, ◌≤◌, ◌<◌, Bool, true, false, not, List, All, slice_index_or, count_by, ◌⊎◌}
+use Rattle.std.specs.Prelude.{ℕ, ◌≡◌, ◌≤◌, ◌<◌, Bool, true, false, not, List, All, length, slice_index, slice_index_or, count_by, ◌⊎◌}
 use Rattle.rf2_rows.specs.Hierarchy.{Reaches}
+use Rattle.snapshot.specs.declared.fault.LoadFault.{LoadFault}
+use Rattle.snapshot.specs.declared.fault.LoadFault.TheVariants.{Cycle, Memory}
 
 -- each row has both its ends among the concepts below a number
 abbrev pub IsWithin : ℕ → List (ℕ × ℕ) → Type 0
@@ -30,3 +32,12 @@ rank_in ranks concept = slice_index_or ranks concept 0
 -- no row leads to a lower rank
 abbrev pub NoneFalls : List ℕ → List (ℕ × ℕ) → Type 0
 NoneFalls ranks rows = All (λ (row : ℕ × ℕ). rank_in ranks row.0 ≤ rank_in ranks row.1) rows
+
+-- a fault that names, of concepts by their identifiers, the least that reaches itself by rows of their numbers, or the
+-- want of memory
+abbrev pub IsLeastCycle : LoadFault → List ℕ → List (ℕ × ℕ) → Type 0
+IsLeastCycle (Cycle id) concepts rows =
+    (concept : ℕ) × (concept < length concepts) × (slice_index concepts concept ≡ id) × Reaches rows concept concept
+    × ((lesser : ℕ) → lesser < concept → ¬ Reaches rows lesser lesser)
+IsLeastCycle Memory concepts rows = Unit {0}
+IsLeastCycle other concepts rows = ⊥

@@ -4,6 +4,7 @@ use Rattle.std.specs.List.Sorted.{IsStrictlyIncreasing}
 use Rattle.snapshot.specs.Contents.{Contents}
 use Rattle.snapshot.specs.FirstRows.{AreFirstPlaces}
 use Rattle.snapshot.specs.Numbering.{row_of_numbers}
+use Rattle.snapshot.specs.ParentsFirst.{IsParentsFirst}
 use Rattle.snapshot.specs.Search.{IsWithin}
 use Rattle.snapshot.specs.declared.load.Snapshot.TheInside.{Inside}
 
@@ -22,7 +23,8 @@ contents_in inside = record {
   passed = inside.passed;
 }
 
--- the concepts rise, and each is found at its number; the numbers in rows are those of concepts; and for
+-- the concepts rise, and each is found at its number; the numbers in rows are those of concepts; parents
+-- come first in the order of the concepts; and for
 -- each concept the place of the row that names it is known
 abbrev pub IsNumbered : Inside → Type 0
 IsNumbered inside =
@@ -32,3 +34,4 @@ IsNumbered inside =
     × IsWithin (length inside.concepts.items) inside.isa.items
     × IsWithin (length inside.concepts.items) inside.members.items
     × AreFirstPlaces (string_bytes inside.language) inside.concepts.items inside.names inside.names inside.first_names.items
+    × IsParentsFirst (length inside.concepts.items) inside.isa.items inside.order.items

@@ -6,14 +6,17 @@ mod components;
 mod cycle;
 mod fault;
 mod identifiers;
+mod keyed_lists;
 mod laws;
 mod limits;
 mod load;
 mod names;
 mod numbering;
+mod order;
 mod rows;
 
 pub use crate::fault::LoadFault;
+pub use crate::keyed_lists::KeyedLists;
 pub use crate::laws::{
     cyclic_concept_is_the_least, first_fault_is_the_first, naming_row_comes_first,
     rising_keeps_the_members, rows_are_listed_or_passed,

@@ -1,5 +1,5 @@
 //! Loading a release, and reading it.
-ghost use Rattle.std.specs.Prelude.{◌≡◌, ◌<◌, ◌^◌, Err, None, Ok, false, IfOk, IfErr, OnOk, map, length, slice_index, string_bytes, count_by, nat_eq};
+ghost use Rattle.std.specs.Prelude.{◌≡◌, ◌<◌, ◌^◌, ℕ, List, Err, None, Ok, false, IfOk, IfErr, OnOk, map, length, slice_index, string_bytes, count_by, nat_eq};
 ghost use Rattle.std.specs.List.{filter_map, list_any, IsDistinct};
 ghost use Rattle.std.specs.List.Sorted.{IsStrictlyIncreasing};
 ghost use Rattle.snapshot.specs.Contents.{IsFaultOf, first_cyclic, load_of};
@@ -9,8 +9,10 @@ ghost use Rattle.snapshot.specs.FirstRows.{AreFirstPlaces};
 ghost use Rattle.snapshot.specs.Kept.{IsApart, attributes_among, names_among, IsCycle, IsFaultIn, finished, nothing_kept, read_all};
 ghost use Rattle.snapshot.specs.Name.{name_of, text_lent};
 ghost use Rattle.snapshot.specs.Numbering.{number_of, numbered_row, row_of_numbers};
+ghost use Rattle.rf2_rows.specs.Hierarchy.{Reaches};
+ghost use Rattle.snapshot.specs.ParentsFirst.{IsParentsFirst};
 ghost use Rattle.snapshot.specs.RowsKept.{kept_in};
-ghost use Rattle.snapshot.specs.Search.{IsWithin};
+ghost use Rattle.snapshot.specs.Search.{IsLeastCycle, IsWithin};
 
 use crate::attributes::Attributes;
 use crate::cycle::least_cyclic;
@@ -18,6 +20,7 @@ use crate::fault::LoadFault;
 use crate::limits::Limits;
 use crate::names::Names;
 use crate::numbering::{number_concepts, number_of, number_rows};
+use crate::order::parents_first;
 use crate::rows::{ActiveRows, Rows};
 use indexmap::IndexSet;
 use release_files::NamedBytes;
@@ -37,6 +40,8 @@ pub struct Snapshot {
     numbers: IndexSet<u64>,
     // child and parent of each is-a row, in the order of the rows
     isa: Vec<(u32, u32)>,
+    // the numbers of the concepts in an order in which parents come first
+    order: Vec<u32>,
     // the attribute rows in the order of the rows
     attributes: Attributes,
     // reference set and component of each member row, in the order of the rows
@@ -138,6 +143,16 @@ impl Snapshot {
         self.isa.as_slice()
     }
 
+    /// The numbers of the concepts in an order in which parents come before their children: each of
+    /// them once, and no is-a row leads to a concept that stands later.
+    pub fn parents_first(&self) -> &[u32]
+        ensures { (rows : List (ℕ × ℕ)) → map (row_of_numbers self.now.release.concepts) rows ≡ self.now.release.isa
+            → IsWithin (length self.now.release.concepts) rows
+            → IsParentsFirst (length self.now.release.concepts) rows result.now }
+    {
+        self.order.as_slice()
+    }
+
     /// Reference set and component of each member row in force by their numbers, in the order of the
     /// files and their lines (Release File Specification, "Simple reference set").
     pub fn member_rows(&self) -> &[(u32, u32)]
@@ -206,7 +221,11 @@ fn finish(alloc: Global, rows: Rows, language: String, files: u64) -> Result<Sna
     let concepts = rising(concepts);
     match number_hierarchy(alloc, concepts.as_slice(), isa_ends.as_slice()) {
         Ok(hierarchy) => {
-            let Hierarchy { numbers, isa } = hierarchy;
+            let Hierarchy {
+                numbers,
+                isa,
+                order,
+            } = hierarchy;
             let lists = lists_among(
                 alloc,
                 &numbers,
@@ -230,6 +249,7 @@ fn finish(alloc: Global, rows: Rows, language: String, files: u64) -> Result<Sna
                 concepts,
                 numbers,
                 isa,
+                order,
                 attributes,
                 members,
                 names,
@@ -287,6 +307,8 @@ fn lists_among(
 struct Hierarchy {
     numbers: IndexSet<u64>,
     isa: Vec<(u32, u32)>,
+    // the concepts in an order in which parents come first
+    order: Vec<u32>,
 }
 
 // The numbers of concepts in rising order, and by them the rows between two of the concepts, unless
@@ -300,16 +322,34 @@ fn number_hierarchy(
     requires few { length concepts.now < 2 ^ 32 }
     ensures numbers { IfOk result (λ hierarchy. hierarchy.numbers.keys ≡ concepts.now) }
     ensures rows { IfOk result (λ hierarchy. hierarchy.isa.items ≡ filter_map (numbered_row concepts.now) ends.now) }
+    ensures order { IfOk result (λ hierarchy. IsParentsFirst (length concepts.now) hierarchy.isa.items hierarchy.order.items) }
     ensures acyclic { OnOk result (first_cyclic concepts.now (rows_among concepts.now ends.now) ≡ None) }
     ensures cycle { IfErr result (λ fault. IsCycle fault (first_cyclic concepts.now (rows_among concepts.now ends.now))) }
 {
     let numbers = number_concepts(alloc, concepts)?;
     let isa = number_rows(alloc, &numbers, ends)?;
     let count = concepts.len() as u32;
-    let cyclic = least_cyclic(alloc, isa.as_slice(), count)?;
-    match cyclic {
-        Some(concept) => Err(LoadFault::Cycle(concepts[concept as usize])),
-        None => Ok(Hierarchy { numbers, isa }),
+    match parents_first(alloc, isa.as_slice(), count)? {
+        Some(order) => Ok(Hierarchy {
+            numbers,
+            isa,
+            order,
+        }),
+        None => Err(cycle_fault(alloc, concepts, isa.as_slice())),
+    }
+}
+
+// The fault that names the least concept that reaches itself.
+fn cycle_fault(alloc: Global, concepts: &[SctId], rows: &[(u32, u32)]) -> LoadFault
+    requires few { length concepts.now < 2 ^ 32 }
+    requires within { IsWithin (length concepts.now) rows.now }
+    requires cyclic { (concept : ℕ) × (concept < length concepts.now) × Reaches rows.now concept concept }
+    ensures { IsLeastCycle result concepts.now rows.now }
+{
+    match least_cyclic(alloc, rows, concepts.len() as u32) {
+        Ok(Some(concept)) => LoadFault::Cycle(concepts[concept as usize]),
+        Ok(None) => unreachable!(),
+        Err(_) => LoadFault::Memory,
     }
 }
 

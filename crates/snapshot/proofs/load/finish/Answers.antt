@@ -7,6 +7,7 @@ use Rattle.snapshot.specs.FirstRows.{AreFirstPlaces}
 use Rattle.snapshot.specs.InForce.{rising, rows_among}
 use Rattle.snapshot.specs.Kept.{IsCycle, attributes_among, names_among}
 use Rattle.snapshot.specs.Numbering.{numbered_row}
+use Rattle.snapshot.specs.ParentsFirst.{IsParentsFirst}
 use Rattle.snapshot.specs.RowsKept.{kept_in}
 use Rattle.snapshot.specs.Search.{IsWithin}
 use Rattle.snapshot.proofs.FinishLemmas.{finished-Ok, finished-Err, length-rising}
@@ -56,6 +57,7 @@ invariant_of-result c =
       subst (λ (found : List (ℕ × ℕ)). IsWithin (length c.rising-concepts.result.items) found) (sym members) (IsWithin-numbered c.rising-concepts.result.items c.as_slice-in-Ok.result.now),
       subst (λ (language : List ℕ). AreFirstPlaces language c.rising-concepts.result.items lists.names lists.names lists.first_names.items) c.as_str.ensures.value
           (subst (λ (concepts : List ℕ). AreFirstPlaces c.as_str.result.now concepts lists.names lists.names lists.first_names.items) keys c.in_ok-lists-in-Ok.ensures.first),
+      subst (λ (count : ℕ). IsParentsFirst count c.in-Ok.hierarchy.isa.items c.in-Ok.hierarchy.order.items) (ap length same) c.in-Ok.ensures.order,
     )
 
 pub returns-in_ok-lists-in-Ok-clause-ok : goal.returns-in_ok-lists-in-Ok-clause-ok

@@ -1,0 +1,9 @@
+-- An order of concepts in which parents come first. Concepts are numbers, and each is-a row is a child and its parent.
+use Rattle.std.specs.Prelude.{ℕ, ◌↔◌, ◌<◌, List, Contains, length, nat_eq, slice_index, take}
+use Rattle.std.specs.List.{IsDistinct}
+
+-- each concept below a count stands in the order, once; and each row leads to a parent that stands before its child
+pub record IsParentsFirst (count : ℕ) (rows : List (ℕ × ℕ)) (order : List ℕ) : Type 0 where
+  pub once : IsDistinct nat_eq order
+  pub members : (concept : ℕ) → Contains order concept ↔ (concept < count)
+  pub first : (place parent : ℕ) → place < length order → Contains rows (slice_index order place, parent) → Contains (take place order) parent
