@@ -1,26 +1,26 @@
--- A tree with a form has a canonical form: one whose symbols are those that the text of the tree spells, and whose brackets
--- are never deeper than those of any form.
-use Rattle.std.proofs.Common.{ℕ, ◌≡◌, ◌&&◌, ◌||◌, ◌==◌, Bool, true, false, List, [], ◌∷◌, ◌++◌, Option, None, Some, map, if◌then◌else◌, refl, ap, ◌∙◌, sym, subst, arith}
+-- A tree with a form is printable and has a canonical form: one whose symbols are those that the text of the tree spells, and
+-- whose brackets are never deeper than those of any form.
+use Rattle.std.proofs.Common.{ℕ, ◌≡◌, ◌&&◌, ◌||◌, ◌==◌, Bool, true, false, List, [], ◌∷◌, ◌++◌, Some, map, if◌then◌else◌, refl, ap, ◌∙◌, sym, subst, arith}
 use Rattle.std.specs.Char.{to_ascii_lowercase}
 use Rattle.std.specs.List.{list_all}
 use Rattle.std.specs.Str.{bytes_eq}
 use Rattle.std.proofs.lemmas.Bool.{and_parts}
-use Rattle.ecl_lexer.specs.Pieces.{Piece, space, comment, symbol, word, digits as digits_piece, number as number_piece, term, is_plain, bytes_of, kind_in, kind_of, symbols, words, Stands}
-use Rattle.ecl_lexer.specs.Refusals.{IsRead}
-use Rattle.ecl_lexer.specs.Tokens.{AreRead, Spelled, spelled_tokens, pieces_text}
+use Rattle.ecl_lexer.specs.Pieces.{Piece, space, comment, symbol, word, digits as digits_piece, number as number_piece, term, is_plain, bytes_of, kind_in, symbols, words}
+use Rattle.ecl_lexer.specs.Tokens.{AreRead, Spelled, spelled_tokens}
 use Rattle.ecl_lexer.specs.declared.token.TokenKind.{TokenKind}
 use Rattle.ecl_lexer.specs.declared.token.TokenKind.TheVariants.{Digits, Number}
-use Rattle.constraint_tree.specs.Grammar.{ConstraintForm, Symbol, symbol_of, digits, decimal, mark, constraint_tokens, constraint_tree, IsTreeOf}
+use Rattle.constraint_tree.specs.Grammar.{ConstraintForm, Symbol, symbol_of, constraint_tokens, constraint_tree}
 use Rattle.constraint_tree.specs.Refusal.{IsConstraint, is_deep, most_open, opens, open_behind}
 use Rattle.constraint_tree.proofs.FitLemmas.{ArePlain, NumbersRead, constraint_fits}
 use Rattle.constraint_tree.proofs.FormLemmas.{forms_of}
 use Rattle.constraint_tree.proofs.LevelLemmas.{constraint_shallow, kind_of_symbol, symbols_deep}
 use Rattle.constraint_tree.proofs.NumberLemmas.{numbers_read}
-use Rattle.constraint_tree.proofs.Symbols.{constraint_symbols}
+use Rattle.constraint_tree.proofs.Symbols.{IsPrintable, constraint_symbols}
 use Rattle.constraint_tree.proofs.TextLemmas.{no_more}
 use Rattle.constraint_tree.specs.Tree.{Tree}
 
 pub record Canonical (tree : Tree) : Type 0 where
+  pub printable : IsPrintable tree
   pub form : ConstraintForm
   pub is : constraint_tree form ≡ tree
   pub spells : (rest : List Symbol) → constraint_tokens form rest ≡ constraint_symbols tree rest
@@ -30,7 +30,7 @@ pub canonical : NumbersRead → (form : ConstraintForm) → ArePlain (constraint
 canonical numbers form bare flat =
     let fit = constraint_fits numbers form 0 [] (omega arith) bare flat in
     let whole = (forms_of (constraint_tree form) fit.printable).whole in
-    record { form = whole.form; is = whole.is; spells = whole.spells; shallow = constraint_shallow (constraint_tree form) 0 [] fit.fits refl }
+    record { printable = fit.printable; form = whole.form; is = whole.is; spells = whole.spells; shallow = constraint_shallow (constraint_tree form) 0 [] fit.fits refl }
 
 -- the depth of tokens is that of their symbols
 kind_of_symbol_of : (kind : TokenKind) (bytes : List ℕ) → kind_of_symbol (symbol_of (record { kind = kind; bytes = bytes })) ≡ kind

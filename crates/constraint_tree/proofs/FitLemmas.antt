@@ -1,17 +1,15 @@
 -- The tree of a form is printable, and its text has no more brackets open at once than the form has.
-use Rattle.std.proofs.Common.{ℕ, ℤ, ◌≡◌, ◌==◌, ◌&&◌, ◌||◌, ◌+◌, ◌-◌, ◌≤◌, ◌<◌, ◌^◌, max, not, Bool, true, false, List, [], ◌∷◌, length, get_or, drop, Option, None, Some, decimal, IsTrue, refl, ap, ◌∙◌, sym, arith, nat_le}
+use Rattle.std.proofs.Common.{ℕ, ℤ, ◌≡◌, ◌==◌, ◌&&◌, ◌||◌, ◌+◌, ◌-◌, ◌≤◌, ◌<◌, ◌^◌, Bool, true, false, List, [], ◌∷◌, length, get_or, drop, Option, None, Some, decimal, refl, ap, ◌∙◌, sym, arith, nat_le}
 use Rattle.std.specs.Char.{is_ascii_digit}
 use Rattle.std.specs.List.{list_all}
 use Rattle.std.proofs.lemmas.Bool.{and_parts, eqb-true, leb-true}
 use Rattle.std.proofs.lemmas.Bool.Decides.{nat_tests}
 use Rattle.std.proofs.lemmas.Fmt.{decimal-digits_value}
 use Rattle.std.proofs.lemmas.Str.Parse.{digits_value_short}
-use Rattle.std.proofs.Math.Nat.{pow-le-pow_right}
 use Rattle.sctid.proofs.Numerals.{numerals}
-use Rattle.ecl_lexer.specs.Bytes.{begins_with}
 use Rattle.ecl_lexer.specs.Pieces.{is_plain}
 use Rattle.ecl_lexer.specs.declared.token.TokenKind.{TokenKind}
-use Rattle.ecl_lexer.specs.declared.token.TokenKind.TheVariants.{MemberOf, RoundOpen, RoundClose, BraceOpen, BraceClose, And, Or, Minus, Dot, Colon, Equal as EqualSign, NotEqual as NotEqualSign}
+use Rattle.ecl_lexer.specs.declared.token.TokenKind.TheVariants.{MemberOf, RoundClose, BraceOpen, BraceClose, And, Or, Minus, Dot, Colon, Equal as EqualSign, NotEqual as NotEqualSign}
 use Rattle.rf2_rows.specs.Numbers.{is_number, number_of}
 use Rattle.rf2_rows.specs.Values.{decimal_of}
 use Rattle.constraint_tree.specs.declared.operator.Compare.{Compare}

@@ -1,15 +1,14 @@
 -- The form that derives the symbols of a printable tree.
-use Rattle.std.proofs.Common.{ℕ, ℤ, eqb-true, ◌≡◌, ◌==◌, Bool, true, false, cond, if◌then◌else◌, List, [], ◌∷◌, Option, None, Some, decimal, IsTrue, refl, ap, ◌∙◌, sym}
+use Rattle.std.proofs.Common.{ℕ, ℤ, eqb-true, ◌≡◌, ◌==◌, Bool, true, false, if◌then◌else◌, List, ◌∷◌, Option, None, Some, decimal, refl, ap, ◌∙◌, sym}
 use Rattle.ecl_lexer.specs.declared.token.TokenKind.{TokenKind}
 use Rattle.constraint_tree.specs.declared.operator.Cardinality.{Cardinality}
 use Rattle.constraint_tree.specs.declared.operator.Compare.{Compare}
-use Rattle.ecl_lexer.specs.declared.token.TokenKind.TheVariants.{MemberOf, Wildcard, RoundOpen, RoundClose, BraceOpen, BraceClose, Colon, Dot, Equal as EqualSign, NotEqual as NotEqualSign, And, Or, Minus}
-use Rattle.rf2_rows.specs.Numbers.{is_number, number_of}
+use Rattle.ecl_lexer.specs.declared.token.TokenKind.TheVariants.{MemberOf, RoundOpen, RoundClose, BraceOpen, BraceClose, Colon, Dot, Equal as EqualSign, NotEqual as NotEqualSign, And, Or, Minus}
 use Rattle.constraint_tree.specs.declared.operator.Operator.{Operator}
-use Rattle.constraint_tree.specs.Grammar.{CountForm, at_least, between, RefinementForm, one_item, all_items, some_items, ItemForms, no_items, item_then, ItemForm, attribute, group, round_refinement, SetForm, one_part, all_parts, some_parts, PartForms, no_parts, part_then, PartForm, counted_part, round_set, PairForm, within, outside, number, compare_kind, counted_tokens, reverse_tokens, refinement_tokens, items_tokens, item_tokens, set_tokens, parts_tokens, part_tokens, pair_tokens, cardinality_of, refinement_tree, item_trees, item_tree, set_tree, part_trees, part_tree, pair_tree, decimal as decimal_symbol, ConstraintForm, alone, refined, conjunction, disjunction, exclusion, dotted, SubForms, no_subs, sub_then, SubForm, plain, member, walk, walk_member, FocusForm, concept, any, round, Symbol, digits, mark, operator_kind, constraint_tokens, subs_tokens, sub_tokens, focus_tokens, constraint_tree, sub_trees, sub_tree, focus_tree}
+use Rattle.constraint_tree.specs.Grammar.{CountForm, at_least, between, RefinementForm, one_item, all_items, some_items, ItemForms, no_items, item_then, ItemForm, attribute, group, round_refinement, SetForm, one_part, all_parts, some_parts, PartForms, no_parts, part_then, PartForm, counted_part, round_set, PairForm, within, outside, number, counted_tokens, reverse_tokens, refinement_tokens, items_tokens, item_tokens, set_tokens, parts_tokens, part_tokens, pair_tokens, cardinality_of, refinement_tree, item_trees, item_tree, set_tree, part_trees, part_tree, pair_tree, ConstraintForm, alone, refined, conjunction, disjunction, exclusion, dotted, SubForms, no_subs, sub_then, SubForm, plain, member, walk, walk_member, FocusForm, concept, any, round, Symbol, mark, operator_kind, constraint_tokens, subs_tokens, sub_tokens, focus_tokens, constraint_tree, sub_trees, sub_tree, focus_tree}
 use Rattle.constraint_tree.specs.Text.{is_focus, is_item, is_member_or_focus, is_part, is_sub, number_text}
 use Rattle.constraint_tree.specs.Tree.{Tree, concept_tree, any_tree, walk_tree, member_tree, and_tree, or_tree, minus_tree, dotted_tree, refined_tree, Trees, no_trees, tree_then, RefinementTree, one_refinement, group_refinement, and_refinement, or_refinement, RefinementTrees, no_refinements, refinement_then, AttributeSetTree, one_set, and_set, or_set, AttributeSetTrees, no_sets, set_then, AttributeTree, attribute_tree, TestTree, within_test, outside_test, number_test}
-use Rattle.constraint_tree.proofs.Symbols.{opened, closed, constraint_symbols, joined_symbols, listed_symbols, HasDigits, HasOne, HasTwo, IsPrintable, ArePrintable, refinement_symbols, joined_item_symbols, listed_item_symbols, set_symbols, joined_part_symbols, listed_part_symbols, attribute_symbols, test_symbols, count_symbols, range_symbols, IsPrintableMost, IsPrintableCount, HasTwoItems, HasTwoParts, IsForward, IsPrintableRefinement, ArePrintableItems, IsPrintableSet, ArePrintableParts, IsPrintableAttribute, IsPrintableTest}
+use Rattle.constraint_tree.proofs.Symbols.{opened, closed, constraint_symbols, listed_symbols, HasDigits, HasOne, HasTwo, IsPrintable, ArePrintable, refinement_symbols, listed_item_symbols, set_symbols, listed_part_symbols, attribute_symbols, test_symbols, count_symbols, range_symbols, IsPrintableMost, HasTwoItems, HasTwoParts, IsForward, IsPrintableRefinement, ArePrintableItems, IsPrintableSet, ArePrintableParts, IsPrintableAttribute, IsPrintableTest}
 
 -- the form of a tree in each place: alone, as an operand, behind an operator and behind `^`
 pub record WholeForm (tree : Tree) : Type 0 where

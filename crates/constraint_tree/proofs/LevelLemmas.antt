@@ -1,9 +1,8 @@
 -- How deep the brackets of a printed tree are: never deeper than those of a form of the tree, which may have more.
-use Rattle.std.proofs.Common.{ℕ, ◌≡◌, ◌==◌, ◌&&◌, ◌||◌, ◌+◌, ◌-◌, ◌≤◌, ◌<◌, max, Bool, true, false, List, [], ◌∷◌, Option, None, Some, IsTrue, refl, ap, ◌∙◌, sym, arith}
+use Rattle.std.proofs.Common.{ℕ, ◌≡◌, ◌==◌, ◌&&◌, ◌||◌, ◌+◌, ◌-◌, ◌≤◌, ◌<◌, max, Bool, true, false, List, [], ◌∷◌, Option, None, Some, refl, ap, ◌∙◌, arith}
 use Rattle.std.proofs.lemmas.Bool.Decides.{nat_tests}
-use Rattle.ecl_lexer.specs.Pieces.{is_plain}
 use Rattle.ecl_lexer.specs.declared.token.TokenKind.{TokenKind}
-use Rattle.ecl_lexer.specs.declared.token.TokenKind.TheVariants.{Colon, RoundOpen, RoundClose, BraceOpen, BraceClose, And, Or, Minus, Dot, Digits, Number}
+use Rattle.ecl_lexer.specs.declared.token.TokenKind.TheVariants.{Colon, RoundClose, BraceOpen, BraceClose, And, Or, Minus, Dot, Digits, Number}
 use Rattle.constraint_tree.specs.declared.operator.Compare.{Compare}
 use Rattle.constraint_tree.specs.declared.operator.Compare.TheVariants.{Equal, NotEqual, Less, LessOrEqual, Greater, GreaterOrEqual}
 use Rattle.constraint_tree.specs.declared.operator.Operator.{Operator}

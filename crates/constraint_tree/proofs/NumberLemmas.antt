@@ -1,5 +1,5 @@
 -- The text of a number reads back as that number.
-use Rattle.std.proofs.Common.{ℕ, ℤ, pos, negsuc, neg_ℤ, ◌≡◌, ◌==◌, ◌&&◌, ◌+◌, ◌-◌, ◌*◌, ◌/◌, ◌%◌, ◌^◌, ◌≤◌, ◌<◌, Bool, true, false, if◌then◌else◌, List, [], ◌∷◌, ◌++◌, Option, None, Some, length, drop, zero, suc, nat_eq, nat_le, decimal, refl, ap, ◌∙◌, sym, subst, arith}
+use Rattle.std.proofs.Common.{ℕ, ℤ, pos, negsuc, neg_ℤ, ◌≡◌, ◌==◌, ◌&&◌, ◌+◌, ◌*◌, ◌/◌, ◌%◌, ◌^◌, ◌≤◌, ◌<◌, Bool, true, false, if◌then◌else◌, List, [], ◌∷◌, ◌++◌, Option, None, Some, length, drop, zero, suc, nat_eq, nat_le, decimal, refl, ap, ◌∙◌, sym, subst, arith}
 use Rattle.std.specs.Char.{is_ascii_digit}
 use Rattle.std.specs.List.{list_all, onto_first, starts_with}
 use Rattle.std.specs.Option.{option_map}
@@ -7,7 +7,7 @@ use Rattle.std.proofs.lemmas.Bool.{and_from, and_parts, eqb-true, false_from_ne_
 use Rattle.std.proofs.lemmas.Bool.Decides.{nat_tests}
 use Rattle.std.proofs.lemmas.Fmt.{decimal_is_IsNumeral, decimal_nonempty, length-decimal-le}
 use Rattle.std.proofs.lemmas.Str.Parse.{digits_value_short}
-use Rattle.std.proofs.Math.Nat.{div-add-mod', div-lt_iff_lt-mul, mod-lt}
+use Rattle.std.proofs.Math.Nat.{div-add-mod'}
 use Rattle.sctid.proofs.Numerals.{numerals}
 use Rattle.rf2_rows.proofs.Parts.{parts_onto}
 use Rattle.rf2_rows.proofs.Values.{fraction_small, negative_of, number_with_fraction}
@@ -44,13 +44,14 @@ is_number_from text some few each =
     and_from (nat_le 1 (length text) && nat_le (length text) 18) (list_all is_ascii_digit text)
     (and_from (nat_le 1 (length text)) (nat_le (length text) 18) (le-leb 1 (length text) (omega arith)) (le-leb (length text) 18 few)) each
 
-record WritesWhole (number : ℕ) : Type 0 where
-  each : list_all is_ascii_digit (decimal number) ≡ true
-  some : 0 < length (decimal number)
-  is : is_number 1 18 (decimal number) ≡ true
-  value : number_of (decimal number) ≡ number
+-- a whole number is written as digits that read back
+pub record WritesWhole (number : ℕ) : Type 0 where
+  pub each : list_all is_ascii_digit (decimal number) ≡ true
+  pub some : 0 < length (decimal number)
+  pub is : is_number 1 18 (decimal number) ≡ true
+  pub value : number_of (decimal number) ≡ number
 
-whole_written : (number : ℕ) → number < 10 ^ 18 → WritesWhole number
+pub whole_written : (number : ℕ) → number < 10 ^ 18 → WritesWhole number
 whole_written number small =
     let numeral = decimal_is_IsNumeral number (omega arith) in
     let each : list_all is_ascii_digit (decimal number) ≡ true = numerals.from (decimal number) numeral.0.1 in
@@ -135,7 +136,7 @@ number_small (whole ∷ behind ∷ []) found is =
         omega (arith, digits_small whole tests.0, fraction_small behind tests.1)
 number_small (whole ∷ behind ∷ another ∷ others) found is = absurd (cc)
 
-abbrev IsSmall : ℤ → Type 0
+abbrev pub IsSmall : ℤ → Type 0
 IsSmall (pos number) = number < 10 ^ 36
 IsSmall (negsuc below) = suc below < 10 ^ 36
 
@@ -169,5 +170,9 @@ value_reads (negsuc below) small =
     negative_of (45 ∷ unsigned_text (suc below)) (omega arith) refl
     ∙ ap (option_map (λ number. neg_ℤ (pos number))) (unsigned_reads (suc below) small)
 
+-- a number that is read is small
+pub number_is_small : (text : List ℕ) (value : ℤ) → decimal_of text ≡ Some value → IsSmall value
+number_is_small text value is = signed_small (starts_with nat_eq text (45 ∷ [])) (starts_with nat_eq text (43 ∷ [])) text value is
+
 pub numbers_read : NumbersRead
-numbers_read text value is = value_reads value (signed_small (starts_with nat_eq text (45 ∷ [])) (starts_with nat_eq text (43 ∷ [])) text value is)
+numbers_read text value is = value_reads value (number_is_small text value is)

@@ -1,14 +1,12 @@
 -- The symbols that the text of a tree spells, and the forms that derive them. A tree with a form is printable: the numbers
 -- in it have as many digits as the grammar asks for, and its lists have two parts at the least.
-use Rattle.std.proofs.Common.{ℕ, ◌≡◌, ◌+◌, ◌==◌, ℤ, Bool, true, false, cond, if◌then◌else◌, List, [], ◌∷◌, Option, None, Some, drop, decimal, IsTrue, refl, ap, ◌∙◌, sym}
+use Rattle.std.proofs.Common.{ℕ, ◌≡◌, ◌==◌, Bool, true, false, if◌then◌else◌, List, ◌∷◌, Option, None, Some, drop, decimal, IsTrue}
 use Rattle.ecl_lexer.specs.declared.token.TokenKind.{TokenKind}
-use Rattle.ecl_lexer.specs.declared.token.TokenKind.TheVariants.{MemberOf, Wildcard, RoundOpen, RoundClose, BraceOpen, BraceClose, BracketOpen, BracketClose, Colon, Dot, Dots, Equal as EqualSign, NotEqual as NotEqualSign, And, Or, Minus, Reverse}
+use Rattle.ecl_lexer.specs.declared.token.TokenKind.TheVariants.{MemberOf, Wildcard, RoundOpen, RoundClose, BraceOpen, BraceClose, BracketOpen, BracketClose, Colon, Dot, Dots, Equal as EqualSign, NotEqual as NotEqualSign, And, Or, Minus}
 use Rattle.rf2_rows.specs.Numbers.{is_number, number_of}
 use Rattle.rf2_rows.specs.Values.{decimal_of}
 use Rattle.constraint_tree.specs.declared.operator.Cardinality.{Cardinality}
-use Rattle.constraint_tree.specs.declared.operator.Compare.{Compare}
-use Rattle.constraint_tree.specs.declared.operator.Operator.{Operator}
-use Rattle.constraint_tree.specs.Grammar.{CountForm, at_least, between, ConstraintForm, alone, refined, conjunction, disjunction, exclusion, dotted, SubForms, no_subs, sub_then, SubForm, plain, member, walk, walk_member, FocusForm, concept, any, round, RefinementForm, one_item, all_items, some_items, ItemForms, no_items, item_then, ItemForm, attribute, group, round_refinement, SetForm, one_part, all_parts, some_parts, PartForms, no_parts, part_then, PartForm, counted_part, round_set, PairForm, within, outside, number, Symbol, digits, decimal as decimal_symbol, mark, operator_kind, compare_kind, counted_tokens, reverse_tokens, constraint_tokens, subs_tokens, sub_tokens, focus_tokens, refinement_tokens, items_tokens, item_tokens, set_tokens, parts_tokens, part_tokens, pair_tokens, cardinality_of, constraint_tree, sub_trees, sub_tree, focus_tree, refinement_tree, item_trees, item_tree, set_tree, part_trees, part_tree, pair_tree}
+use Rattle.constraint_tree.specs.Grammar.{Symbol, digits, decimal as decimal_symbol, mark, operator_kind, compare_kind, reverse_tokens}
 use Rattle.constraint_tree.specs.Text.{is_focus, is_item, is_member_or_focus, is_part, is_sub, number_text}
 use Rattle.constraint_tree.specs.Tree.{Tree, concept_tree, any_tree, walk_tree, member_tree, and_tree, or_tree, minus_tree, dotted_tree, refined_tree, Trees, no_trees, tree_then, RefinementTree, one_refinement, group_refinement, and_refinement, or_refinement, RefinementTrees, no_refinements, refinement_then, AttributeSetTree, one_set, and_set, or_set, AttributeSetTrees, no_sets, set_then, AttributeTree, attribute_tree, TestTree, within_test, outside_test, number_test}
 

@@ -2,7 +2,7 @@
 -- the tree of a list of tokens. A form is a way to derive tokens by the rules of the grammar, with one constructor for
 -- each alternative of a rule: it has the tokens that it derives, and a tree, in which brackets and terms leave no trace.
 -- The tokens of a form are written in front of those that follow it.
-use Rattle.std.specs.Prelude.{◌≡◌, ◌==◌, ◌||◌, ℕ, ◌+◌, ◌-◌, ℤ, Bool, true, false, cond, if◌then◌else◌, List, [], ◌∷◌, map, drop, Option, None, Some, IsTrue}
+use Rattle.std.specs.Prelude.{◌≡◌, ℕ, ℤ, Bool, true, false, List, [], ◌∷◌, map, drop, Option, None, Some, IsTrue}
 use Rattle.ecl_lexer.specs.Tokens.{Spelled}
 use Rattle.ecl_lexer.specs.declared.token.TokenKind.{TokenKind}
 use Rattle.ecl_lexer.specs.declared.token.TokenKind.TheVariants.{DescendantOf, DescendantOrSelfOf, ChildOf, ChildOrSelfOf, AncestorOf, AncestorOrSelfOf, ParentOf, ParentOrSelfOf, Top as TopOf, Bottom as BottomOf, MemberOf, Wildcard, RoundOpen, RoundClose, BraceOpen, BraceClose, BracketOpen, BracketClose, Colon, Dot, Dots, Equal as EqualSign, NotEqual as NotEqualSign, LessOrEqual as LessOrEqualSign, GreaterOrEqual as GreaterOrEqualSign, And, Or, Minus, Reverse, Digits, Number, Term}
@@ -13,7 +13,7 @@ use Rattle.constraint_tree.specs.declared.operator.Compare.{Compare}
 use Rattle.constraint_tree.specs.declared.operator.Compare.TheVariants.{Equal, NotEqual, Less, LessOrEqual, Greater, GreaterOrEqual}
 use Rattle.constraint_tree.specs.declared.operator.Operator.{Operator}
 use Rattle.constraint_tree.specs.declared.operator.Operator.TheVariants.{Descendants, DescendantsOrSelf, Children, ChildrenOrSelf, Ancestors, AncestorsOrSelf, Parents, ParentsOrSelf, Top, Bottom}
-use Rattle.constraint_tree.specs.Tree.{Tree, concept_tree, any_tree, walk_tree, member_tree, and_tree, or_tree, minus_tree, dotted_tree, refined_tree, Trees, no_trees, tree_then, RefinementTree, one_refinement, group_refinement, and_refinement, or_refinement, RefinementTrees, no_refinements, refinement_then, AttributeSetTree, one_set, and_set, or_set, AttributeSetTrees, no_sets, set_then, AttributeTree, attribute_tree, TestTree, within_test, outside_test, number_test}
+use Rattle.constraint_tree.specs.Tree.{Tree, concept_tree, any_tree, walk_tree, member_tree, and_tree, or_tree, minus_tree, dotted_tree, refined_tree, Trees, no_trees, tree_then, RefinementTree, one_refinement, group_refinement, and_refinement, or_refinement, RefinementTrees, no_refinements, refinement_then, AttributeSetTree, one_set, and_set, or_set, AttributeSetTrees, no_sets, set_then, AttributeTree, attribute_tree, within_test, outside_test, number_test}
 
 -- a cardinality: the digits of its minimum, and those of its maximum or `*`
 pub data CountForm : Type 0 where

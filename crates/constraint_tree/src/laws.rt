@@ -1,5 +1,10 @@
 //! Laws about the definitions of this crate: functions that do nothing, each with laws as its contract.
+ghost use Rattle.std.specs.Prelude.{ℕ, ◌≤◌, List, length};
+ghost use Rattle.ecl_lexer.specs.Tokens.{most_bytes};
 ghost use Rattle.constraint_tree.specs.Denotation.{DenotesConceptsInForce};
+ghost use Rattle.constraint_tree.specs.Refusal.{IsConstraint};
+ghost use Rattle.constraint_tree.specs.Text.{constraint_text};
+ghost use Rattle.constraint_tree.specs.Tree.{Tree};
 ghost use Rattle.constraint_tree.specs.Walks.{TellsInForce, TellsChild, TellsBelow, TellsAbove};
 ghost use Rattle.constraint_tree.specs.WorkedQueries.{GivesEverything, GivesDescendants, GivesBraces, GivesDistinctPairs, GivesBraceCounts, GivesNoneInBraces, GivesReverse, GivesDotted, GivesNotEqual, GivesRowsInForce, GivesNumbers, GivesBounds, GivesDifferences, GivesEither, GivesWalks, GivesOperands, GivesEmptyAnswers};
 ghost use Rattle.constraint_tree.specs.WrongReadings.{MisreadsSplitBraces, MisreadsNotEqual, MisreadsNoneInBraces, MisreadsGroupZero, MisreadsRows, MisreadsTop, MisreadsDepth, MisreadsSecondParent, MisreadsWalkOfAnd};
@@ -16,6 +21,12 @@ pub fn walks_tell_chains()
 /// A constraint denotes concepts of the release alone, whatever the release and the constraint are.
 pub fn constraints_denote_concepts_in_force()
     ensures { DenotesConceptsInForce }
+{}
+
+/// What a constraint is printed as is a constraint again, with the same tree, unless it is too long.
+pub fn print_is_read()
+    ensures { (text : List ℕ) (tree : Tree) → IsConstraint text tree → length (constraint_text tree) ≤ most_bytes
+        → IsConstraint (constraint_text tree) tree }
 {}
 
 /// What worked queries denote on a small release.

@@ -10,7 +10,7 @@ mod tests;
 mod tree;
 
 pub use crate::laws::{
-    constraints_denote_concepts_in_force, walks_tell_chains, worked_queries_hold,
+    constraints_denote_concepts_in_force, print_is_read, walks_tell_chains, worked_queries_hold,
     wrong_readings_differ,
 };
 pub use crate::operator::{Cardinality, Compare, Operator};

@@ -1,7 +1,8 @@
 //! Reads expression constraints (Expression Constraint Language 2.2, brief syntax).
 //!
 //! `parse` answers the one tree of a text, or the first refusal of the text. What a text means stands in
-//! `constraint_tree`: the grammar and the refusals that the contract of `parse` speaks of.
+//! `constraint_tree`: the grammar and the refusals that the contract of `parse` speaks of. `read_again` says that
+//! what is printed of a constraint is read as that constraint.
 #![tactic(auto)]
 
 mod counts;
@@ -13,4 +14,4 @@ mod text;
 mod tokens;
 
 pub use crate::laws::one_reading;
-pub use crate::text::parse;
+pub use crate::text::{parse, read_again};

@@ -1,5 +1,5 @@
 //! Texts that are constraints, with their trees, and texts that are refused.
-use crate::parse;
+use crate::{parse, read_again};
 use constraint_tree::{
     Attribute, AttributeSet, Cardinality, Compare, Constraint, Operator, Refinement, Test,
 };
@@ -280,5 +280,28 @@ fn reads_published_shapes(rt: HostRuntime) {
             found.is_ok() || found == Err(QueryFault::Memory),
             "{found:?}"
         );
+    }
+}
+
+// What is printed of a constraint is read as that constraint.
+#[test]
+fn reads_what_is_printed(rt: HostRuntime) {
+    let texts = [
+        b"*".as_slice(),
+        b"<<^(101009 OR 102002)",
+        b"<!(<< 100005) MINUS !!> (!!< 100005)",
+        b"(< 100005 . 104001) . (105000 : 104001 != ^ 101009)",
+        b"< 100005 : [2..*] {( [0 .. 3] (105000) <= #+2.50 , 104001 = 106004)}",
+        b"* : (104001 = 106004 or 105000 > #-0.5) , [1..1] r 105000 = (101009 and 102002 , *)",
+    ];
+    for text in texts {
+        let found = parse(rt.alloc(), text);
+        match &found {
+            Ok(constraint) => {
+                let again = read_again(rt.alloc(), constraint);
+                assert!(rt; again == found, "{again:?}");
+            }
+            Err(fault) => panic!(rt; "{fault:?}"),
+        }
     }
 }

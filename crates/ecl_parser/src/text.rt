@@ -1,10 +1,11 @@
 //! From a text to the tree of its constraint.
-ghost use Rattle.std.specs.Prelude.{◌≡◌, ◌⊎◌, false, List, [], map, Err, IfErr, IfOk, MatchResult};
-ghost use Rattle.ecl_lexer.specs.Tokens.{spelled};
+ghost use Rattle.std.specs.Prelude.{◌≡◌, ◌⊎◌, ℕ, ◌<◌, ◌≤◌, false, List, [], length, map, Err, IfErr, IfOk, MatchResult};
+ghost use Rattle.ecl_lexer.specs.Tokens.{most_bytes, spelled};
 ghost use Rattle.ecl_lexer.specs.declared.fault.QueryFault.{QueryFault};
-ghost use Rattle.ecl_lexer.specs.declared.fault.QueryFault.TheVariants.{Memory, Syntax};
+ghost use Rattle.ecl_lexer.specs.declared.fault.QueryFault.TheVariants.{Long, Memory, Syntax};
 ghost use Rattle.constraint_tree.specs.Grammar.{IsTreeOf};
 ghost use Rattle.constraint_tree.specs.Refusal.{IsConstraint, IsRefusalOf, is_deep as is_deep_at};
+ghost use Rattle.constraint_tree.specs.Text.{constraint_text};
 ghost use Rattle.constraint_tree.specs.Tree.{Tree, tree_of};
 ghost use Rattle.ecl_parser.specs.Answers.{AreFaulty};
 
@@ -35,6 +36,22 @@ pub fn parse(alloc: Global, text: &[u8]) -> Result<Constraint, QueryFault>
         Err(fault) => return Err(fault),
     };
     tree(alloc, tokens.as_slice())
+}
+
+/// A constraint, printed and read again: the same constraint, if it was read from some text and its own text
+/// is no longer than 65,535 bytes.
+pub fn read_again(alloc: Global, constraint: &Constraint) -> Result<Constraint, QueryFault>
+    // What was read from a text is printed and read as it is, unless memory is refused.
+    ensures same { (text : List ℕ) → IsConstraint text (tree_of constraint.now)
+        → length (constraint_text (tree_of constraint.now)) ≤ most_bytes
+        → MatchResult result (λ found. tree_of found ≡ tree_of constraint.now) (λ fault. fault ≡ Memory) }
+
+    // A longer text is refused for its length.
+    ensures long { most_bytes < length (constraint_text (tree_of constraint.now)) → (result ≡ Err Long) ⊎ (result ≡ Err Memory) }
+{
+    let mut text = Vec::new(alloc);
+    constraint.print(alloc, &mut text)?;
+    parse(alloc, text.as_slice())
 }
 
 // The constraint that the tokens of a text are.

@@ -1,0 +1,132 @@
+-- Which bytes begin the text of an operand and of an attribute set.
+use Rattle.std.proofs.Common.{ℕ, ◌≡◌, ◌==◌, ◌<◌, Bool, true, false, List, [], ◌∷◌, ◌++◌, Option, None, Some, length, decimal, refl, subst, arith}
+use Rattle.std.specs.Char.{is_ascii_digit}
+use Rattle.std.specs.List.{list_all}
+use Rattle.std.proofs.lemmas.Bool.{and_parts}
+use Rattle.std.proofs.lemmas.List.{append-nil, append_assoc}
+use Rattle.ecl_lexer.specs.Bytes.{begins, begins_with}
+use Rattle.constraint_tree.specs.declared.operator.Operator.{Operator}
+use Rattle.constraint_tree.specs.declared.operator.Operator.TheVariants.{Descendants, DescendantsOrSelf, Children, ChildrenOrSelf, Ancestors, AncestorsOrSelf, Parents, ParentsOrSelf, Top, Bottom}
+use Rattle.constraint_tree.specs.Text.{attribute_text, cardinality_text, constraint_text, count_text, is_focus, is_member_or_focus, is_sub, joined_parts, listed_parts, placed_text, reverse_text, set_text, test_text}
+use Rattle.constraint_tree.specs.Tree.{Tree, concept_tree, any_tree, walk_tree, member_tree, and_tree, or_tree, minus_tree, dotted_tree, refined_tree, AttributeSetTree, one_set, and_set, or_set, AttributeSetTrees, no_sets, set_then, AttributeTree, attribute_tree}
+use Rattle.constraint_tree.proofs.DigitLemmas.{digits_written}
+use Rattle.constraint_tree.proofs.PieceLemmas.{focus_byte, member_byte, operand_byte}
+use Rattle.constraint_tree.proofs.SymbolLemmas.{other_byte}
+use Rattle.constraint_tree.proofs.Symbols.{ArePrintableParts, HasDigits, HasTwoParts, IsPrintable, IsPrintableAttribute, IsPrintableSet}
+
+-- a digit begins the text of a concept
+first_digit : (test : ℕ → Bool) → ((byte : ℕ) → is_ascii_digit byte ≡ true → test byte ≡ true) → (run rest : List ℕ) → 0 < length run → list_all is_ascii_digit run ≡ true → begins test (run ++ [] ++ rest) ≡ true
+first_digit test passes [] rest some each = absurd (omega arith)
+first_digit test passes (byte ∷ run) rest some each = passes byte (and_parts (is_ascii_digit byte) (list_all is_ascii_digit run) each).0
+
+-- and so does what passes each digit
+concept_begins : (test : ℕ → Bool) → ((byte : ℕ) → is_ascii_digit byte ≡ true → test byte ≡ true) → (id : ℕ) → HasDigits 6 18 id → (rest : List ℕ) → begins test (decimal id ++ [] ++ rest) ≡ true
+concept_begins test passes id printable rest =
+    let written = digits_written 6 id (omega arith) printable in
+    first_digit test passes (decimal id) rest written.some written.each
+
+-- a digit may begin a focus, its members and an operand
+digit_is_focus : (byte : ℕ) → is_ascii_digit byte ≡ true → focus_byte byte ≡ true
+digit_is_focus byte is = rw is refl
+
+digit_is_member : (byte : ℕ) → is_ascii_digit byte ≡ true → member_byte byte ≡ true
+digit_is_member byte is = rw is refl
+
+digit_is_operand : (byte : ℕ) → is_ascii_digit byte ≡ true → operand_byte byte ≡ true
+digit_is_operand byte is = rw is refl
+
+-- what stands behind `^`, behind an operator, and as an operand
+pub behind_caret : (tree : Tree) → IsPrintable tree → (rest : List ℕ) → begins focus_byte (placed_text (is_focus tree) (constraint_text tree) ++ rest) ≡ true
+behind_caret (concept_tree id) printable rest = concept_begins focus_byte digit_is_focus id printable rest
+behind_caret any_tree printable rest = refl
+behind_caret (walk_tree operator operand) printable rest = refl
+behind_caret (member_tree operand) printable rest = refl
+behind_caret (and_tree parts) printable rest = refl
+behind_caret (or_tree parts) printable rest = refl
+behind_caret (minus_tree first second) printable rest = refl
+behind_caret (dotted_tree start names) printable rest = refl
+behind_caret (refined_tree focus refinement) printable rest = refl
+
+pub behind_operator : (tree : Tree) → IsPrintable tree → (rest : List ℕ) → begins member_byte (placed_text (is_member_or_focus tree) (constraint_text tree) ++ rest) ≡ true
+behind_operator (concept_tree id) printable rest = concept_begins member_byte digit_is_member id printable rest
+behind_operator any_tree printable rest = refl
+behind_operator (walk_tree operator operand) printable rest = refl
+behind_operator (member_tree operand) printable rest = refl
+behind_operator (and_tree parts) printable rest = refl
+behind_operator (or_tree parts) printable rest = refl
+behind_operator (minus_tree first second) printable rest = refl
+behind_operator (dotted_tree start names) printable rest = refl
+behind_operator (refined_tree focus refinement) printable rest = refl
+
+-- a sign begins the text of a walk
+walk_begins : (operator : Operator) (operand : Tree) (rest : List ℕ) → begins operand_byte (placed_text true (constraint_text (walk_tree operator operand)) ++ rest) ≡ true
+walk_begins Descendants operand rest = refl
+walk_begins DescendantsOrSelf operand rest = refl
+walk_begins Children operand rest = refl
+walk_begins ChildrenOrSelf operand rest = refl
+walk_begins Ancestors operand rest = refl
+walk_begins AncestorsOrSelf operand rest = refl
+walk_begins Parents operand rest = refl
+walk_begins ParentsOrSelf operand rest = refl
+walk_begins Top operand rest = refl
+walk_begins Bottom operand rest = refl
+
+-- the first byte of an operand
+pub operand_begins : (tree : Tree) → IsPrintable tree → (rest : List ℕ) → begins operand_byte (placed_text (is_sub tree) (constraint_text tree) ++ rest) ≡ true
+operand_begins (concept_tree id) printable rest = concept_begins operand_byte digit_is_operand id printable rest
+operand_begins any_tree printable rest = refl
+operand_begins (walk_tree operator operand) printable rest = walk_begins operator operand rest
+operand_begins (member_tree operand) printable rest = refl
+operand_begins (and_tree parts) printable rest = refl
+operand_begins (or_tree parts) printable rest = refl
+operand_begins (minus_tree first second) printable rest = refl
+operand_begins (dotted_tree start names) printable rest = refl
+operand_begins (refined_tree focus refinement) printable rest = refl
+
+-- no `{` begins an attribute set
+other_begins : (test : ℕ → Bool) (other : ℕ) (text : List ℕ) → test other ≡ false → begins test text ≡ true → begins_with other text ≡ false
+other_begins test other [] fails starts = refl
+other_begins test other (byte ∷ text) fails starts = other_byte test byte other starts fails
+
+-- nor one behind a cardinality
+count_unbraced : (least : ℕ) (most : Option ℕ) (text : List ℕ) → begins_with 123 text ≡ false → begins_with 123 (count_text least most ++ text) ≡ false
+count_unbraced least None text starts = by (least == 1) refl
+  where
+    by : (test : Bool) → (least == 1) ≡ test → begins_with 123 (count_text least None ++ text) ≡ false
+    by true same = rw same starts
+    by false same = rw same refl
+count_unbraced least (Some most) text starts = refl
+
+-- nor one behind `R`
+reverse_unbraced : (reverse : Bool) (text : List ℕ) → begins_with 123 text ≡ false → begins_with 123 (reverse_text reverse ++ text) ≡ false
+reverse_unbraced true text starts = refl
+reverse_unbraced false text starts = starts
+
+-- the parts of a text, grouped the other way
+pub four_parts : (one two three four rest : List ℕ) → one ++ (two ++ (three ++ (four ++ rest))) ≡ one ++ two ++ three ++ four ++ rest
+four_parts one two three four rest = simp append_assoc
+
+-- no `{` begins an attribute
+attribute_unbraced : (what : AttributeTree) → IsPrintableAttribute what → (rest : List ℕ) → begins_with 123 (attribute_text what ++ rest) ≡ false
+attribute_unbraced (attribute_tree count reverse name test) printable rest =
+    let operand : List ℕ = placed_text (is_sub name) (constraint_text name) in
+    let starts = other_begins operand_byte 123 (operand ++ (test_text test ++ rest)) refl (operand_begins name printable.1 (test_text test ++ rest)) in
+    let counted = count_unbraced count.min count.max (reverse_text reverse ++ (operand ++ (test_text test ++ rest))) (reverse_unbraced reverse (operand ++ (test_text test ++ rest)) starts) in
+    subst (λ (text : List ℕ). begins_with 123 text ≡ false) (four_parts (cardinality_text count) (reverse_text reverse) operand (test_text test) rest) counted
+
+-- nor the parts of a set
+joined_unbraced : (before : List ℕ) (parts : AttributeSetTrees) → HasTwoParts parts → ArePrintableParts parts → (rest : List ℕ) → begins_with 123 (joined_parts before parts ++ rest) ≡ false
+joined_unbraced before no_sets two printable rest = absurd two
+joined_unbraced before (set_then (one_set what) more) two printable rest =
+    subst (λ (text : List ℕ). begins_with 123 text ≡ false) (regroup (attribute_text what) (listed_parts before more)) (attribute_unbraced what printable.0.1 (listed_parts before more ++ rest))
+  where
+    regroup : (one two : List ℕ) → one ++ (two ++ rest) ≡ one ++ [] ++ two ++ rest
+    regroup one two = simp (append-nil, append_assoc)
+joined_unbraced before (set_then (and_set parts) more) two printable rest = refl
+joined_unbraced before (set_then (or_set parts) more) two printable rest = refl
+
+-- nor any set
+pub set_unbraced : (set : AttributeSetTree) → IsPrintableSet set → (rest : List ℕ) → begins_with 123 (set_text set ++ rest) ≡ false
+set_unbraced (one_set what) printable rest = attribute_unbraced what printable.1 rest
+set_unbraced (and_set parts) printable rest = joined_unbraced _ parts printable.0 printable.1 rest
+set_unbraced (or_set parts) printable rest = joined_unbraced _ parts printable.0 printable.1 rest
