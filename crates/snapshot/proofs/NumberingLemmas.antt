@@ -18,14 +18,14 @@ use Rattle.snapshot.specs.Search.{IsWithin}
 use Rattle.snapshot.proofs.RisingLemmas.{earlier_below}
 
 -- the place of an identifier among concepts, or their number where it is not among them
-abbrev place_of : List ℕ → ℕ → ℕ
+abbrev pub place_of : List ℕ → ℕ → ℕ
 place_of concepts id = position_or_len (λ other. id == other) concepts
 
-abbrev row_by : (ℕ → ℕ) → ℕ × ℕ → ℕ × ℕ
+abbrev pub row_by : (ℕ → ℕ) → ℕ × ℕ → ℕ × ℕ
 row_by f row = (f row.0, f row.1)
 
 -- an item of a list, in the list of what a function gives of its items
-contains_map : {X Y : Type 0} (f : X → Y) (xs : List X) (x : X) → Contains xs x → Contains (map f xs) (f x)
+pub contains_map : {X Y : Type 0} (f : X → Y) (xs : List X) (x : X) → Contains xs x → Contains (map f xs) (f x)
 contains_map f [] x (k, below, is) = absurd (omega arith)
 contains_map f (y ∷ xs) x (zero, below, is) = (0, omega arith, ap f is)
 contains_map f (y ∷ xs) x (suc k, below, is) = rest_contained (f y) (map f xs) (f x) (contains_map f xs x (k, omega arith, is))
@@ -163,7 +163,7 @@ IsWithin-numbered concepts (row ∷ ends) = elim (cases_Bool (has concepts row.0
     All-cons first rest here later (suc k) d below = later k d (omega arith)
 
 -- rows of numbers of concepts are told apart by the concepts' identifiers
-numbers_again : (concepts : List ℕ) → IsStrictlyIncreasing concepts → (rows : List (ℕ × ℕ)) → IsWithin (length concepts) rows
+pub numbers_again : (concepts : List ℕ) → IsStrictlyIncreasing concepts → (rows : List (ℕ × ℕ)) → IsWithin (length concepts) rows
     → map (λ (row : ℕ × ℕ). (place_of concepts row.0, place_of concepts row.1)) (map (row_of_numbers concepts) rows) ≡ rows
 numbers_again concepts rises rows within =
     let back : ℕ × ℕ → ℕ × ℕ = λ row. (place_of concepts row.0, place_of concepts row.1) in

@@ -1,0 +1,181 @@
+-- From the is-a rows of a release to its hierarchy.
+use Rattle.std.proofs.Common.{ℕ, zero, suc, ◌+◌, ◌==◌, ◌≡◌, ◌≢◌, ◌<◌, ◌≤◌, ◌++◌, ◌∷◌, [], ◌∙◌, ⊎_elim, Bool, true, false, cond, List, length, get_or, map, refl, sym, ap, subst, arith}
+use Rattle.std.specs.Prelude.{All, Contains}
+use Rattle.std.specs.List.{filter, range_with_len}
+use Rattle.std.specs.List.Sorted.{IsStrictlyIncreasing}
+use Rattle.std.proofs.lemmas.Bool.{cases_eq, cases_lt, eq-eqb, ne_eqb}
+use Rattle.std.proofs.lemmas.List.{get_or_default}
+use Rattle.std.proofs.lemmas.List.Elements.{Contains-get_or}
+use Rattle.std.proofs.lemmas.Map.Steps.{length-le_from_distinct_below, le-length_from_below}
+use Rattle.rf2_rows.specs.Hierarchy.{Reaches, reaches}
+use Rattle.rf2_rows.specs.Release.{Release}
+use Rattle.rf2_rows.proofs.HierarchyLemmas.{chain_from_test, test_from_chain}
+use Rattle.idset.specs.Sets.{has_item, listed_numbers, numbers_where}
+use Rattle.idset.proofs.Normal.{numbers_where-agree}
+use Rattle.snapshot.specs.KeyedLists.{AreItemsBelow, items_of, lists_by, list_of, turned, turned_from, with_key}
+use Rattle.snapshot.specs.Numbering.{row_of_numbers}
+use Rattle.snapshot.specs.ParentsFirst.{IsParentsFirst}
+use Rattle.snapshot.specs.Search.{IsWithin}
+use Rattle.snapshot.proofs.CutLemmas.{same_maps}
+use Rattle.snapshot.proofs.KeyedLemmas.{items_of-append}
+use Rattle.snapshot.proofs.NumberingLemmas.{Reaches-map, contains_map, numbers_again, place_of, place_of-get_or, row_by}
+use Rattle.snapshot.proofs.ReleaseLemmas.{contains_had, had_contained}
+use Rattle.snapshot.proofs.WayLemmas.{contained_items_of, items_of-contained}
+use Rattle.ancestor_index.specs.HierarchyLists.{Hierarchy, hierarchy_of, is_child, lists_where}
+use Rattle.ancestor_index.specs.Parents.{AreParentsBy}
+use Rattle.ancestor_index.proofs.ClosureLemmas.{both_ways, item_there, length-where, list_of-where, row_there, there_item, there_row, there_where}
+
+-- lists by tests that agree are the same
+pub lists_where-agree : (count : ℕ) (test other : ℕ → ℕ → Bool) → ((a b : ℕ) → a < count → b < count → test a b ≡ other a b) → lists_where count test ≡ lists_where count other
+lists_where-agree count test other agree =
+    same_maps (λ concept. numbers_where count (test concept)) (λ concept. numbers_where count (other concept)) 0 count
+    (λ a from below. numbers_where-agree count (test a) (other a) (λ b near. agree a b (omega arith) near))
+
+-- the lists have numbers below the count alone
+pub where_below : (count : ℕ) (test : ℕ → ℕ → Bool) (lists : List (List ℕ)) → lists ≡ lists_where count test → AreItemsBelow count lists
+where_below count test lists is k d within j e inside =
+    let near : k < count = omega (arith, within, ap (λ (all : List (List ℕ)). length all) is, length-where count test) in
+    let list : get_or lists k d ≡ numbers_where count (test k) = get_or_default lists k d [] within ∙ ap (λ (all : List (List ℕ)). list_of all k) is ∙ list_of-where count test k near in
+    (there_where count (test k) (get_or (get_or lists k d) j e)
+        (subst (λ (xs : List ℕ). Contains xs (get_or (get_or lists k d) j e)) list (Contains-get_or (get_or lists k d) j e inside))).0
+
+-- ---- the parents, by the rows
+map-map : (f : List ℕ → List ℕ) (g : ℕ → List ℕ) (xs : List ℕ) → map f (map g xs) ≡ map (λ x. f (g x)) xs
+map-map f g [] = refl
+map-map f g (x ∷ xs) = ap (λ (rest : List (List ℕ)). f (g x) ∷ rest) (map-map f g xs)
+
+has_parent : (rows : List (ℕ × ℕ)) (child parent : ℕ) → has_item (items_of rows child) parent ≡ is_child rows child parent
+has_parent rows child parent =
+    both_ways (has_item (items_of rows child) parent) (is_child rows child parent)
+    (λ told. there_row rows child parent (contained_items_of rows child parent (item_there (items_of rows child) parent told)))
+    (λ told. there_item (items_of rows child) parent (items_of-contained rows child parent (row_there rows child parent told)))
+
+pub parents_listed : (count : ℕ) (rows : List (ℕ × ℕ)) → map (listed_numbers count) (lists_by count rows) ≡ lists_where count (is_child rows)
+parents_listed count rows =
+    map-map (listed_numbers count) (items_of rows) (range_with_len 0 count)
+    ∙ same_maps (λ child. listed_numbers count (items_of rows child)) (λ child. numbers_where count (is_child rows child)) 0 count
+    (λ child from below. numbers_where-agree count (has_item (items_of rows child)) (is_child rows child) (λ parent near. has_parent rows child parent))
+
+-- ---- lists turned round
+
+-- a number is in a list of tested numbers once or not at all
+with_key-out : (key x low count : ℕ) (test : ℕ → Bool) → x < low → items_of (with_key key (filter test (range_with_len low count))) x ≡ []
+with_key-out key x low zero test below = refl
+with_key-out key x low (suc count) test below =
+    let rest = with_key-out key x (low + 1) count test (omega arith) in
+    let apart : (low == x) ≡ false = ne_eqb low x (λ same. absurd (omega arith)) in
+    elim (test low) as (λ b. items_of (with_key key (cond b (low ∷ filter test (range_with_len (low + 1) count)) (filter test (range_with_len (low + 1) count)))) x ≡ []) [
+      | true ↦ (λ i. map (λ (pair : ℕ × ℕ). pair.1) (cond (apart i) ((low, key) ∷ filter (λ (pair : ℕ × ℕ). pair.0 == x) (with_key key (filter test (range_with_len (low + 1) count)))) (filter (λ (pair : ℕ × ℕ). pair.0 == x) (with_key key (filter test (range_with_len (low + 1) count)))))) ∙ rest
+      | false ↦ rest
+    ]
+
+with_key-in : (key x low count : ℕ) (test : ℕ → Bool) → low ≤ x → x < low + count → items_of (with_key key (filter test (range_with_len low count))) x ≡ cond (test x) (key ∷ []) []
+with_key-in key x low zero test above below = absurd (omega arith)
+with_key-in key x low (suc count) test above below = ⊎_elim
+    (λ (same : low ≡ x).
+        let rest = with_key-out key x (low + 1) count test (omega arith) in
+        let here : (low == x) ≡ true = eq-eqb low x same in
+        (elim (test low) as (λ b. items_of (with_key key (cond b (low ∷ filter test (range_with_len (low + 1) count)) (filter test (range_with_len (low + 1) count)))) x ≡ cond b (key ∷ []) []) [
+              | true ↦ (λ i. map (λ (pair : ℕ × ℕ). pair.1) (cond (here i) ((low, key) ∷ filter (λ (pair : ℕ × ℕ). pair.0 == x) (with_key key (filter test (range_with_len (low + 1) count)))) (filter (λ (pair : ℕ × ℕ). pair.0 == x) (with_key key (filter test (range_with_len (low + 1) count)))))) ∙ ap (λ (xs : List ℕ). key ∷ xs) rest
+              | false ↦ rest
+            ])
+        ∙ (λ i. cond (test (same i)) (key ∷ []) []))
+    (λ (other : low ≢ x).
+        let rest = with_key-in key x (low + 1) count test (further other) (omega arith) in
+        let apart : (low == x) ≡ false = ne_eqb low x other in
+        elim (test low) as (λ b. items_of (with_key key (cond b (low ∷ filter test (range_with_len (low + 1) count)) (filter test (range_with_len (low + 1) count)))) x ≡ cond (test x) (key ∷ []) []) [
+          | true ↦ (λ i. map (λ (pair : ℕ × ℕ). pair.1) (cond (apart i) ((low, key) ∷ filter (λ (pair : ℕ × ℕ). pair.0 == x) (with_key key (filter test (range_with_len (low + 1) count)))) (filter (λ (pair : ℕ × ℕ). pair.0 == x) (with_key key (filter test (range_with_len (low + 1) count)))))) ∙ rest
+          | false ↦ rest
+        ])
+    (cases_eq low x)
+  where
+    further : low ≢ x → low + 1 ≤ x
+    further other = ⊎_elim (λ (less : low < x). omega arith) (λ (le : x ≤ low). absurd (other (omega arith))) (cases_lt low x)
+
+turned_tested : (count : ℕ) (test : ℕ → ℕ → Bool) (x : ℕ) → x < count → (key many : ℕ)
+    → items_of (turned_from key (map (λ concept. numbers_where count (test concept)) (range_with_len key many))) x ≡ filter (λ concept. test concept x) (range_with_len key many)
+turned_tested count test x below key zero = refl
+turned_tested count test x below key (suc many) =
+    let rest = turned_tested count test x below (key + 1) many in
+    let own = with_key-in key x 0 count (test key) (omega arith) (omega arith) in
+    items_of-append (with_key key (numbers_where count (test key))) (turned_from (key + 1) (map (λ concept. numbers_where count (test concept)) (range_with_len (key + 1) many))) x
+    ∙ (λ i. own i ++ rest i)
+    ∙ joined (test key x) key (filter (λ concept. test concept x) (range_with_len (key + 1) many))
+  where
+    joined : (b : Bool) (key : ℕ) (xs : List ℕ) → cond b (key ∷ []) [] ++ xs ≡ cond b (key ∷ xs) xs
+    joined true key xs = refl
+    joined false key xs = refl
+
+pub turned_where : (count : ℕ) (test : ℕ → ℕ → Bool) → turned count (lists_where count test) ≡ lists_where count (λ concept other. test other concept)
+turned_where count test =
+    same_maps (items_of (turned_from 0 (lists_where count test))) (λ concept. numbers_where count (λ other. test other concept)) 0 count
+    (λ x from below. turned_tested count test x (omega arith) 0 count)
+
+-- ---- from numbers to identifiers
+pub same_reach : (concepts : List ℕ) (rows isa : List (ℕ × ℕ)) → IsStrictlyIncreasing concepts → IsWithin (length concepts) rows → map (row_of_numbers concepts) rows ≡ isa
+    → (a b : ℕ) → a < length concepts → b < length concepts → reaches rows a b ≡ reaches isa (get_or concepts a 0) (get_or concepts b 0)
+same_reach concepts rows isa rises within are a b near far =
+    both_ways (reaches rows a b) (reaches isa (get_or concepts a 0) (get_or concepts b 0))
+    (λ told. test_from_chain isa (subst (λ (found : List (ℕ × ℕ)). Reaches found (get_or concepts a 0) (get_or concepts b 0)) are (Reaches-map (λ n. get_or concepts n 0) (chain_from_test rows a b told))))
+    (λ told. test_from_chain rows (back (Reaches-map (place_of concepts) (chain_from_test isa (get_or concepts a 0) (get_or concepts b 0) told))))
+  where
+    back : Reaches (map (row_by (place_of concepts)) isa) (place_of concepts (get_or concepts a 0)) (place_of concepts (get_or concepts b 0)) → Reaches rows a b
+    back chain =
+        let again : map (row_by (place_of concepts)) isa ≡ rows = (λ i. map (row_by (place_of concepts)) (sym are i)) ∙ numbers_again concepts rises rows within in
+        subst (λ (found : List (ℕ × ℕ)). Reaches found a b) again
+        (subst (λ (n : ℕ). Reaches (map (row_by (place_of concepts)) isa) n b) (place_of-get_or concepts rises a near)
+            (subst (λ (n : ℕ). Reaches (map (row_by (place_of concepts)) isa) (place_of concepts (get_or concepts a 0)) n) (place_of-get_or concepts rises b far) chain))
+
+pub same_child : (concepts : List ℕ) (rows isa : List (ℕ × ℕ)) → IsStrictlyIncreasing concepts → IsWithin (length concepts) rows → map (row_of_numbers concepts) rows ≡ isa
+    → (a b : ℕ) → a < length concepts → b < length concepts → is_child rows a b ≡ is_child isa (get_or concepts a 0) (get_or concepts b 0)
+same_child concepts rows isa rises within are a b near far =
+    both_ways (is_child rows a b) (is_child isa (get_or concepts a 0) (get_or concepts b 0))
+    (λ told. there_row isa (get_or concepts a 0) (get_or concepts b 0)
+        (subst (λ (found : List (ℕ × ℕ)). Contains found (get_or concepts a 0, get_or concepts b 0)) are (contains_map (row_of_numbers concepts) rows (a, b) (row_there rows a b told))))
+    (λ told. there_row rows a b (back (contains_map (row_by (place_of concepts)) isa (get_or concepts a 0, get_or concepts b 0) (row_there isa (get_or concepts a 0) (get_or concepts b 0) told))))
+  where
+    back : Contains (map (row_by (place_of concepts)) isa) (place_of concepts (get_or concepts a 0), place_of concepts (get_or concepts b 0)) → Contains rows (a, b)
+    back there =
+        let again : map (row_by (place_of concepts)) isa ≡ rows = (λ i. map (row_by (place_of concepts)) (sym are i)) ∙ numbers_again concepts rises rows within in
+        subst (λ (found : List (ℕ × ℕ)). Contains found (a, b)) again
+        (subst (λ (n : ℕ). Contains (map (row_by (place_of concepts)) isa) (n, b)) (place_of-get_or concepts rises a near)
+            (subst (λ (n : ℕ). Contains (map (row_by (place_of concepts)) isa) (place_of concepts (get_or concepts a 0), n)) (place_of-get_or concepts rises b far) there))
+
+-- an order with parents first is as long as there are concepts
+pub order_count : (count : ℕ) (rows : List (ℕ × ℕ)) (order : List ℕ) → IsParentsFirst count rows order → length order ≡ count
+order_count count rows order first =
+    let most = length-le_from_distinct_below order count first.once (λ q told. (first.members q).0 (contains_had order q told)) in
+    let least = le-length_from_below order count (λ q below. had_contained order q ((first.members q).1 below)) in
+    omega (arith, most, least)
+
+-- what the search for ancestors is given
+pub given_parents : (count : ℕ) (rows : List (ℕ × ℕ)) (parents : List (List ℕ)) (order : List ℕ) → IsWithin count rows → parents ≡ lists_where count (is_child rows) → IsParentsFirst count rows order → AreParentsBy rows parents order
+given_parents count rows parents order within are first =
+    let long = order_count count rows order first in record {
+      within = subst (λ (n : ℕ). IsWithin n rows) (sym long) within;
+      lists = are ∙ (λ i. lists_where (sym long i) (is_child rows));
+      first = subst (λ (n : ℕ). IsParentsFirst n rows order) (sym long) first;
+    }
+
+-- the lists by the rows of numbers are the hierarchy of the release
+pub hierarchy_told : (release : Release) (rows : List (ℕ × ℕ)) (count : ℕ) → count ≡ length release.concepts → IsStrictlyIncreasing release.concepts → IsWithin (length release.concepts) rows → map (row_of_numbers release.concepts) rows ≡ release.isa
+    → (ancestors descendants parents children : List (List ℕ)) → ancestors ≡ lists_where count (reaches rows) → descendants ≡ lists_where count (λ concept other. reaches rows other concept)
+    → parents ≡ lists_where count (is_child rows) → children ≡ lists_where count (λ concept other. is_child rows other concept)
+    → record { ancestors = ancestors; descendants = descendants; parents = parents; children = children } ≡ hierarchy_of release
+hierarchy_told release rows count all rises within are ancestors descendants parents children above below before behind = λ i. record {
+  ancestors = (above ∙ (λ j. lists_where (all j) (reaches rows)) ∙ lists_where-agree (length release.concepts) (reaches rows) (λ concept other. reaches release.isa (id concept) (id other)) reach) i;
+  descendants = (below ∙ (λ j. lists_where (all j) (λ concept other. reaches rows other concept))
+  ∙ lists_where-agree (length release.concepts) (λ concept other. reaches rows other concept) (λ concept other. reaches release.isa (id other) (id concept)) (λ a b near far. reach b a far near)) i;
+  parents = (before ∙ (λ j. lists_where (all j) (is_child rows)) ∙ lists_where-agree (length release.concepts) (is_child rows) (λ concept other. is_child release.isa (id concept) (id other)) child) i;
+  children = (behind ∙ (λ j. lists_where (all j) (λ concept other. is_child rows other concept))
+  ∙ lists_where-agree (length release.concepts) (λ concept other. is_child rows other concept) (λ concept other. is_child release.isa (id other) (id concept)) (λ a b near far. child b a far near)) i;
+}
+  where
+    id : ℕ → ℕ
+    id n = get_or release.concepts n 0
+
+    reach : (a b : ℕ) → a < length release.concepts → b < length release.concepts → reaches rows a b ≡ reaches release.isa (id a) (id b)
+    reach = same_reach release.concepts rows release.isa rises within are
+
+    child : (a b : ℕ) → a < length release.concepts → b < length release.concepts → is_child rows a b ≡ is_child release.isa (id a) (id b)
+    child = same_child release.concepts rows release.isa rises within are

@@ -1,0 +1,246 @@
+-- The ancestors of a concept are its parents and the ancestors of these.
+use Rattle.std.proofs.Common.{ℕ, zero, suc, ◌+◌, ◌==◌, ◌&&◌, ◌||◌, ◌≡◌, ◌≢◌, ◌<◌, ◌≤◌, ◌++◌, ◌∷◌, [], ◌∙◌, ◌⊎◌, inl, inr, ⊎_elim, Bool, true, false, List, length, get_or, map, take, refl, sym, ap, subst, arith, length-take, get_or-take}
+use Rattle.std.specs.Prelude.{All, Contains, flat_map, nat_eq}
+use Rattle.std.specs.List.{list_any, range_with_len}
+use Rattle.std.proofs.lemmas.Bool.{cases_Bool, cases_lt, eq-eqb, eqb-true, ltb-true}
+use Rattle.std.proofs.lemmas.List.{get_or-map, get_or_default, length-map, same_lists}
+use Rattle.std.proofs.lemmas.List.Elements.{All-contains, Contains-append_right, Contains-get_or}
+use Rattle.std.proofs.lemmas.List.FromFn.{get_or-map-range_with_len, length-map-range_with_len}
+use Rattle.rf2_rows.specs.Hierarchy.{Reaches, one_row, more_rows, reaches}
+use Rattle.rf2_rows.proofs.HierarchyLemmas.{chain_from_test, test_from_chain}
+use Rattle.idset.specs.Sets.{has_item, listed_numbers, numbers_where}
+use Rattle.idset.proofs.Normal.{has_item-numbers_where, has_item-numbers_where_past, numbers_where-agree}
+use Rattle.idset.proofs.Places.{has_item-get_or}
+use Rattle.snapshot.specs.KeyedLists.{list_of}
+use Rattle.ancestor_index.specs.HierarchyLists.{is_child, lists_where}
+use Rattle.ancestor_index.specs.Parents.{AreParentsBy}
+
+-- ---- tests that compute
+pub both_ways : (a b : Bool) → (a ≡ true → b ≡ true) → (b ≡ true → a ≡ true) → a ≡ b
+both_ways true b forth back = sym (forth refl)
+both_ways false true forth back = back refl
+both_ways false false forth back = refl
+
+or_told : (a b : Bool) → (a || b) ≡ true → (a ≡ true) ⊎ (b ≡ true)
+or_told true b told = inl refl
+or_told false b told = inr told
+
+or_left : (a b : Bool) → a ≡ true → (a || b) ≡ true
+or_left true b told = refl
+or_left false b told = absurd (cc)
+
+or_right : (a b : Bool) → b ≡ true → (a || b) ≡ true
+or_right true b told = refl
+or_right false b told = told
+
+-- what a list has is in it, and the other way round
+pub item_there : (xs : List ℕ) (x : ℕ) → has_item xs x ≡ true → Contains xs x
+item_there [] x told = absurd (cc)
+item_there (y ∷ xs) x told = ⊎_elim
+    (λ (same : (y == x) ≡ true). (0, omega arith, eqb-true y x same))
+    (λ (rest : has_item xs x ≡ true). Contains-append_right (y ∷ []) xs x (item_there xs x rest))
+    (or_told (y == x) (has_item xs x) told)
+
+pub there_item : (xs : List ℕ) (x : ℕ) → Contains xs x → has_item xs x ≡ true
+there_item [] x there = absurd (omega (arith, there.1))
+there_item (y ∷ xs) x (zero, within, is) = or_left (y == x) (has_item xs x) (eq-eqb y x is)
+there_item (y ∷ xs) x (suc k, within, is) = or_right (y == x) (has_item xs x) (there_item xs x (k, omega arith, is))
+
+-- an item of joined lists is an item of one
+has_item-append : (xs ys : List ℕ) (x : ℕ) → has_item (xs ++ ys) x ≡ (has_item xs x || has_item ys x)
+has_item-append [] ys x = refl
+has_item-append (y ∷ xs) ys x = ap (λ (b : Bool). (y == x) || b) (has_item-append xs ys x) ∙ assoc (y == x) (has_item xs x) (has_item ys x)
+  where
+    assoc : (a b c : Bool) → (a || (b || c)) ≡ ((a || b) || c)
+    assoc true b c = refl
+    assoc false b c = refl
+
+joined_there : (f : ℕ → List ℕ) (xs : List ℕ) (x : ℕ) → has_item (flat_map f xs) x ≡ true → (y : ℕ) × Contains xs y × (has_item (f y) x ≡ true)
+joined_there f [] x told = absurd (cc)
+joined_there f (y ∷ xs) x told = ⊎_elim
+    (λ (here : has_item (f y) x ≡ true). (y, (0, omega arith, refl), here))
+    (λ (rest : has_item (flat_map f xs) x ≡ true). let found = joined_there f xs x rest in (found.0, Contains-append_right (y ∷ []) xs found.0 found.1, found.2))
+    (or_told (has_item (f y) x) (has_item (flat_map f xs) x) (sym (has_item-append (f y) (flat_map f xs) x) ∙ told))
+
+there_joined : (f : ℕ → List ℕ) (xs : List ℕ) (x y : ℕ) → Contains xs y → has_item (f y) x ≡ true → has_item (flat_map f xs) x ≡ true
+there_joined f [] x y there told = absurd (omega (arith, there.1))
+there_joined f (z ∷ xs) x y (zero, within, is) told =
+    has_item-append (f z) (flat_map f xs) x ∙ or_left (has_item (f z) x) (has_item (flat_map f xs) x) (ap (λ (n : ℕ). has_item (f n) x) is ∙ told)
+there_joined f (z ∷ xs) x y (suc k, within, is) told =
+    has_item-append (f z) (flat_map f xs) x ∙ or_right (has_item (f z) x) (has_item (flat_map f xs) x) (there_joined f xs x y (k, omega arith, is) told)
+
+-- the test of a child tells whether there is such a row
+pub row_there : (rows : List (ℕ × ℕ)) (child parent : ℕ) → is_child rows child parent ≡ true → Contains rows (child, parent)
+row_there [] child parent told = absurd (cc)
+row_there (row ∷ rows) child parent told = ⊎_elim
+    (λ (here : ((row.0 == child) && (row.1 == parent)) ≡ true).
+        let parts = both (row.0 == child) (row.1 == parent) here in
+        (0, omega arith, λ i. (eqb-true row.0 child parts.0 i, eqb-true row.1 parent parts.1 i)))
+    (λ (rest : is_child rows child parent ≡ true). Contains-append_right (row ∷ []) rows (child, parent) (row_there rows child parent rest))
+    (or_told ((row.0 == child) && (row.1 == parent)) (is_child rows child parent) told)
+  where
+    both : (a b : Bool) → (a && b) ≡ true → (a ≡ true) × (b ≡ true)
+    both true b told = (refl, told)
+    both false b told = absurd (cc)
+
+pub there_row : (rows : List (ℕ × ℕ)) (child parent : ℕ) → Contains rows (child, parent) → is_child rows child parent ≡ true
+there_row [] child parent there = absurd (omega (arith, there.1))
+there_row (row ∷ rows) child parent (zero, within, is) =
+    or_left ((row.0 == child) && (row.1 == parent)) (is_child rows child parent)
+    ((λ i. eq-eqb row.0 child (λ j. (is j).0) i && (row.1 == parent)) ∙ eq-eqb row.1 parent (λ j. (is j).1))
+there_row (row ∷ rows) child parent (suc k, within, is) = or_right ((row.0 == child) && (row.1 == parent)) (is_child rows child parent) (there_row rows child parent (k, omega arith, is))
+
+-- ---- lists for each concept
+pub list_of-where : (count : ℕ) (test : ℕ → ℕ → Bool) (concept : ℕ) → concept < count → list_of (lists_where count test) concept ≡ numbers_where count (test concept)
+list_of-where count test concept below = get_or-map-range_with_len (λ concept. numbers_where count (test concept)) 0 count concept concept [] below (omega arith)
+
+pub length-where : (count : ℕ) (test : ℕ → ℕ → Bool) → length (lists_where count test) ≡ count
+length-where count test = length-map-range_with_len (λ concept. numbers_where count (test concept)) 0 count
+
+-- a number that passes a test is among the numbers, and only such
+where_there : (count : ℕ) (test : ℕ → Bool) (n : ℕ) → n < count → test n ≡ true → Contains (numbers_where count test) n
+where_there count test n below told = item_there (numbers_where count test) n (has_item-numbers_where count test n below ∙ told)
+
+pub there_where : (count : ℕ) (test : ℕ → Bool) (n : ℕ) → Contains (numbers_where count test) n → (n < count) × (test n ≡ true)
+there_where count test n there = ⊎_elim
+    (λ (below : n < count). (below, sym (has_item-numbers_where count test n below) ∙ there_item (numbers_where count test) n there))
+    (λ (past : count ≤ n). absurd (cc (there_item (numbers_where count test) n there, has_item-numbers_where_past count test n past)))
+    (cases_lt n count)
+
+-- ---- the turn of a concept of the order
+pub ancestors_by : List (ℕ × ℕ) → ℕ → ℕ → List ℕ
+ancestors_by rows count concept = numbers_where count (reaches rows concept)
+
+-- the lists of those before are known
+pub record Turn (rows : List (ℕ × ℕ)) (parents : List (List ℕ)) (order places : List ℕ) (lists : List (List ℕ)) (k : ℕ) : Type 0 where
+  pub given : AreParentsBy rows parents order
+  pub len : length places ≡ length order
+  pub placed : (place : ℕ) → place < length order → get_or places (get_or order place 0) 0 ≡ place
+  pub within : k < length order
+  pub known : lists ≡ map (λ concept. numbers_where (length order) (reaches rows concept)) (take k order)
+
+pub order_below : (rows : List (ℕ × ℕ)) (parents : List (List ℕ)) (order : List ℕ) → AreParentsBy rows parents order → (k : ℕ) (d : ℕ) → k < length order → get_or order k d < length order
+order_below rows parents order given k d within = (given.first.members (get_or order k d)).0 (Contains-get_or order k d within)
+
+-- its parents are those of the rows
+pub own_parents : {rows : List (ℕ × ℕ)} {parents : List (List ℕ)} {order places : List ℕ} {lists : List (List ℕ)} {k : ℕ} → Turn rows parents order places lists k
+    → list_of parents (get_or order k 0) ≡ numbers_where (length order) (is_child rows (get_or order k 0))
+own_parents {rows} {parents} {order} {places} {lists} {k} turn =
+    ap (λ (all : List (List ℕ)). list_of all (get_or order k 0)) turn.given.lists
+    ∙ list_of-where (length order) (is_child rows) (get_or order k 0) (order_below rows parents order turn.given k 0 turn.within)
+
+-- a parent stands before it, with its list
+pub record Placed (rows : List (ℕ × ℕ)) (order places : List ℕ) (lists : List (List ℕ)) (parent : ℕ) : Type 0 where
+  pub near : parent < length places
+  pub early : get_or places parent 0 < length lists
+  pub list : list_of lists (get_or places parent 0) ≡ numbers_where (length order) (reaches rows parent)
+
+pub parent_placed : {rows : List (ℕ × ℕ)} {parents : List (List ℕ)} {order places : List ℕ} {lists : List (List ℕ)} {k : ℕ} → Turn rows parents order places lists k
+    → (parent : ℕ) → Contains (numbers_where (length order) (is_child rows (get_or order k 0))) parent → Placed rows order places lists parent
+parent_placed {rows} {parents} {order} {places} {lists} {k} turn parent there =
+    let told = there_where (length order) (is_child rows (get_or order k 0)) parent there in
+    let before = turn.given.first.first k parent turn.within (row_there rows (get_or order k 0) parent told.1) in
+    let j = before.0 in
+    let less : j < k = omega (arith, before.1, length-take k order) in
+    let is : get_or order j 0 ≡ parent = sym (get_or-take k order j 0 less) ∙ get_or_default (take k order) j 0 parent before.1 ∙ before.2 in
+    let place : get_or places parent 0 ≡ j = (λ i. get_or places (sym is i) 0) ∙ turn.placed j (omega (arith, less, turn.within)) in
+    let count : length lists ≡ k = ap (λ (all : List (List ℕ)). length all) turn.known ∙ length-map (take k order) (λ concept. numbers_where (length order) (reaches rows concept)) ∙ omega (arith, length-take k order, turn.within) in record {
+      near = omega (arith, told.0, turn.len);
+      early = omega (arith, place, less, count);
+      list = (λ i. list_of lists (place i))
+      ∙ ap (λ (all : List (List ℕ)). list_of all j) turn.known
+      ∙ get_or-map (λ concept. numbers_where (length order) (reaches rows concept)) (take k order) j 0 [] (omega (arith, less, length-take k order, turn.within))
+      ∙ (λ i. numbers_where (length order) (reaches rows ((get_or-take k order j 0 less ∙ is) i)));
+    }
+
+-- what is gathered for it: its parents, each with its list
+abbrev pub gathered_by : List ℕ → List (List ℕ) → List ℕ → List ℕ
+gathered_by places lists found = flat_map (λ concept. concept ∷ list_of lists (get_or places concept 0)) found
+
+gathered_told : {rows : List (ℕ × ℕ)} {parents : List (List ℕ)} {order places : List ℕ} {lists : List (List ℕ)} {k : ℕ} → Turn rows parents order places lists k
+    → (d : ℕ) → has_item (gathered_by places lists (numbers_where (length order) (is_child rows (get_or order k 0)))) d ≡ true → (d < length order) × Reaches rows (get_or order k 0) d
+gathered_told {rows} {parents} {order} {places} {lists} {k} turn d told =
+    let count = length order in
+    let concept = get_or order k 0 in
+    let found = joined_there (λ c. c ∷ list_of lists (get_or places c 0)) (numbers_where count (is_child rows concept)) d told in
+    let parent = found.0 in
+    let child = there_where count (is_child rows concept) parent found.1 in
+    let row = row_there rows concept parent child.1 in
+    let placed = parent_placed turn parent found.1 in
+    ⊎_elim
+    (λ (same : (parent == d) ≡ true). let is = eqb-true parent d same in (omega (arith, child.0, is), subst (λ (n : ℕ). Reaches rows concept n) is (one_row row)))
+    (λ (above : has_item (list_of lists (get_or places parent 0)) d ≡ true).
+        let there = there_where count (reaches rows parent) d (item_there (numbers_where count (reaches rows parent)) d (ap (λ (xs : List ℕ). has_item xs d) (sym placed.list) ∙ above)) in
+        (there.0, more_rows row (chain_from_test rows parent d there.1)))
+    (or_told (parent == d) (has_item (list_of lists (get_or places parent 0)) d) found.2)
+
+told_gathered : {rows : List (ℕ × ℕ)} {parents : List (List ℕ)} {order places : List ℕ} {lists : List (List ℕ)} {k : ℕ} → Turn rows parents order places lists k
+    → (concept d : ℕ) → concept ≡ get_or order k 0 → d < length order → Reaches rows concept d → has_item (gathered_by places lists (numbers_where (length order) (is_child rows (get_or order k 0)))) d ≡ true
+told_gathered {rows} {parents} {order} {places} {lists} {k} turn concept d is below (one_row row) =
+    let count = length order in
+    let there = where_there count (is_child rows (get_or order k 0)) d below (there_row rows (get_or order k 0) d (subst (λ (c : ℕ). Contains rows (c, d)) is row)) in
+    there_joined (λ c. c ∷ list_of lists (get_or places c 0)) (numbers_where count (is_child rows (get_or order k 0))) d d there
+    (or_left (d == d) (has_item (list_of lists (get_or places d 0)) d) (eq-eqb d d refl))
+told_gathered {rows} {parents} {order} {places} {lists} {k} turn concept d is below (more_rows {parent = parent} row rest) =
+    let count = length order in
+    let own : Contains rows (get_or order k 0, parent) = subst (λ (c : ℕ). Contains rows (c, parent)) is row in
+    let near = (All-contains (λ (row : ℕ × ℕ). (row.0 < count) × (row.1 < count)) rows (get_or order k 0, parent) turn.given.within own).1 in
+    let there = where_there count (is_child rows (get_or order k 0)) parent near (there_row rows (get_or order k 0) parent own) in
+    let placed = parent_placed turn parent there in
+    there_joined (λ c. c ∷ list_of lists (get_or places c 0)) (numbers_where count (is_child rows (get_or order k 0))) d parent there
+    (or_right (parent == d) (has_item (list_of lists (get_or places parent 0)) d)
+        (ap (λ (xs : List ℕ). has_item xs d) placed.list ∙ has_item-numbers_where count (reaches rows parent) d below ∙ test_from_chain rows rest))
+
+-- brought in order, that is its ancestors
+pub gathered_listed : {rows : List (ℕ × ℕ)} {parents : List (List ℕ)} {order places : List ℕ} {lists : List (List ℕ)} {k : ℕ} → Turn rows parents order places lists k
+    → listed_numbers (length order) (gathered_by places lists (numbers_where (length order) (is_child rows (get_or order k 0)))) ≡ numbers_where (length order) (reaches rows (get_or order k 0))
+gathered_listed {rows} {parents} {order} {places} {lists} {k} turn =
+    numbers_where-agree (length order) (has_item (gathered_by places lists (numbers_where (length order) (is_child rows (get_or order k 0))))) (reaches rows (get_or order k 0))
+    (λ d below. both_ways (has_item (gathered_by places lists (numbers_where (length order) (is_child rows (get_or order k 0)))) d) (reaches rows (get_or order k 0) d)
+        (λ told. test_from_chain rows (gathered_told turn d told).1)
+        (λ told. told_gathered turn (get_or order k 0) d refl below (chain_from_test rows (get_or order k 0) d told)))
+
+pub gathered_below : {rows : List (ℕ × ℕ)} {parents : List (List ℕ)} {order places : List ℕ} {lists : List (List ℕ)} {k : ℕ} → Turn rows parents order places lists k
+    → All (λ number. number < length order) (gathered_by places lists (numbers_where (length order) (is_child rows (get_or order k 0))))
+gathered_below {rows} {parents} {order} {places} {lists} {k} turn i d within =
+    let all = gathered_by places lists (numbers_where (length order) (is_child rows (get_or order k 0))) in
+    (gathered_told turn (get_or all i d) (there_item all (get_or all i d) (Contains-get_or all i d within))).0
+
+-- ---- from the order to the numbers
+
+-- the place of a concept
+pub record At (order places : List ℕ) (concept : ℕ) : Type 0 where
+  pub place : ℕ
+  pub within : place < length order
+  pub is : get_or order place 0 ≡ concept
+  pub told : get_or places concept 0 ≡ place
+
+pub place_at : (rows : List (ℕ × ℕ)) (parents : List (List ℕ)) (order places : List ℕ) → AreParentsBy rows parents order
+    → ((place : ℕ) → place < length order → get_or places (get_or order place 0) 0 ≡ place) → (concept : ℕ) → concept < length order → At order places concept
+place_at rows parents order places given placed concept below =
+    let there = (given.first.members concept).1 below in
+    let is : get_or order there.0 0 ≡ concept = get_or_default order there.0 0 concept there.1 ∙ there.2 in record {
+      place = there.0;
+      within = there.1;
+      is = is;
+      told = (λ i. get_or places (sym is i) 0) ∙ placed there.0 there.1;
+    }
+
+pub lists_reordered : (rows : List (ℕ × ℕ)) (parents : List (List ℕ)) (order places : List ℕ) (lists : List (List ℕ)) → AreParentsBy rows parents order → length places ≡ length order
+    → ((place : ℕ) → place < length order → get_or places (get_or order place 0) 0 ≡ place)
+    → lists ≡ map (λ concept. numbers_where (length order) (reaches rows concept)) order
+    → map (λ place. list_of lists place) places ≡ lists_where (length order) (reaches rows)
+lists_reordered rows parents order places lists given len placed known =
+    same_lists (map (λ place. list_of lists place) places) (lists_where (length order) (reaches rows))
+    (length-map places (λ place. list_of lists place) ∙ len ∙ sym (length-where (length order) (reaches rows)))
+    (λ concept d within.
+        let below : concept < length order = omega (arith, within, length-map places (λ place. list_of lists place), len) in
+        let at = place_at rows parents order places given placed concept below in
+        get_or_default (map (λ place. list_of lists place) places) concept d [] within
+        ∙ get_or-map (λ place. list_of lists place) places concept 0 [] (omega (arith, below, len))
+        ∙ (λ i. list_of lists (at.told i))
+        ∙ ap (λ (all : List (List ℕ)). list_of all at.place) known
+        ∙ get_or-map (λ concept. numbers_where (length order) (reaches rows concept)) order at.place 0 [] at.within
+        ∙ (λ i. numbers_where (length order) (reaches rows (at.is i)))
+        ∙ sym (list_of-where (length order) (reaches rows) concept below)
+        ∙ get_or_default (lists_where (length order) (reaches rows)) concept [] d (omega (arith, below, length-where (length order) (reaches rows))))

@@ -1,0 +1,3 @@
+pub mod BuildLemmas
+pub mod ClosureLemmas
+pub mod ListLemmas

@@ -1,0 +1,8 @@
+use Rattle.std.proofs.Common.{ℕ, ◌≡◌, ◌<◌, length, slice_index}
+use Rattle.ancestor_index.proofs.closure.places_in.Given as goal
+
+abbrev pub invariant-loop-place : goal.invariant-loop-place
+invariant-loop-place l = record {
+  len : l.places.len ≡ length l.order;
+  places : (place : ℕ) → place < l.place → slice_index l.places.items (slice_index l.order place) ≡ place;
+}

@@ -1,0 +1,98 @@
+use Rattle.std.proofs.Common.{ℕ, ◌≡◌, ◌<◌, ◌^◌, ◌∙◌, List, length, get_or, map, sym, subst, ap, arith}
+use Rattle.idset.specs.Sets.{listed_numbers}
+use Rattle.rf2_rows.specs.Hierarchy.{reaches}
+use Rattle.snapshot.specs.KeyedLists.{AreItemsBelow, lists_by, turned}
+use Rattle.snapshot.specs.Search.{IsWithin}
+use Rattle.snapshot.proofs.KeyedLemmas.{length-lists_by}
+use Rattle.snapshot.proofs.WayLemmas.{parents_below}
+use Rattle.ancestor_index.specs.HierarchyLists.{Hierarchy, is_child, lists_where}
+use Rattle.ancestor_index.specs.Parents.{AreParentsBy}
+use Rattle.ancestor_index.proofs.BuildLemmas.{given_parents, hierarchy_told, order_count, parents_listed, turned_where, where_below}
+use Rattle.ancestor_index.proofs.ClosureLemmas.{length-where}
+use Rattle.ancestor_index.proofs.index.AncestorIndex.build.Goals as goal
+
+pub rising_lists-requires-clause-items : goal.rising_lists-requires-clause-items
+rising_lists-requires-clause-items c =
+    let rows = c.isa_rows-rows.result.now in
+    let within : IsWithin c.concept_count-count.result rows = subst (λ (n : ℕ). IsWithin n rows) (sym c.concept_count-count.ensures.count) c.isa_rows-rows.ensures.within in
+    parents_below c.concept_count-count.result rows c.in_ok-by_row.by_row within c.in_ok-by_row.ensures
+
+pub rising_lists-requires-clause-few : goal.rising_lists-requires-clause-few
+rising_lists-requires-clause-few c =
+    let fit : c.concept_count-count.result < 2 ^ 32 = c.concept_count-count.type_inv in
+    omega (arith, ap (λ (all : List (List ℕ)). length all) c.in_ok-by_row.ensures, length-lists_by c.concept_count-count.result c.isa_rows-rows.result.now, fit)
+
+pub turned-requires-clause-items : goal.turned-requires-clause-items
+turned-requires-clause-items c =
+    let count = c.concept_count-count.result in
+    where_below count (is_child c.isa_rows-rows.result.now) c.in_ok-parents.parents
+    (c.in_ok-parents.ensures ∙ ap (map (listed_numbers count)) c.in_ok-by_row.ensures ∙ parents_listed count c.isa_rows-rows.result.now)
+
+pub turned-requires-clause-few : goal.turned-requires-clause-few
+turned-requires-clause-few c =
+    let fit : c.concept_count-count.result < 2 ^ 32 = c.concept_count-count.type_inv in
+    let count = c.concept_count-count.result in
+    let parents = c.in_ok-parents.ensures ∙ ap (map (listed_numbers count)) c.in_ok-by_row.ensures ∙ parents_listed count c.isa_rows-rows.result.now in
+    omega (arith, ap (λ (all : List (List ℕ)). length all) parents, length-where count (is_child c.isa_rows-rows.result.now), fit)
+
+pub ancestor_lists-requires-clause-few : goal.ancestor_lists-requires-clause-few
+ancestor_lists-requires-clause-few c =
+    let fit : c.concept_count-count.result < 2 ^ 32 = c.concept_count-count.type_inv in
+    let rows = c.isa_rows-rows.result.now in
+    let first = c.parents_first.ensures rows c.isa_rows-rows.ensures.rows c.isa_rows-rows.ensures.within in
+    omega (arith, order_count (length c.args.snapshot.now.release.concepts) rows c.parents_first.result.now first, c.concept_count-count.ensures.count, fit)
+
+pub ancestor_lists-requires-clause-parents : goal.ancestor_lists-requires-clause-parents
+ancestor_lists-requires-clause-parents c =
+    let rows = c.isa_rows-rows.result.now in
+    let count = c.concept_count-count.result in
+    let parents = c.in_ok-parents.ensures ∙ ap (map (listed_numbers count)) c.in_ok-by_row.ensures ∙ parents_listed count rows in
+    let first = c.parents_first.ensures rows c.isa_rows-rows.ensures.rows c.isa_rows-rows.ensures.within in
+    (rows, given_parents (length c.args.snapshot.now.release.concepts) rows c.in_ok-parents.parents c.parents_first.result.now c.isa_rows-rows.ensures.within
+        (parents ∙ (λ i. lists_where (c.concept_count-count.ensures.count i) (is_child rows))) first)
+
+pub turned-requires-2-clause-items : goal.turned-requires-2-clause-items
+turned-requires-2-clause-items c =
+    let rows = c.isa_rows-rows.result.now in
+    let count = c.concept_count-count.result in
+    let all = length c.args.snapshot.now.release.concepts in
+    let parents : c.in_ok-parents.parents ≡ lists_where count (is_child rows) = c.in_ok-parents.ensures ∙ ap (map (listed_numbers count)) c.in_ok-by_row.ensures ∙ parents_listed count rows in
+    let first = c.parents_first.ensures rows c.isa_rows-rows.ensures.rows c.isa_rows-rows.ensures.within in
+    let long : length c.parents_first.result.now ≡ count = order_count all rows c.parents_first.result.now first ∙ sym c.concept_count-count.ensures.count in
+    let ancestors : c.in_ok-ancestors.ancestors ≡ lists_where count (reaches rows) =
+    c.in_ok-ancestors.ensures rows
+    (given_parents all rows c.in_ok-parents.parents c.parents_first.result.now c.isa_rows-rows.ensures.within (parents ∙ (λ i. lists_where (c.concept_count-count.ensures.count i) (is_child rows))) first)
+    ∙ (λ i. lists_where (long i) (reaches rows)) in
+    where_below count (reaches rows) c.in_ok-ancestors.ancestors ancestors
+
+pub turned-requires-2-clause-few : goal.turned-requires-2-clause-few
+turned-requires-2-clause-few c =
+    let fit : c.concept_count-count.result < 2 ^ 32 = c.concept_count-count.type_inv in
+    let rows = c.isa_rows-rows.result.now in
+    let count = c.concept_count-count.result in
+    let all = length c.args.snapshot.now.release.concepts in
+    let parents : c.in_ok-parents.parents ≡ lists_where count (is_child rows) = c.in_ok-parents.ensures ∙ ap (map (listed_numbers count)) c.in_ok-by_row.ensures ∙ parents_listed count rows in
+    let first = c.parents_first.ensures rows c.isa_rows-rows.ensures.rows c.isa_rows-rows.ensures.within in
+    let long : length c.parents_first.result.now ≡ count = order_count all rows c.parents_first.result.now first ∙ sym c.concept_count-count.ensures.count in
+    let ancestors : c.in_ok-ancestors.ancestors ≡ lists_where count (reaches rows) =
+    c.in_ok-ancestors.ensures rows
+    (given_parents all rows c.in_ok-parents.parents c.parents_first.result.now c.isa_rows-rows.ensures.within (parents ∙ (λ i. lists_where (c.concept_count-count.ensures.count i) (is_child rows))) first)
+    ∙ (λ i. lists_where (long i) (reaches rows)) in
+    omega (arith, ap (λ (lists : List (List ℕ)). length lists) ancestors, length-where count (reaches rows), fit)
+
+pub returns : goal.returns
+returns c =
+    let rows = c.isa_rows-rows.result.now in
+    let count = c.concept_count-count.result in
+    let all = length c.args.snapshot.now.release.concepts in
+    let parents : c.in_ok-parents.parents ≡ lists_where count (is_child rows) = c.in_ok-parents.ensures ∙ ap (map (listed_numbers count)) c.in_ok-by_row.ensures ∙ parents_listed count rows in
+    let first = c.parents_first.ensures rows c.isa_rows-rows.ensures.rows c.isa_rows-rows.ensures.within in
+    let long : length c.parents_first.result.now ≡ count = order_count all rows c.parents_first.result.now first ∙ sym c.concept_count-count.ensures.count in
+    let ancestors : c.in_ok-ancestors.ancestors ≡ lists_where count (reaches rows) =
+    c.in_ok-ancestors.ensures rows
+    (given_parents all rows c.in_ok-parents.parents c.parents_first.result.now c.isa_rows-rows.ensures.within (parents ∙ (λ i. lists_where (c.concept_count-count.ensures.count i) (is_child rows))) first)
+    ∙ (λ i. lists_where (long i) (reaches rows)) in
+    let children : c.in_ok-children.children ≡ lists_where count (λ concept other. is_child rows other concept) = c.in_ok-children.ensures ∙ ap (turned count) parents ∙ turned_where count (is_child rows) in
+    let descendants : c.in_ok-descendants.descendants ≡ lists_where count (λ concept other. reaches rows other concept) = c.in_ok-descendants.ensures ∙ ap (turned count) ancestors ∙ turned_where count (reaches rows) in
+    hierarchy_told c.args.snapshot.now.release rows count c.concept_count-count.ensures.count c.concept_count-count.ensures.rising c.isa_rows-rows.ensures.within c.isa_rows-rows.ensures.rows
+    c.in_ok-ancestors.ancestors c.in_ok-descendants.descendants c.in_ok-parents.parents c.in_ok-children.children ancestors descendants parents children

@@ -1,0 +1,6 @@
+use Rattle.std.proofs.Common.{◌≡◌, map, take}
+use Rattle.idset.specs.Sets.{listed_numbers}
+use Rattle.ancestor_index.proofs.rising.rising_lists.Given as goal
+
+abbrev pub invariant-loop-key : goal.invariant-loop-key
+invariant-loop-key l = l.rising ≡ map (listed_numbers l.bound) (take l.key l.lists)

@@ -1,0 +1,34 @@
+-- The hierarchy that the is-a rows of a release make (Release File Specification, |Is a|), as lists of concept numbers: for
+-- each concept those above it and below it, whole, and one is-a row away.
+use Rattle.std.specs.Prelude.{ℕ, ◌==◌, ◌&&◌, Bool, List, length, map, slice_index}
+use Rattle.std.specs.List.{list_any, range_with_len}
+use Rattle.rf2_rows.specs.Hierarchy.{reaches}
+use Rattle.rf2_rows.specs.Release.{Release}
+use Rattle.idset.specs.Sets.{numbers_where}
+
+-- for each concept below a count the others that stand to it as a test says, in rising order and once each
+abbrev pub lists_where : ℕ → (ℕ → ℕ → Bool) → List (List ℕ)
+lists_where count test = map (λ concept. numbers_where count (test concept)) (range_with_len 0 count)
+
+-- whether there is an is-a row from a child to a parent
+abbrev pub is_child : List (ℕ × ℕ) → ℕ → ℕ → Bool
+is_child isa child parent = list_any (λ row. (row.0 == child) && (row.1 == parent)) isa
+
+-- for each concept those that it reaches, those that reach it, and both one row away
+pub record Hierarchy : Type 0 where
+  pub ancestors : List (List ℕ)
+  pub descendants : List (List ℕ)
+  pub parents : List (List ℕ)
+  pub children : List (List ℕ)
+
+-- the hierarchy of a release, its concepts by their numbers
+abbrev pub hierarchy_of : Release → Hierarchy
+hierarchy_of release =
+    let count = length release.concepts in
+    let id : ℕ → ℕ = slice_index release.concepts in
+    record {
+      ancestors = lists_where count (λ concept other. reaches release.isa (id concept) (id other));
+      descendants = lists_where count (λ concept other. reaches release.isa (id other) (id concept));
+      parents = lists_where count (λ concept other. is_child release.isa (id concept) (id other));
+      children = lists_where count (λ concept other. is_child release.isa (id other) (id concept));
+    }

@@ -1,0 +1,3 @@
+pub mod HierarchyLists
+pub mod IndexInside
+pub mod Parents

@@ -1,0 +1,87 @@
+//! The index of a hierarchy, and its look-ups.
+ghost use Rattle.std.specs.Prelude.{◌≡◌, ◌<◌, IfOk, length};
+ghost use Rattle.snapshot.specs.KeyedLists.{list_of};
+ghost use Rattle.ancestor_index.specs.HierarchyLists.{hierarchy_of};
+
+use crate::closure::ancestor_lists;
+use crate::rising::rising_lists;
+use snapshot::{KeyedLists, Snapshot};
+use std::alloc::{AllocError, Global};
+use std::marker::Model;
+
+/// The hierarchy of a release. Contracts see its four families of lists.
+#[derive(Drop, Debug)]
+pub struct AncestorIndex {
+    ancestors: KeyedLists,
+    descendants: KeyedLists,
+    parents: KeyedLists,
+    children: KeyedLists,
+}
+
+impl Model for AncestorIndex {
+    ghost use Rattle.ancestor_index.specs.HierarchyLists.{Hierarchy};
+
+    ghost Value = { Hierarchy };
+
+    ghost use Rattle.ancestor_index.specs.IndexInside.{hierarchy_in};
+
+    ghost view = { hierarchy_in };
+}
+
+impl AncestorIndex {
+    /// The hierarchy of a release. Takes time and memory linear in the pairs of a concept and an
+    /// ancestor.
+    pub fn build(alloc: Global, snapshot: &Snapshot) -> Result<AncestorIndex, AllocError>
+        ensures { IfOk result (λ index. index ≡ hierarchy_of snapshot.now.release) }
+    {
+        let count = snapshot.concept_count();
+        let rows = snapshot.isa_rows();
+        let by_row = KeyedLists::from_pairs(alloc, count, rows)?;
+        let parents = rising_lists(alloc, &by_row, count)?;
+        let children = parents.turned(alloc, count)?;
+        let ancestors = ancestor_lists(alloc, &parents, snapshot.parents_first())?;
+        let descendants = ancestors.turned(alloc, count)?;
+        Ok(AncestorIndex {
+            ancestors,
+            descendants,
+            parents,
+            children,
+        })
+    }
+
+    /// The concepts that a concept reaches by is-a rows, in rising order. `concept` is below the number
+    /// of concepts (Expression Constraint Language, "Simple Expression Constraints", `>`).
+    pub fn ancestors(&self, concept: u32) -> &[u32]
+        requires { concept < length self.now.ancestors }
+        ensures { result.now ≡ list_of self.now.ancestors concept }
+    {
+        self.ancestors.of(concept)
+    }
+
+    /// The concepts that reach a concept by is-a rows, in rising order. `concept` is below the number of
+    /// concepts (the same, `<`).
+    pub fn descendants(&self, concept: u32) -> &[u32]
+        requires { concept < length self.now.descendants }
+        ensures { result.now ≡ list_of self.now.descendants concept }
+    {
+        self.descendants.of(concept)
+    }
+
+    /// The concepts that an is-a row of a concept leads to, in rising order, each once. `concept` is
+    /// below the number of concepts (the same, `>!`).
+    pub fn parents(&self, concept: u32) -> &[u32]
+        requires { concept < length self.now.parents }
+        ensures { result.now ≡ list_of self.now.parents concept }
+    {
+        self.parents.of(concept)
+    }
+
+    /// The concepts from which an is-a row leads to a concept, in rising order, each once. `concept` is
+    /// below the number of concepts (the same, `<!`).
+    pub fn children(&self, concept: u32) -> &[u32]
+        requires { concept < length self.now.children }
+        ensures { result.now ≡ list_of self.now.children concept }
+    {
+        self.children.of(concept)
+    }
+}

@@ -1,0 +1,11 @@
+//! The hierarchy of a release as complete lists.
+//!
+//! `AncestorIndex` has for each concept, by its number, all its ancestors and descendants, its parents
+//! and its children, in rising order and once each.
+#![tactic(auto)]
+
+mod closure;
+mod index;
+mod rising;
+
+pub use crate::index::AncestorIndex;

@@ -1,0 +1,36 @@
+//! Lists in rising order, without repeats.
+ghost use Rattle.std.specs.Prelude.{ℕ, ◌≡◌, ◌<◌, ◌^◌, All, IfOk, length, map};
+ghost use Rattle.idset.specs.Sets.{listed_numbers};
+ghost use Rattle.snapshot.specs.KeyedLists.{AreItemsBelow};
+
+use snapshot::KeyedLists;
+use std::alloc::{AllocError, Global};
+
+/// Each of some lists in rising order, without repeats. All items are below `bound`.
+pub fn rising_lists(
+    alloc: Global,
+    lists: &KeyedLists,
+    bound: u32,
+) -> Result<KeyedLists, AllocError>
+    requires items { AreItemsBelow bound lists.now }
+    requires few { length lists.now < 2 ^ 32 }
+    ensures { IfOk result (λ rising. rising ≡ map (listed_numbers bound) lists.now) }
+{
+    let mut rising = KeyedLists::new(alloc)?;
+    let mut list = Vec::new(alloc);
+    for key in 0..lists.len() {
+        list.clear();
+        list.extend_from_slice(lists.of(key))?;
+        keep_rising(&mut list);
+        rising = rising.push(list.as_slice())?;
+    }
+    Ok(rising)
+}
+
+/// Brings numbers in rising order, and leaves each once.
+pub fn keep_rising(numbers: &mut Vec<u32>)
+    ensures { (bound : ℕ) → All (λ number. number < bound) numbers.old.items → numbers.new.items ≡ listed_numbers bound numbers.old.items }
+{
+    numbers.sort_unstable();
+    numbers.dedup();
+}
