@@ -1,3 +1,4 @@
 pub mod BuildLemmas
 pub mod ClosureLemmas
 pub mod ListLemmas
+pub mod WideLemmas

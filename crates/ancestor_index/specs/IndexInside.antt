@@ -1,5 +1,7 @@
--- What the fields of the index say.
+-- What the fields of the index say, and what they keep.
+use Rattle.std.specs.Prelude.{◌<◌, ◌^◌, length}
 use Rattle.ancestor_index.specs.HierarchyLists.{Hierarchy}
+use Rattle.ancestor_index.specs.Wide.{AreWide}
 use Rattle.ancestor_index.specs.declared.index.AncestorIndex.TheInside.{Inside}
 
 abbrev pub hierarchy_in : Inside → Hierarchy
@@ -9,3 +11,9 @@ hierarchy_in inside = record {
   parents = inside.parents;
   children = inside.children;
 }
+
+-- the long lists of descendants are kept as words too
+abbrev pub HasWide : Inside → Type 0
+HasWide inside =
+    (length inside.descendants < 2 ^ 32)
+    × AreWide (length inside.descendants) inside.descendants inside.wide.ends.items inside.wide.words.items

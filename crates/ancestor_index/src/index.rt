@@ -1,10 +1,14 @@
 //! The index of a hierarchy, and its look-ups.
-ghost use Rattle.std.specs.Prelude.{◌≡◌, ◌<◌, IfOk, length};
+ghost use Rattle.std.specs.Prelude.{◌≡◌, ◌↔◌, ◌<◌, IfOk, IfSome, IsSome, length};
+ghost use Rattle.idset.specs.Sets.{has_item};
+ghost use Rattle.idset.specs.Words.{MarkedBelow};
 ghost use Rattle.snapshot.specs.KeyedLists.{list_of};
 ghost use Rattle.ancestor_index.specs.HierarchyLists.{hierarchy_of};
+ghost use Rattle.ancestor_index.specs.Wide.{IsWide};
 
 use crate::closure::ancestor_lists;
 use crate::rising::rising_lists;
+use crate::wide::{WideLists, wide_lists};
 use snapshot::{KeyedLists, Snapshot};
 use std::alloc::{AllocError, Global};
 use std::marker::Model;
@@ -16,6 +20,8 @@ pub struct AncestorIndex {
     descendants: KeyedLists,
     parents: KeyedLists,
     children: KeyedLists,
+    // the long ones of the lists of descendants, as words of bits
+    wide: WideLists,
 }
 
 impl Model for AncestorIndex {
@@ -23,9 +29,11 @@ impl Model for AncestorIndex {
 
     ghost Value = { Hierarchy };
 
-    ghost use Rattle.ancestor_index.specs.IndexInside.{hierarchy_in};
+    ghost use Rattle.ancestor_index.specs.IndexInside.{hierarchy_in, HasWide};
 
     ghost view = { hierarchy_in };
+
+    ghost invariant = { HasWide };
 }
 
 impl AncestorIndex {
@@ -41,11 +49,13 @@ impl AncestorIndex {
         let children = parents.turned(alloc, count)?;
         let ancestors = ancestor_lists(alloc, &parents, snapshot.parents_first())?;
         let descendants = ancestors.turned(alloc, count)?;
+        let wide = wide_lists(alloc, &descendants, count)?;
         Ok(AncestorIndex {
             ancestors,
             descendants,
             parents,
             children,
+            wide,
         })
     }
 
@@ -65,6 +75,16 @@ impl AncestorIndex {
         ensures { result.now ≡ list_of self.now.descendants concept }
     {
         self.descendants.of(concept)
+    }
+
+    /// The descendants of a concept as words of bits, a bit for each concept, where they are more than
+    /// a 32nd of all concepts; `None` where they are fewer. `concept` is below the number of concepts.
+    pub fn descendant_words(&self, concept: u32) -> Option<&[u64]>
+        requires { concept < length self.now.descendants }
+        ensures some { IfSome result (λ words. MarkedBelow (length self.now.descendants) words.now (has_item (list_of self.now.descendants concept))) }
+        ensures wide { IsSome result ↔ IsWide (length self.now.descendants) (list_of self.now.descendants concept) }
+    {
+        self.wide.of(concept, self.descendants.len())
     }
 
     /// The concepts that an is-a row of a concept leads to, in rising order, each once. `concept` is

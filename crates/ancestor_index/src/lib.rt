@@ -7,5 +7,6 @@
 mod closure;
 mod index;
 mod rising;
+mod wide;
 
 pub use crate::index::AncestorIndex;

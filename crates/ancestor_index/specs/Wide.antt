@@ -1,0 +1,21 @@
+-- Long lists once more as words of bits, a bit for each concept.
+use Rattle.std.specs.Prelude.{ℕ, ◌≡◌, ◌⊎◌, ◌*◌, ◌-◌, ◌≤◌, ◌<◌, List, length, slice_index, slice_range}
+use Rattle.idset.specs.Sets.{has_item}
+use Rattle.idset.specs.Words.{MarkedBelow, words_for}
+use Rattle.snapshot.specs.KeyedLists.{list_of}
+
+-- a list of more than a 32nd of all concepts
+abbrev pub IsWide : ℕ → List ℕ → Type 0
+IsWide count list = count < 32 * length list
+
+-- the words of a list end at a place, or there are none, and the place is 0
+abbrev pub IsKept : ℕ → List ℕ → List ℕ → ℕ → Type 0
+IsKept count list words end =
+    ((end ≡ 0) × (32 * length list ≤ count))
+    ⊎ ((0 < end) × IsWide count list × (words_for count ≤ end) × (end ≤ length words)
+    × MarkedBelow count (slice_range words (end - words_for count) end) (has_item list))
+
+-- the words of each list that is wide, one behind the other
+pub record AreWide (count : ℕ) (lists : List (List ℕ)) (ends words : List ℕ) : Type 0 where
+  pub len : length ends ≡ length lists
+  pub kept : (concept : ℕ) → concept < length lists → IsKept count (list_of lists concept) words (slice_index ends concept)

@@ -1,0 +1,89 @@
+//! Long lists once more as words of bits, which sets are made of without going through the list.
+ghost use Rattle.std.specs.Prelude.{ℕ, ◌≡◌, ◌↔◌, ◌<◌, ◌++◌, ◌^◌, List, All, IfOk, IfSome, IsSome, IsTrue, length};
+ghost use Rattle.idset.specs.Sets.{has_item};
+ghost use Rattle.idset.specs.Words.{MarkedBelow};
+ghost use Rattle.snapshot.specs.KeyedLists.{AreItemsBelow, list_of};
+ghost use Rattle.ancestor_index.specs.Wide.{AreWide, IsKept, IsWide};
+
+use idset::{marks_of, word_count};
+use snapshot::KeyedLists;
+use std::alloc::{AllocError, Global};
+
+/// The lists of more than a 32nd of all concepts, as words of bits.
+#[derive(Drop, Debug)]
+pub struct WideLists {
+    // the words of all these lists, one list behind the other
+    words: Vec<u64>,
+    // for each concept where its words end, or 0 where its list is short
+    ends: Vec<usize>,
+}
+
+/// The long ones among lists of numbers below `count`.
+pub fn wide_lists(
+    alloc: Global,
+    lists: &KeyedLists,
+    count: u32,
+) -> Result<WideLists, AllocError>
+    requires items { AreItemsBelow count lists.now }
+    requires few { length lists.now < 2 ^ 32 }
+    ensures { IfOk result (λ wide. AreWide count lists.now wide.ends.items wide.words.items) }
+{
+    let mut words = Vec::new(alloc);
+    let mut ends = Vec::with_capacity(alloc, lists.len() as usize)?;
+    for concept in 0..lists.len() {
+        let end = put_words(alloc, lists.of(concept), count, &mut words)?;
+        ends.push(end)?;
+    }
+    Ok(WideLists { words, ends })
+}
+
+// Adds the words of a list, if it is long, and tells where they end.
+fn put_words(
+    alloc: Global,
+    list: &[u32],
+    count: u32,
+    words: &mut Vec<u64>,
+) -> Result<usize, AllocError>
+    requires { All (λ item. item < count) list.now }
+    ensures grown { (added : List ℕ) × (words.new.items ≡ words.old.items ++ added) }
+    ensures kept { IfOk result (λ end. IsKept count list.now words.new.items end) }
+{
+    if !is_wide(list, count) {
+        return Ok(0);
+    }
+    let marks = marks_of(alloc, list, count)?;
+    words.extend_from_slice(marks.as_slice())?;
+    Ok(words.len())
+}
+
+// Whether a list has more than a 32nd of all numbers.
+fn is_wide(list: &[u32], count: u32) -> bool
+    ensures { IsTrue result ↔ IsWide count list.now }
+{
+    list.len() > (count / 32) as usize
+}
+
+impl WideLists {
+    /// The words of the list of a concept below `count`, if it is long.
+    pub fn of(&self, concept: u32, count: u32) -> Option<&[u64]>
+        requires { (lists : List (List ℕ)) × AreWide count lists self.now.ends.items self.now.words.items × (concept < length lists) }
+        ensures some { IfSome result (λ words. (lists : List (List ℕ)) → AreWide count lists self.now.ends.items self.now.words.items
+            → MarkedBelow count words.now (has_item (list_of lists concept))) }
+        ensures wide { (lists : List (List ℕ)) → AreWide count lists self.now.ends.items self.now.words.items
+            → (IsSome result ↔ IsWide count (list_of lists concept)) }
+    {
+        words_before(self.words.as_slice(), self.ends[concept as usize], count)
+    }
+}
+
+// The words that end at a place, if there are any.
+fn words_before(words: &[u64], end: usize, count: u32) -> Option<&[u64]>
+    requires { (list : List ℕ) × IsKept count list words.now end }
+    ensures some { IfSome result (λ found. (list : List ℕ) → IsKept count list words.now end → MarkedBelow count found.now (has_item list)) }
+    ensures wide { (list : List ℕ) → IsKept count list words.now end → (IsSome result ↔ IsWide count list) }
+{
+    if end == 0 {
+        return None;
+    }
+    Some(&words[end - word_count(count)..end])
+}
