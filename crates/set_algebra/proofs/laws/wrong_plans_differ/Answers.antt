@@ -1,0 +1,12 @@
+use Rattle.std.proofs.Common.{refl}
+use Rattle.constraint_tree.proofs.Lists.{differ}
+use Rattle.set_algebra.proofs.laws.wrong_plans_differ.Goals as goal
+
+pub returns-clause-split_braces : goal.returns-clause-split_braces
+returns-clause-split_braces c = (refl, refl, differ _ _ refl)
+
+pub returns-clause-spread_count : goal.returns-clause-spread_count
+returns-clause-spread_count c = (refl, refl, differ _ _ refl)
+
+pub returns-clause-count_of_braces : goal.returns-clause-count_of_braces
+returns-clause-count_of_braces c = (refl, refl, differ _ _ refl)

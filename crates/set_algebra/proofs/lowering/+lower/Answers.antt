@@ -1,0 +1,34 @@
+use Rattle.std.proofs.Common.{List, ap, sym, ◌∙◌}
+use Rattle.constraint_tree.specs.declared.tree.Constraint.{Constraint}
+use Rattle.constraint_tree.specs.Tree.{tree_of, trees_of}
+use Rattle.constraint_tree.proofs.TreeLemmas.{tree_of-Dotted}
+use Rattle.set_algebra.specs.Lowering.{lowered, lowered_trees}
+use Rattle.set_algebra.proofs.ListLemmas.{plans_more, groups_more, values_made}
+use Rattle.set_algebra.proofs.LoweredLists.{lowered_so_far, lowered_refinements_so_far, lowered_sets_so_far}
+use Rattle.set_algebra.proofs.lowering.+lower.Goals as goal
+
+pub each-loop-part-preserved : goal.each-loop-part-preserved
+each-loop-part-preserved t c =
+    plans_more _ _ _ _ _ _ c.in_ok-push.ensures.items
+    (lowered_so_far c.args.parts.now c.loop-part.part-index c.part-item.result c.loop-part-test.true c.part-item.is)
+    c.loop-part.invariant c.in_ok-plan.ensures
+
+pub each_satisfying-loop-part-preserved : goal.each_satisfying-loop-part-preserved
+each_satisfying-loop-part-preserved t c =
+    plans_more _ _ _ _ _ _ c.in_ok-push.ensures.items
+    (lowered_refinements_so_far c.args.parts.now c.loop-part.part-index c.part-item.result c.loop-part-test.true c.part-item.is)
+    c.loop-part.invariant c.in_ok-plan.ensures
+
+pub each_groups-loop-part-preserved : goal.each_groups-loop-part-preserved
+each_groups-loop-part-preserved t c =
+    groups_more _ _ _ _ _ _ c.in_ok-push.ensures.items
+    (lowered_sets_so_far c.args.parts.now c.loop-part.part-index c.part-item.result c.loop-part-test.true c.part-item.is)
+    c.loop-part.invariant c.in_ok-plan.ensures
+
+pub concepts-returns-in_ok-each-in-Dotted : goal.concepts-returns-in_ok-each-in-Dotted
+concepts-returns-in_ok-each-in-Dotted t c =
+    let start_is = ap (λ (start : Constraint). lowered (tree_of start)) c.deref-in-Dotted.ensures in
+    let names_are = ap (λ (names : List Constraint). lowered_trees (trees_of names)) c.deref-in-Dotted-2.ensures.value in
+    values_made c.in_ok-start-in-Dotted.start c.in_ok-each-in-Dotted.field-0 _ _
+    (c.in_ok-start-in-Dotted.ensures ∙ start_is) (c.in_ok-each-in-Dotted.ensures ∙ names_are)
+    ∙ sym (ap lowered (ap tree_of c.in-Dotted.is ∙ tree_of-Dotted c.in-Dotted.start c.in-Dotted.names))

@@ -1,0 +1,40 @@
+-- How deep a plan is: the number of nodes on the longest way from the root, where the plans of both
+-- sorts are nodes, and a test is none.
+use Rattle.std.specs.Prelude.{ℕ, suc, max}
+use Rattle.set_algebra.specs.Plan.{Plan, empty_plan, all_plan, one_plan, walk_plan, members_plan, and_plan, or_plan, minus_plan, values_plan, pairs_plan, units_plan, Plans, no_plans, plan_then, GroupPlan, nothing_group, every_group, and_group, or_group, minus_group, pairs_group, GroupPlans, no_groups, group_then, TestPlan, within_plan, outside_plan, number_plan}
+
+abbrev mutual
+  pub plan_depth : Plan → ℕ
+  plan_depth empty_plan = 1
+  plan_depth all_plan = 1
+  plan_depth (one_plan number) = 1
+  plan_depth (walk_plan operator operand) = suc (plan_depth operand)
+  plan_depth (members_plan operand) = suc (plan_depth operand)
+  plan_depth (and_plan parts) = suc (plans_depth parts)
+  plan_depth (or_plan parts) = suc (plans_depth parts)
+  plan_depth (minus_plan first second) = suc (max (plan_depth first) (plan_depth second))
+  plan_depth (values_plan start names) = suc (max (plan_depth start) (plans_depth names))
+  plan_depth (pairs_plan back count types test) = suc (max (plan_depth types) (test_depth test))
+  plan_depth (units_plan count units) = suc (group_depth units)
+
+  -- of the deepest
+  pub plans_depth : Plans → ℕ
+  plans_depth no_plans = 0
+  plans_depth (plan_then first rest) = max (plan_depth first) (plans_depth rest)
+
+  pub group_depth : GroupPlan → ℕ
+  group_depth nothing_group = 1
+  group_depth every_group = 1
+  group_depth (and_group parts) = suc (groups_depth parts)
+  group_depth (or_group parts) = suc (groups_depth parts)
+  group_depth (minus_group first second) = suc (max (group_depth first) (group_depth second))
+  group_depth (pairs_group count types test) = suc (max (plan_depth types) (test_depth test))
+
+  pub groups_depth : GroupPlans → ℕ
+  groups_depth no_groups = 0
+  groups_depth (group_then first rest) = max (group_depth first) (groups_depth rest)
+
+  pub test_depth : TestPlan → ℕ
+  test_depth (within_plan operand) = plan_depth operand
+  test_depth (outside_plan operand) = plan_depth operand
+  test_depth (number_plan compare number) = 0

@@ -1,0 +1,9 @@
+pub mod Depth
+pub mod Equal
+pub mod EqualLaws
+pub mod Lowering
+pub mod Meaning
+pub mod Places
+pub mod Plan
+pub mod WorkedPlans
+pub mod WrongPlans

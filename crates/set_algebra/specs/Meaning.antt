@@ -1,0 +1,101 @@
+-- What a plan means over a release: a plan of concepts a set of concepts in force, a plan of groups a set
+-- of groups of concepts (Expression Constraint Language, "Simple Expression Constraints", "Refinements"
+-- and "Cardinality"; Release File Specification, "Relationship file", relationshipGroup). A group is the
+-- list of its distinct pairs. The definitions are tests that compute.
+use Rattle.std.specs.Prelude.{ℕ, Bool, true, false, not, ◌==◌, ◌&&◌, ◌||◌, if◌then◌else◌, IsTrue, List, Contains, filter, count_by}
+use Rattle.rf2_rows.specs.Release.{Release, Value}
+use Rattle.rf2_rows.specs.Pairs.{Pair, out_pairs, in_pairs}
+use Rattle.rf2_rows.specs.Groups.{groups_of}
+use Rattle.constraint_tree.specs.declared.operator.Cardinality.{Cardinality}
+use Rattle.constraint_tree.specs.Passing.{is_within, is_outside, is_number_that, lies_in}
+use Rattle.constraint_tree.specs.Walks.{is_in_force, walks}
+use Rattle.constraint_tree.specs.Denotation.{is_component, is_value}
+use Rattle.set_algebra.specs.Plan.{Plan, empty_plan, all_plan, one_plan, walk_plan, members_plan, and_plan, or_plan, minus_plan, values_plan, pairs_plan, units_plan, Plans, no_plans, plan_then, GroupPlan, nothing_group, every_group, and_group, or_group, minus_group, pairs_group, GroupPlans, no_groups, group_then, TestPlan, within_plan, outside_plan, number_plan}
+
+-- the distinct pairs of a concept, or those of type and source of the rows whose value it is
+abbrev pub pairs_of : Release → Bool → ℕ → List Pair
+pairs_of release back concept = if back then in_pairs release concept else out_pairs release concept
+
+-- whether as many of the pairs as the cardinality asks have a type in the set and a value that passes
+abbrev pub has_pairs : Cardinality → (ℕ → Bool) → (Value → Bool) → List Pair → Bool
+has_pairs count types passes pairs =
+    lies_in count (count_by (λ pair. types pair.type_id && passes pair.value) pairs)
+
+-- whether as many of the concept's groups as the cardinality asks are in the set
+abbrev pub has_groups : Release → Cardinality → (List Pair → Bool) → ℕ → Bool
+has_groups release count set concept = lies_in count (count_by set (groups_of release concept))
+
+abbrev mutual
+  -- whether a concept is in the set that a plan means
+  pub means : Release → Plan → ℕ → Bool
+  means release empty_plan concept = false
+  means release all_plan concept = is_in_force release concept
+  means release (one_plan number) concept = is_in_force release concept && (concept == number)
+  means release (walk_plan operator operand) concept =
+      is_in_force release concept && walks release operator (means release operand) concept
+  means release (members_plan operand) concept = is_component release (means release operand) concept
+  means release (and_plan parts) concept = is_in_force release concept && all_mean release parts concept
+  means release (or_plan parts) concept = some_means release parts concept
+  means release (minus_plan first second) concept =
+      means release first concept && not (means release second concept)
+  means release (values_plan start names) concept = leads release (means release start) names concept
+  means release (pairs_plan back count types test) concept =
+      is_in_force release concept
+      && has_pairs count (means release types) (value_passes release test) (pairs_of release back concept)
+  means release (units_plan count units) concept =
+      is_in_force release concept && has_groups release count (group_means release units) concept
+
+  -- of no plans everything is in all, and nothing in some
+  pub all_mean : Release → Plans → ℕ → Bool
+  all_mean release no_plans concept = true
+  all_mean release (plan_then first rest) concept =
+      means release first concept && all_mean release rest concept
+
+  pub some_means : Release → Plans → ℕ → Bool
+  some_means release no_plans concept = false
+  some_means release (plan_then first rest) concept =
+      means release first concept || some_means release rest concept
+
+  -- from a set along types: the values of the attributes with a type in the first, then along the others
+  pub leads : Release → (ℕ → Bool) → Plans → ℕ → Bool
+  leads release set no_plans concept = set concept
+  leads release set (plan_then types others) concept =
+      leads release (is_value release set (means release types)) others concept
+
+  -- whether a group is in the set that a plan means
+  pub group_means : Release → GroupPlan → List Pair → Bool
+  group_means release nothing_group pairs = false
+  group_means release every_group pairs = true
+  group_means release (and_group parts) pairs = all_group_mean release parts pairs
+  group_means release (or_group parts) pairs = some_group_means release parts pairs
+  group_means release (minus_group first second) pairs =
+      group_means release first pairs && not (group_means release second pairs)
+  group_means release (pairs_group count types test) pairs =
+      has_pairs count (means release types) (value_passes release test) pairs
+
+  pub all_group_mean : Release → GroupPlans → List Pair → Bool
+  all_group_mean release no_groups pairs = true
+  all_group_mean release (group_then first rest) pairs =
+      group_means release first pairs && all_group_mean release rest pairs
+
+  pub some_group_means : Release → GroupPlans → List Pair → Bool
+  some_group_means release no_groups pairs = false
+  some_group_means release (group_then first rest) pairs =
+      group_means release first pairs || some_group_means release rest pairs
+
+  -- whether the value of a pair passes a test
+  pub value_passes : Release → TestPlan → Value → Bool
+  value_passes release (within_plan operand) value = is_within (means release operand) value
+  value_passes release (outside_plan operand) value = is_outside (means release operand) value
+  value_passes release (number_plan compare number) value = is_number_that compare number value
+
+-- the concepts that a plan means, in rising order
+abbrev pub meaning : Release → Plan → List ℕ
+meaning release plan = filter (means release plan) release.concepts
+
+-- no plan means anything but concepts in force
+abbrev pub MeansConceptsInForce : Type 0
+MeansConceptsInForce =
+    (release : Release) (plan : Plan) (concept : ℕ) →
+    IsTrue (means release plan concept) →
+    Contains release.concepts concept

@@ -1,0 +1,103 @@
+-- Plans as data without pointers, and the one that a value of the code stands for. Every definition and
+-- every contract speaks of this data, since two equal plans of the code may lie at different places in
+-- memory. There are two sorts: a plan of concepts, and a plan of groups of concepts.
+use Rattle.std.specs.Prelude.{ℕ, ℤ, Bool, List, [], ◌∷◌, map}
+use Rattle.constraint_tree.specs.declared.operator.Operator.{Operator}
+use Rattle.constraint_tree.specs.declared.operator.Compare.{Compare}
+use Rattle.constraint_tree.specs.declared.operator.Cardinality.{Cardinality}
+use Rattle.set_algebra.specs.declared.plan.ConceptPlan.{ConceptPlan, Row_of-ConceptPlan, end_of-ConceptPlan, more_of-ConceptPlan}
+use Rattle.set_algebra.specs.declared.plan.ConceptPlan.TheVariants as concept_plan
+use Rattle.set_algebra.specs.declared.plan.UnitPlan.{UnitPlan, Row_of-UnitPlan, end_of-UnitPlan, more_of-UnitPlan}
+use Rattle.set_algebra.specs.declared.plan.UnitPlan.TheVariants as unit_plan
+use Rattle.set_algebra.specs.declared.plan.ValueTest.{ValueTest}
+use Rattle.set_algebra.specs.declared.plan.ValueTest.TheVariants as value_test
+
+mutual
+  -- of concepts. `pairs_plan` has whether rows are read backwards, the cardinality, the types and the test
+  pub data Plan : Type 0 where
+    empty_plan : Plan
+    all_plan : Plan
+    one_plan : ℕ → Plan
+    walk_plan : Operator → Plan → Plan
+    members_plan : Plan → Plan
+    and_plan : Plans → Plan
+    or_plan : Plans → Plan
+    minus_plan : Plan → Plan → Plan
+    values_plan : Plan → Plans → Plan
+    pairs_plan : Bool → Cardinality → Plan → TestPlan → Plan
+    units_plan : Cardinality → GroupPlan → Plan
+
+  pub data Plans : Type 0 where
+    no_plans : Plans
+    plan_then : Plan → Plans → Plans
+
+  -- of groups
+  pub data GroupPlan : Type 0 where
+    nothing_group : GroupPlan
+    every_group : GroupPlan
+    and_group : GroupPlans → GroupPlan
+    or_group : GroupPlans → GroupPlan
+    minus_group : GroupPlan → GroupPlan → GroupPlan
+    pairs_group : Cardinality → Plan → TestPlan → GroupPlan
+
+  pub data GroupPlans : Type 0 where
+    no_groups : GroupPlans
+    group_then : GroupPlan → GroupPlans → GroupPlans
+
+  -- what the value of a pair must pass
+  pub data TestPlan : Type 0 where
+    within_plan : Plan → TestPlan
+    outside_plan : Plan → TestPlan
+    number_plan : Compare → ℤ → TestPlan
+
+-- the plans of a list
+abbrev pub plans_from : List Plan → Plans
+plans_from [] = no_plans
+plans_from (plan ∷ plans) = plan_then plan (plans_from plans)
+
+abbrev pub groups_from : List GroupPlan → GroupPlans
+groups_from [] = no_groups
+groups_from (plan ∷ plans) = group_then plan (groups_from plans)
+
+-- the plan of a value of the code: a `Box` is what it holds, a `Vec` the list of its items
+abbrev mutual
+  pub plan_of : ConceptPlan → Plan
+  plan_of concept_plan.Empty = empty_plan
+  plan_of concept_plan.All = all_plan
+  plan_of (concept_plan.One number) = one_plan number
+  plan_of (concept_plan.Walk' operator pointer operand) = walk_plan operator (plan_of operand)
+  plan_of (concept_plan.Members' pointer operand) = members_plan (plan_of operand)
+  plan_of (concept_plan.And' shape parts) = and_plan (row_of_plans parts)
+  plan_of (concept_plan.Or' shape parts) = or_plan (row_of_plans parts)
+  plan_of (concept_plan.Minus' pointer first other second) = minus_plan (plan_of first) (plan_of second)
+  plan_of (concept_plan.Values' pointer start shape names) = values_plan (plan_of start) (row_of_plans names)
+  plan_of (concept_plan.Pairs' back count pointer types test) = pairs_plan back count (plan_of types) (test_plan_of test)
+  plan_of (concept_plan.Units' count pointer units) = units_plan count (group_plan_of units)
+
+  pub row_of_plans : {size : _} → Row_of-ConceptPlan size → Plans
+  row_of_plans end_of-ConceptPlan = no_plans
+  row_of_plans (more_of-ConceptPlan first rest) = plan_then (plan_of first) (row_of_plans rest)
+
+  pub group_plan_of : UnitPlan → GroupPlan
+  group_plan_of unit_plan.Nothing = nothing_group
+  group_plan_of unit_plan.Every = every_group
+  group_plan_of (unit_plan.And' shape parts) = and_group (row_of_groups parts)
+  group_plan_of (unit_plan.Or' shape parts) = or_group (row_of_groups parts)
+  group_plan_of (unit_plan.Minus' pointer first other second) = minus_group (group_plan_of first) (group_plan_of second)
+  group_plan_of (unit_plan.Pairs' count pointer types test) = pairs_group count (plan_of types) (test_plan_of test)
+
+  pub row_of_groups : {size : _} → Row_of-UnitPlan size → GroupPlans
+  row_of_groups end_of-UnitPlan = no_groups
+  row_of_groups (more_of-UnitPlan first rest) = group_then (group_plan_of first) (row_of_groups rest)
+
+  pub test_plan_of : ValueTest → TestPlan
+  test_plan_of (value_test.Within' pointer operand) = within_plan (plan_of operand)
+  test_plan_of (value_test.Outside' pointer operand) = outside_plan (plan_of operand)
+  test_plan_of (value_test.Number compare decimal) = number_plan compare decimal.0
+
+-- the plans of the items of a `Vec` or a slice
+abbrev pub plans_of : List ConceptPlan → Plans
+plans_of parts = plans_from (map plan_of parts)
+
+abbrev pub group_plans_of : List UnitPlan → GroupPlans
+group_plans_of parts = groups_from (map group_plan_of parts)

@@ -1,0 +1,127 @@
+//! Copies of plans.
+ghost use Rattle.std.specs.Prelude.{◌≡◌, IfOk};
+ghost use Rattle.set_algebra.specs.Plan.{plan_of, plans_of, group_plan_of, group_plans_of, test_plan_of};
+
+use crate::plan::{ConceptPlan, UnitPlan, ValueTest};
+use std::alloc::{AllocError, Global};
+
+impl ConceptPlan {
+    /// A plan that is equal to this one, with memory of its own. The error is want of memory.
+    #[cycle(copy)]
+    #[tactic(auto, using(crate::proofs::PlanLemmas::plans_of_items))]
+    pub fn copy(&self, alloc: Global) -> Result<ConceptPlan, AllocError>
+        ensures { IfOk result (λ copy. plan_of copy ≡ plan_of self.now) }
+    {
+        match self {
+            ConceptPlan::Empty => Ok(ConceptPlan::Empty),
+            ConceptPlan::All => Ok(ConceptPlan::All),
+            ConceptPlan::One(number) => Ok(ConceptPlan::One(*number)),
+            ConceptPlan::Walk(operator, operand) => {
+                Ok(ConceptPlan::Walk(*operator, boxed(alloc, operand)?))
+            }
+            ConceptPlan::Members(operand) => Ok(ConceptPlan::Members(boxed(alloc, operand)?)),
+            ConceptPlan::And(parts) => Ok(ConceptPlan::And(each(alloc, parts)?)),
+            ConceptPlan::Or(parts) => Ok(ConceptPlan::Or(each(alloc, parts)?)),
+            ConceptPlan::Minus(first, second) => {
+                let first = boxed(alloc, first)?;
+                Ok(ConceptPlan::Minus(first, boxed(alloc, second)?))
+            }
+            ConceptPlan::Values(start, names) => {
+                let start = boxed(alloc, start)?;
+                Ok(ConceptPlan::Values(start, each(alloc, names)?))
+            }
+            ConceptPlan::Pairs {
+                back,
+                count,
+                types,
+                test,
+            } => Ok(ConceptPlan::Pairs {
+                back: *back,
+                count: *count,
+                types: boxed(alloc, types)?,
+                test: test.copy(alloc)?,
+            }),
+            ConceptPlan::Units { count, units } => Ok(ConceptPlan::Units {
+                count: *count,
+                units: boxed_unit(alloc, units)?,
+            }),
+        }
+    }
+}
+
+impl UnitPlan {
+    /// A plan that is equal to this one, with memory of its own. The error is want of memory.
+    #[cycle(copy)]
+    #[tactic(auto, using(crate::proofs::PlanLemmas::plans_of_items))]
+    pub fn copy(&self, alloc: Global) -> Result<UnitPlan, AllocError>
+        ensures { IfOk result (λ copy. group_plan_of copy ≡ group_plan_of self.now) }
+    {
+        Ok(match self {
+            UnitPlan::Nothing => UnitPlan::Nothing,
+            UnitPlan::Every => UnitPlan::Every,
+            UnitPlan::And(parts) => UnitPlan::And(each_unit(alloc, parts)?),
+            UnitPlan::Or(parts) => UnitPlan::Or(each_unit(alloc, parts)?),
+            UnitPlan::Minus(first, second) => {
+                UnitPlan::Minus(boxed_unit(alloc, first)?, boxed_unit(alloc, second)?)
+            }
+            UnitPlan::Pairs { count, types, test } => UnitPlan::Pairs {
+                count: *count,
+                types: boxed(alloc, types)?,
+                test: test.copy(alloc)?,
+            },
+        })
+    }
+}
+
+impl ValueTest {
+    #[cycle(copy)]
+    fn copy(&self, alloc: Global) -> Result<ValueTest, AllocError>
+        ensures { IfOk result (λ copy. test_plan_of copy ≡ test_plan_of self.now) }
+    {
+        Ok(match self {
+            ValueTest::Within(operand) => ValueTest::Within(boxed(alloc, operand)?),
+            ValueTest::Outside(operand) => ValueTest::Outside(boxed(alloc, operand)?),
+            ValueTest::Number(compare, number) => ValueTest::Number(*compare, *number),
+        })
+    }
+}
+
+#[cycle(copy)]
+fn boxed(alloc: Global, plan: &ConceptPlan) -> Result<Box<ConceptPlan>, AllocError>
+    ensures { IfOk result (λ copy. plan_of copy.value ≡ plan_of plan.now) }
+{
+    let copy = plan.copy(alloc)?;
+    Ok(Box::new(alloc, copy)?)
+}
+
+#[cycle(copy)]
+fn boxed_unit(alloc: Global, plan: &UnitPlan) -> Result<Box<UnitPlan>, AllocError>
+    ensures { IfOk result (λ copy. group_plan_of copy.value ≡ group_plan_of plan.now) }
+{
+    let copy = plan.copy(alloc)?;
+    Ok(Box::new(alloc, copy)?)
+}
+
+#[cycle(copy)]
+fn each(alloc: Global, plans: &[ConceptPlan]) -> Result<Vec<ConceptPlan>, AllocError>
+    ensures { IfOk result (λ copies. plans_of copies.items ≡ plans_of plans.now) }
+{
+    let mut copies = Vec::new(alloc);
+    for plan in plans {
+        let copy = plan.copy(alloc)?;
+        copies.push(copy)?;
+    }
+    Ok(copies)
+}
+
+#[cycle(copy)]
+fn each_unit(alloc: Global, plans: &[UnitPlan]) -> Result<Vec<UnitPlan>, AllocError>
+    ensures { IfOk result (λ copies. group_plans_of copies.items ≡ group_plans_of plans.now) }
+{
+    let mut copies = Vec::new(alloc);
+    for plan in plans {
+        let copy = plan.copy(alloc)?;
+        copies.push(copy)?;
+    }
+    Ok(copies)
+}

@@ -1,0 +1,61 @@
+//! Laws about the definitions of this crate: functions that do nothing, each with laws as its contract.
+ghost use Rattle.set_algebra.specs.Meaning.{MeansConceptsInForce};
+ghost use Rattle.set_algebra.specs.Places.{KeepsMeaningAtPlaces, ReplacesOneChild, FindsWhatIsPut, PutsBack};
+ghost use Rattle.set_algebra.specs.WorkedPlans.{HasPlanOfAttribute, HasPlanOfNumber, HasPlanOfBraces, HasPlanOfTwice, MeansEverything, MeansDescendants, MeansBraces, MeansDistinctPairs, MeansBraceCounts, MeansNoneInBraces, MeansReverse, MeansDotted, MeansNotEqual, MeansRowsInForce, MeansNumbers, MeansBounds, MeansDifferences, MeansEither, MeansWalks, MeansOperands, MeansEmptyAnswers};
+ghost use Rattle.set_algebra.specs.WrongPlans.{MisplansSplitBraces, MisplansSpreadCount, MisplansCountOfBraces};
+
+/// A plan means concepts of the release alone, whatever the release and the plan are.
+pub fn plans_mean_concepts_in_force()
+    ensures { MeansConceptsInForce }
+{}
+
+/// A plan that means the same over a release as the one at a place, put there in its stead, leaves what the
+/// whole means over that release: for plans of concepts and of groups, at every place in either, through
+/// braces and cardinalities.
+pub fn places_keep_the_meaning()
+    ensures { KeepsMeaningAtPlaces }
+{}
+
+/// What is put at a place stands there, the other children of each node on the way are as they were, and
+/// putting there what stands there changes nothing.
+pub fn places_are_found_and_put()
+    ensures child { ReplacesOneChild }
+    ensures found { FindsWhatIsPut }
+    ensures back { PutsBack }
+{}
+
+/// The plans of four queries.
+pub fn worked_queries_have_plans()
+    ensures attribute { HasPlanOfAttribute }
+    ensures number { HasPlanOfNumber }
+    ensures braces { HasPlanOfBraces }
+    ensures twice { HasPlanOfTwice }
+{}
+
+/// What the plans of worked queries mean on a small release: what the queries denote there.
+pub fn worked_plans_hold()
+    ensures everything { MeansEverything }
+    ensures descendants { MeansDescendants }
+    ensures braces { MeansBraces }
+    ensures distinct_pairs { MeansDistinctPairs }
+    ensures brace_counts { MeansBraceCounts }
+    ensures none_in_braces { MeansNoneInBraces }
+    ensures reverse { MeansReverse }
+    ensures dotted { MeansDotted }
+    ensures not_equal { MeansNotEqual }
+    ensures rows_in_force { MeansRowsInForce }
+    ensures numbers { MeansNumbers }
+    ensures bounds { MeansBounds }
+    ensures differences { MeansDifferences }
+    ensures either { MeansEither }
+    ensures walks { MeansWalks }
+    ensures operands { MeansOperands }
+    ensures empty_answers { MeansEmptyAnswers }
+{}
+
+/// What plans that look right mean on that release: each something else than the plan of the query.
+pub fn wrong_plans_differ()
+    ensures split_braces { MisplansSplitBraces }
+    ensures spread_count { MisplansSpreadCount }
+    ensures count_of_braces { MisplansCountOfBraces }
+{}

@@ -1,0 +1,18 @@
+//! Plans: the form that a query is executed in, and what they mean over a release.
+#![tactic(auto)]
+
+mod copy;
+mod depth;
+mod equal;
+mod laws;
+mod lowering;
+mod plan;
+#[cfg(test)]
+mod tests;
+
+pub use crate::laws::{
+    places_are_found_and_put, places_keep_the_meaning, plans_mean_concepts_in_force,
+    worked_plans_hold, worked_queries_have_plans, wrong_plans_differ,
+};
+pub use crate::lowering::lower;
+pub use crate::plan::{ConceptPlan, UnitPlan, ValueTest};
