@@ -1,6 +1,6 @@
 -- From the is-a rows of a release to its hierarchy.
 use Rattle.std.proofs.Common.{ℕ, zero, suc, ◌+◌, ◌==◌, ◌≡◌, ◌≢◌, ◌<◌, ◌≤◌, ◌++◌, ◌∷◌, [], ◌∙◌, ⊎_elim, Bool, true, false, cond, List, length, get_or, map, refl, sym, ap, subst, arith}
-use Rattle.std.specs.Prelude.{All, Contains}
+use Rattle.std.specs.Prelude.{Contains}
 use Rattle.std.specs.List.{filter, range_with_len}
 use Rattle.std.specs.List.Sorted.{IsStrictlyIncreasing}
 use Rattle.std.proofs.lemmas.Bool.{cases_eq, cases_lt, eq-eqb, ne_eqb}
@@ -21,7 +21,7 @@ use Rattle.snapshot.proofs.KeyedLemmas.{items_of-append}
 use Rattle.snapshot.proofs.NumberingLemmas.{Reaches-map, contains_map, numbers_again, place_of, place_of-get_or, row_by}
 use Rattle.snapshot.proofs.ReleaseLemmas.{contains_had, had_contained}
 use Rattle.snapshot.proofs.WayLemmas.{contained_items_of, items_of-contained}
-use Rattle.ancestor_index.specs.HierarchyLists.{Hierarchy, hierarchy_of, is_child, lists_where}
+use Rattle.ancestor_index.specs.HierarchyLists.{hierarchy_of, is_child, lists_where}
 use Rattle.ancestor_index.specs.Parents.{AreParentsBy}
 use Rattle.ancestor_index.proofs.ClosureLemmas.{both_ways, item_there, length-where, list_of-where, row_there, there_item, there_row, there_where}
 
@@ -37,7 +37,7 @@ where_below count test lists is k d within j e inside =
     let near : k < count = omega (arith, within, ap (λ (all : List (List ℕ)). length all) is, length-where count test) in
     let list : get_or lists k d ≡ numbers_where count (test k) = get_or_default lists k d [] within ∙ ap (λ (all : List (List ℕ)). list_of all k) is ∙ list_of-where count test k near in
     (there_where count (test k) (get_or (get_or lists k d) j e)
-        (subst (λ (xs : List ℕ). Contains xs (get_or (get_or lists k d) j e)) list (Contains-get_or (get_or lists k d) j e inside))).0
+    (subst (λ (xs : List ℕ). Contains xs (get_or (get_or lists k d) j e)) list (Contains-get_or (get_or lists k d) j e inside))).0
 
 -- ---- the parents, by the rows
 map-map : (f : List ℕ → List ℕ) (g : ℕ → List ℕ) (xs : List ℕ) → map f (map g xs) ≡ map (λ x. f (g x)) xs
@@ -73,20 +73,20 @@ with_key-in : (key x low count : ℕ) (test : ℕ → Bool) → low ≤ x → x 
 with_key-in key x low zero test above below = absurd (omega arith)
 with_key-in key x low (suc count) test above below = ⊎_elim
     (λ (same : low ≡ x).
-        let rest = with_key-out key x (low + 1) count test (omega arith) in
-        let here : (low == x) ≡ true = eq-eqb low x same in
-        (elim (test low) as (λ b. items_of (with_key key (cond b (low ∷ filter test (range_with_len (low + 1) count)) (filter test (range_with_len (low + 1) count)))) x ≡ cond b (key ∷ []) []) [
-              | true ↦ (λ i. map (λ (pair : ℕ × ℕ). pair.1) (cond (here i) ((low, key) ∷ filter (λ (pair : ℕ × ℕ). pair.0 == x) (with_key key (filter test (range_with_len (low + 1) count)))) (filter (λ (pair : ℕ × ℕ). pair.0 == x) (with_key key (filter test (range_with_len (low + 1) count)))))) ∙ ap (λ (xs : List ℕ). key ∷ xs) rest
-              | false ↦ rest
-            ])
-        ∙ (λ i. cond (test (same i)) (key ∷ []) []))
+    let rest = with_key-out key x (low + 1) count test (omega arith) in
+    let here : (low == x) ≡ true = eq-eqb low x same in
+    (elim (test low) as (λ b. items_of (with_key key (cond b (low ∷ filter test (range_with_len (low + 1) count)) (filter test (range_with_len (low + 1) count)))) x ≡ cond b (key ∷ []) []) [
+      | true ↦ (λ i. map (λ (pair : ℕ × ℕ). pair.1) (cond (here i) ((low, key) ∷ filter (λ (pair : ℕ × ℕ). pair.0 == x) (with_key key (filter test (range_with_len (low + 1) count)))) (filter (λ (pair : ℕ × ℕ). pair.0 == x) (with_key key (filter test (range_with_len (low + 1) count)))))) ∙ ap (λ (xs : List ℕ). key ∷ xs) rest
+      | false ↦ rest
+    ])
+    ∙ (λ i. cond (test (same i)) (key ∷ []) []))
     (λ (other : low ≢ x).
-        let rest = with_key-in key x (low + 1) count test (further other) (omega arith) in
-        let apart : (low == x) ≡ false = ne_eqb low x other in
-        elim (test low) as (λ b. items_of (with_key key (cond b (low ∷ filter test (range_with_len (low + 1) count)) (filter test (range_with_len (low + 1) count)))) x ≡ cond (test x) (key ∷ []) []) [
-          | true ↦ (λ i. map (λ (pair : ℕ × ℕ). pair.1) (cond (apart i) ((low, key) ∷ filter (λ (pair : ℕ × ℕ). pair.0 == x) (with_key key (filter test (range_with_len (low + 1) count)))) (filter (λ (pair : ℕ × ℕ). pair.0 == x) (with_key key (filter test (range_with_len (low + 1) count)))))) ∙ rest
-          | false ↦ rest
-        ])
+    let rest = with_key-in key x (low + 1) count test (further other) (omega arith) in
+    let apart : (low == x) ≡ false = ne_eqb low x other in
+    elim (test low) as (λ b. items_of (with_key key (cond b (low ∷ filter test (range_with_len (low + 1) count)) (filter test (range_with_len (low + 1) count)))) x ≡ cond (test x) (key ∷ []) []) [
+      | true ↦ (λ i. map (λ (pair : ℕ × ℕ). pair.1) (cond (apart i) ((low, key) ∷ filter (λ (pair : ℕ × ℕ). pair.0 == x) (with_key key (filter test (range_with_len (low + 1) count)))) (filter (λ (pair : ℕ × ℕ). pair.0 == x) (with_key key (filter test (range_with_len (low + 1) count)))))) ∙ rest
+      | false ↦ rest
+    ])
     (cases_eq low x)
   where
     further : low ≢ x → low + 1 ≤ x
@@ -124,14 +124,14 @@ same_reach concepts rows isa rises within are a b near far =
         let again : map (row_by (place_of concepts)) isa ≡ rows = (λ i. map (row_by (place_of concepts)) (sym are i)) ∙ numbers_again concepts rises rows within in
         subst (λ (found : List (ℕ × ℕ)). Reaches found a b) again
         (subst (λ (n : ℕ). Reaches (map (row_by (place_of concepts)) isa) n b) (place_of-get_or concepts rises a near)
-            (subst (λ (n : ℕ). Reaches (map (row_by (place_of concepts)) isa) (place_of concepts (get_or concepts a 0)) n) (place_of-get_or concepts rises b far) chain))
+        (subst (λ (n : ℕ). Reaches (map (row_by (place_of concepts)) isa) (place_of concepts (get_or concepts a 0)) n) (place_of-get_or concepts rises b far) chain))
 
 pub same_child : (concepts : List ℕ) (rows isa : List (ℕ × ℕ)) → IsStrictlyIncreasing concepts → IsWithin (length concepts) rows → map (row_of_numbers concepts) rows ≡ isa
     → (a b : ℕ) → a < length concepts → b < length concepts → is_child rows a b ≡ is_child isa (get_or concepts a 0) (get_or concepts b 0)
 same_child concepts rows isa rises within are a b near far =
     both_ways (is_child rows a b) (is_child isa (get_or concepts a 0) (get_or concepts b 0))
     (λ told. there_row isa (get_or concepts a 0) (get_or concepts b 0)
-        (subst (λ (found : List (ℕ × ℕ)). Contains found (get_or concepts a 0, get_or concepts b 0)) are (contains_map (row_of_numbers concepts) rows (a, b) (row_there rows a b told))))
+    (subst (λ (found : List (ℕ × ℕ)). Contains found (get_or concepts a 0, get_or concepts b 0)) are (contains_map (row_of_numbers concepts) rows (a, b) (row_there rows a b told))))
     (λ told. there_row rows a b (back (contains_map (row_by (place_of concepts)) isa (get_or concepts a 0, get_or concepts b 0) (row_there isa (get_or concepts a 0) (get_or concepts b 0) told))))
   where
     back : Contains (map (row_by (place_of concepts)) isa) (place_of concepts (get_or concepts a 0), place_of concepts (get_or concepts b 0)) → Contains rows (a, b)
@@ -139,7 +139,7 @@ same_child concepts rows isa rises within are a b near far =
         let again : map (row_by (place_of concepts)) isa ≡ rows = (λ i. map (row_by (place_of concepts)) (sym are i)) ∙ numbers_again concepts rises rows within in
         subst (λ (found : List (ℕ × ℕ)). Contains found (a, b)) again
         (subst (λ (n : ℕ). Contains (map (row_by (place_of concepts)) isa) (n, b)) (place_of-get_or concepts rises a near)
-            (subst (λ (n : ℕ). Contains (map (row_by (place_of concepts)) isa) (place_of concepts (get_or concepts a 0), n)) (place_of-get_or concepts rises b far) there))
+        (subst (λ (n : ℕ). Contains (map (row_by (place_of concepts)) isa) (place_of concepts (get_or concepts a 0), n)) (place_of-get_or concepts rises b far) there))
 
 -- an order with parents first is as long as there are concepts
 pub order_count : (count : ℕ) (rows : List (ℕ × ℕ)) (order : List ℕ) → IsParentsFirst count rows order → length order ≡ count
@@ -165,10 +165,10 @@ pub hierarchy_told : (release : Release) (rows : List (ℕ × ℕ)) (count : ℕ
 hierarchy_told release rows count all rises within are ancestors descendants parents children above below before behind = λ i. record {
   ancestors = (above ∙ (λ j. lists_where (all j) (reaches rows)) ∙ lists_where-agree (length release.concepts) (reaches rows) (λ concept other. reaches release.isa (id concept) (id other)) reach) i;
   descendants = (below ∙ (λ j. lists_where (all j) (λ concept other. reaches rows other concept))
-  ∙ lists_where-agree (length release.concepts) (λ concept other. reaches rows other concept) (λ concept other. reaches release.isa (id other) (id concept)) (λ a b near far. reach b a far near)) i;
+      ∙ lists_where-agree (length release.concepts) (λ concept other. reaches rows other concept) (λ concept other. reaches release.isa (id other) (id concept)) (λ a b near far. reach b a far near)) i;
   parents = (before ∙ (λ j. lists_where (all j) (is_child rows)) ∙ lists_where-agree (length release.concepts) (is_child rows) (λ concept other. is_child release.isa (id concept) (id other)) child) i;
   children = (behind ∙ (λ j. lists_where (all j) (λ concept other. is_child rows other concept))
-  ∙ lists_where-agree (length release.concepts) (λ concept other. is_child rows other concept) (λ concept other. is_child release.isa (id other) (id concept)) (λ a b near far. child b a far near)) i;
+      ∙ lists_where-agree (length release.concepts) (λ concept other. is_child rows other concept) (λ concept other. is_child release.isa (id other) (id concept)) (λ a b near far. child b a far near)) i;
 }
   where
     id : ℕ → ℕ

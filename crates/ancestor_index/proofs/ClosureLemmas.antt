@@ -1,8 +1,7 @@
 -- The ancestors of a concept are its parents and the ancestors of these.
-use Rattle.std.proofs.Common.{ℕ, zero, suc, ◌+◌, ◌==◌, ◌&&◌, ◌||◌, ◌≡◌, ◌≢◌, ◌<◌, ◌≤◌, ◌++◌, ◌∷◌, [], ◌∙◌, ◌⊎◌, inl, inr, ⊎_elim, Bool, true, false, List, length, get_or, map, take, refl, sym, ap, subst, arith, length-take, get_or-take}
-use Rattle.std.specs.Prelude.{All, Contains, flat_map, nat_eq}
-use Rattle.std.specs.List.{list_any, range_with_len}
-use Rattle.std.proofs.lemmas.Bool.{cases_Bool, cases_lt, eq-eqb, eqb-true, ltb-true}
+use Rattle.std.proofs.Common.{ℕ, zero, suc, ◌==◌, ◌&&◌, ◌||◌, ◌≡◌, ◌<◌, ◌≤◌, ◌++◌, ◌∷◌, [], ◌∙◌, ◌⊎◌, inl, inr, ⊎_elim, Bool, true, false, List, length, get_or, map, take, refl, sym, ap, subst, arith, length-take, get_or-take}
+use Rattle.std.specs.Prelude.{All, Contains, flat_map}
+use Rattle.std.proofs.lemmas.Bool.{cases_lt, eq-eqb, eqb-true}
 use Rattle.std.proofs.lemmas.List.{get_or-map, get_or_default, length-map, same_lists}
 use Rattle.std.proofs.lemmas.List.Elements.{All-contains, Contains-append_right, Contains-get_or}
 use Rattle.std.proofs.lemmas.List.FromFn.{get_or-map-range_with_len, length-map-range_with_len}
@@ -10,7 +9,6 @@ use Rattle.rf2_rows.specs.Hierarchy.{Reaches, one_row, more_rows, reaches}
 use Rattle.rf2_rows.proofs.HierarchyLemmas.{chain_from_test, test_from_chain}
 use Rattle.idset.specs.Sets.{has_item, listed_numbers, numbers_where}
 use Rattle.idset.proofs.Normal.{has_item-numbers_where, has_item-numbers_where_past, numbers_where-agree}
-use Rattle.idset.proofs.Places.{has_item-get_or}
 use Rattle.snapshot.specs.KeyedLists.{list_of}
 use Rattle.ancestor_index.specs.HierarchyLists.{is_child, lists_where}
 use Rattle.ancestor_index.specs.Parents.{AreParentsBy}
@@ -74,8 +72,8 @@ pub row_there : (rows : List (ℕ × ℕ)) (child parent : ℕ) → is_child row
 row_there [] child parent told = absurd (cc)
 row_there (row ∷ rows) child parent told = ⊎_elim
     (λ (here : ((row.0 == child) && (row.1 == parent)) ≡ true).
-        let parts = both (row.0 == child) (row.1 == parent) here in
-        (0, omega arith, λ i. (eqb-true row.0 child parts.0 i, eqb-true row.1 parent parts.1 i)))
+    let parts = both (row.0 == child) (row.1 == parent) here in
+    (0, omega arith, λ i. (eqb-true row.0 child parts.0 i, eqb-true row.1 parent parts.1 i)))
     (λ (rest : is_child rows child parent ≡ true). Contains-append_right (row ∷ []) rows (child, parent) (row_there rows child parent rest))
     (or_told ((row.0 == child) && (row.1 == parent)) (is_child rows child parent) told)
   where
@@ -98,7 +96,7 @@ pub length-where : (count : ℕ) (test : ℕ → ℕ → Bool) → length (lists
 length-where count test = length-map-range_with_len (λ concept. numbers_where count (test concept)) 0 count
 
 -- a number that passes a test is among the numbers, and only such
-where_there : (count : ℕ) (test : ℕ → Bool) (n : ℕ) → n < count → test n ≡ true → Contains (numbers_where count test) n
+pub where_there : (count : ℕ) (test : ℕ → Bool) (n : ℕ) → n < count → test n ≡ true → Contains (numbers_where count test) n
 where_there count test n below told = item_there (numbers_where count test) n (has_item-numbers_where count test n below ∙ told)
 
 pub there_where : (count : ℕ) (test : ℕ → Bool) (n : ℕ) → Contains (numbers_where count test) n → (n < count) × (test n ≡ true)
@@ -148,9 +146,9 @@ parent_placed {rows} {parents} {order} {places} {lists} {k} turn parent there =
       near = omega (arith, told.0, turn.len);
       early = omega (arith, place, less, count);
       list = (λ i. list_of lists (place i))
-      ∙ ap (λ (all : List (List ℕ)). list_of all j) turn.known
-      ∙ get_or-map (λ concept. numbers_where (length order) (reaches rows concept)) (take k order) j 0 [] (omega (arith, less, length-take k order, turn.within))
-      ∙ (λ i. numbers_where (length order) (reaches rows ((get_or-take k order j 0 less ∙ is) i)));
+          ∙ ap (λ (all : List (List ℕ)). list_of all j) turn.known
+          ∙ get_or-map (λ concept. numbers_where (length order) (reaches rows concept)) (take k order) j 0 [] (omega (arith, less, length-take k order, turn.within))
+          ∙ (λ i. numbers_where (length order) (reaches rows ((get_or-take k order j 0 less ∙ is) i)));
     }
 
 -- what is gathered for it: its parents, each with its list
@@ -170,8 +168,8 @@ gathered_told {rows} {parents} {order} {places} {lists} {k} turn d told =
     ⊎_elim
     (λ (same : (parent == d) ≡ true). let is = eqb-true parent d same in (omega (arith, child.0, is), subst (λ (n : ℕ). Reaches rows concept n) is (one_row row)))
     (λ (above : has_item (list_of lists (get_or places parent 0)) d ≡ true).
-        let there = there_where count (reaches rows parent) d (item_there (numbers_where count (reaches rows parent)) d (ap (λ (xs : List ℕ). has_item xs d) (sym placed.list) ∙ above)) in
-        (there.0, more_rows row (chain_from_test rows parent d there.1)))
+    let there = there_where count (reaches rows parent) d (item_there (numbers_where count (reaches rows parent)) d (ap (λ (xs : List ℕ). has_item xs d) (sym placed.list) ∙ above)) in
+    (there.0, more_rows row (chain_from_test rows parent d there.1)))
     (or_told (parent == d) (has_item (list_of lists (get_or places parent 0)) d) found.2)
 
 told_gathered : {rows : List (ℕ × ℕ)} {parents : List (List ℕ)} {order places : List ℕ} {lists : List (List ℕ)} {k : ℕ} → Turn rows parents order places lists k
@@ -189,7 +187,7 @@ told_gathered {rows} {parents} {order} {places} {lists} {k} turn concept d is be
     let placed = parent_placed turn parent there in
     there_joined (λ c. c ∷ list_of lists (get_or places c 0)) (numbers_where count (is_child rows (get_or order k 0))) d parent there
     (or_right (parent == d) (has_item (list_of lists (get_or places parent 0)) d)
-        (ap (λ (xs : List ℕ). has_item xs d) placed.list ∙ has_item-numbers_where count (reaches rows parent) d below ∙ test_from_chain rows rest))
+    (ap (λ (xs : List ℕ). has_item xs d) placed.list ∙ has_item-numbers_where count (reaches rows parent) d below ∙ test_from_chain rows rest))
 
 -- brought in order, that is its ancestors
 pub gathered_listed : {rows : List (ℕ × ℕ)} {parents : List (List ℕ)} {order places : List ℕ} {lists : List (List ℕ)} {k : ℕ} → Turn rows parents order places lists k
@@ -197,8 +195,8 @@ pub gathered_listed : {rows : List (ℕ × ℕ)} {parents : List (List ℕ)} {or
 gathered_listed {rows} {parents} {order} {places} {lists} {k} turn =
     numbers_where-agree (length order) (has_item (gathered_by places lists (numbers_where (length order) (is_child rows (get_or order k 0))))) (reaches rows (get_or order k 0))
     (λ d below. both_ways (has_item (gathered_by places lists (numbers_where (length order) (is_child rows (get_or order k 0)))) d) (reaches rows (get_or order k 0) d)
-        (λ told. test_from_chain rows (gathered_told turn d told).1)
-        (λ told. told_gathered turn (get_or order k 0) d refl below (chain_from_test rows (get_or order k 0) d told)))
+    (λ told. test_from_chain rows (gathered_told turn d told).1)
+    (λ told. told_gathered turn (get_or order k 0) d refl below (chain_from_test rows (get_or order k 0) d told)))
 
 pub gathered_below : {rows : List (ℕ × ℕ)} {parents : List (List ℕ)} {order places : List ℕ} {lists : List (List ℕ)} {k : ℕ} → Turn rows parents order places lists k
     → All (λ number. number < length order) (gathered_by places lists (numbers_where (length order) (is_child rows (get_or order k 0))))
@@ -234,13 +232,13 @@ lists_reordered rows parents order places lists given len placed known =
     same_lists (map (λ place. list_of lists place) places) (lists_where (length order) (reaches rows))
     (length-map places (λ place. list_of lists place) ∙ len ∙ sym (length-where (length order) (reaches rows)))
     (λ concept d within.
-        let below : concept < length order = omega (arith, within, length-map places (λ place. list_of lists place), len) in
-        let at = place_at rows parents order places given placed concept below in
-        get_or_default (map (λ place. list_of lists place) places) concept d [] within
-        ∙ get_or-map (λ place. list_of lists place) places concept 0 [] (omega (arith, below, len))
-        ∙ (λ i. list_of lists (at.told i))
-        ∙ ap (λ (all : List (List ℕ)). list_of all at.place) known
-        ∙ get_or-map (λ concept. numbers_where (length order) (reaches rows concept)) order at.place 0 [] at.within
-        ∙ (λ i. numbers_where (length order) (reaches rows (at.is i)))
-        ∙ sym (list_of-where (length order) (reaches rows) concept below)
-        ∙ get_or_default (lists_where (length order) (reaches rows)) concept [] d (omega (arith, below, length-where (length order) (reaches rows))))
+    let below : concept < length order = omega (arith, within, length-map places (λ place. list_of lists place), len) in
+    let at = place_at rows parents order places given placed concept below in
+    get_or_default (map (λ place. list_of lists place) places) concept d [] within
+    ∙ get_or-map (λ place. list_of lists place) places concept 0 [] (omega (arith, below, len))
+    ∙ (λ i. list_of lists (at.told i))
+    ∙ ap (λ (all : List (List ℕ)). list_of all at.place) known
+    ∙ get_or-map (λ concept. numbers_where (length order) (reaches rows concept)) order at.place 0 [] at.within
+    ∙ (λ i. numbers_where (length order) (reaches rows (at.is i)))
+    ∙ sym (list_of-where (length order) (reaches rows) concept below)
+    ∙ get_or_default (lists_where (length order) (reaches rows)) concept [] d (omega (arith, below, length-where (length order) (reaches rows))))

@@ -1,6 +1,6 @@
 -- Lists by concepts: one list more, and the places of concepts in an order.
-use Rattle.std.proofs.Common.{ℕ, ◌+◌, ◌≡◌, ◌≢◌, ◌<◌, ◌++◌, ◌∷◌, [], ◌∙◌, ⊎_elim, List, length, get_or, map, take, set, sym, ap, subst, arith, length-set}
-use Rattle.std.specs.Prelude.{All, nat_eq}
+use Rattle.std.proofs.Common.{ℕ, ◌+◌, ◌≡◌, ◌≢◌, ◌<◌, ◌++◌, ◌∷◌, [], ◌∙◌, ⊎_elim, List, length, get_or, map, take, set, sym, ap, subst, arith}
+use Rattle.std.specs.Prelude.{nat_eq}
 use Rattle.std.specs.List.{IsDistinct}
 use Rattle.std.proofs.lemmas.Bool.{cases_eq, cases_lt, eqb-false}
 use Rattle.std.proofs.lemmas.List.{get_or-set_same, get_or-set_other, map-append, take_more}
@@ -16,13 +16,13 @@ pub places_step : (order places : List ℕ) (place : ℕ) → IsDistinct nat_eq 
     → (k : ℕ) → k < place + 1 → get_or (set places (get_or order place 0) place) (get_or order k 0) 0 ≡ k
 places_step order places place once within below known k less = ⊎_elim
     (λ (same : k ≡ place).
-        subst (λ (n : ℕ). get_or (set places (get_or order place 0) place) (get_or order n 0) 0 ≡ n) (sym same)
-        (get_or-set_same places (get_or order place 0) place 0 below))
+    subst (λ (n : ℕ). get_or (set places (get_or order place 0) place) (get_or order n 0) 0 ≡ n) (sym same)
+    (get_or-set_same places (get_or order place 0) place 0 below))
     (λ (other : k ≢ place).
-        let before : k < place = earlier other in
-        get_or-set_other places (get_or order place 0) (get_or order k 0) place 0
-        (λ same. eqb-false (get_or order k 0) (get_or order place 0) (apart_from_distinct nat_eq order k place 0 once before within) same)
-        ∙ known k before)
+    let before : k < place = earlier other in
+    get_or-set_other places (get_or order place 0) (get_or order k 0) place 0
+    (λ same. eqb-false (get_or order k 0) (get_or order place 0) (apart_from_distinct nat_eq order k place 0 once before within) same)
+    ∙ known k before)
     (cases_eq k place)
   where
     earlier : k ≢ place → k < place

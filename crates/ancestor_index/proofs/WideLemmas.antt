@@ -1,11 +1,11 @@
 -- Long lists as words of bits, one behind the other.
-use Rattle.std.proofs.Common.{ℕ, ◌+◌, ◌-◌, ◌*◌, ◌/◌, ◌≡◌, ◌≢◌, ◌≤◌, ◌<◌, ◌++◌, ◌∷◌, [], ◌∙◌, inl, inr, ⊎_elim, List, length, get_or, take, drop, refl, sym, ap, subst, arith, length-append}
+use Rattle.std.proofs.Common.{ℕ, ◌+◌, ◌-◌, ◌≡◌, ◌≢◌, ◌≤◌, ◌<◌, ◌++◌, ◌∷◌, [], ◌∙◌, inl, inr, ⊎_elim, List, length, get_or, take, refl, sym, subst, arith, length-append}
 use Rattle.std.specs.Prelude.{All}
 use Rattle.std.specs.List.{slice_range}
 use Rattle.std.proofs.lemmas.Bool.{cases_eq, cases_lt}
 use Rattle.std.proofs.lemmas.List.{drop_at, take_all, get_or_append_left, get_or_push}
 use Rattle.idset.specs.Sets.{has_item}
-use Rattle.idset.specs.Words.{AreWordsBelow, MarkedBelow, words_for}
+use Rattle.idset.specs.Words.{MarkedBelow, words_for}
 use Rattle.snapshot.specs.KeyedLists.{list_of}
 use Rattle.snapshot.proofs.CutLemmas.{slice_range-append}
 use Rattle.ancestor_index.specs.Wide.{IsKept, IsWide}
@@ -47,12 +47,12 @@ pub kept_step : (count place : ℕ) (lists : List (List ℕ)) (words added ends 
     → (concept : ℕ) → concept < place + 1 → IsKept count (list_of lists concept) (words ++ added) (get_or (ends ++ end ∷ []) concept 0)
 kept_step count place lists words added ends end len known here concept below = ⊎_elim
     (λ (same : concept ≡ place).
-        subst (λ (c : ℕ). IsKept count (list_of lists c) (words ++ added) (get_or (ends ++ end ∷ []) c 0)) (sym same)
-        (subst (λ (e : ℕ). IsKept count (list_of lists place) (words ++ added) e) (sym (get_or_push ends end 0 place len)) here))
+    subst (λ (c : ℕ). IsKept count (list_of lists c) (words ++ added) (get_or (ends ++ end ∷ []) c 0)) (sym same)
+    (subst (λ (e : ℕ). IsKept count (list_of lists place) (words ++ added) e) (sym (get_or_push ends end 0 place len)) here))
     (λ (other : concept ≢ place).
-        let less = earlier other in
-        subst (λ (e : ℕ). IsKept count (list_of lists concept) (words ++ added) e) (sym (get_or_append_left ends (end ∷ []) 0 concept (omega arith)))
-        (kept_more count (list_of lists concept) words added (get_or ends concept 0) (known concept less)))
+    let less = earlier other in
+    subst (λ (e : ℕ). IsKept count (list_of lists concept) (words ++ added) e) (sym (get_or_append_left ends (end ∷ []) 0 concept (omega arith)))
+    (kept_more count (list_of lists concept) words added (get_or ends concept 0) (known concept less)))
     (cases_eq concept place)
   where
     earlier : concept ≢ place → concept < place

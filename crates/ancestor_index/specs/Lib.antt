@@ -2,3 +2,4 @@ pub mod HierarchyLists
 pub mod IndexInside
 pub mod Parents
 pub mod Wide
+pub mod Complete

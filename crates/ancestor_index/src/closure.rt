@@ -84,11 +84,7 @@ fn gather(
 }
 
 // The lists of some places.
-fn reordered(
-    alloc: Global,
-    lists: &KeyedLists,
-    places: &[u32],
-) -> Result<KeyedLists, AllocError>
+fn reordered(alloc: Global, lists: &KeyedLists, places: &[u32]) -> Result<KeyedLists, AllocError>
     requires { All (λ place. place < length lists.now) places.now }
     ensures { IfOk result (λ found. found ≡ map (λ place. list_of lists.now place) places.now) }
 {

@@ -6,7 +6,9 @@
 
 mod closure;
 mod index;
+mod laws;
 mod rising;
 mod wide;
 
 pub use crate::index::AncestorIndex;
+pub use crate::laws::lists_are_complete;

@@ -7,11 +7,7 @@ use snapshot::KeyedLists;
 use std::alloc::{AllocError, Global};
 
 /// Each of some lists in rising order, without repeats. All items are below `bound`.
-pub fn rising_lists(
-    alloc: Global,
-    lists: &KeyedLists,
-    bound: u32,
-) -> Result<KeyedLists, AllocError>
+pub fn rising_lists(alloc: Global, lists: &KeyedLists, bound: u32) -> Result<KeyedLists, AllocError>
     requires items { AreItemsBelow bound lists.now }
     requires few { length lists.now < 2 ^ 32 }
     ensures { IfOk result (λ rising. rising ≡ map (listed_numbers bound) lists.now) }

@@ -19,11 +19,7 @@ pub struct WideLists {
 }
 
 /// The long ones among lists of numbers below `count`.
-pub fn wide_lists(
-    alloc: Global,
-    lists: &KeyedLists,
-    count: u32,
-) -> Result<WideLists, AllocError>
+pub fn wide_lists(alloc: Global, lists: &KeyedLists, count: u32) -> Result<WideLists, AllocError>
     requires items { AreItemsBelow count lists.now }
     requires few { length lists.now < 2 ^ 32 }
     ensures { IfOk result (λ wide. AreWide count lists.now wide.ends.items wide.words.items) }

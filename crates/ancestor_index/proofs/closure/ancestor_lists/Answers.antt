@@ -1,11 +1,9 @@
-use Rattle.std.proofs.Common.{ℕ, ◌≡◌, ◌<◌, ◌∙◌, List, length, get_or, map, sym, subst, ap, arith}
+use Rattle.std.proofs.Common.{ℕ, ◌≡◌, ◌<◌, ◌∙◌, List, length, get_or, map, ap, arith}
 use Rattle.std.proofs.lemmas.List.{get_or_default, length-map}
 use Rattle.std.proofs.lemmas.Result.{IfOk-weaker}
 use Rattle.idset.specs.Sets.{numbers_where}
 use Rattle.rf2_rows.specs.Hierarchy.{reaches}
 use Rattle.snapshot.specs.KeyedLists.{list_of}
-use Rattle.ancestor_index.specs.HierarchyLists.{lists_where}
-use Rattle.ancestor_index.specs.Parents.{AreParentsBy}
 use Rattle.ancestor_index.proofs.ClosureLemmas.{lists_reordered, order_below, place_at}
 use Rattle.ancestor_index.proofs.closure.ancestor_lists.Goals as goal
 
@@ -30,7 +28,7 @@ reordered-requires c = λ concept d within.
 pub returns : goal.returns
 returns c = IfOk-weaker c.reordered.result _ _
     (λ (lists : List (List ℕ)) found rows given.
-        found
-        ∙ ap (map (λ place. list_of c.in_ok-by_place.by_place place)) c.as_slice-2.ensures.value
-        ∙ lists_reordered rows c.args.parents.now c.args.order.now c.in_ok-places.places.items c.in_ok-by_place.by_place given (omega (arith, c.in_ok-places.ensures.len)) c.in_ok-places.ensures.places (c.in_ok-by_place.ensures rows given))
+    found
+    ∙ ap (map (λ place. list_of c.in_ok-by_place.by_place place)) c.as_slice-2.ensures.value
+    ∙ lists_reordered rows c.args.parents.now c.args.order.now c.in_ok-places.places.items c.in_ok-by_place.by_place given (omega (arith, c.in_ok-places.ensures.len)) c.in_ok-places.ensures.places (c.in_ok-by_place.ensures rows given))
     c.reordered.ensures

@@ -1,4 +1,4 @@
-use Rattle.std.proofs.Common.{ℕ, ◌≡◌, ◌∙◌, List, length, get_or, length-set, arith}
+use Rattle.std.proofs.Common.{get_or, arith}
 use Rattle.ancestor_index.proofs.ListLemmas.{places_step}
 use Rattle.ancestor_index.proofs.closure.places_in.Goals as goal
 
@@ -8,6 +8,6 @@ loop-place-preserved c =
     record {
       len = c.loop-place.invariant.len;
       places = places_step c.args.order.now c.loop-place.places.items c.loop-place.place c.requires.once c.loop-place-test.true
-      (omega (arith, c.requires.below c.loop-place.place 0 c.loop-place-test.true, c.loop-place.invariant.len))
-      c.loop-place.invariant.places;
+          (omega (arith, c.requires.below c.loop-place.place 0 c.loop-place-test.true, c.loop-place.invariant.len))
+          c.loop-place.invariant.places;
     }

@@ -1,4 +1,4 @@
-use Rattle.std.proofs.Common.{ℕ, ◌≡◌, ◌<◌, ◌++◌, ◌∷◌, [], ◌∙◌, List, length, get_or, map, take, sym, subst, ap, arith}
+use Rattle.std.proofs.Common.{ℕ, ◌≡◌, ◌<◌, ◌++◌, ◌∷◌, [], ◌∙◌, List, length, get_or, sym, subst, ap, arith}
 use Rattle.std.specs.Prelude.{All}
 use Rattle.idset.specs.Sets.{listed_numbers}
 use Rattle.ancestor_index.proofs.ListLemmas.{map_more}

@@ -1,6 +1,4 @@
-use Rattle.std.proofs.Common.{ℕ, ◌≡◌, ◌+◌, ◌++◌, ◌∙◌, List, length, refl, sym, subst, ap, arith, length-append}
-use Rattle.idset.specs.Sets.{has_item}
-use Rattle.idset.specs.Words.{MarkedBelow}
+use Rattle.std.proofs.Common.{ℕ, ◌≡◌, ◌++◌, ◌∙◌, List, length, refl, sym, subst, ap, arith, length-append}
 use Rattle.ancestor_index.specs.Wide.{IsKept, IsWide}
 use Rattle.ancestor_index.proofs.WideLemmas.{kept_new}
 use Rattle.ancestor_index.proofs.wide.put_words.Goals as goal
@@ -13,4 +11,4 @@ returns-clause-kept c =
     let wide : IsWide c.args.count c.args.list.now = c.if-not-is_wide.ensures.0 refl in
     subst (λ (words : List ℕ). IsKept c.args.count c.args.list.now words c.len.result) (sym grown)
     (kept_new c.args.count c.args.list.now old marks c.len.result wide c.requires c.in_ok-marks.ensures
-        (omega (arith, c.len.ensures, ap (λ (xs : List ℕ). length xs) grown, length-append old marks)))
+    (omega (arith, c.len.ensures, ap (λ (xs : List ℕ). length xs) grown, length-append old marks)))

@@ -1,4 +1,4 @@
-use Rattle.std.proofs.Common.{ℕ, ◌≡◌, ◌<◌, ◌+◌, ◌++◌, ◌∷◌, [], ◌∙◌, List, length, get_or, sym, subst, ap, arith, length-append}
+use Rattle.std.proofs.Common.{ℕ, ◌++◌, ◌∷◌, [], ◌∙◌, List, length, get_or, sym, subst, ap, arith, length-append}
 use Rattle.snapshot.specs.KeyedLists.{list_of}
 use Rattle.ancestor_index.specs.Wide.{IsKept}
 use Rattle.ancestor_index.proofs.WideLemmas.{kept_step}
@@ -15,6 +15,6 @@ loop-concept-preserved c =
       kept = λ concept below.
           subst (λ (ends : List ℕ). IsKept c.args.count (list_of lists concept) c.put_words.new.words.items (get_or ends concept 0)) (sym pushed)
           (subst (λ (words : List ℕ). IsKept c.args.count (list_of lists concept) words (get_or (c.loop-concept.ends.items ++ c.in_ok-end.end ∷ []) concept 0)) (sym grown.1)
-              (kept_step c.args.count c.loop-concept.concept lists c.loop-concept.words.items grown.0 c.loop-concept.ends.items c.in_ok-end.end c.loop-concept.invariant.len c.loop-concept.invariant.kept
-                  (subst (λ (words : List ℕ). IsKept c.args.count (list_of lists c.loop-concept.concept) words c.in_ok-end.end) grown.1 here) concept below));
+          (kept_step c.args.count c.loop-concept.concept lists c.loop-concept.words.items grown.0 c.loop-concept.ends.items c.in_ok-end.end c.loop-concept.invariant.len c.loop-concept.invariant.kept
+          (subst (λ (words : List ℕ). IsKept c.args.count (list_of lists c.loop-concept.concept) words c.in_ok-end.end) grown.1 here) concept below));
     }

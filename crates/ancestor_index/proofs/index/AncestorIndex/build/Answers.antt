@@ -1,12 +1,11 @@
-use Rattle.std.proofs.Common.{ℕ, ◌≡◌, ◌<◌, ◌^◌, ◌∙◌, List, length, get_or, map, sym, subst, ap, arith}
+use Rattle.std.proofs.Common.{ℕ, ◌≡◌, ◌<◌, ◌^◌, ◌∙◌, List, length, map, sym, subst, ap, arith}
 use Rattle.idset.specs.Sets.{listed_numbers}
 use Rattle.rf2_rows.specs.Hierarchy.{reaches}
-use Rattle.snapshot.specs.KeyedLists.{AreItemsBelow, lists_by, turned, turned_from}
+use Rattle.snapshot.specs.KeyedLists.{turned, turned_from}
 use Rattle.snapshot.specs.Search.{IsWithin}
 use Rattle.snapshot.proofs.KeyedLemmas.{length-lists_by}
 use Rattle.snapshot.proofs.WayLemmas.{parents_below}
-use Rattle.ancestor_index.specs.HierarchyLists.{Hierarchy, is_child, lists_where}
-use Rattle.ancestor_index.specs.Parents.{AreParentsBy}
+use Rattle.ancestor_index.specs.HierarchyLists.{is_child, lists_where}
 use Rattle.ancestor_index.specs.Wide.{AreWide}
 use Rattle.ancestor_index.proofs.BuildLemmas.{given_parents, hierarchy_told, order_count, parents_listed, turned_where, where_below}
 use Rattle.ancestor_index.proofs.ClosureLemmas.{length-where}
@@ -48,9 +47,11 @@ ancestor_lists-requires-clause-parents c =
     let rows = c.isa_rows-rows.result.now in
     let count = c.concept_count-count.result in
     let parents = c.in_ok-parents.ensures ∙ ap (map (listed_numbers count)) c.in_ok-by_row.ensures ∙ parents_listed count rows in
-    let first = c.parents_first.ensures rows c.isa_rows-rows.ensures.rows c.isa_rows-rows.ensures.within in
-    (rows, given_parents (length c.args.snapshot.now.release.concepts) rows c.in_ok-parents.parents c.parents_first.result.now c.isa_rows-rows.ensures.within
-        (parents ∙ (λ i. lists_where (c.concept_count-count.ensures.count i) (is_child rows))) first)
+    let first = c.parents_first.ensures rows c.isa_rows-rows.ensures.rows c.isa_rows-rows.ensures.within in (
+      rows,
+      given_parents (length c.args.snapshot.now.release.concepts) rows c.in_ok-parents.parents c.parents_first.result.now c.isa_rows-rows.ensures.within
+          (parents ∙ (λ i. lists_where (c.concept_count-count.ensures.count i) (is_child rows))) first,
+    )
 
 pub turned-requires-2-clause-items : goal.turned-requires-2-clause-items
 turned-requires-2-clause-items c =

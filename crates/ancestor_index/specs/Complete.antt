@@ -1,0 +1,29 @@
+-- What the lists of a hierarchy have, in the words of the release: chains of is-a rows, and rows.
+use Rattle.std.specs.Prelude.{ℕ, ◌↔◌, ◌<◌, All, Contains, length, slice_index}
+use Rattle.std.specs.List.Sorted.{IsStrictlyIncreasing}
+use Rattle.rf2_rows.specs.Hierarchy.{Reaches}
+use Rattle.rf2_rows.specs.Release.{Release}
+use Rattle.snapshot.specs.KeyedLists.{list_of}
+use Rattle.ancestor_index.specs.HierarchyLists.{hierarchy_of}
+
+-- each list rises strictly
+abbrev pub AreRisingLists : Type 0
+AreRisingLists =
+    (release : Release)
+    → All IsStrictlyIncreasing (hierarchy_of release).ancestors × All IsStrictlyIncreasing (hierarchy_of release).descendants
+    × All IsStrictlyIncreasing (hierarchy_of release).parents × All IsStrictlyIncreasing (hierarchy_of release).children
+
+-- a concept's list of ancestors has another exactly where a chain of rows leads to it, and the list of descendants
+-- exactly where a chain leads from it
+abbrev pub AreComplete : Type 0
+AreComplete =
+    (release : Release) (concept other : ℕ) → concept < length release.concepts → other < length release.concepts
+    → (Contains (list_of (hierarchy_of release).ancestors concept) other ↔ Reaches release.isa (slice_index release.concepts concept) (slice_index release.concepts other))
+    × (Contains (list_of (hierarchy_of release).descendants concept) other ↔ Reaches release.isa (slice_index release.concepts other) (slice_index release.concepts concept))
+
+-- a list of parents exactly where a row leads to it, and a list of children exactly where a row leads from it
+abbrev pub AreSingleSteps : Type 0
+AreSingleSteps =
+    (release : Release) (concept other : ℕ) → concept < length release.concepts → other < length release.concepts
+    → (Contains (list_of (hierarchy_of release).parents concept) other ↔ Contains release.isa (slice_index release.concepts concept, slice_index release.concepts other))
+    × (Contains (list_of (hierarchy_of release).children concept) other ↔ Contains release.isa (slice_index release.concepts other, slice_index release.concepts concept))
