@@ -12,7 +12,7 @@ pub fn rising_lists(alloc: Global, lists: &KeyedLists, bound: u32) -> Result<Key
     requires few { length lists.now < 2 ^ 32 }
     ensures { IfOk result (λ rising. rising ≡ map (listed_numbers bound) lists.now) }
 {
-    let mut rising = KeyedLists::new(alloc)?;
+    let mut rising = KeyedLists::with_capacity(alloc, lists.len() as usize, lists.item_count())?;
     let mut list = Vec::new(alloc);
     for key in 0..lists.len() {
         list.clear();
