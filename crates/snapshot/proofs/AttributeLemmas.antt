@@ -2,12 +2,12 @@
 use Rattle.std.proofs.Common.{ℕ, suc, ◌≡◌, ◌&&◌, List, [], ◌∷◌, ◌++◌, map, get_or, All, ◌∙◌, ap, refl, arith, length-append}
 use Rattle.std.proofs.lemmas.List.{map-append}
 use Rattle.std.proofs.lemmas.List.Elements.{All-push}
-use Rattle.std.specs.Prelude.{filter}
 use Rattle.rf2_rows.specs.Release.{Attribute, Value, text_value}
-use Rattle.snapshot.specs.AttributesInside.{IsPlacedIn, IsWithinTexts, attribute_in, value_in}
+use Rattle.snapshot.specs.AttributesInside.{IsWithinTexts, attribute_in, value_in}
 use Rattle.snapshot.specs.InForce.{has}
 use Rattle.snapshot.specs.Kept.{attributes_among, is_value_among}
-use Rattle.snapshot.specs.declared.attributes.AttributeRow.{AttributeRow}
+use Rattle.std.specs.Prelude.{filter}
+use Rattle.snapshot.specs.declared.attributes.KeptRow.{KeptRow}
 use Rattle.snapshot.specs.declared.attributes.KeptValue.{KeptValue}
 use Rattle.snapshot.specs.declared.attributes.KeptValue.TheVariants.{Concept, Decimal, Other}
 use Rattle.snapshot.proofs.NameLemmas.{map-filter, range-append}
@@ -22,37 +22,43 @@ within-append texts more (Concept concept) within = tt
 within-append texts more (Decimal decimal) within = tt
 within-append texts more (Other start end) within = (within.0, omega (arith, within.1, length-append texts more))
 
-attributes-append : (texts more : List ℕ) (rows : List AttributeRow) → All (IsPlacedIn texts) rows
-    → map (attribute_in (texts ++ more)) rows ≡ map (attribute_in texts) rows
-attributes-append texts more [] placed = refl
-attributes-append texts more (row ∷ rows) placed =
-    (λ i. record {
-      source = row.source;
-      type_id = row.type_id;
-      group = row.group;
-      value = value-append texts more row.value (placed 0 row (omega arith)) i;
-    } ∷ attributes-append texts more rows (λ k d within. placed (suc k) d (omega arith)) i)
+-- rows of some type, each with a value that is kept, and the attributes that they are made
+module _ {Row : Type 0} (value_of : Row → KeptValue) (attribute_with : Row → Value → Attribute) where
+  abbrev rows_in : List ℕ → List Row → List Attribute
+  rows_in texts rows = map (λ row. attribute_with row (value_in texts (value_of row))) rows
 
--- one row more, whose text was written behind the others
-pub attributes_placed-push : (texts added grown : List ℕ) (rows items : List AttributeRow) (row : AttributeRow)
-    → grown ≡ texts ++ added → items ≡ rows ++ row ∷ [] → All (IsPlacedIn texts) rows → IsWithinTexts grown row.value → All (IsPlacedIn grown) items
-attributes_placed-push texts added grown rows items row grew pushed placed within =
-    rw (pushed, grew)
-    (All-push (IsPlacedIn (texts ++ added)) rows row (λ k d below. within-append texts added (get_or rows k d).value (placed k d below)) (rw grew at within))
+  rows_in-append : (texts more : List ℕ) (rows : List Row) → All (λ row. IsWithinTexts texts (value_of row)) rows → rows_in (texts ++ more) rows ≡ rows_in texts rows
+  rows_in-append texts more [] placed = refl
+  rows_in-append texts more (row ∷ rows) placed =
+      (λ i. attribute_with row (value-append texts more (value_of row) (placed 0 row (omega arith)) i)
+      ∷ rows_in-append texts more rows (λ k d within. placed (suc k) d (omega arith)) i)
 
-pub attributes-push : (texts added grown : List ℕ) (rows items : List AttributeRow) (row : AttributeRow) (value : Value)
-    → grown ≡ texts ++ added → items ≡ rows ++ row ∷ [] → All (IsPlacedIn texts) rows → value_in grown row.value ≡ value
-    → map (attribute_in grown) items
-    ≡ map (attribute_in texts) rows ++ record { source = row.source; type_id = row.type_id; group = row.group; value = value } ∷ []
-attributes-push texts added grown rows items row value grew pushed placed is =
-    ap (map (attribute_in grown)) pushed
-    ∙ map-append (attribute_in grown) rows (row ∷ [])
-    ∙ (λ i. (ap (λ (all : List ℕ). map (attribute_in all) rows) grew ∙ attributes-append texts added rows placed) i
-    ++ record { source = row.source; type_id = row.type_id; group = row.group; value = is i } ∷ [])
+  -- one row more, whose text was written behind the others
+  pub within-push : (texts added grown : List ℕ) (rows items : List Row) (row : Row)
+      → grown ≡ texts ++ added → items ≡ rows ++ row ∷ [] → All (λ row. IsWithinTexts texts (value_of row)) rows → IsWithinTexts grown (value_of row)
+      → All (λ row. IsWithinTexts grown (value_of row)) items
+  within-push texts added grown rows items row grew pushed placed within =
+      rw (pushed, grew)
+      (All-push (λ row. IsWithinTexts (texts ++ added) (value_of row)) rows row (λ k d below. within-append texts added (value_of (get_or rows k d)) (placed k d below)) (rw grew at within))
+
+  -- the same rows, where the buffer alone has grown
+  pub within-grown : (texts added grown : List ℕ) (rows items : List Row) → grown ≡ texts ++ added → items ≡ rows
+      → All (λ row. IsWithinTexts texts (value_of row)) rows → All (λ row. IsWithinTexts grown (value_of row)) items
+  within-grown texts added grown rows items grew same placed =
+      rw (same, grew) (λ k d below. within-append texts added (value_of (get_or rows k d)) (placed k d below))
+
+  pub rows_in-push : (texts added grown : List ℕ) (rows items : List Row) (row : Row) (value : Value)
+      → grown ≡ texts ++ added → items ≡ rows ++ row ∷ [] → All (λ row. IsWithinTexts texts (value_of row)) rows → value_in grown (value_of row) ≡ value
+      → map (λ row. attribute_with row (value_in grown (value_of row))) items
+      ≡ map (λ row. attribute_with row (value_in texts (value_of row))) rows ++ attribute_with row value ∷ []
+  rows_in-push texts added grown rows items row value grew pushed placed is =
+      ap (rows_in grown) pushed
+      ∙ map-append (λ row. attribute_with row (value_in grown (value_of row))) rows (row ∷ [])
+      ∙ (λ i. (ap (λ (all : List ℕ). rows_in all rows) grew ∙ rows_in-append texts added rows placed) i ++ attribute_with row (is i) ∷ [])
 
 -- the rows that are left stand for the attributes that are left
-pub attributes-retained : (keys texts : List ℕ) (rows : List AttributeRow)
-    → map (attribute_in texts) (filter (λ (row : AttributeRow). has keys row.source && is_value_among keys (value_in texts row.value)) rows)
+pub attributes-retained : (keys texts : List ℕ) (rows : List KeptRow)
+    → map (attribute_in texts) (filter (λ (row : KeptRow). has keys row.source && is_value_among keys (value_in texts row.value)) rows)
     ≡ attributes_among keys (map (attribute_in texts) rows)
 attributes-retained keys texts rows =
     map-filter (attribute_in texts) (λ (attribute : Attribute). has keys attribute.source && is_value_among keys attribute.value) rows

@@ -1,6 +1,7 @@
 -- From what was kept of the rows to the contents of a snapshot.
-use Rattle.std.proofs.Common.{ℕ, ◌≡◌, ◌≤◌, ◌+◌, ◌-◌, List, [], ◌∷◌, length, map, Option, None, Some, Ok, Err, sym, ◌∙◌, ap, subst, arith, Bool, true, false, cond, nat_lt, nat_eq, ◌&&◌}
+use Rattle.std.proofs.Common.{ℕ, ◌≡◌, ◌≤◌, ◌+◌, ◌-◌, All, refl, List, [], ◌∷◌, length, map, Option, None, Some, Ok, Err, sym, ◌∙◌, ap, subst, arith, Bool, true, false, cond, nat_lt, nat_eq, ◌&&◌}
 use Rattle.std.proofs.lemmas.List.{length-map}
+use Rattle.std.proofs.lemmas.List.Elements.{All-cons}
 use Rattle.std.proofs.lemmas.List.Sums.{length-filter, count_by-le-length}
 use Rattle.std.specs.Prelude.{option_map}
 use Rattle.std.specs.List.{filter_map}
@@ -107,6 +108,17 @@ length-attributes_among concepts attributes =
       length-filter (λ (attribute : Attribute). has concepts attribute.source && is_value_among concepts attribute.value) attributes,
       count_by-le-length (λ (attribute : Attribute). has concepts attribute.source && is_value_among concepts attribute.value) attributes,
     )
+
+-- the sources of attributes of some concepts are these
+pub attributes_among-known : (concepts : List ℕ) (attributes : List Attribute) → All (λ (row : Attribute). has concepts row.source ≡ true) (attributes_among concepts attributes)
+attributes_among-known concepts [] = λ k d within. absurd (omega arith)
+attributes_among-known concepts (attribute ∷ attributes) = by (has concepts attribute.source) refl (is_value_among concepts attribute.value) (attributes_among-known concepts attributes)
+  where
+    by : (source : Bool) → has concepts attribute.source ≡ source → (value : Bool) → All (λ (row : Attribute). has concepts row.source ≡ true) (attributes_among concepts attributes)
+        → All (λ (row : Attribute). has concepts row.source ≡ true) (cond (source && value) (attribute ∷ attributes_among concepts attributes) (attributes_among concepts attributes))
+    by true there true rest = All-cons (λ (row : Attribute). has concepts row.source ≡ true) attribute (attributes_among concepts attributes) there rest
+    by true there false rest = rest
+    by false lacks value rest = rest
 
 -- the fault that names the least concept that reaches itself is that of the load
 pub least_cycle : (fault : LoadFault) (concepts : List ℕ) → IsStrictlyIncreasing concepts → (ends : List (ℕ × ℕ)) → IsLeastCycle fault concepts (filter_map (numbered_row concepts) ends) → IsCycle fault (first_cyclic concepts (rows_among concepts ends))

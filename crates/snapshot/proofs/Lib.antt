@@ -17,4 +17,5 @@ pub mod ReleaseLemmas
 pub mod RisingLemmas
 pub mod SearchLemmas
 pub mod SortLemmas
+pub mod SortedLemmas
 pub mod WayLemmas

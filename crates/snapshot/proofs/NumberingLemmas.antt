@@ -57,7 +57,7 @@ place_of-get_or concepts rising i within =
     (λ _. eq-eqb (get_or concepts i 0) (get_or concepts i 0) refl)
 
 -- the number of a concept among others is its place
-number_of-has : (concepts : List ℕ) (id : ℕ) → has concepts id ≡ true → number_of concepts id ≡ Some (place_of concepts id)
+pub number_of-has : (concepts : List ℕ) (id : ℕ) → has concepts id ≡ true → number_of concepts id ≡ Some (place_of concepts id)
 number_of-has concepts id there = rw (place_within concepts id, there) refl
 
 number_of-lacks : (concepts : List ℕ) (id : ℕ) → has concepts id ≡ false → number_of concepts id ≡ None

@@ -1,3 +1,4 @@
+pub mod AttributesBySource
 pub mod AttributesInside
 pub mod Contents
 pub mod FaultNumbers
@@ -19,3 +20,5 @@ pub mod Released
 pub mod RowsKept
 pub mod Search
 pub mod SnapshotInside
+pub mod Sorted
+pub mod SortedInside

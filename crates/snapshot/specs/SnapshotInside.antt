@@ -6,6 +6,7 @@ use Rattle.snapshot.specs.FirstRows.{AreFirstPlaces}
 use Rattle.snapshot.specs.Numbering.{row_of_numbers}
 use Rattle.snapshot.specs.ParentsFirst.{IsParentsFirst}
 use Rattle.snapshot.specs.Search.{IsWithin}
+use Rattle.snapshot.specs.Sorted.{IsSortedBySource, in_file_order}
 use Rattle.snapshot.specs.declared.load.Snapshot.TheInside.{Inside}
 
 -- the contents that the fields stand for
@@ -14,7 +15,7 @@ contents_in inside = record {
   release = record {
     concepts = inside.concepts.items;
     isa = map (row_of_numbers inside.concepts.items) inside.isa.items;
-    attributes = inside.attributes;
+    attributes = in_file_order inside.concepts.items inside.attributes;
     members = map (row_of_numbers inside.concepts.items) inside.members.items;
     names = inside.names;
   };
@@ -24,8 +25,8 @@ contents_in inside = record {
 }
 
 -- the concepts rise, and each is found at its number; the numbers in rows are those of concepts; parents
--- come first in the order of the concepts; and for
--- each concept the place of the row that names it is known
+-- come first in the order of the concepts; for each concept the place of the row that names it is known;
+-- and the attribute rows are sorted by source, few enough to number
 abbrev pub IsNumbered : Inside → Type 0
 IsNumbered inside =
     IsStrictlyIncreasing inside.concepts.items
@@ -35,3 +36,5 @@ IsNumbered inside =
     × IsWithin (length inside.concepts.items) inside.members.items
     × AreFirstPlaces (string_bytes inside.language) inside.concepts.items inside.names inside.names inside.first_names.items
     × IsParentsFirst (length inside.concepts.items) inside.isa.items inside.order.items
+    × IsSortedBySource inside.concepts.items inside.attributes
+    × (length inside.attributes.rows < 2 ^ 32)

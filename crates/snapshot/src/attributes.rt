@@ -1,7 +1,8 @@
 //! Attribute rows in the order in which they were read, with the texts of their values in one buffer.
-ghost use Rattle.std.specs.Prelude.{ℕ, ◌≡◌, ◌&&◌, ◌++◌, ◌∷◌, List, [], IfOk, OnOk, length};
+ghost use Rattle.std.specs.Prelude.{ℕ, ◌≡◌, ◌<◌, ◌&&◌, ◌++◌, ◌∷◌, List, [], IfOk, OnOk, length, slice_index_or};
+ghost use Rattle.rf2_rows.specs.Release.{Attribute};
 ghost use Rattle.rf2_rows.specs.Rows.{value_lent};
-ghost use Rattle.snapshot.specs.AttributesInside.{IsWithinTexts, value_in};
+ghost use Rattle.snapshot.specs.AttributesInside.{IsWithinTexts, attribute_read, value_in};
 ghost use Rattle.snapshot.specs.InForce.{has};
 ghost use Rattle.snapshot.specs.Kept.{attributes_among, is_value_among};
 
@@ -13,7 +14,7 @@ use std::marker::Model;
 
 /// The value of an attribute, whose text stands in the buffer of all texts.
 #[derive(Clone, Copy, Debug)]
-enum KeptValue {
+pub enum KeptValue {
     Concept(SctId),
     Decimal(Decimal),
     Other { start: usize, end: usize },
@@ -21,17 +22,26 @@ enum KeptValue {
 
 /// An attribute row: its source, type, group and value.
 #[derive(Clone, Copy, Debug)]
-struct AttributeRow {
+struct KeptRow {
     source: SctId,
     type_id: SctId,
     group: u32,
     value: KeptValue,
 }
 
+/// An attribute row as it was read, whose text is lent.
+#[derive(Clone, Copy)]
+pub struct ReadRow<'a> {
+    pub source: SctId,
+    pub type_id: SctId,
+    pub group: u32,
+    pub value: Value<'a>,
+}
+
 /// Attribute rows in the order in which they were read. Contracts see the list of them.
 #[derive(Drop, Debug)]
 pub struct Attributes {
-    rows: Vec<AttributeRow>,
+    rows: Vec<KeptRow>,
     // the texts of values, one behind the other
     texts: Vec<u8>,
 }
@@ -66,6 +76,20 @@ impl Attributes {
         self.rows.len()
     }
 
+    /// The row at a place.
+    pub fn row(&self, place: usize) -> ReadRow<'_>
+        requires { place < length self.now }
+        ensures { (default : Attribute) → attribute_read result ≡ slice_index_or self.now place default }
+    {
+        let row = self.rows[place];
+        ReadRow {
+            source: row.source,
+            type_id: row.type_id,
+            group: row.group,
+            value: lend_value(self.texts.as_slice(), row.value),
+        }
+    }
+
     /// Adds a row.
     pub fn push(
         &mut self,
@@ -77,7 +101,7 @@ impl Attributes {
         ensures { OnOk result (self.new ≡ self.old ++ record { source = source; type_id = type_id; group = group; value = value_lent value.now } ∷ []) }
     {
         let kept = keep_value(&mut self.texts, value)?;
-        self.rows.push(AttributeRow {
+        self.rows.push(KeptRow {
             source,
             type_id,
             group,
@@ -87,7 +111,7 @@ impl Attributes {
     }
 
     /// Leaves the rows of some concepts whose values are no concepts or among these. The texts of the
-    /// others stay in the buffer.
+    /// others leave with the buffer, where the rows are sorted.
     pub fn retain_among(&mut self, concepts: &IndexSet<u64>)
         ensures { self.new ≡ attributes_among concepts.now.keys self.old }
     {
@@ -95,8 +119,8 @@ impl Attributes {
     }
 }
 
-// Puts the text of a value behind the others.
-fn keep_value(texts: &mut Vec<u8>, value: &Value<'_>) -> Result<KeptValue, AllocError>
+/// Puts the text of a value behind the others.
+pub fn keep_value(texts: &mut Vec<u8>, value: &Value<'_>) -> Result<KeptValue, AllocError>
     ensures grown { (added : List ℕ) × (texts.new.items ≡ texts.old.items ++ added) }
     ensures value { IfOk result (λ kept. value_in texts.new.items kept ≡ value_lent value.now) }
     ensures within { IfOk result (λ kept. IsWithinTexts texts.new.items kept) }
@@ -115,8 +139,20 @@ fn keep_value(texts: &mut Vec<u8>, value: &Value<'_>) -> Result<KeptValue, Alloc
     }
 }
 
+/// A value that is kept, with its text lent.
+pub fn lend_value(texts: &[u8], value: KeptValue) -> Value<'_>
+    requires { IsWithinTexts texts.now value }
+    ensures { value_lent result ≡ value_in texts.now value }
+{
+    match value {
+        KeptValue::Concept(concept) => Value::Concept(concept),
+        KeptValue::Decimal(decimal) => Value::Decimal(decimal),
+        KeptValue::Other { start, end } => Value::Other(&texts[start..end]),
+    }
+}
+
 // Whether a row is of one of some concepts, and its value is no concept or one of them.
-fn is_row_among(concepts: &IndexSet<u64>, row: &AttributeRow) -> bool
+fn is_row_among(concepts: &IndexSet<u64>, row: &KeptRow) -> bool
     ensures { (texts : List ℕ) → result ≡ (has concepts.now.keys row.now.source && is_value_among concepts.now.keys (value_in texts row.now.value)) }
 {
     concepts.contains(&row.source.number()) && is_value_among(concepts, row.value)

@@ -13,7 +13,9 @@ mod load;
 mod names;
 mod numbering;
 mod order;
+mod report;
 mod rows;
+mod sorted_attributes;
 
 pub use crate::fault::LoadFault;
 pub use crate::keyed_lists::KeyedLists;
@@ -23,3 +25,5 @@ pub use crate::laws::{
 };
 pub use crate::limits::Limits;
 pub use crate::load::Snapshot;
+pub use crate::report::Report;
+pub use crate::sorted_attributes::AttributeRow;

@@ -1,7 +1,8 @@
 //! Loading a release, and reading it.
-ghost use Rattle.std.specs.Prelude.{◌≡◌, ◌<◌, ◌^◌, ℕ, List, Err, None, Ok, false, IfOk, IfErr, OnOk, map, length, slice_index, string_bytes, count_by, nat_eq};
-ghost use Rattle.std.specs.List.{filter_map, list_any, IsDistinct};
+ghost use Rattle.std.specs.Prelude.{◌≡◌, ◌<◌, ◌^◌, ℕ, List, Err, None, Some, Ok, false, IfOk, IfErr, OnOk, map, length, slice_index, string_bytes, count_by, nat_eq};
+ghost use Rattle.std.specs.List.{filter_map, list_any, slice_get, IsDistinct};
 ghost use Rattle.std.specs.List.Sorted.{IsStrictlyIncreasing};
+ghost use Rattle.snapshot.specs.AttributesBySource.{attribute_of, attributes_by_source, with_source};
 ghost use Rattle.snapshot.specs.Contents.{IsFaultOf, first_cyclic, load_of};
 ghost use Rattle.snapshot.specs.Files.{file_text, has_kind as has_kind_of, is_concept_file as is_concept_file_of, places_from};
 ghost use Rattle.snapshot.specs.InForce.{rising as rising_of, rows_among};
@@ -13,6 +14,7 @@ ghost use Rattle.rf2_rows.specs.Hierarchy.{Reaches};
 ghost use Rattle.snapshot.specs.ParentsFirst.{IsParentsFirst};
 ghost use Rattle.snapshot.specs.RowsKept.{kept_in};
 ghost use Rattle.snapshot.specs.Search.{IsLeastCycle, IsWithin};
+ghost use Rattle.snapshot.specs.Sorted.{IsSortedBySource, in_file_order};
 
 use crate::attributes::Attributes;
 use crate::cycle::least_cyclic;
@@ -21,7 +23,9 @@ use crate::limits::Limits;
 use crate::names::Names;
 use crate::numbering::{number_concepts, number_of, number_rows};
 use crate::order::parents_first;
+use crate::report::Report;
 use crate::rows::{ActiveRows, Rows};
+use crate::sorted_attributes::{AttributeRow, SortedAttributes, sort_by_source};
 use indexmap::IndexSet;
 use release_files::NamedBytes;
 use rf2_rows::{FileKind, file_kind};
@@ -42,8 +46,8 @@ pub struct Snapshot {
     isa: Vec<(u32, u32)>,
     // the numbers of the concepts in an order in which parents come first
     order: Vec<u32>,
-    // the attribute rows in the order of the rows
-    attributes: Attributes,
+    // the attribute rows sorted by source
+    attributes: SortedAttributes,
     // reference set and component of each member row, in the order of the rows
     members: Vec<(u32, u32)>,
     // the name rows in the order of the rows
@@ -161,6 +165,46 @@ impl Snapshot {
     {
         self.members.as_slice()
     }
+
+    /// How many attribute rows are in force.
+    pub fn attribute_count(&self) -> u32
+        ensures { result ≡ length self.now.release.attributes }
+    {
+        self.attributes.len() as u32
+    }
+
+    /// An attribute row in force by its number, which is below `attribute_count`. The rows are
+    /// numbered by source: those of the first concept come first, and those of one concept are in the
+    /// order of the files and their lines.
+    pub fn attribute_row(&self, n: u32) -> AttributeRow<'_>
+        requires { n < length self.now.release.attributes }
+        ensures row { slice_get (attributes_by_source self.now.release) n ≡ Some (with_source self.now.release.concepts (attribute_of result)) }
+        ensures source { result.source < length self.now.release.concepts }
+    {
+        self.attributes.row(n as usize)
+    }
+
+    /// How many files the release was loaded from, and how many of its rows are in force or passed
+    /// over.
+    pub fn report(&self) -> Report
+        ensures files { result.files ≡ self.now.files }
+        ensures concepts { result.concepts ≡ length self.now.release.concepts }
+        ensures isa { result.isa ≡ length self.now.release.isa }
+        ensures attributes { result.attributes ≡ length self.now.release.attributes }
+        ensures members { result.members ≡ length self.now.release.members }
+        ensures names { result.names ≡ length self.now.release.names }
+        ensures passed { result.passed ≡ self.now.passed }
+    {
+        Report {
+            files: self.files,
+            concepts: self.concepts.len() as u64,
+            isa: self.isa.len() as u64,
+            attributes: self.attributes.len() as u64,
+            members: self.members.len() as u64,
+            names: self.names.len() as u64,
+            passed: self.passed,
+        }
+    }
 }
 
 // Whether a file of the list has the name of a Concept file.
@@ -268,12 +312,12 @@ fn finish(alloc: Global, rows: Rows, language: String, files: u64) -> Result<Sna
 struct Lists {
     names: Names,
     first_names: Vec<Option<u32>>,
-    attributes: Attributes,
+    attributes: SortedAttributes,
     members: Vec<(u32, u32)>,
 }
 
-// The name rows, attribute rows and member rows of some concepts, and for each of these the place of
-// the row that names it in a language.
+// The name rows, attribute rows, sorted by source, and member rows of some concepts, and for each of
+// these the place of the row that names it in a language.
 fn lists_among(
     alloc: Global,
     numbers: &IndexSet<u64>,
@@ -283,15 +327,18 @@ fn lists_among(
     member_ends: &[(SctId, SctId)],
 ) -> Result<Lists, AllocError>
     requires few { length names < 2 ^ 32 }
+    requires few_attributes { length attributes < 2 ^ 32 }
     requires rising { IsStrictlyIncreasing numbers.now.keys }
     requires few_concepts { length numbers.now.keys < 2 ^ 32 }
     ensures names { IfOk result (λ lists. lists.names ≡ names_among numbers.now.keys names) }
     ensures first { IfOk result (λ lists. AreFirstPlaces language.now numbers.now.keys lists.names lists.names lists.first_names.items) }
-    ensures attributes { IfOk result (λ lists. lists.attributes ≡ attributes_among numbers.now.keys attributes) }
+    ensures attributes { IfOk result (λ lists. in_file_order numbers.now.keys lists.attributes ≡ attributes_among numbers.now.keys attributes) }
+    ensures sorted { IfOk result (λ lists. IsSortedBySource numbers.now.keys lists.attributes) }
     ensures members { IfOk result (λ lists. lists.members.items ≡ filter_map (numbered_row numbers.now.keys) member_ends.now) }
 {
-    names.retain_among(numbers);
+    names.retain_among(alloc, numbers)?;
     attributes.retain_among(numbers);
+    let attributes = sort_by_source(alloc, numbers, &attributes)?;
     let first_names = names.first_places(alloc, numbers, language)?;
     let members = number_rows(alloc, numbers, member_ends)?;
     Ok(Lists {

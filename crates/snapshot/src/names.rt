@@ -4,7 +4,7 @@ ghost use Rattle.std.specs.List.{slice_get};
 ghost use Rattle.std.specs.List.Sorted.{IsStrictlyIncreasing};
 ghost use Rattle.rf2_rows.specs.Release.{Name};
 ghost use Rattle.snapshot.specs.FirstRows.{AreFirstPlaces, IsFirstOfTwo};
-ghost use Rattle.snapshot.specs.Kept.{names_among};
+ghost use Rattle.snapshot.specs.Kept.{names_among as names_among_of};
 ghost use Rattle.snapshot.specs.Name.{comes_before as comes_before_of};
 ghost use Rattle.snapshot.specs.NamesInside.{IsPlaced, name_in};
 
@@ -55,6 +55,23 @@ impl Names {
         }
     }
 
+    // No row, and room for rows and for the bytes of their texts.
+    fn with_capacity(alloc: Global, rows: usize, bytes: usize) -> Result<Names, AllocError>
+        ensures { IfOk result (λ names. names ≡ []) }
+    {
+        let rows = Vec::with_capacity(alloc, rows)?;
+        let texts = String::with_capacity(alloc, bytes)?;
+        Ok(Names { rows, texts })
+    }
+
+    // Gives back the memory that no row takes.
+    fn shrink_to_fit(&mut self)
+        ensures { self.new ≡ self.old }
+    {
+        self.rows.shrink_to_fit();
+        self.texts.shrink_to_fit();
+    }
+
     /// How many rows there are.
     pub fn len(&self) -> usize
         ensures { result ≡ length self.now }
@@ -95,12 +112,17 @@ impl Names {
         term_of(self.texts.as_str(), &self.rows[place])
     }
 
-    /// Leaves the rows of some concepts. The texts of the others stay in the buffer.
-    pub fn retain_among(&mut self, concepts: &IndexSet<u64>)
-        ensures { self.new ≡ names_among concepts.now.keys self.old }
+    /// Leaves the rows of some concepts, and in the buffer the texts of these alone.
+    pub fn retain_among(
+        &mut self,
+        alloc: Global,
+        concepts: &IndexSet<u64>,
+    ) -> Result<(), AllocError>
+        ensures { OnOk result (self.new ≡ names_among_of concepts.now.keys self.old) }
     {
-        self.rows
-            .retain(|row| concepts.contains(&row.concept.number()));
+        let left = names_among(alloc, self.texts.as_str(), self.rows.as_slice(), concepts)?;
+        *self = left;
+        Ok(())
     }
 
     /// For each of some concepts the place of the row that names it in a language, if there is one.
@@ -179,6 +201,31 @@ fn first_of_two(
             ) => { other }
         _ => place,
     }
+}
+
+// The rows of some concepts, with their texts one behind the other in a buffer of their own.
+fn names_among(
+    alloc: Global,
+    texts: &str,
+    rows: &[NameRow],
+    concepts: &IndexSet<u64>,
+) -> Result<Names, AllocError>
+    requires { All (IsPlaced texts.now) rows.now }
+    ensures { IfOk result (λ names. names ≡ names_among_of concepts.now.keys (map (name_in texts.now) rows.now)) }
+{
+    let mut names = Names::with_capacity(alloc, rows.len(), texts.len())?;
+    for row in rows {
+        if concepts.contains(&row.concept.number()) {
+            names.push(
+                row.id,
+                row.concept,
+                language_of(texts, row),
+                term_of(texts, row),
+            )?;
+        }
+    }
+    names.shrink_to_fit();
+    Ok(names)
 }
 
 // For each of some concepts the place of the row that names it, if there is one.

@@ -10,7 +10,8 @@ use Rattle.snapshot.specs.Numbering.{numbered_row}
 use Rattle.snapshot.specs.ParentsFirst.{IsParentsFirst}
 use Rattle.snapshot.specs.RowsKept.{kept_in}
 use Rattle.snapshot.specs.Search.{IsWithin}
-use Rattle.snapshot.proofs.FinishLemmas.{finished-Ok, finished-Err, length-rising}
+use Rattle.snapshot.specs.Sorted.{IsSortedBySource, in_file_order}
+use Rattle.snapshot.proofs.FinishLemmas.{finished-Ok, finished-Err, length-attributes_among, length-rising}
 use Rattle.snapshot.proofs.NumberingLemmas.{IsWithin-numbered}
 use Rattle.snapshot.proofs.load.finish.Goals as goal
 
@@ -29,6 +30,11 @@ pub lists_among-requires-clause-few : goal.lists_among-requires-clause-few
 lists_among-requires-clause-few c =
     let same : length c.into_active-concepts.result.names ≡ length (kept_in c.args.rows).names = ap length c.into_active-concepts.ensures.names in
     omega (arith, c.requires.2, c.requires.6)
+
+pub lists_among-requires-clause-few_attributes : goal.lists_among-requires-clause-few_attributes
+lists_among-requires-clause-few_attributes c =
+    let same : length c.into_active-concepts.result.attributes ≡ length (kept_in c.args.rows).attributes = ap length c.into_active-concepts.ensures.attributes in
+    omega (arith, c.requires.3, c.requires.7, c.requires.8)
 
 pub lists_among-requires-clause-few_concepts : goal.lists_among-requires-clause-few_concepts
 lists_among-requires-clause-few_concepts c =
@@ -49,7 +55,16 @@ invariant_of-result c =
     c.in-Ok.ensures.rows ∙ ap (λ (concepts : List ℕ). filter_map (numbered_row concepts) c.as_slice-2.result.now) same in
     let lists = c.in_ok-lists-in-Ok.lists in
     let members : lists.members.items ≡ filter_map (numbered_row c.rising-concepts.result.items) c.as_slice-in-Ok.result.now =
-    c.in_ok-lists-in-Ok.ensures.members ∙ ap (λ (concepts : List ℕ). filter_map (numbered_row concepts) c.as_slice-in-Ok.result.now) keys in (
+    c.in_ok-lists-in-Ok.ensures.members ∙ ap (λ (concepts : List ℕ). filter_map (numbered_row concepts) c.as_slice-in-Ok.result.now) keys in
+    let few_rows : length lists.attributes.rows ≤ length (kept_in c.args.rows).attributes =
+    omega (
+      arith,
+      c.in_ok-lists-in-Ok.ensures.sorted.count,
+      ap length c.in_ok-lists-in-Ok.ensures.attributes,
+      length-attributes_among c.in-Ok.hierarchy.numbers.keys c.into_active-concepts.result.attributes,
+      ap length c.into_active-concepts.ensures.attributes,
+    ) in
+    let few_read : length (kept_in c.args.rows).attributes < 4294967296 = omega (arith, c.requires.3, c.requires.7, c.requires.8) in (
       c.rising-concepts.ensures.increasing,
       keys,
       few,
@@ -58,6 +73,8 @@ invariant_of-result c =
       subst (λ (language : List ℕ). AreFirstPlaces language c.rising-concepts.result.items lists.names lists.names lists.first_names.items) c.as_str.ensures.value
           (subst (λ (concepts : List ℕ). AreFirstPlaces c.as_str.result.now concepts lists.names lists.names lists.first_names.items) keys c.in_ok-lists-in-Ok.ensures.first),
       subst (λ (count : ℕ). IsParentsFirst count c.in-Ok.hierarchy.isa.items c.in-Ok.hierarchy.order.items) (ap length same) c.in-Ok.ensures.order,
+      subst (λ (concepts : List ℕ). IsSortedBySource concepts lists.attributes) keys c.in_ok-lists-in-Ok.ensures.sorted,
+      omega (arith, few_rows, few_read),
     )
 
 pub returns-in_ok-lists-in-Ok-clause-ok : goal.returns-in_ok-lists-in-Ok-clause-ok
@@ -74,14 +91,16 @@ returns-in_ok-lists-in-Ok-clause-ok c =
     c.in-Ok.ensures.rows ∙ (λ i. filter_map (numbered_row (same i)) (ends i)) in
     let members : lists.members.items ≡ filter_map (numbered_row concepts) kept.member_ends =
     c.in_ok-lists-in-Ok.ensures.members ∙ (λ i. filter_map (numbered_row (keys i)) (member_ends i)) in
-    let attributes : lists.attributes ≡ attributes_among concepts kept.attributes =
-    c.in_ok-lists-in-Ok.ensures.attributes ∙ (λ i. attributes_among (keys i) (c.into_active-concepts.ensures.attributes i)) in
+    let attributes : in_file_order concepts lists.attributes ≡ attributes_among concepts kept.attributes =
+    ap (λ (concepts : List ℕ). in_file_order concepts lists.attributes) (sym keys) ∙ c.in_ok-lists-in-Ok.ensures.attributes ∙ (λ i. attributes_among (keys i) (c.into_active-concepts.ensures.attributes i)) in
     let names : lists.names ≡ names_among concepts kept.names =
     c.in_ok-lists-in-Ok.ensures.names ∙ (λ i. names_among (keys i) (c.into_active-concepts.ensures.names i)) in
+    let counted : length (in_file_order concepts lists.attributes) ≡ length lists.attributes.rows =
+    ap (λ (concepts : List ℕ). length (in_file_order concepts lists.attributes)) (sym keys) ∙ c.in_ok-lists-in-Ok.ensures.sorted.count in
     let acyclic : first_cyclic concepts (rows_among concepts kept.isa_ends) ≡ None =
     sym (λ i. first_cyclic (same i) (rows_among (same i) (ends i))) ∙ c.in-Ok.ensures.acyclic in
-    finished-Ok (string_bytes c.args.language) c.args.files kept concepts c.in-Ok.hierarchy.isa.items lists.attributes lists.members.items lists.names c.saturating_sub.result
-    rises isa attributes members names acyclic (omega arith)
+    finished-Ok (string_bytes c.args.language) c.args.files kept concepts c.in-Ok.hierarchy.isa.items (in_file_order concepts lists.attributes) lists.members.items lists.names c.saturating_sub.result
+    rises isa attributes members names acyclic (omega (arith, counted))
 
 pub returns-in-Err-clause-err : goal.returns-in-Err-clause-err
 returns-in-Err-clause-err c =
