@@ -1,17 +1,17 @@
 -- From the is-a rows of a release to its hierarchy.
-use Rattle.std.proofs.Common.{ℕ, zero, suc, ◌+◌, ◌*◌, ◌^◌, ◌==◌, ◌≡◌, ◌≢◌, ◌<◌, ◌≤◌, ◌++◌, ◌∷◌, [], ◌∙◌, ⊎_elim, Bool, true, false, cond, List, length, get_or, map, refl, sym, ap, subst, arith}
+use Rattle.std.proofs.Common.{ℕ, zero, suc, ◌+◌, ◌==◌, ◌≡◌, ◌≢◌, ◌<◌, ◌≤◌, ◌++◌, ◌∷◌, [], ◌∙◌, ⊎_elim, Bool, true, false, cond, List, length, get_or, map, refl, sym, ap, subst, arith}
 use Rattle.std.specs.Prelude.{Contains}
 use Rattle.std.specs.List.{filter, range_with_len}
 use Rattle.std.specs.List.Sorted.{IsStrictlyIncreasing}
 use Rattle.std.proofs.lemmas.Bool.{cases_eq, cases_lt, eq-eqb, ne_eqb}
-use Rattle.std.proofs.lemmas.List.{get_or_default, length-append, length-map}
+use Rattle.std.proofs.lemmas.List.{get_or_default}
 use Rattle.std.proofs.lemmas.List.Elements.{Contains-get_or}
 use Rattle.std.proofs.lemmas.Map.Steps.{length-le_from_distinct_below, le-length_from_below}
 use Rattle.rf2_rows.specs.Hierarchy.{Reaches, reaches}
 use Rattle.rf2_rows.specs.Release.{Release}
 use Rattle.rf2_rows.proofs.HierarchyLemmas.{chain_from_test, test_from_chain}
 use Rattle.idset.specs.Sets.{has_item, listed_numbers, numbers_where}
-use Rattle.idset.proofs.Normal.{length-numbers_where-le, numbers_where-agree}
+use Rattle.idset.proofs.Normal.{numbers_where-agree}
 use Rattle.snapshot.specs.KeyedLists.{AreItemsBelow, items_of, lists_by, list_of, turned, turned_from, with_key}
 use Rattle.snapshot.specs.Numbering.{row_of_numbers}
 use Rattle.snapshot.specs.ParentsFirst.{IsParentsFirst}
@@ -179,22 +179,3 @@ hierarchy_told release rows count all rises within are ancestors descendants par
 
     child : (a b : ℕ) → a < length release.concepts → b < length release.concepts → is_child rows a b ≡ is_child release.isa (id a) (id b)
     child = same_child release.concepts rows release.isa rises within are
-
--- the items of all lists are fewer than numbers of 64 bits
-few_from : (count : ℕ) (test : ℕ → ℕ → Bool) → count < 2 ^ 32 → (key low many : ℕ)
-    → length (turned_from key (map (λ concept. numbers_where count (test concept)) (range_with_len low many))) ≤ many * 2 ^ 32
-few_from count test few key low zero = omega arith
-few_from count test few key low (suc many) =
-    let list = numbers_where count (test low) in
-    let rest = few_from count test few (key + 1) (low + 1) many in
-    omega (
-      arith,
-      rest,
-      few,
-      length-numbers_where-le count (test low),
-      length-append (with_key key list) (turned_from (key + 1) (map (λ concept. numbers_where count (test concept)) (range_with_len (low + 1) many))),
-      length-map {B = ℕ × ℕ} list (λ item. (item, key)),
-    )
-
-pub few_pairs : (count : ℕ) (test : ℕ → ℕ → Bool) → count < 2 ^ 32 → length (turned_from 0 (lists_where count test)) < 2 ^ 64
-few_pairs count test few = omega (arith, few, few_from count test few 0 0 count)

@@ -9,7 +9,7 @@ use Rattle.rf2_rows.specs.Hierarchy.{Reaches, one_row, more_rows, reaches}
 use Rattle.rf2_rows.proofs.HierarchyLemmas.{chain_from_test, test_from_chain}
 use Rattle.idset.specs.Sets.{has_item, listed_numbers, numbers_where}
 use Rattle.idset.proofs.Normal.{has_item-numbers_where, has_item-numbers_where_past, numbers_where-agree}
-use Rattle.snapshot.specs.KeyedLists.{AreItemsBelow, list_of}
+use Rattle.snapshot.specs.KeyedLists.{list_of}
 use Rattle.ancestor_index.specs.HierarchyLists.{is_child, lists_where}
 use Rattle.ancestor_index.specs.Parents.{AreParentsBy}
 
@@ -242,14 +242,3 @@ lists_reordered rows parents order places lists given len placed known =
     ∙ (λ i. numbers_where (length order) (reaches rows (at.is i)))
     ∙ sym (list_of-where (length order) (reaches rows) concept below)
     ∙ get_or_default (lists_where (length order) (reaches rows)) concept [] d (omega (arith, below, length-where (length order) (reaches rows))))
-
--- the lists in the order have numbers of concepts alone
-pub ordered_below : (rows : List (ℕ × ℕ)) (order : List ℕ) (lists : List (List ℕ)) → lists ≡ map (λ concept. numbers_where (length order) (reaches rows concept)) order → AreItemsBelow (length order) lists
-ordered_below rows order lists known k d within j e inside =
-    let near : k < length order = omega (arith, within, ap (λ (all : List (List ℕ)). length all) known, length-map order (λ concept. numbers_where (length order) (reaches rows concept))) in
-    let list : get_or lists k d ≡ numbers_where (length order) (reaches rows (get_or order k 0)) =
-    get_or_default lists k d [] within
-    ∙ ap (λ (all : List (List ℕ)). list_of all k) known
-    ∙ get_or-map (λ concept. numbers_where (length order) (reaches rows concept)) order k 0 [] near in
-    (there_where (length order) (reaches rows (get_or order k 0)) (get_or (get_or lists k d) j e)
-        (subst (λ (xs : List ℕ). Contains xs (get_or (get_or lists k d) j e)) list (Contains-get_or (get_or lists k d) j e inside))).0

@@ -3,7 +3,7 @@ ghost use Rattle.std.specs.Prelude.{ℕ, ◌≡◌, ◌<◌, ◌++◌, ◌∷◌
 ghost use Rattle.std.specs.List.{IsDistinct};
 ghost use Rattle.rf2_rows.specs.Hierarchy.{reaches};
 ghost use Rattle.idset.specs.Sets.{numbers_where};
-ghost use Rattle.snapshot.specs.KeyedLists.{AreItemsBelow, list_of};
+ghost use Rattle.snapshot.specs.KeyedLists.{list_of};
 ghost use Rattle.ancestor_index.specs.HierarchyLists.{lists_where};
 ghost use Rattle.ancestor_index.specs.Parents.{AreParentsBy};
 
@@ -11,32 +11,20 @@ use crate::rising::keep_rising;
 use snapshot::KeyedLists;
 use std::alloc::{AllocError, Global};
 
-/// The ancestors of each concept: the list of a concept is that of its place in the order.
-#[derive(Drop)]
-pub struct AncestorLists {
-    /// The lists in the order of the concepts.
-    pub by_place: KeyedLists,
-    /// The place of each concept.
-    pub places: Vec<u32>,
-}
-
 /// The ancestors of each concept, by the parents of each and an order in which parents come first.
 pub fn ancestor_lists(
     alloc: Global,
     parents: &KeyedLists,
     order: &[u32],
-) -> Result<AncestorLists, AllocError>
+) -> Result<KeyedLists, AllocError>
     requires few { length order.now < 2 ^ 32 }
     requires parents { (rows : List (ℕ × ℕ)) × AreParentsBy rows parents.now order.now }
-    ensures lists { IfOk result (λ found. (rows : List (ℕ × ℕ)) → AreParentsBy rows parents.now order.now
-        → map (list_of found.by_place) found.places.items ≡ lists_where (length order.now) (reaches rows)) }
-    ensures places { IfOk result (λ found. All (λ place. place < length found.by_place) found.places.items) }
-    ensures items { IfOk result (λ found. AreItemsBelow (length order.now) found.by_place) }
-    ensures len { IfOk result (λ found. vec_len found.places ≡ length order.now) }
+    ensures { IfOk result (λ lists. (rows : List (ℕ × ℕ)) → AreParentsBy rows parents.now order.now
+        → lists ≡ lists_where (length order.now) (reaches rows)) }
 {
     let places = places_in(alloc, order)?;
     let by_place = ancestors_in_order(alloc, parents, order, places.as_slice())?;
-    Ok(AncestorLists { by_place, places })
+    reordered(alloc, &by_place, places.as_slice())
 }
 
 // The place of each concept in the order.
@@ -93,4 +81,16 @@ fn gather(
         list.extend_from_slice(lists.of(places[*concept as usize]))?;
     }
     Ok(())
+}
+
+// The lists of some places.
+fn reordered(alloc: Global, lists: &KeyedLists, places: &[u32]) -> Result<KeyedLists, AllocError>
+    requires { All (λ place. place < length lists.now) places.now }
+    ensures { IfOk result (λ found. found ≡ map (λ place. list_of lists.now place) places.now) }
+{
+    let mut found = KeyedLists::with_capacity(alloc, places.len(), lists.item_count())?;
+    for place in places {
+        found = found.push(lists.of(*place))?;
+    }
+    Ok(found)
 }

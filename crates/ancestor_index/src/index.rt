@@ -6,7 +6,7 @@ ghost use Rattle.snapshot.specs.KeyedLists.{list_of};
 ghost use Rattle.ancestor_index.specs.HierarchyLists.{hierarchy_of};
 ghost use Rattle.ancestor_index.specs.Wide.{IsWide};
 
-use crate::closure::{AncestorLists, ancestor_lists};
+use crate::closure::ancestor_lists;
 use crate::rising::rising_lists;
 use crate::wide::{WideLists, wide_lists};
 use snapshot::{KeyedLists, Snapshot};
@@ -16,9 +16,7 @@ use std::marker::Model;
 /// The hierarchy of a release. Contracts see its four families of lists.
 #[derive(Drop, Debug)]
 pub struct AncestorIndex {
-    // the ancestors of each concept, where its place says
     ancestors: KeyedLists,
-    places: Vec<u32>,
     descendants: KeyedLists,
     parents: KeyedLists,
     children: KeyedLists,
@@ -31,11 +29,11 @@ impl Model for AncestorIndex {
 
     ghost Value = { Hierarchy };
 
-    ghost use Rattle.ancestor_index.specs.IndexInside.{hierarchy_in, IsIndexed};
+    ghost use Rattle.ancestor_index.specs.IndexInside.{hierarchy_in, HasWide};
 
     ghost view = { hierarchy_in };
 
-    ghost invariant = { IsIndexed };
+    ghost invariant = { HasWide };
 }
 
 impl AncestorIndex {
@@ -49,15 +47,11 @@ impl AncestorIndex {
         let by_row = KeyedLists::from_pairs(alloc, count, rows)?;
         let parents = rising_lists(alloc, &by_row, count)?;
         let children = parents.turned(alloc, count)?;
-        let AncestorLists {
-            by_place: ancestors,
-            places,
-        } = ancestor_lists(alloc, &parents, snapshot.parents_first())?;
-        let descendants = ancestors.turned_at(alloc, count, places.as_slice())?;
+        let ancestors = ancestor_lists(alloc, &parents, snapshot.parents_first())?;
+        let descendants = ancestors.turned(alloc, count)?;
         let wide = wide_lists(alloc, &descendants, count)?;
         Ok(AncestorIndex {
             ancestors,
-            places,
             descendants,
             parents,
             children,
@@ -71,7 +65,7 @@ impl AncestorIndex {
         requires { concept < length self.now.ancestors }
         ensures { result.now ≡ list_of self.now.ancestors concept }
     {
-        self.ancestors.of(self.places[concept as usize])
+        self.ancestors.of(concept)
     }
 
     /// The concepts that reach a concept by is-a rows, in rising order. `concept` is below the number of

@@ -4,7 +4,7 @@ use Rattle.std.proofs.lemmas.Result.{IfOk-weaker}
 use Rattle.idset.specs.Sets.{numbers_where}
 use Rattle.rf2_rows.specs.Hierarchy.{reaches}
 use Rattle.snapshot.specs.KeyedLists.{list_of}
-use Rattle.ancestor_index.proofs.ClosureLemmas.{lists_reordered, order_below, ordered_below, place_at}
+use Rattle.ancestor_index.proofs.ClosureLemmas.{lists_reordered, order_below, place_at}
 use Rattle.ancestor_index.proofs.closure.ancestor_lists.Goals as goal
 
 pub places_in-requires-clause-once : goal.places_in-requires-clause-once
@@ -13,19 +13,22 @@ places_in-requires-clause-once c = c.requires.parents.1.first.once
 pub places_in-requires-clause-below : goal.places_in-requires-clause-below
 places_in-requires-clause-below c = order_below c.requires.parents.0 c.args.parents.now c.args.order.now c.requires.parents.1
 
-pub returns-clause-lists : goal.returns-clause-lists
-returns-clause-lists c = λ rows given.
-    lists_reordered rows c.args.parents.now c.args.order.now c.in_ok-places.places.items c.in_ok-by_place.by_place given (omega (arith, c.in_ok-places.ensures.len)) c.in_ok-places.ensures.places (c.in_ok-by_place.ensures rows given)
-
-pub returns-clause-places : goal.returns-clause-places
-returns-clause-places c = λ concept d within.
+pub reordered-requires : goal.reordered-requires
+reordered-requires c = λ concept d within.
     let order = c.args.order.now in
     let given = c.requires.parents.1 in
-    let at = place_at c.requires.parents.0 c.args.parents.now order c.in_ok-places.places.items given c.in_ok-places.ensures.places concept (omega (arith, within, c.in_ok-places.ensures.len)) in
-    let read : get_or c.in_ok-places.places.items concept d ≡ at.place = get_or_default c.in_ok-places.places.items concept d 0 within ∙ at.told in
+    let below : concept < length order = omega (arith, within, ap (λ (xs : List ℕ). length xs) c.as_slice-2.ensures.value, c.in_ok-places.ensures.len) in
+    let at = place_at c.requires.parents.0 c.args.parents.now order c.in_ok-places.places.items given c.in_ok-places.ensures.places concept below in
+    let read : get_or c.as_slice-2.result.now concept d ≡ at.place =
+    get_or_default c.as_slice-2.result.now concept d 0 within ∙ ap (λ (xs : List ℕ). get_or xs concept 0) c.as_slice-2.ensures.value ∙ at.told in
     let count : length c.in_ok-by_place.by_place ≡ length order =
     ap (λ (lists : List (List ℕ)). length lists) (c.in_ok-by_place.ensures c.requires.parents.0 given) ∙ length-map order (λ concept. numbers_where (length order) (reaches c.requires.parents.0 concept)) in
     omega (arith, read, count, at.within)
 
-pub returns-clause-items : goal.returns-clause-items
-returns-clause-items c = ordered_below c.requires.parents.0 c.args.order.now c.in_ok-by_place.by_place (c.in_ok-by_place.ensures c.requires.parents.0 c.requires.parents.1)
+pub returns : goal.returns
+returns c = IfOk-weaker c.reordered.result _ _
+    (λ (lists : List (List ℕ)) found rows given.
+    found
+    ∙ ap (map (λ place. list_of c.in_ok-by_place.by_place place)) c.as_slice-2.ensures.value
+    ∙ lists_reordered rows c.args.parents.now c.args.order.now c.in_ok-places.places.items c.in_ok-by_place.by_place given (omega (arith, c.in_ok-places.ensures.len)) c.in_ok-places.ensures.places (c.in_ok-by_place.ensures rows given))
+    c.reordered.ensures

@@ -1,13 +1,13 @@
 use Rattle.std.proofs.Common.{ℕ, ◌≡◌, ◌<◌, ◌^◌, ◌∙◌, List, length, map, sym, subst, ap, arith}
 use Rattle.idset.specs.Sets.{listed_numbers}
 use Rattle.rf2_rows.specs.Hierarchy.{reaches}
-use Rattle.snapshot.specs.KeyedLists.{AreItemsBelow, list_of, turned, turned_from}
+use Rattle.snapshot.specs.KeyedLists.{turned, turned_from}
 use Rattle.snapshot.specs.Search.{IsWithin}
 use Rattle.snapshot.proofs.KeyedLemmas.{length-lists_by}
 use Rattle.snapshot.proofs.WayLemmas.{parents_below}
 use Rattle.ancestor_index.specs.HierarchyLists.{is_child, lists_where}
 use Rattle.ancestor_index.specs.Wide.{AreWide}
-use Rattle.ancestor_index.proofs.BuildLemmas.{few_pairs, given_parents, hierarchy_told, order_count, parents_listed, turned_where, where_below}
+use Rattle.ancestor_index.proofs.BuildLemmas.{given_parents, hierarchy_told, order_count, parents_listed, turned_where, where_below}
 use Rattle.ancestor_index.proofs.ClosureLemmas.{length-where}
 use Rattle.ancestor_index.proofs.index.AncestorIndex.build.Goals as goal
 
@@ -53,91 +53,75 @@ ancestor_lists-requires-clause-parents c =
           (parents ∙ (λ i. lists_where (c.concept_count-count.ensures.count i) (is_child rows))) first,
     )
 
-pub turned_at-requires-clause-items : goal.turned_at-requires-clause-items
-turned_at-requires-clause-items c =
+pub turned-requires-2-clause-items : goal.turned-requires-2-clause-items
+turned-requires-2-clause-items c =
     let rows = c.isa_rows-rows.result.now in
+    let count = c.concept_count-count.result in
+    let all = length c.args.snapshot.now.release.concepts in
+    let parents : c.in_ok-parents.parents ≡ lists_where count (is_child rows) = c.in_ok-parents.ensures ∙ ap (map (listed_numbers count)) c.in_ok-by_row.ensures ∙ parents_listed count rows in
     let first = c.parents_first.ensures rows c.isa_rows-rows.ensures.rows c.isa_rows-rows.ensures.within in
-    let long : length c.parents_first.result.now ≡ c.concept_count-count.result = order_count (length c.args.snapshot.now.release.concepts) rows c.parents_first.result.now first ∙ sym c.concept_count-count.ensures.count in
-    subst (λ (n : ℕ). AreItemsBelow n c.in_ok-ancestors.field-0.by_place) long c.in_ok-ancestors.ensures.items
+    let long : length c.parents_first.result.now ≡ count = order_count all rows c.parents_first.result.now first ∙ sym c.concept_count-count.ensures.count in
+    let ancestors : c.in_ok-ancestors.ancestors ≡ lists_where count (reaches rows) =
+    c.in_ok-ancestors.ensures rows
+    (given_parents all rows c.in_ok-parents.parents c.parents_first.result.now c.isa_rows-rows.ensures.within (parents ∙ (λ i. lists_where (c.concept_count-count.ensures.count i) (is_child rows))) first)
+    ∙ (λ i. lists_where (long i) (reaches rows)) in
+    where_below count (reaches rows) c.in_ok-ancestors.ancestors ancestors
 
-pub turned_at-requires-clause-few : goal.turned_at-requires-clause-few
-turned_at-requires-clause-few c =
-    let fit : c.concept_count-count.result < 2 ^ 32 = c.concept_count-count.type_inv in
-    let rows = c.isa_rows-rows.result.now in
-    let first = c.parents_first.ensures rows c.isa_rows-rows.ensures.rows c.isa_rows-rows.ensures.within in
-    let long : length c.parents_first.result.now ≡ c.concept_count-count.result = order_count (length c.args.snapshot.now.release.concepts) rows c.parents_first.result.now first ∙ sym c.concept_count-count.ensures.count in
-    omega (arith, fit, long, ap (λ (xs : List ℕ). length xs) c.as_slice.ensures.value, c.in_ok-ancestors.ensures.len)
-
-pub turned_at-requires-clause-few_items : goal.turned_at-requires-clause-few_items
-turned_at-requires-clause-few_items c =
+pub turned-requires-2-clause-few : goal.turned-requires-2-clause-few
+turned-requires-2-clause-few c =
     let fit : c.concept_count-count.result < 2 ^ 32 = c.concept_count-count.type_inv in
     let rows = c.isa_rows-rows.result.now in
     let count = c.concept_count-count.result in
     let all = length c.args.snapshot.now.release.concepts in
-    let found = c.in_ok-ancestors.field-0 in
     let parents : c.in_ok-parents.parents ≡ lists_where count (is_child rows) = c.in_ok-parents.ensures ∙ ap (map (listed_numbers count)) c.in_ok-by_row.ensures ∙ parents_listed count rows in
     let first = c.parents_first.ensures rows c.isa_rows-rows.ensures.rows c.isa_rows-rows.ensures.within in
     let long : length c.parents_first.result.now ≡ count = order_count all rows c.parents_first.result.now first ∙ sym c.concept_count-count.ensures.count in
-    let ancestors : map (list_of found.by_place) found.places.items ≡ lists_where count (reaches rows) =
-    c.in_ok-ancestors.ensures.lists rows
+    let ancestors : c.in_ok-ancestors.ancestors ≡ lists_where count (reaches rows) =
+    c.in_ok-ancestors.ensures rows
     (given_parents all rows c.in_ok-parents.parents c.parents_first.result.now c.isa_rows-rows.ensures.within (parents ∙ (λ i. lists_where (c.concept_count-count.ensures.count i) (is_child rows))) first)
     ∙ (λ i. lists_where (long i) (reaches rows)) in
-    subst (λ (lists : List (List ℕ)). length (turned_from 0 lists) < 2 ^ 64)
-    (sym (ap (λ (places : List ℕ). map (list_of found.by_place) places) c.as_slice.ensures.value ∙ ancestors)) (few_pairs count (reaches rows) fit)
+    omega (arith, ap (λ (lists : List (List ℕ)). length lists) ancestors, length-where count (reaches rows), fit)
 
 pub wide_lists-requires-clause-items : goal.wide_lists-requires-clause-items
 wide_lists-requires-clause-items c =
     let rows = c.isa_rows-rows.result.now in
     let count = c.concept_count-count.result in
     let all = length c.args.snapshot.now.release.concepts in
-    let found = c.in_ok-ancestors.field-0 in
     let parents : c.in_ok-parents.parents ≡ lists_where count (is_child rows) = c.in_ok-parents.ensures ∙ ap (map (listed_numbers count)) c.in_ok-by_row.ensures ∙ parents_listed count rows in
     let first = c.parents_first.ensures rows c.isa_rows-rows.ensures.rows c.isa_rows-rows.ensures.within in
     let long : length c.parents_first.result.now ≡ count = order_count all rows c.parents_first.result.now first ∙ sym c.concept_count-count.ensures.count in
-    let ancestors : map (list_of found.by_place) found.places.items ≡ lists_where count (reaches rows) =
-    c.in_ok-ancestors.ensures.lists rows
+    let ancestors : c.in_ok-ancestors.ancestors ≡ lists_where count (reaches rows) =
+    c.in_ok-ancestors.ensures rows
     (given_parents all rows c.in_ok-parents.parents c.parents_first.result.now c.isa_rows-rows.ensures.within (parents ∙ (λ i. lists_where (c.concept_count-count.ensures.count i) (is_child rows))) first)
     ∙ (λ i. lists_where (long i) (reaches rows)) in
-    let descendants : c.in_ok-descendants.descendants ≡ lists_where count (λ concept other. reaches rows other concept) =
-    c.in_ok-descendants.ensures ∙ ap (λ (places : List ℕ). turned count (map (list_of found.by_place) places)) c.as_slice.ensures.value ∙ ap (turned count) ancestors ∙ turned_where count (reaches rows) in
+    let descendants : c.in_ok-descendants.descendants ≡ lists_where count (λ concept other. reaches rows other concept) = c.in_ok-descendants.ensures ∙ ap (turned count) ancestors ∙ turned_where count (reaches rows) in
     where_below count (λ concept other. reaches rows other concept) c.in_ok-descendants.descendants descendants
 
 pub wide_lists-requires-clause-few : goal.wide_lists-requires-clause-few
 wide_lists-requires-clause-few c =
     let fit : c.concept_count-count.result < 2 ^ 32 = c.concept_count-count.type_inv in
-    omega (
-      arith,
-      fit,
-      ap (λ (lists : List (List ℕ)). length lists) c.in_ok-descendants.ensures,
-      length-lists_by c.concept_count-count.result (turned_from 0 (map (list_of c.in_ok-ancestors.field-0.by_place) c.as_slice.result.now)),
-    )
+    omega (arith, fit, ap (λ (lists : List (List ℕ)). length lists) c.in_ok-descendants.ensures, length-lists_by c.concept_count-count.result (turned_from 0 c.in_ok-ancestors.ancestors))
 
 pub invariant_of-result : goal.invariant_of-result
 invariant_of-result c =
     let fit : c.concept_count-count.result < 2 ^ 32 = c.concept_count-count.type_inv in
     let long : length c.in_ok-descendants.descendants ≡ c.concept_count-count.result =
-    ap (λ (lists : List (List ℕ)). length lists) c.in_ok-descendants.ensures
-    ∙ length-lists_by c.concept_count-count.result (turned_from 0 (map (list_of c.in_ok-ancestors.field-0.by_place) c.as_slice.result.now)) in (
-      c.in_ok-ancestors.ensures.places,
-      omega (arith, fit, long),
-      subst (λ (n : ℕ). AreWide n c.in_ok-descendants.descendants c.in_ok-wide.wide.ends.items c.in_ok-wide.wide.words.items) (sym long) c.in_ok-wide.ensures,
-    )
+    ap (λ (lists : List (List ℕ)). length lists) c.in_ok-descendants.ensures ∙ length-lists_by c.concept_count-count.result (turned_from 0 c.in_ok-ancestors.ancestors) in
+    (omega (arith, fit, long), subst (λ (n : ℕ). AreWide n c.in_ok-descendants.descendants c.in_ok-wide.wide.ends.items c.in_ok-wide.wide.words.items) (sym long) c.in_ok-wide.ensures)
 
 pub returns : goal.returns
 returns c =
     let rows = c.isa_rows-rows.result.now in
     let count = c.concept_count-count.result in
     let all = length c.args.snapshot.now.release.concepts in
-    let found = c.in_ok-ancestors.field-0 in
     let parents : c.in_ok-parents.parents ≡ lists_where count (is_child rows) = c.in_ok-parents.ensures ∙ ap (map (listed_numbers count)) c.in_ok-by_row.ensures ∙ parents_listed count rows in
     let first = c.parents_first.ensures rows c.isa_rows-rows.ensures.rows c.isa_rows-rows.ensures.within in
     let long : length c.parents_first.result.now ≡ count = order_count all rows c.parents_first.result.now first ∙ sym c.concept_count-count.ensures.count in
-    let ancestors : map (list_of found.by_place) found.places.items ≡ lists_where count (reaches rows) =
-    c.in_ok-ancestors.ensures.lists rows
+    let ancestors : c.in_ok-ancestors.ancestors ≡ lists_where count (reaches rows) =
+    c.in_ok-ancestors.ensures rows
     (given_parents all rows c.in_ok-parents.parents c.parents_first.result.now c.isa_rows-rows.ensures.within (parents ∙ (λ i. lists_where (c.concept_count-count.ensures.count i) (is_child rows))) first)
     ∙ (λ i. lists_where (long i) (reaches rows)) in
-    let descendants : c.in_ok-descendants.descendants ≡ lists_where count (λ concept other. reaches rows other concept) =
-    c.in_ok-descendants.ensures ∙ ap (λ (places : List ℕ). turned count (map (list_of found.by_place) places)) c.as_slice.ensures.value ∙ ap (turned count) ancestors ∙ turned_where count (reaches rows) in
     let children : c.in_ok-children.children ≡ lists_where count (λ concept other. is_child rows other concept) = c.in_ok-children.ensures ∙ ap (turned count) parents ∙ turned_where count (is_child rows) in
+    let descendants : c.in_ok-descendants.descendants ≡ lists_where count (λ concept other. reaches rows other concept) = c.in_ok-descendants.ensures ∙ ap (turned count) ancestors ∙ turned_where count (reaches rows) in
     hierarchy_told c.args.snapshot.now.release rows count c.concept_count-count.ensures.count c.concept_count-count.ensures.rising c.isa_rows-rows.ensures.within c.isa_rows-rows.ensures.rows
-    (map (list_of found.by_place) found.places.items) c.in_ok-descendants.descendants c.in_ok-parents.parents c.in_ok-children.children ancestors descendants parents children
+    c.in_ok-ancestors.ancestors c.in_ok-descendants.descendants c.in_ok-parents.parents c.in_ok-children.children ancestors descendants parents children

@@ -1,0 +1,6 @@
+use Rattle.std.proofs.Common.{◌≡◌, map, take}
+use Rattle.snapshot.specs.KeyedLists.{list_of}
+use Rattle.ancestor_index.proofs.closure.reordered.Given as goal
+
+abbrev pub invariant-loop-place : goal.invariant-loop-place
+invariant-loop-place l = l.found ≡ map (λ place. list_of l.lists place) (take l.place-index l.places)
