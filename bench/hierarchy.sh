@@ -8,9 +8,7 @@ work=${2:-$(mktemp -d)}
 mkdir -p "$work/crates"
 for crate in sctid rf2_rows release_files idset snapshot ancestor_index; do
     [ -d "$work/crates/$crate" ] || cp -r "$here/../crates/$crate" "$work/crates/"
-    grep "^$crate:" "$here/../crates.txt"
-done > "$work/crates.txt"
-echo "hierarchy_bench: sctid rf2_rows release_files idset snapshot ancestor_index anyhow" >> "$work/crates.txt"
+done
 cd "$work"
 if [ ! -d crates/hierarchy_bench ]; then
     rt new crates/hierarchy_bench start_io
@@ -18,6 +16,8 @@ if [ ! -d crates/hierarchy_bench ]; then
         crates/hierarchy_bench/proofs crates/hierarchy_bench/stdin crates/hierarchy_bench/stdout
     mkdir -p crates/hierarchy_bench/src
 fi
+grep -E "^(sctid|rf2_rows|release_files|idset|snapshot|ancestor_index):" "$here/../crates.txt" > crates.txt
+echo "hierarchy_bench: sctid rf2_rows release_files idset snapshot ancestor_index anyhow" >> crates.txt
 cp "$here/hierarchy_main.rt.in" crates/hierarchy_bench/src/main.rt
 find "$release" -name 'sct2_Concept_*.txt' -exec cp {} concepts.txt \;
 find "$release" -name 'sct2_Relationship_*.txt' -exec cp {} relationships.txt \;
