@@ -1,14 +1,13 @@
 -- Concepts by their numbers and by their identifiers: what a set of marks denotes.
 use Rattle.std.proofs.Common.{ℕ, suc, ◌≡◌, ◌<◌, ◌↔◌, ◌==◌, ◌&&◌, ◌||◌, ◌∙◌, inl, inr, List, [], ◌∷◌, Bool, true, false, not, ltb, length, get_or, set, map, replicate, Some, None, refl, sym, ap, subst, arith}
 use Rattle.std.specs.Prelude.{Contains}
-use Rattle.std.specs.List.{position_or_len, zip}
+use Rattle.std.specs.List.{zip}
 use Rattle.std.specs.List.Sorted.{IsStrictlyIncreasing}
 use Rattle.std.proofs.lemmas.Bool.{cases_order, eqb-true, eq-eqb, and_from, and_parts, cases_Bool, false≢true, ltb-false, not-true}
 use Rattle.std.proofs.lemmas.List.{ext_get_or, get_or-map, get_or_default, length-map, length-replicate, length-set, get_or-replicate}
 use Rattle.std.proofs.lemmas.List.Elements.{Contains-get_or}
 use Rattle.std.proofs.lemmas.List.Quantifiers.{position-Some}
 use Rattle.std.proofs.lemmas.List.Sums.{prefix_len_passes}
-use Rattle.std.proofs.lemmas.List.Sorted.{Contains-permutation, IsPermutation-sym}
 use Rattle.rf2_rows.specs.Hierarchy.{Reaches, one_row, more_rows}
 use Rattle.rf2_rows.specs.Release.{Release}
 use Rattle.constraint_tree.specs.Denotation.{denotes}
@@ -17,10 +16,10 @@ use Rattle.constraint_tree.specs.Walks.{is_in_force, is_below}
 use Rattle.constraint_tree.specs.declared.operator.Operator.TheVariants as operator
 use Rattle.constraint_tree.proofs.WalkLemmas.{tells_in_force, tells_below}
 use Rattle.snapshot.specs.Numbering.{number_of, row_of_numbers}
-use Rattle.snapshot.specs.Search.{IsMarked, IsWithin}
-use Rattle.snapshot.proofs.NumberingLemmas.{Reaches-map, place_of-get_or}
+use Rattle.snapshot.specs.Search.{IsMarked}
+use Rattle.snapshot.proofs.NumberingLemmas.{Reaches-map, numbers_again, place_of, place_of-get_or, row_by}
 use Rattle.snapshot.proofs.RisingLemmas.{earlier_below}
-use Rattle.query_tool.specs.Children.{Hierarchy, IsHierarchyOf}
+use Rattle.query_tool.specs.Children.{AreChildrenIn, rows_of}
 use Rattle.query_tool.specs.Walk.{AreBelow, IsBelow}
 use Rattle.query_tool.proofs.WalkLemmas.{IsMarked-within, IsMarked-put, IsMarked-cases, unmarked}
 
@@ -62,10 +61,6 @@ same_place xs rising i j i_within j_within same = elim (cases_order i j) [
   | inr (inl before) ↦ let below : get_or xs i 0 < get_or xs j 0 = earlier_below xs rising i j before j_within in absurd (omega arith)
   | inr (inr after) ↦ let below : get_or xs j 0 < get_or xs i 0 = earlier_below xs rising j i after i_within in absurd (omega arith)
 ]
-
--- the place of an identifier among concepts
-abbrev place_of : List ℕ → ℕ → ℕ
-place_of concepts id = position_or_len (λ other. id == other) concepts
 
 -- the number of a concept is its place
 number_of-Some : (xs : List ℕ) (id place : ℕ) → number_of xs id ≡ Some place → (place < length xs) × (get_or xs place 0 ≡ id)
@@ -123,45 +118,31 @@ Reaches-among : {rows others : List (ℕ × ℕ)} {x y : ℕ} → ((row : ℕ ×
 Reaches-among among (one_row there) = one_row (among _ there)
 Reaches-among among (more_rows there rest) = more_rows (among _ there) (Reaches-among among rest)
 
-abbrev row_by : (ℕ → ℕ) → ℕ × ℕ → ℕ × ℕ
-row_by f row = (f row.0, f row.1)
-
--- rows by identifiers and then by numbers again
-rows_again : (concepts : List ℕ) → IsStrictlyIncreasing concepts → (rows : List (ℕ × ℕ)) → IsWithin (length concepts) rows
-    → map (row_by (place_of concepts)) (map (row_of_numbers concepts) rows) ≡ rows
-rows_again concepts rising [] within = refl
-rows_again concepts rising (row ∷ rows) within =
-    let here : (row.0 < length concepts) × (row.1 < length concepts) = within 0 row (omega arith) in
-    let child : place_of concepts (get_or concepts row.0 0) ≡ row.0 = place_of-get_or concepts rising row.0 here.0 in
-    let parent : place_of concepts (get_or concepts row.1 0) ≡ row.1 = place_of-get_or concepts rising row.1 here.1 in
-    λ i. (child i, parent i) ∷ rows_again concepts rising rows (λ k d below. within (suc k) d (omega arith)) i
-
-module _ (release : Release) (hierarchy : Hierarchy) (is : IsHierarchyOf release hierarchy) where
+module _ (release : Release) (children : List (List ℕ)) (is : AreChildrenIn release children) where
   -- a chain by numbers is one by identifiers
-  chain_by_id : (i j : ℕ) → Reaches hierarchy.rows i j → Reaches release.isa (get_or release.concepts i 0) (get_or release.concepts j 0)
+  chain_by_id : (i j : ℕ) → Reaches (rows_of children) i j → Reaches release.isa (get_or release.concepts i 0) (get_or release.concepts j 0)
   chain_by_id i j chain =
-      Reaches-among (λ row there. Contains-permutation (map (row_of_numbers release.concepts) hierarchy.rows) release.isa row (IsPermutation-sym _ _ is.4) there)
+      Reaches-among (λ row there. (is.rows row).0 there)
       (Reaches-map (λ (number : ℕ). get_or release.concepts number 0) chain)
 
   -- and the other way round
   chain_by_number : (i j : ℕ) → i < length release.concepts → j < length release.concepts
-      → Reaches release.isa (get_or release.concepts i 0) (get_or release.concepts j 0) → Reaches hierarchy.rows i j
+      → Reaches release.isa (get_or release.concepts i 0) (get_or release.concepts j 0) → Reaches (rows_of children) i j
   chain_by_number i j i_within j_within chain =
-      let among : Reaches (map (row_of_numbers release.concepts) hierarchy.rows) (get_or release.concepts i 0) (get_or release.concepts j 0) =
-      Reaches-among (λ row there. Contains-permutation release.isa (map (row_of_numbers release.concepts) hierarchy.rows) row is.4 there) chain in
-      let within : IsWithin (length release.concepts) hierarchy.rows = subst (λ (n : ℕ). IsWithin n hierarchy.rows) is.0 is.3 in
-      let e = rows_again release.concepts is.2 hierarchy.rows within in
-      let child = place_of-get_or release.concepts is.2 i i_within in
-      let parent = place_of-get_or release.concepts is.2 j j_within in
-      let renamed : Reaches (map (row_by (place_of release.concepts)) (map (row_of_numbers release.concepts) hierarchy.rows)) (place_of release.concepts (get_or release.concepts i 0)) (place_of release.concepts (get_or release.concepts j 0)) =
+      let among : Reaches (map (row_of_numbers release.concepts) (rows_of children)) (get_or release.concepts i 0) (get_or release.concepts j 0) =
+      Reaches-among (λ row there. (is.rows row).1 there) chain in
+      let e = numbers_again release.concepts is.rising (rows_of children) is.within in
+      let child = place_of-get_or release.concepts is.rising i i_within in
+      let parent = place_of-get_or release.concepts is.rising j j_within in
+      let renamed : Reaches (map (row_by (place_of release.concepts)) (map (row_of_numbers release.concepts) (rows_of children))) (place_of release.concepts (get_or release.concepts i 0)) (place_of release.concepts (get_or release.concepts j 0)) =
       Reaches-map (place_of release.concepts) among in
       subst (λ (rows : List (ℕ × ℕ)). Reaches rows i j) e
-      (subst (λ (k : ℕ). Reaches (map (row_by (place_of release.concepts)) (map (row_of_numbers release.concepts) hierarchy.rows)) i k) parent
-      (subst (λ (k : ℕ). Reaches (map (row_by (place_of release.concepts)) (map (row_of_numbers release.concepts) hierarchy.rows)) k (place_of release.concepts (get_or release.concepts j 0))) child renamed))
+      (subst (λ (k : ℕ). Reaches (map (row_by (place_of release.concepts)) (map (row_of_numbers release.concepts) (rows_of children))) i k) parent
+      (subst (λ (k : ℕ). Reaches (map (row_by (place_of release.concepts)) (map (row_of_numbers release.concepts) (rows_of children))) k (place_of release.concepts (get_or release.concepts j 0))) child renamed))
 
   -- what is below the marks of a test is what is below its set
   pub marks_below : (test : ℕ → Bool) (found : List Bool) → length found ≡ length release.concepts
-      → ((concept : ℕ) → IsMarked found concept ↔ IsBelow hierarchy.rows (map test release.concepts) concept)
+      → ((concept : ℕ) → IsMarked found concept ↔ IsBelow (rows_of children) (map test release.concepts) concept)
       → (i : ℕ) → i < length release.concepts → IsMarked found i ↔ (is_below release test (get_or release.concepts i 0) ≡ true)
   marks_below test found same each i within = (there, back)
     where
@@ -190,12 +171,12 @@ module _ (release : Release) (hierarchy : Hierarchy) (is : IsHierarchyOf release
 
   -- the marks of `<`
   pub marks_descendants : (tree : Tree) (start found : List Bool) → start ≡ map (denotes release tree) release.concepts
-      → AreBelow hierarchy.rows start found
+      → AreBelow (rows_of children) start found
       → found ≡ map (denotes release (walk_tree operator.Descendants tree)) release.concepts
   marks_descendants tree start found started (same, each) =
       let long : length found ≡ length release.concepts = same ∙ ap length started ∙ length-map release.concepts (denotes release tree) in
-      let each_by : (concept : ℕ) → IsMarked found concept ↔ IsBelow hierarchy.rows (map (denotes release tree) release.concepts) concept =
-      subst (λ (s : List Bool). (concept : ℕ) → IsMarked found concept ↔ IsBelow hierarchy.rows s concept) started each in
+      let each_by : (concept : ℕ) → IsMarked found concept ↔ IsBelow (rows_of children) (map (denotes release tree) release.concepts) concept =
+      subst (λ (s : List Bool). (concept : ℕ) → IsMarked found concept ↔ IsBelow (rows_of children) s concept) started each in
       marks_by (denotes release (walk_tree operator.Descendants tree)) release.concepts found long
       (λ i within.
       let below = marks_below (denotes release tree) found long each_by i within in (

@@ -2,6 +2,7 @@ mod ChildrenLemmas
 mod DenotedLemmas
 pub mod Examples
 mod FaultLemmas
+mod HierarchyLemmas
 mod LineLemmas
 mod PrintLemmas
 mod QueryLemmas

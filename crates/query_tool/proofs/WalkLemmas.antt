@@ -124,15 +124,15 @@ IsOnWay-popped here rows start found stack rested = (
     followed child parent row seen = by child parent (rested.2 child parent row seen)
 
 -- where the children of the concept at hand are all found, none is at hand
-pub IsRested-followed : (here : ℕ) (rows own : List (ℕ × ℕ)) (start found : List Bool) (stack : List ℕ)
-    → ((child : ℕ) → Contains rows (child, here) → Contains own (child, here)) → All (λ (row : ℕ × ℕ). IsMarked found row.0) own
+pub IsRested-followed : (here : ℕ) (rows : List (ℕ × ℕ)) (children : List ℕ) (start found : List Bool) (stack : List ℕ)
+    → ((child : ℕ) → Contains rows (child, here) → Contains children child) → All (λ child. IsMarked found child) children
     → IsOnWay here rows start found stack → IsRested rows start found stack
-IsRested-followed here rows own start found stack all marked way = (way.0, way.1, followed)
+IsRested-followed here rows children start found stack all marked way = (way.0, way.1, followed)
   where
     by : (child parent : ℕ) → Contains rows (child, parent) → (parent ≡ here) ⊎ (Contains stack parent ⊎ IsMarked found child)
         → Contains stack parent ⊎ IsMarked found child
     by child parent row (inl same) =
-        inr (All-contains (λ (row : ℕ × ℕ). IsMarked found row.0) own (child, here) marked (all child (subst (λ p. Contains rows (child, p)) same row)))
+        inr (All-contains (λ child. IsMarked found child) children child marked (all child (subst (λ p. Contains rows (child, p)) same row)))
     by child parent row (inr known) = known
 
     followed : IsFollowed rows start found stack

@@ -1,6 +1,5 @@
 pub mod Answer
 pub mod Children
-pub mod ChildrenInside
 pub mod CommandLine
 pub mod EngineInside
 pub mod Fault

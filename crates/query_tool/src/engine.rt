@@ -5,15 +5,15 @@ ghost use Rattle.constraint_tree.specs.Denotation.{denotation};
 ghost use Rattle.snapshot.specs.Contents.{IsFaultOf, load_of};
 ghost use Rattle.snapshot.specs.Files.{file_text};
 ghost use Rattle.query_tool.specs.Answer.{line_answer};
+ghost use Rattle.query_tool.specs.Children.{AreChildrenIn};
 ghost use Rattle.query_tool.specs.Query.{tree_of_query};
 ghost use Rattle.query_tool.specs.declared.query.Query.{Query};
 
-use crate::children::Children;
 use crate::printer::{print_answer, print_fault};
 use crate::query::parse;
 use crate::walk::denoted;
 use release_files::NamedBytes;
-use snapshot::{Limits, LoadFault, Snapshot};
+use snapshot::{KeyedLists, Limits, LoadFault, Snapshot};
 use std::alloc::{AllocError, Global};
 use std::marker::Model;
 
@@ -21,7 +21,8 @@ use std::marker::Model;
 #[derive(Drop)]
 pub struct Engine {
     snapshot: Snapshot,
-    children: Children,
+    // the children of each concept
+    children: KeyedLists,
 }
 
 impl Model for Engine {
@@ -50,7 +51,7 @@ impl Engine {
     {
         match Snapshot::load(alloc, files, lang, limits) {
             Ok(snapshot) => {
-                let children = Children::new(alloc, snapshot.isa_rows(), snapshot.concept_count())?;
+                let children = children_in(alloc, &snapshot)?;
                 Ok(Engine { snapshot, children })
             }
             Err(fault) => Err(fault),
@@ -75,4 +76,13 @@ impl Engine {
             Err(fault) => print_fault(alloc, fault, output),
         }
     }
+}
+
+// The children of each concept, by the numbers of concepts.
+fn children_in(alloc: Global, snapshot: &Snapshot) -> Result<KeyedLists, AllocError>
+    ensures { IfOk result (λ children. AreChildrenIn snapshot.now.release children) }
+{
+    let count = snapshot.concept_count();
+    let parents = KeyedLists::from_pairs(alloc, count, snapshot.isa_rows())?;
+    parents.turned(alloc, count)
 }

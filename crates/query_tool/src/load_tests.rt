@@ -19,7 +19,8 @@ const DESCRIPTIONS: usize = 2;
 
 const CONCRETE_VALUES: usize = 3;
 
-const RELATIONSHIPS: usize = 4;
+/// The place of the relationships.
+pub const RELATIONSHIPS: usize = 4;
 
 /// The name of the sample's concept file.
 pub const NAME: &str = "sct2_Concept_Snapshot_INT_20240101.txt";

@@ -1,10 +1,11 @@
 //! Answers queries over a SNOMED CT release, one to a line of standard input.
 #![tactic(auto)]
 
-mod children;
 mod engine;
 mod fault;
 mod folder;
+#[cfg(test)]
+mod hierarchy_tests;
 mod lexer;
 mod load_refusal;
 #[cfg(test)]
@@ -13,6 +14,8 @@ mod load_tests;
 mod many_rows_tests;
 mod printer;
 mod query;
+#[cfg(test)]
+mod reader_tests;
 mod run;
 #[cfg(test)]
 mod run_tests;

@@ -3,13 +3,12 @@ ghost use Rattle.std.specs.Prelude.{◌≡◌, ◌≤◌, ◌<◌, ◌+◌, ◌^
 ghost use Rattle.std.specs.List.{zip};
 ghost use Rattle.constraint_tree.specs.Denotation.{denotes};
 ghost use Rattle.snapshot.specs.Search.{IsMarked, IsWithin, unmarked_count};
-ghost use Rattle.query_tool.specs.Children.{IsHierarchyOf};
+ghost use Rattle.query_tool.specs.Children.{AreChildrenIn, rows_of};
 ghost use Rattle.query_tool.specs.Query.{tree_of_focus, tree_of_query};
 ghost use Rattle.query_tool.specs.Walk.{AreBelow, IsOnWay, IsSeen};
 
-use crate::children::Children;
 use crate::query::{Focus, Query};
-use snapshot::Snapshot;
+use snapshot::{KeyedLists, Snapshot};
 use std::alloc::{AllocError, Global};
 
 /// Which concepts, by their numbers, a query denotes.
@@ -17,9 +16,9 @@ pub fn denoted(
     alloc: Global,
     query: Query,
     snapshot: &Snapshot,
-    children: &Children,
+    children: &KeyedLists,
 ) -> Result<Vec<bool>, AllocError>
-    requires { IsHierarchyOf snapshot.now.release children.now }
+    requires { AreChildrenIn snapshot.now.release children.now }
     ensures { IfOk result (λ set. set.items ≡ map (denotes snapshot.now.release (tree_of_query query)) snapshot.now.release.concepts) }
 {
     match query {
@@ -65,11 +64,11 @@ fn either(alloc: Global, first: &[bool], second: &[bool]) -> Result<Vec<bool>, A
 }
 
 // Which concepts are below one of `start`. Each concept is visited once.
-fn below(alloc: Global, start: &[bool], children: &Children) -> Result<Vec<bool>, AllocError>
-    requires count { children.now.count ≡ length start.now }
-    requires within { IsWithin (length start.now) children.now.rows }
+fn below(alloc: Global, start: &[bool], children: &KeyedLists) -> Result<Vec<bool>, AllocError>
+    requires count { length children.now ≡ length start.now }
+    requires within { IsWithin (length start.now) (rows_of children.now) }
     requires few { length start.now < 2 ^ 32 }
-    ensures { IfOk result (λ found. AreBelow children.now.rows start.now found.items) }
+    ensures { IfOk result (λ found. AreBelow (rows_of children.now) start.now found.items) }
 {
     let mut found = vec![in alloc; false; start.len()]?;
     let mut stack = numbers_of(alloc, start)?;
@@ -96,24 +95,24 @@ fn numbers_of(alloc: Global, set: &[bool]) -> Result<Vec<u32>, AllocError>
 
 // Marks the children of the concept at hand as found, and lets those that are new wait.
 fn follow(
-    own: &[(u32, u32)],
+    children: &[u32],
     start: &[bool],
     found: &mut Vec<bool>,
     stack: &mut Vec<u32>,
 ) -> Result<(), AllocError>
     requires start { vec_len found.old ≡ length start.now }
-    requires within { All (λ row. row.0 < length start.now) own.now }
+    requires within { All (λ child. child < length start.now) children.now }
     ensures len { vec_len found.new ≡ length start.now }
-    ensures found { OnOk result (All (λ row. IsMarked found.new.items row.0) own.now) }
+    ensures found { OnOk result (All (λ child. IsMarked found.new.items child) children.now) }
     ensures way { OnOk result ((rows : List (ℕ × ℕ)) (here : ℕ) →
-        All (λ row. (row.1 ≡ here) × Contains rows row) own.now →
+        All (λ child. Contains rows (child, here)) children.now →
         IsSeen start.now found.old.items here →
         IsOnWay here rows start.now found.old.items stack.old.items →
         IsOnWay here rows start.now found.new.items stack.new.items) }
     ensures nearer { OnOk result (unmarked_count found.new.items + vec_len stack.new ≤ unmarked_count found.old.items + vec_len stack.old) }
 {
-    for row in own {
-        match mark(row.0, start, found, stack) {
+    for child in children {
+        match mark(*child, start, found, stack) {
             Ok(()) => {}
             Err(fault) => return Err(fault),
         }

@@ -19,7 +19,7 @@ denotation_rises : (contents : Contents) (inside : Inside) → contents_in insid
     → (query : Query) → IsStrictlyIncreasing (denotation contents.release (tree_of_query query))
 denotation_rises contents inside is ready query =
     subst (λ (contents : Contents). IsStrictlyIncreasing (denotation contents.release (tree_of_query query))) is
-    (IsStrictlyIncreasing-filter (denotes inside.snapshot.release (tree_of_query query)) inside.snapshot.release.concepts ready.2)
+    (IsStrictlyIncreasing-filter (denotes inside.snapshot.release (tree_of_query query)) inside.snapshot.release.concepts ready.rising)
 
 pub returns-in_ok-marks-in-Ok-clause-ok : goal.returns-in_ok-marks-in-Ok-clause-ok
 unfolding line_answer

@@ -1,0 +1,28 @@
+-- The hierarchy of a release has its lists for each concept.
+use Rattle.std.proofs.Common.{ℕ, ◌≡◌, ◌<◌, Bool, length, get_or, subst, sym, arith}
+use Rattle.rf2_rows.specs.Hierarchy.{reaches}
+use Rattle.rf2_rows.specs.Release.{Release}
+use Rattle.ancestor_index.specs.HierarchyLists.{Hierarchy, hierarchy_of, is_child, lists_where}
+use Rattle.ancestor_index.proofs.ClosureLemmas.{length-where}
+
+-- a concept has a list in each of the four families
+pub record HasLists (index : Hierarchy) (concept : ℕ) : Type 0 where
+  pub ancestors : concept < length index.ancestors
+  pub descendants : concept < length index.descendants
+  pub parents : concept < length index.parents
+  pub children : concept < length index.children
+
+pub concept_has_lists : (release : Release) (index : Hierarchy) (concept : ℕ) → index ≡ hierarchy_of release → concept < length release.concepts → HasLists index concept
+concept_has_lists release index concept is below =
+    subst (λ (index : Hierarchy). HasLists index concept) (sym is) (record {
+      ancestors = listed (λ a b. reaches release.isa (id a) (id b));
+      descendants = listed (λ a b. reaches release.isa (id b) (id a));
+      parents = listed (λ a b. is_child release.isa (id a) (id b));
+      children = listed (λ a b. is_child release.isa (id b) (id a));
+    })
+  where
+    id : ℕ → ℕ
+    id n = get_or release.concepts n 0
+
+    listed : (test : ℕ → ℕ → Bool) → concept < length (lists_where (length release.concepts) test)
+    listed test = omega (arith, below, length-where (length release.concepts) test)

@@ -1,0 +1,190 @@
+//! The hierarchies of the sample release and of releases made for a test.
+ghost use Rattle.std.specs.Prelude.{◌≡◌};
+ghost use Rattle.ancestor_index.specs.HierarchyLists.{hierarchy_of};
+
+use crate::load_tests::{
+    NAME, RELATIONSHIP_NAME, RELATIONSHIPS, chain_file, concept_file, identifiers, replaced,
+};
+use crate::sample::sample_files;
+use ancestor_index::AncestorIndex;
+use release_files::NamedBytes;
+use snapshot::{Limits, Snapshot};
+use std::alloc::{AllocError, Global};
+use std::process::Abort;
+use std::test::Fail;
+
+// The ancestors, the descendants, the parents and the children of a concept.
+type Around<'a> = [&'a [u32]; 4];
+
+// Of each concept of the sample release, by their numbers: A, B, C, D, T, U, X, Y, Q and Root.
+const SAMPLE: [Around<'static>; 10] = [
+    [&[9], &[1, 2, 3], &[9], &[1, 2]],
+    [&[0, 9], &[3], &[0], &[3]],
+    [&[0, 9], &[3], &[0], &[3]],
+    [&[0, 1, 2, 9], &[], &[1, 2], &[]],
+    [&[9], &[], &[9], &[]],
+    [&[9], &[], &[9], &[]],
+    [&[9], &[7], &[9], &[7]],
+    [&[6, 9], &[], &[6], &[]],
+    [&[9], &[], &[9], &[]],
+    [&[], &[0, 1, 2, 3, 4, 5, 6, 7, 8], &[], &[0, 4, 5, 6, 8]],
+];
+
+// How many concepts are in the chain.
+const CHAIN: u32 = 300;
+
+// A row that says once more that D is a B, before the last row.
+const D_IS_B: &[u8] =
+    b"122026\t20240101\t1\t900000000000207008\t103007\t101009\t0\t116680003\t900000000000011006\t900000000000451002\r\n121022\t";
+
+// Looks at what a hierarchy has of a concept.
+fn assert_around(
+    rt: &impl Abort,
+    snapshot: &Snapshot,
+    index: &AncestorIndex,
+    concept: u32,
+    want: &Around<'_>,
+)
+    requires { index.now ≡ hierarchy_of snapshot.now.release }
+{
+    assert!(rt; concept < snapshot.concept_count());
+    assert!(rt;
+        index.ancestors(concept) == want[0],
+        "ancestors of {concept}"
+    );
+    assert!(rt;
+        index.descendants(concept) == want[1],
+        "descendants of {concept}"
+    );
+    assert!(rt; index.parents(concept) == want[2], "parents of {concept}");
+    assert!(rt; index.children(concept) == want[3], "children of {concept}");
+}
+
+// Looks at whether the descendants of a concept are kept as words, and whether these are they.
+fn assert_words(
+    rt: &impl Abort,
+    snapshot: &Snapshot,
+    index: &AncestorIndex,
+    concept: u32,
+    is_wide: bool,
+)
+    requires { index.now ≡ hierarchy_of snapshot.now.release }
+{
+    assert!(rt; concept < snapshot.concept_count());
+    let words = index.descendant_words(concept);
+    assert!(rt; words.is_some() == is_wide, "words of {concept}");
+    let Some(words) = words else { return };
+    for number in 0..snapshot.concept_count() {
+        let is_below = index.descendants(concept).contains(&number);
+        assert!(rt;
+            is_set(words, number) == is_below,
+            "{number} below {concept}"
+        );
+    }
+}
+
+// Whether the bit of a number is set: the words have 64 each, the lowest first.
+fn is_set(words: &[u64], number: u32) -> bool {
+    match words.get((number / 64) as usize) {
+        Some(word) => (*word >> (number % 64)) & 1 == 1,
+        None => false,
+    }
+}
+
+// Looks at whether each concept stands once in the order, and each parent before its child.
+fn assert_parents_first(rt: &impl Abort, snapshot: &Snapshot) {
+    let order = snapshot.parents_first();
+    assert!(rt; order.len() == snapshot.concept_count() as usize);
+    for concept in 0..snapshot.concept_count() {
+        assert!(rt; order.contains(&concept), "{concept}");
+    }
+    for (child, parent) in snapshot.isa_rows() {
+        let place = order.iter().position(|concept| concept == child);
+        let before = order.iter().position(|concept| concept == parent);
+        assert!(rt; before < place, "{parent} before {child}");
+    }
+}
+
+// The sample's files, in one of which the first `from` is replaced.
+fn sample_with(
+    alloc: Global,
+    place: usize,
+    changed: &[u8],
+) -> Result<Vec<NamedBytes<'_>>, AllocError> {
+    let mut files = Vec::new(alloc);
+    for (at, named) in sample_files().iter().enumerate() {
+        let bytes = if at == place { changed } else { named.bytes };
+        files.push(NamedBytes {
+            name: named.name,
+            bytes,
+        })?;
+    }
+    Ok(files)
+}
+
+#[test]
+fn lists_the_sample_hierarchy(rt: HostRuntime) -> Result<(), Fail> {
+    let snapshot = Snapshot::load(rt.alloc(), &sample_files(), "en", Limits::standard())?;
+    let index = AncestorIndex::build(rt.alloc(), &snapshot)?;
+    assert_eq!(rt; snapshot.concept_count(), 10);
+    for (number, want) in (0u32..).zip(&SAMPLE) {
+        assert_around(&rt, &snapshot, &index, number, want);
+    }
+    assert_parents_first(&rt, &snapshot);
+    Ok(())
+}
+
+// A row that repeats another row's ends is one more row, and changes no list.
+#[test]
+fn lists_a_repeated_row_once(rt: HostRuntime) -> Result<(), Fail> {
+    let files = sample_files();
+    let Some(rows) = files.get(RELATIONSHIPS) else {
+        panic!(rt; "the sample has relationships")
+    };
+    let changed = replaced(rt.alloc(), rows.bytes, b"121022\t", D_IS_B)?;
+    let files = sample_with(rt.alloc(), RELATIONSHIPS, changed.as_slice())?;
+    let snapshot = Snapshot::load(rt.alloc(), files.as_slice(), "en", Limits::standard())?;
+    let index = AncestorIndex::build(rt.alloc(), &snapshot)?;
+    assert_eq!(rt; snapshot.isa_rows().len(), 11);
+    for (number, want) in (0u32..).zip(&SAMPLE) {
+        assert_around(&rt, &snapshot, &index, number, want);
+    }
+    assert_parents_first(&rt, &snapshot);
+    Ok(())
+}
+
+// In a chain each concept has all before it as ancestors and all behind it as descendants. More than a
+// 32nd of 300 concepts are 10.
+#[test]
+fn lists_a_chain(rt: HostRuntime) -> Result<(), Fail> {
+    let alloc = rt.alloc();
+    let concepts = identifiers(&rt, alloc, b"00", u64::from(CHAIN))?;
+    let ids = identifiers(&rt, alloc, b"02", u64::from(CHAIN))?;
+    let concept_bytes = concept_file(alloc, concepts.as_slice())?;
+    let rows = chain_file(alloc, ids.as_slice(), concepts.as_slice())?;
+    let files = [
+        NamedBytes {
+            name: NAME,
+            bytes: concept_bytes.as_slice(),
+        },
+        NamedBytes {
+            name: RELATIONSHIP_NAME,
+            bytes: rows.as_slice(),
+        },
+    ];
+    let snapshot = Snapshot::load(alloc, &files, "en", Limits::standard())?;
+    let index = AncestorIndex::build(alloc, &snapshot)?;
+    assert_eq!(rt; snapshot.concept_count(), CHAIN);
+    let numbers: Vec<u32> = (0..CHAIN).collect(alloc)?;
+    for (place, number) in numbers.iter().enumerate() {
+        let (before, from) = numbers.as_slice().split_at(place);
+        let behind = from.get(1..).unwrap_or(&[]);
+        let parents = before.get(place.saturating_sub(1)..).unwrap_or(&[]);
+        let children = behind.get(..1).unwrap_or(&[]);
+        let want = [before, behind, parents, children];
+        assert_around(&rt, &snapshot, &index, *number, &want);
+        assert_words(&rt, &snapshot, &index, *number, behind.len() >= 10);
+    }
+    assert_parents_first(&rt, &snapshot);
+    Ok(())
+}
