@@ -1,63 +1,61 @@
 //! The attribute rows and the report of the sample release.
+ghost use Rattle.std.specs.Prelude.{◌<◌, length};
+
 use crate::sample::sample_files;
-use rf2_rows::{Decimal, Value};
-use sctid::SctId;
-use snapshot::{AttributeRow, Limits, Report, Snapshot};
+use rf2_rows::Value;
+use snapshot::{Limits, Report, Snapshot};
 use std::process::Abort;
 use std::test::Fail;
 
-// The identifier that a text is.
-fn identifier(rt: &impl Abort, text: &[u8]) -> SctId {
-    match SctId::parse(text) {
-        Ok(id) => id,
-        Err(_) => panic!(rt; "no identifier"),
+// Source, group, type and value of each attribute row by its number: the sources are B, C and D, the types
+// T and U, and the values X, Y, 2.5 and 3.
+const ROWS: [(u32, u32, u64, i128); 9] = [
+    (1, 1, 104001, 106004),
+    (1, 1, 105000, 107008),
+    (2, 0, 105000, 2_500_000_000_000_000_000),
+    (2, 1, 104001, 106004),
+    (2, 2, 105000, 107008),
+    (3, 1, 105000, 3_000_000_000_000_000_000),
+    (3, 0, 104001, 107008),
+    (3, 0, 105000, 107008),
+    (3, 2, 105000, 107008),
+];
+
+// The number that a value is, or the identifier of the concept.
+fn number_of(value: &Value<'_>) -> i128 {
+    match value {
+        Value::Concept(concept) => i128::from(concept.number()),
+        Value::Decimal(decimal) => decimal.0,
+        Value::Other(_) => -1,
     }
 }
 
-// The attribute rows by their sources, which are B, C and D, with types T and U and values X and Y.
-fn assert_rows(rt: &impl Abort, snapshot: &Snapshot) {
-    let (t, u) = (identifier(rt, b"104001"), identifier(rt, b"105000"));
-    let x = Value::Concept(identifier(rt, b"106004"));
-    let y = Value::Concept(identifier(rt, b"107008"));
-    let half = Value::Decimal(Decimal(2_500_000_000_000_000_000));
-    let whole = Value::Decimal(Decimal(3_000_000_000_000_000_000));
-    let want = [
-        (1, 1, t, x),
-        (1, 1, u, y),
-        (2, 0, u, half),
-        (2, 1, t, x),
-        (2, 2, u, y),
-        (3, 1, u, whole),
-        (3, 0, t, y),
-        (3, 0, u, y),
-        (3, 2, u, y),
-    ];
-    assert!(rt; snapshot.attribute_count() == 9);
-    for (number, (source, group, type_id, value)) in (0u32..).zip(&want) {
-        assert!(rt; number < snapshot.attribute_count());
-        let row = AttributeRow {
-            source: *source,
-            type_id: *type_id,
-            group: *group,
-            value: *value,
-        };
-        assert!(rt; snapshot.attribute_row(number) == row, "row {number}");
-    }
+// Looks at an attribute row.
+fn assert_row(rt: &impl Abort, snapshot: &Snapshot, number: u32, want: &(u32, u32, u64, i128))
+    requires { number < length snapshot.now.release.attributes }
+{
+    let row = snapshot.attribute_row(number);
+    assert!(rt; row.source == want.0, "source of {number}");
+    assert!(rt; row.group == want.1, "group of {number}");
+    assert!(rt; row.type_id.number() == want.2, "type of {number}");
+    assert!(rt; number_of(&row.value) == want.3, "value of {number}");
 }
 
 #[test]
 fn reads_rows_and_report_of_the_sample(rt: HostRuntime) -> Result<(), Fail> {
     let snapshot = Snapshot::load(rt.alloc(), &sample_files(), "en", Limits::standard())?;
-    assert_rows(&rt, &snapshot);
-    let want = Report {
-        files: 5,
-        concepts: 10,
-        isa: 10,
-        attributes: 9,
-        members: 2,
-        names: 10,
-        passed: 6,
-    };
-    assert!(rt; snapshot.report() == want);
+    assert_eq!(rt; snapshot.attribute_count(), 9);
+    for (number, want) in (0u32..).zip(&ROWS) {
+        assert!(rt; number < snapshot.attribute_count());
+        assert_row(&rt, &snapshot, number, want);
+    }
+    let report = snapshot.report();
+    assert_eq!(rt; report.files, 5);
+    assert_eq!(rt; report.concepts, 10);
+    assert_eq!(rt; report.isa, 10);
+    assert_eq!(rt; report.attributes, 9);
+    assert_eq!(rt; report.members, 2);
+    assert_eq!(rt; report.names, 10);
+    assert_eq!(rt; report.passed, 6);
     Ok(())
 }
