@@ -1,21 +1,11 @@
 //! The search for cycles: the strongly connected components of the is-a rows, by two depth-first
 //! searches over flat lists (Kosaraju and Sharir), with no recursion. No contract says that it finds
 //! what it should; `cycle` tests that.
+ghost use Rattle.std.specs.Prelude.{◌≡◌, ◌<◌, ◌^◌, IfOk, length};
+ghost use Rattle.snapshot.specs.Search.{IsWithin};
+
+use crate::keyed_lists::KeyedLists;
 use std::alloc::{AllocError, Global};
-
-// Which end of a row is looked up, and which is found.
-#[derive(Clone, Copy)]
-enum Direction {
-    Up,
-    Down,
-}
-
-// The rows of each concept: those of concept `c` are `places[starts[c]..starts[c + 1]]`.
-#[derive(Drop)]
-struct RowsByConcept {
-    starts: Vec<u32>,
-    places: Vec<u32>,
-}
 
 /// A rank for each of `count` concepts: those that reach one another have one rank, and otherwise a
 /// child has a lower rank than its parent.
@@ -23,15 +13,17 @@ pub fn component_ranks(
     alloc: Global,
     rows: &[(u32, u32)],
     count: u32,
-) -> Result<Vec<u32>, AllocError> {
-    let up = RowsByConcept::new(alloc, rows, count, Direction::Up)?;
-    let finished = finish_order(alloc, rows, &up, count)?;
-    let down = RowsByConcept::new(alloc, rows, count, Direction::Down)?;
+) -> Result<Vec<u32>, AllocError>
+    requires { IsWithin count rows.now }
+{
+    let up = KeyedLists::from_pairs(alloc, count, rows)?;
+    let down = up.turned(alloc, count)?;
+    let finished = finish_order(alloc, &up, rows.len())?;
     let mut ranks = vec![in alloc; u32::MAX; count as usize]?;
     let mut stack = Vec::new(alloc);
     for (rank, root) in finished.iter().rev().enumerate() {
         let rank = u32::try_from(rank).unwrap_or(u32::MAX);
-        flood(&mut ranks, &mut stack, rows, &down, *root, rank)?;
+        flood(&mut ranks, &mut stack, &down, *root, rank)?;
     }
     Ok(ranks)
 }
@@ -42,16 +34,18 @@ pub fn rows_from(
     rows: &[(u32, u32)],
     concept: u32,
     count: u32,
-) -> Result<Vec<u32>, AllocError> {
-    let up = RowsByConcept::new(alloc, rows, count, Direction::Up)?;
+) -> Result<Vec<u32>, AllocError>
+    requires { IsWithin count rows.now }
+{
+    let up = places_by_child(alloc, rows, count)?;
     let mut seen = vec![in alloc; false; count as usize]?;
     let mut order = Vec::new(alloc);
     let mut stack = vec![in alloc; concept]?;
     for _ in 0..rows.len().saturating_add(1) {
         let Some(child) = stack.pop() else { break };
-        for place in up.of(child) {
+        for place in list_at(&up, child) {
             order.push(*place)?;
-            let parent = other_end(rows, *place, Direction::Up);
+            let parent = parent_at(rows, *place);
             if mark(seen.as_mut_slice(), parent) {
                 stack.push(parent)?;
             }
@@ -60,72 +54,33 @@ pub fn rows_from(
     Ok(order)
 }
 
-impl RowsByConcept {
-    // Sorts the places of rows by the end that is looked up, by counting.
-    fn new(
-        alloc: Global,
-        rows: &[(u32, u32)],
-        count: u32,
-        direction: Direction,
-    ) -> Result<RowsByConcept, AllocError> {
-        let mut starts = vec![in alloc; 0u32; (count as usize).saturating_add(2)]?;
-        for row in rows {
-            let (concept, _) = turned(*row, direction);
-            add_one(starts.as_mut_slice(), (concept as usize).saturating_add(2));
-        }
-        let mut sum = 0u32;
-        for start in starts.iter_mut() {
-            sum = sum.saturating_add(*start);
-            *start = sum;
-        }
-        let mut places = vec![in alloc; 0u32; rows.len()]?;
-        for (place, row) in rows.iter().enumerate() {
-            let (concept, _) = turned(*row, direction);
-            let at = add_one(starts.as_mut_slice(), (concept as usize).saturating_add(1));
-            if let Some(slot) = places.get_mut(at as usize) {
-                *slot = u32::try_from(place).unwrap_or(u32::MAX);
-            }
-        }
-        Ok(RowsByConcept { starts, places })
+// The places of each concept's rows.
+fn places_by_child(alloc: Global, rows: &[(u32, u32)], count: u32) -> Result<KeyedLists, AllocError>
+    requires { IsWithin count rows.now }
+    ensures { IfOk result (λ places. length places ≡ count) }
+{
+    let mut pairs = Vec::with_capacity(alloc, rows.len())?;
+    for (place, row) in rows.iter().enumerate() {
+        pairs.push((row.0, u32::try_from(place).unwrap_or(u32::MAX)))?;
     }
+    KeyedLists::from_pairs(alloc, count, pairs.as_slice())
+}
 
-    // The places of a concept's rows.
-    fn of(&self, concept: u32) -> &[u32] {
-        let concept = concept as usize;
-        let from = self.starts.get(concept).copied().unwrap_or(0) as usize;
-        let to = self
-            .starts
-            .get(concept.saturating_add(1))
-            .copied()
-            .unwrap_or(0) as usize;
-        self.places.get(from..to).unwrap_or(&[])
+// The list of a concept, if it has one.
+fn list_at(lists: &KeyedLists, concept: u32) -> &[u32]
+    requires { length lists.now < 2 ^ 32 }
+{
+    if concept < lists.len() {
+        lists.of(concept)
+    } else {
+        &[]
     }
 }
 
-// The end of a row that is looked up, and the other.
-fn turned(row: (u32, u32), direction: Direction) -> (u32, u32) {
-    match direction {
-        Direction::Up => row,
-        Direction::Down => (row.1, row.0),
-    }
-}
-
-// The end that is found of the row at a place.
-fn other_end(rows: &[(u32, u32)], place: u32, direction: Direction) -> u32 {
+// The parent of the row at a place.
+fn parent_at(rows: &[(u32, u32)], place: u32) -> u32 {
     match rows.get(place as usize) {
-        Some(row) => turned(*row, direction).1,
-        None => 0,
-    }
-}
-
-// Adds one to a counter, and tells what it was.
-fn add_one(counters: &mut [u32], at: usize) -> u32 {
-    match counters.get_mut(at) {
-        Some(counter) => {
-            let before = *counter;
-            *counter = before.saturating_add(1);
-            before
-        }
+        Some(row) => row.1,
         None => 0,
     }
 }
@@ -142,45 +97,45 @@ fn mark(seen: &mut [bool], concept: u32) -> bool {
     }
 }
 
-// The concepts in the order in which a depth-first search upwards is done with them.
-fn finish_order(
-    alloc: Global,
-    rows: &[(u32, u32)],
-    up: &RowsByConcept,
-    count: u32,
-) -> Result<Vec<u32>, AllocError> {
+// The concepts in the order in which a depth-first search upwards, over so many rows, is done with
+// them.
+fn finish_order(alloc: Global, up: &KeyedLists, rows: usize) -> Result<Vec<u32>, AllocError>
+    requires { length up.now < 2 ^ 32 }
+{
+    let count = up.len();
+    let steps = rows.saturating_add(count as usize);
     let mut seen = vec![in alloc; false; count as usize]?;
     let mut finished = Vec::with_capacity(alloc, count as usize)?;
     let mut stack = Vec::new(alloc);
     for root in 0..count {
         if mark(seen.as_mut_slice(), root) {
             stack.push((root, 0usize))?;
-            finish(&mut finished, &mut stack, &mut seen, rows, up)?;
+            finish(&mut finished, &mut stack, &mut seen, up, steps)?;
         }
     }
     Ok(finished)
 }
 
 // Goes on with a depth-first search until its stack of concepts, each with the number of its rows
-// that are done, is empty.
+// that are done, is empty. That takes at most as many steps as there are rows and concepts.
 fn finish(
     finished: &mut Vec<u32>,
     stack: &mut Vec<(u32, usize)>,
     seen: &mut Vec<bool>,
-    rows: &[(u32, u32)],
-    up: &RowsByConcept,
-) -> Result<(), AllocError> {
-    let steps = rows.len().saturating_add(seen.len());
+    up: &KeyedLists,
+    steps: usize,
+) -> Result<(), AllocError>
+    requires { length up.now < 2 ^ 32 }
+{
     for _ in 0..steps {
         let Some((concept, done)) = stack.pop() else {
             break
         };
-        match up.of(concept).get(done) {
-            Some(place) => {
+        match list_at(up, concept).get(done) {
+            Some(parent) => {
                 stack.push((concept, done.saturating_add(1)))?;
-                let parent = other_end(rows, *place, Direction::Up);
-                if mark(seen.as_mut_slice(), parent) {
-                    stack.push((parent, 0))?;
+                if mark(seen.as_mut_slice(), *parent) {
+                    stack.push((*parent, 0))?;
                 }
             }
             None => finished.push(concept)?,
@@ -193,21 +148,21 @@ fn finish(
 fn flood(
     ranks: &mut Vec<u32>,
     stack: &mut Vec<u32>,
-    rows: &[(u32, u32)],
-    down: &RowsByConcept,
+    down: &KeyedLists,
     root: u32,
     rank: u32,
-) -> Result<(), AllocError> {
+) -> Result<(), AllocError>
+    requires { length down.now < 2 ^ 32 }
+{
     if set_rank(ranks.as_mut_slice(), root, rank) {
         stack.push(root)?;
     }
     let steps = ranks.len();
     for _ in 0..steps {
         let Some(parent) = stack.pop() else { break };
-        for place in down.of(parent) {
-            let child = other_end(rows, *place, Direction::Down);
-            if set_rank(ranks.as_mut_slice(), child, rank) {
-                stack.push(child)?;
+        for child in list_at(down, parent) {
+            if set_rank(ranks.as_mut_slice(), *child, rank) {
+                stack.push(*child)?;
             }
         }
     }
