@@ -179,3 +179,10 @@ hierarchy_told release rows count all rises within are ancestors descendants par
 
     child : (a b : ℕ) → a < length release.concepts → b < length release.concepts → is_child rows a b ≡ is_child release.isa (id a) (id b)
     child = same_child release.concepts rows release.isa rises within are
+
+-- what the lists by an order are by the count of concepts
+pub ancestors_told : (all count : ℕ) (rows : List (ℕ × ℕ)) (parents ancestors : List (List ℕ)) (order : List ℕ) → count ≡ all → IsWithin all rows → parents ≡ lists_where count (is_child rows) → IsParentsFirst all rows order
+    → ((rows : List (ℕ × ℕ)) → AreParentsBy rows parents order → ancestors ≡ lists_where (length order) (reaches rows)) → ancestors ≡ lists_where count (reaches rows)
+ancestors_told all count rows parents ancestors order same within are first found =
+    found rows (given_parents all rows parents order within (are ∙ (λ i. lists_where (same i) (is_child rows))) first)
+    ∙ (λ i. lists_where ((order_count all rows order first ∙ sym same) i) (reaches rows))

@@ -7,7 +7,7 @@ use Rattle.snapshot.proofs.KeyedLemmas.{length-lists_by}
 use Rattle.snapshot.proofs.WayLemmas.{parents_below}
 use Rattle.ancestor_index.specs.HierarchyLists.{is_child, lists_where}
 use Rattle.ancestor_index.specs.Wide.{AreWide}
-use Rattle.ancestor_index.proofs.BuildLemmas.{given_parents, hierarchy_told, order_count, parents_listed, turned_where, where_below}
+use Rattle.ancestor_index.proofs.BuildLemmas.{ancestors_told, given_parents, hierarchy_told, order_count, parents_listed, turned_where, where_below}
 use Rattle.ancestor_index.proofs.ClosureLemmas.{length-where}
 use Rattle.ancestor_index.proofs.index.AncestorIndex.build.Goals as goal
 
@@ -59,12 +59,8 @@ turned-requires-2-clause-items c =
     let count = c.concept_count-count.result in
     let all = length c.args.snapshot.now.release.concepts in
     let parents : c.in_ok-parents.parents ≡ lists_where count (is_child rows) = c.in_ok-parents.ensures ∙ ap (map (listed_numbers count)) c.in_ok-by_row.ensures ∙ parents_listed count rows in
-    let first = c.parents_first.ensures rows c.isa_rows-rows.ensures.rows c.isa_rows-rows.ensures.within in
-    let long : length c.parents_first.result.now ≡ count = order_count all rows c.parents_first.result.now first ∙ sym c.concept_count-count.ensures.count in
-    let ancestors : c.in_ok-ancestors.ancestors ≡ lists_where count (reaches rows) =
-    c.in_ok-ancestors.ensures rows
-    (given_parents all rows c.in_ok-parents.parents c.parents_first.result.now c.isa_rows-rows.ensures.within (parents ∙ (λ i. lists_where (c.concept_count-count.ensures.count i) (is_child rows))) first)
-    ∙ (λ i. lists_where (long i) (reaches rows)) in
+    let ancestors = ancestors_told all count rows c.in_ok-parents.parents c.in_ok-ancestors.ancestors c.parents_first.result.now c.concept_count-count.ensures.count c.isa_rows-rows.ensures.within parents
+    (c.parents_first.ensures rows c.isa_rows-rows.ensures.rows c.isa_rows-rows.ensures.within) c.in_ok-ancestors.ensures in
     where_below count (reaches rows) c.in_ok-ancestors.ancestors ancestors
 
 pub turned-requires-2-clause-few : goal.turned-requires-2-clause-few
@@ -74,12 +70,8 @@ turned-requires-2-clause-few c =
     let count = c.concept_count-count.result in
     let all = length c.args.snapshot.now.release.concepts in
     let parents : c.in_ok-parents.parents ≡ lists_where count (is_child rows) = c.in_ok-parents.ensures ∙ ap (map (listed_numbers count)) c.in_ok-by_row.ensures ∙ parents_listed count rows in
-    let first = c.parents_first.ensures rows c.isa_rows-rows.ensures.rows c.isa_rows-rows.ensures.within in
-    let long : length c.parents_first.result.now ≡ count = order_count all rows c.parents_first.result.now first ∙ sym c.concept_count-count.ensures.count in
-    let ancestors : c.in_ok-ancestors.ancestors ≡ lists_where count (reaches rows) =
-    c.in_ok-ancestors.ensures rows
-    (given_parents all rows c.in_ok-parents.parents c.parents_first.result.now c.isa_rows-rows.ensures.within (parents ∙ (λ i. lists_where (c.concept_count-count.ensures.count i) (is_child rows))) first)
-    ∙ (λ i. lists_where (long i) (reaches rows)) in
+    let ancestors = ancestors_told all count rows c.in_ok-parents.parents c.in_ok-ancestors.ancestors c.parents_first.result.now c.concept_count-count.ensures.count c.isa_rows-rows.ensures.within parents
+    (c.parents_first.ensures rows c.isa_rows-rows.ensures.rows c.isa_rows-rows.ensures.within) c.in_ok-ancestors.ensures in
     omega (arith, ap (λ (lists : List (List ℕ)). length lists) ancestors, length-where count (reaches rows), fit)
 
 pub wide_lists-requires-clause-items : goal.wide_lists-requires-clause-items
@@ -88,12 +80,8 @@ wide_lists-requires-clause-items c =
     let count = c.concept_count-count.result in
     let all = length c.args.snapshot.now.release.concepts in
     let parents : c.in_ok-parents.parents ≡ lists_where count (is_child rows) = c.in_ok-parents.ensures ∙ ap (map (listed_numbers count)) c.in_ok-by_row.ensures ∙ parents_listed count rows in
-    let first = c.parents_first.ensures rows c.isa_rows-rows.ensures.rows c.isa_rows-rows.ensures.within in
-    let long : length c.parents_first.result.now ≡ count = order_count all rows c.parents_first.result.now first ∙ sym c.concept_count-count.ensures.count in
-    let ancestors : c.in_ok-ancestors.ancestors ≡ lists_where count (reaches rows) =
-    c.in_ok-ancestors.ensures rows
-    (given_parents all rows c.in_ok-parents.parents c.parents_first.result.now c.isa_rows-rows.ensures.within (parents ∙ (λ i. lists_where (c.concept_count-count.ensures.count i) (is_child rows))) first)
-    ∙ (λ i. lists_where (long i) (reaches rows)) in
+    let ancestors = ancestors_told all count rows c.in_ok-parents.parents c.in_ok-ancestors.ancestors c.parents_first.result.now c.concept_count-count.ensures.count c.isa_rows-rows.ensures.within parents
+    (c.parents_first.ensures rows c.isa_rows-rows.ensures.rows c.isa_rows-rows.ensures.within) c.in_ok-ancestors.ensures in
     let descendants : c.in_ok-descendants.descendants ≡ lists_where count (λ concept other. reaches rows other concept) = c.in_ok-descendants.ensures ∙ ap (turned count) ancestors ∙ turned_where count (reaches rows) in
     where_below count (λ concept other. reaches rows other concept) c.in_ok-descendants.descendants descendants
 
@@ -115,12 +103,8 @@ returns c =
     let count = c.concept_count-count.result in
     let all = length c.args.snapshot.now.release.concepts in
     let parents : c.in_ok-parents.parents ≡ lists_where count (is_child rows) = c.in_ok-parents.ensures ∙ ap (map (listed_numbers count)) c.in_ok-by_row.ensures ∙ parents_listed count rows in
-    let first = c.parents_first.ensures rows c.isa_rows-rows.ensures.rows c.isa_rows-rows.ensures.within in
-    let long : length c.parents_first.result.now ≡ count = order_count all rows c.parents_first.result.now first ∙ sym c.concept_count-count.ensures.count in
-    let ancestors : c.in_ok-ancestors.ancestors ≡ lists_where count (reaches rows) =
-    c.in_ok-ancestors.ensures rows
-    (given_parents all rows c.in_ok-parents.parents c.parents_first.result.now c.isa_rows-rows.ensures.within (parents ∙ (λ i. lists_where (c.concept_count-count.ensures.count i) (is_child rows))) first)
-    ∙ (λ i. lists_where (long i) (reaches rows)) in
+    let ancestors = ancestors_told all count rows c.in_ok-parents.parents c.in_ok-ancestors.ancestors c.parents_first.result.now c.concept_count-count.ensures.count c.isa_rows-rows.ensures.within parents
+    (c.parents_first.ensures rows c.isa_rows-rows.ensures.rows c.isa_rows-rows.ensures.within) c.in_ok-ancestors.ensures in
     let children : c.in_ok-children.children ≡ lists_where count (λ concept other. is_child rows other concept) = c.in_ok-children.ensures ∙ ap (turned count) parents ∙ turned_where count (is_child rows) in
     let descendants : c.in_ok-descendants.descendants ≡ lists_where count (λ concept other. reaches rows other concept) = c.in_ok-descendants.ensures ∙ ap (turned count) ancestors ∙ turned_where count (reaches rows) in
     hierarchy_told c.args.snapshot.now.release rows count c.concept_count-count.ensures.count c.concept_count-count.ensures.rising c.isa_rows-rows.ensures.within c.isa_rows-rows.ensures.rows
