@@ -1,0 +1,23 @@
+use Rattle.std.proofs.Common.{ℕ, List, Bool, not, ◌≡◌, ◌<◌, ◌∙◌, sym, ap, subst}
+use Rattle.std.specs.Prelude.{All, filter}
+use Rattle.std.specs.List.{list_any}
+use Rattle.idset.specs.Sets.{has_item, IsRisingBelow}
+use Rattle.idset.proofs.Rising.{rises_within-filter}
+use Rattle.snapshot.specs.KeyedLists.{list_of}
+use Rattle.executor.specs.Steps.{lists_of}
+use Rattle.executor.proofs.JoinedLemmas.{all_below}
+use Rattle.executor.proofs.walks.apart.Goals as goal
+
+pub kept_apart-requires-clause-below : goal.kept_apart-requires-clause-below
+kept_apart-requires-clause-below g c =
+    subst (λ (items : List ℕ). All (λ item. item < g.S.ConceptSet.bound_of c.args.operand.now) items) (sym (c.as_slice.ensures.value ∙ c.in_ok-concepts.ensures))
+    (all_below (g.S.ConceptSet.bound_of c.args.operand.now) (g.S.ConceptSet.items_of c.args.operand.now) (g.met.S.ConceptSet.rising c.args.operand.now))
+
+pub from_items-requires : goal.from_items-requires
+from_items-requires g c =
+    let test : ℕ → Bool = λ concept. not (list_any (has_item (g.S.ConceptSet.items_of c.args.operand.now)) (list_of (lists_of c.args.index.now c.args.family) concept)) in
+    let kept : c.as_slice-2.result.now ≡ filter test (g.S.ConceptSet.items_of c.args.operand.now) =
+    c.as_slice-2.ensures.value ∙ c.in_ok-kept.ensures ∙ ap (filter test) (c.as_slice.ensures.value ∙ c.in_ok-concepts.ensures) in
+    subst (λ (bound : ℕ). IsRisingBelow bound c.as_slice-2.result.now) (sym c.bound.ensures)
+    (subst (λ (items : List ℕ). IsRisingBelow (g.S.ConceptSet.bound_of c.args.operand.now) items) (sym kept)
+    (rises_within-filter 0 (g.S.ConceptSet.bound_of c.args.operand.now) test (g.S.ConceptSet.items_of c.args.operand.now) (g.met.S.ConceptSet.rising c.args.operand.now)))

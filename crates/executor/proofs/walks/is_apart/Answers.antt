@@ -1,0 +1,24 @@
+use Rattle.std.proofs.Common.{ℕ, List, Bool, true, false, not, ◌≡◌, ◌∙◌, length, sym, ap, subst, arith}
+use Rattle.std.specs.List.{list_any}
+use Rattle.idset.specs.Sets.{has_item}
+use Rattle.snapshot.specs.KeyedLists.{list_of}
+use Rattle.executor.specs.Joined.{near_of}
+use Rattle.executor.specs.Steps.{lists_of}
+use Rattle.executor.specs.declared.family.Family.{Family}
+use Rattle.executor.proofs.JoinedLemmas.{over_length, over_near}
+use Rattle.executor.proofs.walks.is_apart.Goals as goal
+
+pub list-requires : goal.list-requires
+list-requires g c = omega (arith, c.requires.below, over_length (g.S.ConceptSet.bound_of c.args.set.now) c.args.index.now c.requires.over c.near.result)
+
+pub list-requires-then-not-meets : goal.list-requires-then-not-meets
+list-requires-then-not-meets g c = omega (arith, c.requires.below, over_length (g.S.ConceptSet.bound_of c.args.set.now) c.args.index.now c.requires.over c.args.family)
+
+pub returns-else-not-meets : goal.returns-else-not-meets
+returns-else-not-meets g c =
+    let set = has_item (g.S.ConceptSet.items_of c.args.set.now) in
+    let near : list_any set (list_of (lists_of c.args.index.now (near_of c.args.family)) c.args.concept) ≡ true =
+    (λ i. list_any set (list_of (lists_of c.args.index.now (sym c.near.ensures i)) c.args.concept)) ∙ ap (list_any set) (sym c.list.ensures) ∙ sym c.if-not-meets.ensures in
+    let far : list_any set (list_of (lists_of c.args.index.now c.args.family) c.args.concept) ≡ true =
+    over_near (g.S.ConceptSet.bound_of c.args.set.now) c.args.index.now c.requires.over c.args.family c.args.concept c.requires.below set near in
+    ap not (c.if-not-meets.false ∙ sym far)

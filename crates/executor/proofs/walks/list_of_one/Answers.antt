@@ -1,0 +1,35 @@
+use Rattle.std.proofs.Common.{ℕ, List, ◌≡◌, ◌∙◌, length, sym, subst, arith}
+use Rattle.std.proofs.lemmas.Result.{IfOk-weaker}
+use Rattle.idset.specs.Sets.{IsRisingBelow}
+use Rattle.idset.specs.Words.{AreWordsBelow}
+use Rattle.executor.specs.Steps.{lists_of}
+use Rattle.executor.proofs.JoinedLemmas.{list_joined, over_length, over_rising, words_joined}
+use Rattle.executor.proofs.walks.list_of_one.Goals as goal
+
+pub words-requires : goal.words-requires
+words-requires g c = omega (arith, c.requires.below, over_length c.args.count c.args.index.now c.requires.over c.args.family)
+
+pub from_words-requires : goal.from_words-requires
+from_words-requires g c =
+    subst (λ (count : ℕ). AreWordsBelow count c.in-Some.words.now) (over_length c.args.count c.args.index.now c.requires.over c.args.family) c.in-Some.ensures.below
+
+pub list-requires : goal.list-requires
+list-requires g c = omega (arith, c.requires.below, over_length c.args.count c.args.index.now c.requires.over c.args.family)
+
+pub from_items-requires : goal.from_items-requires
+from_items-requires g c =
+    subst (λ (list : List ℕ). IsRisingBelow c.args.count list) (sym c.list.ensures) (over_rising c.args.count c.args.index.now c.requires.over c.args.family c.args.concept c.requires.below)
+
+pub returns-in-Some-clause-items : goal.returns-in-Some-clause-items
+returns-in-Some-clause-items g c = IfOk-weaker c.from_words.result _ _
+    (λ found items. items ∙ words_joined c.args.count (lists_of c.args.index.now c.args.family) c.args.concept c.in-Some.words.now c.in-Some.ensures.marked)
+    c.from_words.ensures.items
+
+pub returns-in-None-clause-items : goal.returns-in-None-clause-items
+returns-in-None-clause-items g c = IfOk-weaker c.from_items.result _ _
+    (λ found items.
+    items
+    ∙ list_joined c.args.count (lists_of c.args.index.now c.args.family) c.args.concept c.list.result.now
+    (subst (λ (list : List ℕ). IsRisingBelow c.args.count list) (sym c.list.ensures) (over_rising c.args.count c.args.index.now c.requires.over c.args.family c.args.concept c.requires.below))
+    c.list.ensures)
+    c.from_items.ensures.items

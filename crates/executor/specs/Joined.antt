@@ -1,0 +1,35 @@
+-- How the lists of some concepts are joined: the long ones first, and none that is there already.
+use Rattle.std.specs.Prelude.{ℕ, ◌≡◌, Bool, true, false, List, filter, length, nat_le}
+use Rattle.std.specs.Bool.{beq}
+use Rattle.std.specs.List.{list_any}
+use Rattle.idset.specs.Sets.{has_item}
+use Rattle.snapshot.specs.KeyedLists.{list_of}
+use Rattle.executor.specs.declared.family.Family.{Family}
+use Rattle.executor.specs.declared.family.Family.TheVariants as family
+
+-- whether the list of a concept has in it the lists of all concepts that it has
+abbrev pub is_whole : Family → Bool
+is_whole family.Ancestors = true
+is_whole family.Descendants = true
+is_whole family.Parents = false
+is_whole family.Children = false
+
+-- the family that is one is-a row away
+abbrev pub near_of : Family → Family
+near_of family.Ancestors = family.Parents
+near_of family.Descendants = family.Children
+near_of family.Parents = family.Parents
+near_of family.Children = family.Children
+
+-- a list that is joined before the short ones
+abbrev pub is_long : List ℕ → Bool
+is_long list = nat_le 64 (length list)
+
+-- the concepts whose lists are long, or are not
+abbrev pub with_length : List (List ℕ) → Bool → List ℕ → List ℕ
+with_length lists long concepts = filter (λ concept. beq (is_long (list_of lists concept)) long) concepts
+
+-- a number is among some exactly where it is in the list of one of some concepts
+abbrev pub AreJoined : List (List ℕ) → List ℕ → List ℕ → Type 0
+AreJoined lists concepts numbers =
+    (number : ℕ) → has_item numbers number ≡ list_any (λ concept. has_item (list_of lists concept) number) concepts

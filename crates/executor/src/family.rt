@@ -1,0 +1,68 @@
+//! The four families of lists of a hierarchy.
+ghost use Rattle.std.specs.Prelude.{◌≡◌, ◌<◌, IfSome, length};
+ghost use Rattle.idset.specs.Sets.{has_item};
+ghost use Rattle.idset.specs.Words.{MarkedBelow};
+ghost use Rattle.snapshot.specs.KeyedLists.{list_of};
+ghost use Rattle.executor.specs.Joined.{is_whole as is_whole_of, near_of};
+ghost use Rattle.executor.specs.Steps.{lists_of};
+
+use ancestor_index::AncestorIndex;
+
+/// A family of lists, one for each concept.
+#[derive(Clone, Copy, Debug)]
+pub enum Family {
+    /// The concepts that a concept reaches.
+    Ancestors,
+    /// The concepts that reach a concept.
+    Descendants,
+    /// The concepts that an is-a row of a concept leads to.
+    Parents,
+    /// The concepts from which an is-a row leads to a concept.
+    Children,
+}
+
+impl Family {
+    /// Whether the list of a concept has in it the lists of all concepts that it has.
+    pub fn is_whole(self) -> bool
+        ensures { result ≡ is_whole_of self }
+    {
+        match self {
+            Family::Ancestors | Family::Descendants => true,
+            Family::Parents | Family::Children => false,
+        }
+    }
+
+    /// The family that is one is-a row away: a list of it has nothing that the list of this one has not.
+    pub fn near(self) -> Family
+        ensures { result ≡ near_of self }
+    {
+        match self {
+            Family::Ancestors | Family::Parents => Family::Parents,
+            Family::Descendants | Family::Children => Family::Children,
+        }
+    }
+
+    /// The list of a concept.
+    pub fn list(self, index: &AncestorIndex, concept: u32) -> &[u32]
+        requires { concept < length (lists_of index.now self) }
+        ensures { result.now ≡ list_of (lists_of index.now self) concept }
+    {
+        match self {
+            Family::Ancestors => index.ancestors(concept),
+            Family::Descendants => index.descendants(concept),
+            Family::Parents => index.parents(concept),
+            Family::Children => index.children(concept),
+        }
+    }
+
+    /// The list of a concept as words of bits, if the index has them.
+    pub fn words(self, index: &AncestorIndex, concept: u32) -> Option<&[u64]>
+        requires { concept < length (lists_of index.now self) }
+        ensures { IfSome result (λ words. MarkedBelow (length (lists_of index.now self)) words.now (has_item (list_of (lists_of index.now self) concept))) }
+    {
+        match self {
+            Family::Descendants => index.descendant_words(concept),
+            Family::Ancestors | Family::Parents | Family::Children => None,
+        }
+    }
+}

@@ -1,0 +1,13 @@
+//! The concepts that a plan means.
+//!
+//! `execute` gives them as a set of concept numbers, in any form of set. It goes down the plan, and has one
+//! function for each kind of node, over the sets of the node's parts and the lists of the index.
+#![tactic(auto)]
+
+mod family;
+mod nodes;
+mod plans;
+mod reference_sets;
+mod walks;
+
+pub use crate::plans::execute;

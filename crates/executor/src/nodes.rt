@@ -1,0 +1,69 @@
+//! The nodes without parts, and those that join sets.
+ghost use Rattle.std.specs.Prelude.{◌≡◌, ◌==◌, ◌&&◌, [], IfOk, length};
+ghost use Rattle.std.specs.List.{range_with_len};
+ghost use Rattle.idset.specs.Sets.{all_items, common_items, other_items};
+ghost use Rattle.constraint_tree.specs.Walks.{is_in_force};
+ghost use Rattle.executor.specs.Numbers.{numbers_in};
+
+use idset::ConceptSet;
+use snapshot::Snapshot;
+use std::alloc::{AllocError, Global};
+
+/// No concept.
+pub fn no_concept<S: ConceptSet>(alloc: Global, snapshot: &Snapshot) -> Result<S, AllocError>
+    ensures items { IfOk result (λ found. S.items_of found ≡ []) }
+    ensures bound { IfOk result (λ found. S.bound_of found ≡ length snapshot.now.release.concepts) }
+{
+    S::from_items(alloc, &[], snapshot.concept_count())
+}
+
+/// Each concept in force.
+pub fn each_concept<S: ConceptSet>(alloc: Global, snapshot: &Snapshot) -> Result<S, AllocError>
+    ensures items { IfOk result (λ found. S.items_of found ≡ range_with_len 0 (length snapshot.now.release.concepts)) }
+    ensures bound { IfOk result (λ found. S.bound_of found ≡ length snapshot.now.release.concepts) }
+{
+    S::every(alloc, snapshot.concept_count())
+}
+
+/// The concept in force with an identifier, if there is one.
+pub fn one_concept<S: ConceptSet>(
+    alloc: Global,
+    snapshot: &Snapshot,
+    id: u64,
+) -> Result<S, AllocError>
+    ensures items { IfOk result (λ found. S.items_of found ≡ numbers_in snapshot.now.release (λ concept. is_in_force snapshot.now.release concept && (concept == id))) }
+    ensures bound { IfOk result (λ found. S.bound_of found ≡ length snapshot.now.release.concepts) }
+{
+    let count = snapshot.concept_count();
+    match snapshot.index_of(id) {
+        Some(concept) => S::from_items(alloc, &[concept], count),
+        None => S::from_items(alloc, &[], count),
+    }
+}
+
+/// The concepts in both of two sets.
+pub fn common<S: ConceptSet>(alloc: Global, one: &S, other: &S) -> Result<S, AllocError>
+    requires bound { S.bound_of one.now ≡ S.bound_of other.now }
+    ensures items { IfOk result (λ found. S.items_of found ≡ common_items (S.items_of one.now) (S.items_of other.now)) }
+    ensures bound { IfOk result (λ found. S.bound_of found ≡ S.bound_of one.now) }
+{
+    one.and(alloc, other)
+}
+
+/// The concepts in one of two sets, or in both.
+pub fn either<S: ConceptSet>(alloc: Global, one: &S, other: &S) -> Result<S, AllocError>
+    requires bound { S.bound_of one.now ≡ S.bound_of other.now }
+    ensures items { IfOk result (λ found. S.items_of found ≡ all_items (S.bound_of one.now) (S.items_of one.now) (S.items_of other.now)) }
+    ensures bound { IfOk result (λ found. S.bound_of found ≡ S.bound_of one.now) }
+{
+    one.or(alloc, other)
+}
+
+/// The concepts in the first set and not in the second.
+pub fn without<S: ConceptSet>(alloc: Global, first: &S, second: &S) -> Result<S, AllocError>
+    requires bound { S.bound_of first.now ≡ S.bound_of second.now }
+    ensures items { IfOk result (λ found. S.items_of found ≡ other_items (S.items_of first.now) (S.items_of second.now)) }
+    ensures bound { IfOk result (λ found. S.bound_of found ≡ S.bound_of first.now) }
+{
+    first.minus(alloc, second)
+}
