@@ -5,7 +5,8 @@ use Rattle.std.specs.List.{count_by, filter, flat_map}
 use Rattle.std.proofs.lemmas.Bool.{cases_Bool}
 use Rattle.std.proofs.lemmas.List.Sums.{sum_by-cons}
 use Rattle.std.proofs.lemmas.List.{append_assoc, drop_more, drop_all}
-use Rattle.query_tool.specs.Answer.{answer_text, concept_line, marked_concepts, number_line}
+use Rattle.snapshot.specs.Line.{concept_line}
+use Rattle.query_tool.specs.Answer.{answer_text, marked_concepts, number_line}
 
 -- marks by a test keep what passes it
 pub marked_concepts-map : (test : ℕ → Bool) (xs : List ℕ) → marked_concepts (map test xs) xs ≡ filter test xs

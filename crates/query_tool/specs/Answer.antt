@@ -3,6 +3,7 @@ use Rattle.std.specs.Prelude.{ℕ, ◌++◌, Bool, if◌then◌else◌, List, []
 use Rattle.std.specs.List.{flat_map}
 use Rattle.constraint_tree.specs.Denotation.{denotation}
 use Rattle.snapshot.specs.Contents.{Contents}
+use Rattle.snapshot.specs.Line.{concept_line}
 use Rattle.snapshot.specs.Name.{name_of}
 use Rattle.query_tool.specs.Query.{query_read, tree_of_query}
 use Rattle.query_tool.specs.declared.fault.QueryFault.{QueryFault}
@@ -12,16 +13,6 @@ use Rattle.query_tool.specs.declared.query.Query.{Query}
 -- a number on a line of its own
 abbrev pub number_line : ℕ → List ℕ
 number_line number = decimal number ++ 10 ∷ []
-
--- a name between bars behind a space, if there is one (Expression Constraint Language, "Concept references":
--- a term behind its concept)
-abbrev pub name_text : Option (List ℕ) → List ℕ
-name_text None = []
-name_text (Some name) = codes " |" ++ name ++ codes "|"
-
--- a concept on a line of its own: its identifier, and its name if it has one
-abbrev pub concept_line : (ℕ → Option (List ℕ)) → ℕ → List ℕ
-concept_line name concept = (decimal concept ++ name_text (name concept)) ++ 10 ∷ []
 
 -- `OK` and how many concepts there are, then a line for each, with the names that they have
 abbrev pub answer_text : (ℕ → Option (List ℕ)) → List ℕ → List ℕ

@@ -323,6 +323,41 @@ fn holds_the_sample_release(rt: HostRuntime) {
     }
 }
 
+// The lines of the sample's concepts: the identifier, the name between bars where there is one, and LF.
+// With another language first, a name in it stands there where there is one.
+#[test]
+fn keeps_lines(rt: HostRuntime) {
+    let lines = [
+        "100005 |Alpha (finding)|\n",
+        "101009 |Beta (finding)|\n",
+        "102002 |Gamma (finding)|\n",
+        "103007 |Delta (finding)|\n",
+        "104001 |Type T (attribute)|\n",
+        "105000 |Type U (attribute)|\n",
+        "106004 |Value X (value)|\n",
+        "107008 |Value Y (value)|\n",
+        "108003\n",
+        "138875005 |Root (test)|\n",
+    ];
+    assert_lines(&rt, rt.alloc(), "en", &lines);
+    let mut danish = lines;
+    danish[3] = "103007 |Delta (fund)|\n";
+    assert_lines(&rt, rt.alloc(), "da", &danish);
+}
+
+// The lines of the sample's concepts, with their names in a language.
+fn assert_lines(rt: &impl Abort, alloc: Global, language: &str, lines: &[&str]) {
+    match Snapshot::load(alloc, &sample_files(), language, Limits::standard()) {
+        Ok(snapshot) => {
+            assert_eq!(rt; snapshot.concept_count() as usize, lines.len());
+            for number in 0..snapshot.concept_count() {
+                assert!(rt; snapshot.line(number) == lines[number as usize].as_bytes());
+            }
+        }
+        Err(fault) => panic!(rt; "{fault}"),
+    }
+}
+
 /// The first identifiers with a partition, of numbers from 10,000 on, one for each `\n`-ended line.
 pub fn identifiers(
     rt: &impl Abort,

@@ -1,6 +1,7 @@
 //! The bytes of an answer.
 ghost use Rattle.std.specs.Prelude.{◌≡◌, ◌<◌, ◌++◌, Bool, IfOk, OnErr, OnOk, length, count_by, slice_index};
-ghost use Rattle.query_tool.specs.Answer.{answer_text, concept_line, marked_concepts, name_text, number_line, refusal_text};
+ghost use Rattle.query_tool.specs.Answer.{answer_text, marked_concepts, number_line, refusal_text};
+ghost use Rattle.snapshot.specs.Line.{concept_line, name_text};
 ghost use Rattle.snapshot.specs.Name.{name_of, text_lent};
 
 use crate::fault::QueryFault;

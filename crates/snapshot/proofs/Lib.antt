@@ -3,9 +3,12 @@ pub mod AttributeLemmas
 pub mod CutLemmas
 pub mod FinishLemmas
 pub mod FirstRowLemmas
+pub mod KeptNameLemmas
 pub mod KeyedLemmas
 pub mod LawLemmas
+pub mod LineLemmas
 pub mod LoadLemmas
+pub mod NameInLineLemmas
 pub mod NameLawLemmas
 pub mod NameLemmas
 pub mod NumberingLemmas

@@ -1,13 +1,10 @@
 -- Name rows keep their texts while the buffer grows.
-use Rattle.std.proofs.Common.{ℕ, suc, ◌≡◌, ◌≤◌, ◌<◌, ◌+◌, ◌-◌, List, [], ◌∷◌, ◌++◌, length, map, get_or, take, drop, All, slice_range, sym, ◌∙◌, ap, subst, refl, arith, IsUtf8, IsCharBoundary, length-append, Bool, true, false, cond}
-use Rattle.std.proofs.lemmas.List.{take-append-le, drop-append-le, length-drop, map-append, take_more}
-use Rattle.std.proofs.lemmas.List.Elements.{All-push, filter-append}
+use Rattle.std.proofs.Common.{ℕ, suc, ◌≡◌, ◌≤◌, ◌-◌, List, [], ◌∷◌, ◌++◌, length, map, get_or, take, drop, All, slice_range, sym, ◌∙◌, ap, subst, refl, arith, IsUtf8, IsCharBoundary, length-append, Bool, true, false, cond}
+use Rattle.std.proofs.lemmas.List.{take-append-le, drop-append-le, length-drop, map-append}
+use Rattle.std.proofs.lemmas.List.Elements.{All-push}
 use Rattle.std.proofs.lemmas.Str.{IsUtf8-append, IsUtf8-take, IsCharBoundary-from_take, IsCharBoundary-at_seam, IsCharBoundary-end}
 use Rattle.std.proofs.Math.Seq.{drop-append_seam, take-length}
 use Rattle.std.specs.Prelude.{filter}
-use Rattle.rf2_rows.specs.Release.{Name}
-use Rattle.snapshot.specs.InForce.{has}
-use Rattle.snapshot.specs.Kept.{names_among}
 use Rattle.snapshot.specs.NamesInside.{IsPlaced, name_in}
 use Rattle.snapshot.specs.declared.names.NameRow.{NameRow}
 
@@ -120,12 +117,3 @@ map-filter f test (x ∷ xs) = by (test (f x)) (map-filter f test xs)
         → map f (cond b (x ∷ filter (λ x. test (f x)) xs) (filter (λ x. test (f x)) xs)) ≡ cond b (f x ∷ filter test (map f xs)) (filter test (map f xs))
     by true rest = ap (λ ys. f x ∷ ys) rest
     by false rest = rest
-
--- a row more is left, or none
-pub names_among-more : (keys texts : List ℕ) (rows : List NameRow) (i : ℕ) (d : NameRow) → i < length rows
-    → names_among keys (map (name_in texts) (take (i + 1) rows))
-    ≡ names_among keys (map (name_in texts) (take i rows)) ++ cond (has keys (get_or rows i d).concept) (name_in texts (get_or rows i d) ∷ []) []
-names_among-more keys texts rows i d within =
-    ap (λ (rows : List NameRow). names_among keys (map (name_in texts) rows)) (take_more rows i d within)
-    ∙ ap (names_among keys) (map-append (name_in texts) (take i rows) (get_or rows i d ∷ []))
-    ∙ filter-append (λ (name : Name). has keys name.concept) (map (name_in texts) (take i rows)) (name_in texts (get_or rows i d) ∷ [])

@@ -7,9 +7,13 @@ pub mod Files
 pub mod FirstRows
 pub mod InForce
 pub mod Kept
+pub mod KeptNames
 pub mod KeyedLists
 pub mod KeyedListsInside
 pub mod Limits
+pub mod Line
+pub mod Lined
+pub mod LinesInside
 pub mod Metadata
 pub mod Name
 pub mod NamesInside

@@ -30,9 +30,14 @@ first_name language (row ∷ rows) = Some (first_of_two language row (first_name
 abbrev pub names_of : ℕ → List Name → List Name
 names_of concept names = filter (λ (row : Name). row.concept == concept) names
 
--- the name of a concept in the asked language: the term of the name row that comes first, if there is one
+-- the name of a concept in the asked language among name rows: the term of the one that comes first, if there
+-- is one
+abbrev pub name_among : List ℕ → List Name → ℕ → Option (List ℕ)
+name_among language names concept = option_map (λ (row : Name). row.term) (first_name language (names_of concept names))
+
+-- the name of a concept in the asked language
 abbrev pub name_of : Release → List ℕ → ℕ → Option (List ℕ)
-name_of release language concept = option_map (λ (row : Name). row.term) (first_name language (names_of concept release.names))
+name_of release language concept = name_among language release.names concept
 
 -- the text that is lent, if one is
 abbrev pub text_lent : Option (Bor (List ℕ)) → Option (List ℕ)

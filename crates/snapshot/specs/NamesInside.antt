@@ -2,6 +2,7 @@
 use Rattle.std.specs.Prelude.{ℕ, ◌≤◌, List, map, All, slice_range, string_bytes, IsCharBoundary}
 use Rattle.rf2_rows.specs.Release.{Name}
 use Rattle.snapshot.specs.declared.names.NameRow.{NameRow}
+use Rattle.snapshot.specs.declared.names.ReadName.{ReadName}
 use Rattle.snapshot.specs.declared.names.Names.TheInside.{Inside}
 
 -- the name that a row stands for: its texts are those between its places in the buffer
@@ -12,6 +13,10 @@ name_in texts row = record {
   language = slice_range texts row.language_start row.term_start;
   term = slice_range texts row.term_start row.term_end;
 }
+
+-- the name that a lent row is
+abbrev pub name_read : ReadName → Name
+name_read row = record { id = row.id; concept = row.concept; language = row.language.now; term = row.term.now }
 
 abbrev pub names_in : Inside → List Name
 names_in inside = map (name_in (string_bytes inside.texts)) inside.rows.items

@@ -2,7 +2,8 @@
 use Rattle.std.specs.Prelude.{◌≡◌, ◌<◌, ◌^◌, map, length, string_bytes}
 use Rattle.std.specs.List.Sorted.{IsStrictlyIncreasing}
 use Rattle.snapshot.specs.Contents.{Contents}
-use Rattle.snapshot.specs.FirstRows.{AreFirstPlaces}
+use Rattle.snapshot.specs.Line.{concept_line}
+use Rattle.snapshot.specs.Name.{name_among}
 use Rattle.snapshot.specs.Numbering.{row_of_numbers}
 use Rattle.snapshot.specs.ParentsFirst.{IsParentsFirst}
 use Rattle.snapshot.specs.Search.{IsWithin}
@@ -17,16 +18,16 @@ contents_in inside = record {
     isa = map (row_of_numbers inside.concepts.items) inside.isa.items;
     attributes = in_file_order inside.concepts.items inside.attributes;
     members = map (row_of_numbers inside.concepts.items) inside.members.items;
-    names = inside.names;
+    names = inside.lines.names;
   };
   language = string_bytes inside.language;
   files = inside.files;
   passed = inside.passed;
 }
 
--- the concepts rise, and each is found at its number; the numbers in rows are those of concepts; parents
--- come first in the order of the concepts; for each concept the place of the row that names it is known;
--- and the attribute rows are sorted by source, few enough to number
+-- the concepts rise, and each is found at its number; the numbers in rows are those of concepts; the lines are
+-- those of the concepts; parents come first in the order of the concepts; and the attribute rows are sorted by
+-- source, few enough to number
 abbrev pub IsNumbered : Inside → Type 0
 IsNumbered inside =
     IsStrictlyIncreasing inside.concepts.items
@@ -34,7 +35,7 @@ IsNumbered inside =
     × (length inside.concepts.items < 2 ^ 32)
     × IsWithin (length inside.concepts.items) inside.isa.items
     × IsWithin (length inside.concepts.items) inside.members.items
-    × AreFirstPlaces (string_bytes inside.language) inside.concepts.items inside.names inside.names inside.first_names.items
+    × (inside.lines.lines ≡ map (concept_line (name_among (string_bytes inside.language) inside.lines.names)) inside.concepts.items)
     × IsParentsFirst (length inside.concepts.items) inside.isa.items inside.order.items
     × IsSortedBySource inside.concepts.items inside.attributes
     × (length inside.attributes.rows < 2 ^ 32)

@@ -6,9 +6,9 @@ ghost use Rattle.snapshot.specs.AttributesBySource.{attribute_of, attributes_by_
 ghost use Rattle.snapshot.specs.Contents.{IsFaultOf, first_cyclic, load_of};
 ghost use Rattle.snapshot.specs.Files.{file_text, has_kind as has_kind_of, is_concept_file as is_concept_file_of, places_from};
 ghost use Rattle.snapshot.specs.InForce.{rising as rising_of, rows_among};
-ghost use Rattle.snapshot.specs.FirstRows.{AreFirstPlaces};
 ghost use Rattle.snapshot.specs.Kept.{IsApart, attributes_among, names_among, IsCycle, IsFaultIn, finished, nothing_kept, read_all};
-ghost use Rattle.snapshot.specs.Name.{name_of, text_lent};
+ghost use Rattle.snapshot.specs.Line.{concept_line};
+ghost use Rattle.snapshot.specs.Name.{name_among, name_of, text_lent};
 ghost use Rattle.snapshot.specs.Numbering.{number_of, numbered_row, row_of_numbers};
 ghost use Rattle.rf2_rows.specs.Hierarchy.{Reaches};
 ghost use Rattle.snapshot.specs.ParentsFirst.{IsParentsFirst};
@@ -20,6 +20,7 @@ use crate::attributes::Attributes;
 use crate::cycle::least_cyclic;
 use crate::fault::LoadFault;
 use crate::limits::Limits;
+use crate::lines::{ConceptLines, lines_among};
 use crate::names::Names;
 use crate::numbering::{number_concepts, number_of, number_rows};
 use crate::order::parents_first;
@@ -50,10 +51,8 @@ pub struct Snapshot {
     attributes: SortedAttributes,
     // reference set and component of each member row, in the order of the rows
     members: Vec<(u32, u32)>,
-    // the name rows in the order of the rows
-    names: Names,
-    // for each concept the place of the name row that names it, if there is one
-    first_names: Vec<Option<u32>>,
+    // the line of each concept, and the name rows in the order of the rows
+    lines: ConceptLines,
     // the language whose names come first
     language: String,
     // how many files have a kind
@@ -134,8 +133,16 @@ impl Snapshot {
         requires { concept < length self.now.release.concepts }
         ensures { text_lent result ≡ name_of self.now.release self.now.language (slice_index self.now.release.concepts concept) }
     {
-        let place = self.first_names[concept as usize]?;
-        Some(self.names.term(place as usize))
+        self.lines.name(concept, self.concepts[concept as usize])
+    }
+
+    /// The line of a concept by its number, which is below `concept_count`: its identifier, behind a
+    /// space its name between bars where it has one, and LF.
+    pub fn line(&self, concept: u32) -> &[u8]
+        requires { concept < length self.now.release.concepts }
+        ensures { result.now ≡ concept_line (name_of self.now.release self.now.language) (slice_index self.now.release.concepts concept) }
+    {
+        self.lines.line(concept)
     }
 
     /// Child and parent of each is-a row in force by their numbers, in the order of the files and
@@ -201,7 +208,7 @@ impl Snapshot {
             isa: self.isa.len() as u64,
             attributes: self.attributes.len() as u64,
             members: self.members.len() as u64,
-            names: self.names.len() as u64,
+            names: self.lines.name_count() as u64,
             passed: self.passed,
         }
     }
@@ -272,6 +279,7 @@ fn finish(alloc: Global, rows: Rows, language: String, files: u64) -> Result<Sna
             } = hierarchy;
             let lists = lists_among(
                 alloc,
+                concepts.as_slice(),
                 &numbers,
                 names,
                 language.as_str(),
@@ -279,8 +287,7 @@ fn finish(alloc: Global, rows: Rows, language: String, files: u64) -> Result<Sna
                 member_ends.as_slice(),
             )?;
             let Lists {
-                names,
-                first_names,
+                lines,
                 attributes,
                 members,
             } = lists;
@@ -288,7 +295,7 @@ fn finish(alloc: Global, rows: Rows, language: String, files: u64) -> Result<Sna
                 + isa.len() as u64
                 + attributes.len() as u64
                 + members.len() as u64
-                + names.len() as u64;
+                + lines.name_count() as u64;
             Ok(Snapshot {
                 concepts,
                 numbers,
@@ -296,8 +303,7 @@ fn finish(alloc: Global, rows: Rows, language: String, files: u64) -> Result<Sna
                 order,
                 attributes,
                 members,
-                names,
-                first_names,
+                lines,
                 language,
                 files,
                 passed: row_count.saturating_sub(listed),
@@ -310,18 +316,18 @@ fn finish(alloc: Global, rows: Rows, language: String, files: u64) -> Result<Sna
 // The lists of rows of some concepts beside the hierarchy.
 #[derive(Drop)]
 struct Lists {
-    names: Names,
-    first_names: Vec<Option<u32>>,
+    lines: ConceptLines,
     attributes: SortedAttributes,
     members: Vec<(u32, u32)>,
 }
 
-// The name rows, attribute rows, sorted by source, and member rows of some concepts, and for each of
-// these the place of the row that names it in a language.
+// The lines, name rows, attribute rows, sorted by source, and member rows of some concepts, with their
+// names in a language.
 fn lists_among(
     alloc: Global,
+    concepts: &[SctId],
     numbers: &IndexSet<u64>,
-    mut names: Names,
+    names: Names,
     language: &str,
     mut attributes: Attributes,
     member_ends: &[(SctId, SctId)],
@@ -330,20 +336,19 @@ fn lists_among(
     requires few_attributes { length attributes < 2 ^ 32 }
     requires rising { IsStrictlyIncreasing numbers.now.keys }
     requires few_concepts { length numbers.now.keys < 2 ^ 32 }
-    ensures names { IfOk result (λ lists. lists.names ≡ names_among numbers.now.keys names) }
-    ensures first { IfOk result (λ lists. AreFirstPlaces language.now numbers.now.keys lists.names lists.names lists.first_names.items) }
+    requires same { concepts.now ≡ numbers.now.keys }
+    ensures names { IfOk result (λ lists. lists.lines.names ≡ names_among numbers.now.keys names) }
+    ensures lines { IfOk result (λ lists. lists.lines.lines ≡ map (concept_line (name_among language.now lists.lines.names)) numbers.now.keys) }
     ensures attributes { IfOk result (λ lists. in_file_order numbers.now.keys lists.attributes ≡ attributes_among numbers.now.keys attributes) }
     ensures sorted { IfOk result (λ lists. IsSortedBySource numbers.now.keys lists.attributes) }
     ensures members { IfOk result (λ lists. lists.members.items ≡ filter_map (numbered_row numbers.now.keys) member_ends.now) }
 {
-    names.retain_among(alloc, numbers)?;
+    let lines = lines_among(alloc, concepts, numbers, names, language)?;
     attributes.retain_among(numbers);
     let attributes = sort_by_source(alloc, numbers, &attributes)?;
-    let first_names = names.first_places(alloc, numbers, language)?;
     let members = number_rows(alloc, numbers, member_ends)?;
     Ok(Lists {
-        names,
-        first_names,
+        lines,
         attributes,
         members,
     })

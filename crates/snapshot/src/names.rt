@@ -1,12 +1,12 @@
 //! Name rows in the order in which they were read, with their texts in one buffer.
-ghost use Rattle.std.specs.Prelude.{◌≡◌, ◌<◌, ◌^◌, ◌++◌, ◌∷◌, [], All, IfOk, IfSome, OnOk, length, map, option_map, Some};
-ghost use Rattle.std.specs.List.{slice_get};
+ghost use Rattle.std.specs.Prelude.{◌≡◌, ◌<◌, ◌^◌, ◌++◌, ◌∷◌, [], All, IfOk, IfSome, OnOk, length, map, slice_index_or};
 ghost use Rattle.std.specs.List.Sorted.{IsStrictlyIncreasing};
 ghost use Rattle.rf2_rows.specs.Release.{Name};
 ghost use Rattle.snapshot.specs.FirstRows.{AreFirstPlaces, IsFirstOfTwo};
-ghost use Rattle.snapshot.specs.Kept.{names_among as names_among_of};
+ghost use Rattle.snapshot.specs.InForce.{has};
+ghost use Rattle.snapshot.specs.Kept.{names_among};
 ghost use Rattle.snapshot.specs.Name.{comes_before as comes_before_of};
-ghost use Rattle.snapshot.specs.NamesInside.{IsPlaced, name_in};
+ghost use Rattle.snapshot.specs.NamesInside.{IsPlaced, name_in, name_read};
 
 use crate::numbering::number_of;
 use indexmap::IndexSet;
@@ -22,6 +22,15 @@ struct NameRow {
     language_start: usize,
     term_start: usize,
     term_end: usize,
+}
+
+/// A name row as it was read, whose texts are lent.
+#[derive(Clone, Copy)]
+pub struct ReadName<'a> {
+    pub id: SctId,
+    pub concept: SctId,
+    pub language: &'a str,
+    pub term: &'a str,
 }
 
 /// Name rows in the order in which they were read. Contracts see the list of them.
@@ -53,23 +62,6 @@ impl Names {
             rows: Vec::new(alloc),
             texts: String::new(alloc),
         }
-    }
-
-    // No row, and room for rows and for the bytes of their texts.
-    fn with_capacity(alloc: Global, rows: usize, bytes: usize) -> Result<Names, AllocError>
-        ensures { IfOk result (λ names. names ≡ []) }
-    {
-        let rows = Vec::with_capacity(alloc, rows)?;
-        let texts = String::with_capacity(alloc, bytes)?;
-        Ok(Names { rows, texts })
-    }
-
-    // Gives back the memory that no row takes.
-    fn shrink_to_fit(&mut self)
-        ensures { self.new ≡ self.old }
-    {
-        self.rows.shrink_to_fit();
-        self.texts.shrink_to_fit();
     }
 
     /// How many rows there are.
@@ -104,25 +96,26 @@ impl Names {
         Ok(())
     }
 
-    /// The term of the row at a place.
-    pub fn term(&self, place: usize) -> &str
+    /// The row at a place.
+    pub fn row(&self, place: usize) -> ReadName<'_>
         requires { place < length self.now }
-        ensures { option_map (λ (name : Name). name.term) (slice_get self.now place) ≡ Some result.now }
+        ensures { (default : Name) → name_read result ≡ slice_index_or self.now place default }
     {
-        term_of(self.texts.as_str(), &self.rows[place])
+        let row = self.rows[place];
+        ReadName {
+            id: row.id,
+            concept: row.concept,
+            language: language_of(self.texts.as_str(), &row),
+            term: term_of(self.texts.as_str(), &row),
+        }
     }
 
-    /// Leaves the rows of some concepts, and in the buffer the texts of these alone.
-    pub fn retain_among(
-        &mut self,
-        alloc: Global,
-        concepts: &IndexSet<u64>,
-    ) -> Result<(), AllocError>
-        ensures { OnOk result (self.new ≡ names_among_of concepts.now.keys self.old) }
+    /// Leaves the rows of some concepts. The texts of the others leave with the buffer, where the lines
+    /// of the concepts are written.
+    pub fn retain_among(&mut self, concepts: &IndexSet<u64>)
+        ensures { self.new ≡ names_among concepts.now.keys self.old }
     {
-        let left = names_among(alloc, self.texts.as_str(), self.rows.as_slice(), concepts)?;
-        *self = left;
-        Ok(())
+        self.rows.retain(|row| is_row_among(concepts, row));
     }
 
     /// For each of some concepts the place of the row that names it in a language, if there is one.
@@ -203,29 +196,11 @@ fn first_of_two(
     }
 }
 
-// The rows of some concepts, with their texts one behind the other in a buffer of their own.
-fn names_among(
-    alloc: Global,
-    texts: &str,
-    rows: &[NameRow],
-    concepts: &IndexSet<u64>,
-) -> Result<Names, AllocError>
-    requires { All (IsPlaced texts.now) rows.now }
-    ensures { IfOk result (λ names. names ≡ names_among_of concepts.now.keys (map (name_in texts.now) rows.now)) }
+// Whether a row is of one of some concepts.
+fn is_row_among(concepts: &IndexSet<u64>, row: &NameRow) -> bool
+    ensures { result ≡ has concepts.now.keys row.now.concept }
 {
-    let mut names = Names::with_capacity(alloc, rows.len(), texts.len())?;
-    for row in rows {
-        if concepts.contains(&row.concept.number()) {
-            names.push(
-                row.id,
-                row.concept,
-                language_of(texts, row),
-                term_of(texts, row),
-            )?;
-        }
-    }
-    names.shrink_to_fit();
-    Ok(names)
+    concepts.contains(&row.concept.number())
 }
 
 // For each of some concepts the place of the row that names it, if there is one.

@@ -1,11 +1,12 @@
-use Rattle.std.proofs.Common.{ℕ, ◌≡◌, ◌<◌, ◌≤◌, ◌∙◌, List, length, ap, sym, subst, arith, None}
+use Rattle.std.proofs.Common.{ℕ, ◌≡◌, ◌<◌, ◌≤◌, ◌∙◌, List, length, map, ap, sym, subst, arith, None}
 use Rattle.std.specs.List.{filter_map}
 use Rattle.std.specs.List.Sorted.{IsStrictlyIncreasing}
 use Rattle.std.specs.Prelude.{string_bytes}
 use Rattle.snapshot.specs.Contents.{first_cyclic}
-use Rattle.snapshot.specs.FirstRows.{AreFirstPlaces}
 use Rattle.snapshot.specs.InForce.{rising, rows_among}
 use Rattle.snapshot.specs.Kept.{IsCycle, attributes_among, names_among}
+use Rattle.snapshot.specs.Line.{concept_line}
+use Rattle.snapshot.specs.Name.{name_among}
 use Rattle.snapshot.specs.Numbering.{numbered_row}
 use Rattle.snapshot.specs.ParentsFirst.{IsParentsFirst}
 use Rattle.snapshot.specs.RowsKept.{kept_in}
@@ -43,6 +44,9 @@ lists_among-requires-clause-few_concepts c =
     let short : length (rising (kept_in c.args.rows).active_concepts) ≤ length (kept_in c.args.rows).active_concepts = length-rising (kept_in c.args.rows).active_concepts in
     omega (arith, c.requires.1, c.requires.5)
 
+pub lists_among-requires-clause-same : goal.lists_among-requires-clause-same
+lists_among-requires-clause-same c = c.as_slice-in-Ok.ensures.value ∙ sym c.as_slice.ensures.value ∙ sym c.in-Ok.ensures.numbers
+
 pub invariant_of-result : goal.invariant_of-result
 invariant_of-result c =
     let same : c.as_slice.result.now ≡ c.rising-concepts.result.items = c.as_slice.ensures.value in
@@ -54,8 +58,8 @@ invariant_of-result c =
     let rows : c.in-Ok.hierarchy.isa.items ≡ filter_map (numbered_row c.rising-concepts.result.items) c.as_slice-2.result.now =
     c.in-Ok.ensures.rows ∙ ap (λ (concepts : List ℕ). filter_map (numbered_row concepts) c.as_slice-2.result.now) same in
     let lists = c.in_ok-lists-in-Ok.lists in
-    let members : lists.members.items ≡ filter_map (numbered_row c.rising-concepts.result.items) c.as_slice-in-Ok.result.now =
-    c.in_ok-lists-in-Ok.ensures.members ∙ ap (λ (concepts : List ℕ). filter_map (numbered_row concepts) c.as_slice-in-Ok.result.now) keys in
+    let members : lists.members.items ≡ filter_map (numbered_row c.rising-concepts.result.items) c.as_slice-in-Ok-2.result.now =
+    c.in_ok-lists-in-Ok.ensures.members ∙ ap (λ (concepts : List ℕ). filter_map (numbered_row concepts) c.as_slice-in-Ok-2.result.now) keys in
     let few_rows : length lists.attributes.rows ≤ length (kept_in c.args.rows).attributes =
     omega (
       arith,
@@ -69,9 +73,8 @@ invariant_of-result c =
       keys,
       few,
       subst (λ (found : List (ℕ × ℕ)). IsWithin (length c.rising-concepts.result.items) found) (sym rows) (IsWithin-numbered c.rising-concepts.result.items c.as_slice-2.result.now),
-      subst (λ (found : List (ℕ × ℕ)). IsWithin (length c.rising-concepts.result.items) found) (sym members) (IsWithin-numbered c.rising-concepts.result.items c.as_slice-in-Ok.result.now),
-      subst (λ (language : List ℕ). AreFirstPlaces language c.rising-concepts.result.items lists.names lists.names lists.first_names.items) c.as_str.ensures.value
-          (subst (λ (concepts : List ℕ). AreFirstPlaces c.as_str.result.now concepts lists.names lists.names lists.first_names.items) keys c.in_ok-lists-in-Ok.ensures.first),
+      subst (λ (found : List (ℕ × ℕ)). IsWithin (length c.rising-concepts.result.items) found) (sym members) (IsWithin-numbered c.rising-concepts.result.items c.as_slice-in-Ok-2.result.now),
+      c.in_ok-lists-in-Ok.ensures.lines ∙ (λ i. map (concept_line (name_among (c.as_str.ensures.value i) lists.lines.names)) (keys i)),
       subst (λ (count : ℕ). IsParentsFirst count c.in-Ok.hierarchy.isa.items c.in-Ok.hierarchy.order.items) (ap length same) c.in-Ok.ensures.order,
       subst (λ (concepts : List ℕ). IsSortedBySource concepts lists.attributes) keys c.in_ok-lists-in-Ok.ensures.sorted,
       omega (arith, few_rows, few_read),
@@ -86,20 +89,20 @@ returns-in_ok-lists-in-Ok-clause-ok c =
     let keys : c.in-Ok.hierarchy.numbers.keys ≡ concepts = c.in-Ok.ensures.numbers ∙ same in
     let rises : concepts ≡ rising kept.active_concepts = c.rising-concepts.ensures.rising ∙ ap rising c.into_active-concepts.ensures.concepts in
     let ends : c.as_slice-2.result.now ≡ kept.isa_ends = c.as_slice-2.ensures.value ∙ c.into_active-concepts.ensures.ends in
-    let member_ends : c.as_slice-in-Ok.result.now ≡ kept.member_ends = c.as_slice-in-Ok.ensures.value ∙ c.into_active-concepts.ensures.members in
+    let member_ends : c.as_slice-in-Ok-2.result.now ≡ kept.member_ends = c.as_slice-in-Ok-2.ensures.value ∙ c.into_active-concepts.ensures.members in
     let isa : c.in-Ok.hierarchy.isa.items ≡ filter_map (numbered_row concepts) kept.isa_ends =
     c.in-Ok.ensures.rows ∙ (λ i. filter_map (numbered_row (same i)) (ends i)) in
     let members : lists.members.items ≡ filter_map (numbered_row concepts) kept.member_ends =
     c.in_ok-lists-in-Ok.ensures.members ∙ (λ i. filter_map (numbered_row (keys i)) (member_ends i)) in
     let attributes : in_file_order concepts lists.attributes ≡ attributes_among concepts kept.attributes =
     ap (λ (concepts : List ℕ). in_file_order concepts lists.attributes) (sym keys) ∙ c.in_ok-lists-in-Ok.ensures.attributes ∙ (λ i. attributes_among (keys i) (c.into_active-concepts.ensures.attributes i)) in
-    let names : lists.names ≡ names_among concepts kept.names =
+    let names : lists.lines.names ≡ names_among concepts kept.names =
     c.in_ok-lists-in-Ok.ensures.names ∙ (λ i. names_among (keys i) (c.into_active-concepts.ensures.names i)) in
     let counted : length (in_file_order concepts lists.attributes) ≡ length lists.attributes.rows =
     ap (λ (concepts : List ℕ). length (in_file_order concepts lists.attributes)) (sym keys) ∙ c.in_ok-lists-in-Ok.ensures.sorted.count in
     let acyclic : first_cyclic concepts (rows_among concepts kept.isa_ends) ≡ None =
     sym (λ i. first_cyclic (same i) (rows_among (same i) (ends i))) ∙ c.in-Ok.ensures.acyclic in
-    finished-Ok (string_bytes c.args.language) c.args.files kept concepts c.in-Ok.hierarchy.isa.items (in_file_order concepts lists.attributes) lists.members.items lists.names c.saturating_sub.result
+    finished-Ok (string_bytes c.args.language) c.args.files kept concepts c.in-Ok.hierarchy.isa.items (in_file_order concepts lists.attributes) lists.members.items lists.lines.names c.saturating_sub.result
     rises isa attributes members names acyclic (omega (arith, counted))
 
 pub returns-in-Err-clause-err : goal.returns-in-Err-clause-err

@@ -1,0 +1,93 @@
+-- The lines of concepts, as they come one by one.
+use Rattle.std.proofs.Common.{ℕ, ◌≡◌, ◌≤◌, ◌<◌, ◌+◌, ◌-◌, ◌++◌, ◌∷◌, [], ◌∙◌, All, List, Option, None, Some, Result, Ok, Err, length, get_or, map, take, refl, sym, ap, subst, arith, length-append}
+use Rattle.std.specs.Prelude.{IfOk, IfSome, option_and_then, option_map}
+use Rattle.std.specs.List.{slice_get, slice_range}
+use Rattle.std.proofs.lemmas.List.{get_or-map, get_or_default, get_or_read, map_more}
+use Rattle.std.proofs.lemmas.Option.{slice_get_within}
+use Rattle.rf2_rows.specs.Release.{Name}
+use Rattle.snapshot.specs.FirstRows.{AreFirstPlaces}
+use Rattle.snapshot.specs.KeyedListsInside.{AreStarts}
+use Rattle.snapshot.specs.Line.{concept_line}
+use Rattle.snapshot.specs.Name.{first_name, name_among, names_of}
+use Rattle.snapshot.proofs.CutLemmas.{below_cut, cut, cut-push, end_within, found, same_maps, slice_range-append, starts-push}
+
+-- the place of the row that comes first is that of a row, and the term there is its term
+place_within : (names : List Name) (place : Option ℕ) (first : Option Name) → option_map (slice_get names) place ≡ option_map Some first → IfSome place (λ at. at < length names)
+place_within names None first is = tt
+place_within names (Some at) None is = (cc)
+place_within names (Some at) (Some row) is =
+    let there : slice_get names at ≡ Some row = (cc) in
+    slice_get_within names at row there
+
+term_at : (names : List Name) (place : Option ℕ) (first : Option Name) → option_map (slice_get names) place ≡ option_map Some first
+    → option_map (λ (row : Name). row.term) (option_and_then (slice_get names) place) ≡ option_map (λ (row : Name). row.term) first
+term_at names None None is = refl
+term_at names None (Some row) is = (cc)
+term_at names (Some at) None is = (cc)
+term_at names (Some at) (Some row) is =
+    let there : slice_get names at ≡ Some row = (cc) in
+    ap (λ (found : Option Name). option_map (λ (row : Name). row.term) found) there
+
+pub places_within : (language concepts : List ℕ) (names some : List Name) (places : List (Option ℕ)) → AreFirstPlaces language concepts names some places
+    → All (λ (place : Option ℕ). IfSome place (λ at. at < length names)) places
+places_within language concepts names some places are = λ k d within.
+    subst (λ (place : Option ℕ). IfSome place (λ at. at < length names)) (get_or_default places k None d within)
+    (place_within names (get_or places k None) (first_name language (names_of (get_or concepts k 0) some)) (are.1 k (omega (arith, are.0, within))))
+
+-- the line of the next concept comes behind those of the concepts so far
+pub lines-more : (language concepts : List ℕ) (names : List Name) (places : List (Option ℕ)) (number concept : ℕ) (name : Option (List ℕ))
+    → AreFirstPlaces language concepts names names places → number < length concepts → concept ≡ get_or concepts number concept
+    → name ≡ option_map (λ (row : Name). row.term) (option_and_then (slice_get names) (get_or places number None))
+    → map (concept_line (name_among language names)) (take number concepts) ++ concept_line (λ _. name) concept ∷ []
+    ≡ map (concept_line (name_among language names)) (take (number + 1) concepts)
+lines-more language concepts names places number concept name are within concept_is name_is =
+    let at : concept ≡ get_or concepts number 0 = get_or_read concepts number concept within concept_is 0 in
+    let named : name ≡ name_among language names (get_or concepts number 0) =
+    name_is ∙ term_at names (get_or places number None) (first_name language (names_of (get_or concepts number 0) names)) (are.1 number within) in
+    (λ i. map (concept_line (name_among language names)) (take number concepts) ++ concept_line (λ _. named i) (at i) ∷ [])
+    ∙ sym (map_more (concept_line (name_among language names)) concepts number 0 within)
+
+-- no line
+pub no_lines : (starts texts : List ℕ) → starts ≡ 0 ∷ [] → texts ≡ [] → AreStarts starts texts × (cut starts texts ≡ [])
+no_lines starts texts starts_are none = rw (starts_are, none) (record { some = omega arith; first = refl; rise = λ k below. absurd (omega arith); last = refl }, refl)
+
+-- where a line is put behind the others, and its end behind the other places, it is one line more
+module _ (starts starts_after texts texts_after line : List ℕ) (end : ℕ) (grown : texts_after ≡ texts ++ line) (ends : end ≡ length texts_after) (pushed : starts_after ≡ starts ++ end ∷ []) (kept : AreStarts starts texts) where
+  more_starts : starts_after ≡ starts ++ (length texts + length line) ∷ []
+  more_starts = pushed ∙ ap (λ (n : ℕ). starts ++ n ∷ []) (ends ∙ ap (λ (xs : List ℕ). length xs) grown ∙ length-append texts line)
+
+  pub line-pushed : cut starts_after texts_after ≡ cut starts texts ++ line ∷ []
+  line-pushed = (λ i. cut (more_starts i) (grown i)) ∙ cut-push starts texts line kept
+
+  pub starts-pushed : AreStarts starts_after texts_after
+  starts-pushed = rw (more_starts, grown) (starts-push starts texts line kept)
+
+-- what follows from two clauses
+pub if_ok-both : {X Y : Type 0} (r : Result X Y) (P Q R : X → Type 0) → IfOk r P → IfOk r Q → ((x : X) → P x → Q x → R x) → IfOk r R
+if_ok-both (Ok x) P Q R p q both = both x p q
+if_ok-both (Err y) P Q R p q both = tt
+
+-- the lines stay where more comes behind them
+pub lines-append : (starts lines more : List ℕ) → AreStarts starts lines → cut starts (lines ++ more) ≡ cut starts lines
+lines-append starts lines more kept =
+    same_maps (λ number. slice_range (lines ++ more) (get_or starts number 0) (get_or starts (number + 1) 0)) (λ number. slice_range lines (get_or starts number 0) (get_or starts (number + 1) 0)) 0 (length starts - 1)
+    (λ number from to. slice_range-append lines more (get_or starts number 0) (get_or starts (number + 1) 0) (kept.rise number (omega arith)) (end_within starts lines kept (number + 1) (omega arith)))
+
+-- where the lines are those at the beginning of a text
+module _ (starts texts : List ℕ) (lists : List (List ℕ)) (number : ℕ) (begun : (lines more : List ℕ) × (texts ≡ lines ++ more) × AreStarts starts lines) (are : cut starts texts ≡ lists) (below : number < length lists) where
+  pub line_starts : number + 1 < length starts
+  line_starts = below_cut starts texts lists number are below
+
+  pub line_rises : get_or starts number 0 ≤ get_or starts (number + 1) 0
+  line_rises = begun.3.rise number line_starts
+
+  pub line_ends : get_or starts (number + 1) 0 ≤ length texts
+  line_ends = omega (arith, end_within starts begun.0 begun.3 (number + 1) line_starts, ap (λ (xs : List ℕ). length xs) begun.2, length-append begun.0 begun.1)
+
+  pub line_at : get_or lists number [] ≡ slice_range texts (get_or starts number 0) (get_or starts (number + 1) 0)
+  line_at = found starts texts lists number are below
+
+-- the line of a concept among those of all
+pub line_of_concept : (name : ℕ → Option (List ℕ)) (concepts : List ℕ) (lists : List (List ℕ)) (number : ℕ) → lists ≡ map (concept_line name) concepts → number < length concepts
+    → get_or lists number [] ≡ concept_line name (get_or concepts number 0)
+line_of_concept name concepts lists number are below = ap (λ (lists : List (List ℕ)). get_or lists number []) are ∙ get_or-map (concept_line name) concepts number 0 [] below

@@ -1,0 +1,13 @@
+-- The rows so far are kept, and the texts before them still stand.
+use Rattle.std.proofs.Common.{◌≡◌, ◌≤◌, All, length, map, take, string_bytes}
+use Rattle.snapshot.specs.KeptNames.{AreSpansOf, Extends, IsKept, name_kept}
+use Rattle.snapshot.proofs.kept_names.keep_names.Given as goal
+
+abbrev pub invariant-loop-place : goal.invariant-loop-place
+invariant-loop-place l = record {
+  grown : Extends (string_bytes l.fn.texts) (string_bytes l.texts);
+  few : length l.languages.items ≤ l.place;
+  languages : AreSpansOf (string_bytes l.texts) l.languages.items;
+  kept : All (IsKept (string_bytes l.texts) l.languages.items) l.kept.items;
+  names : map (name_kept (string_bytes l.texts) l.languages.items) l.kept.items ≡ take l.place l.names;
+}

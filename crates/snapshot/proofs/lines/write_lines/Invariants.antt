@@ -1,0 +1,17 @@
+-- The lines of the concepts so far, and where in them the terms of rows stand.
+use Rattle.std.proofs.Common.{ℕ, ◌≡◌, List, map, take, string_bytes}
+use Rattle.snapshot.specs.FirstRows.{AreFirstPlaces}
+use Rattle.snapshot.specs.KeptNames.{AreNoted}
+use Rattle.snapshot.specs.KeyedListsInside.{AreStarts}
+use Rattle.snapshot.specs.Line.{concept_line}
+use Rattle.snapshot.specs.LinesInside.{lines_between}
+use Rattle.snapshot.specs.Name.{name_among}
+use Rattle.snapshot.proofs.lines.write_lines.Given as goal
+
+abbrev pub invariant-loop-number : goal.invariant-loop-number
+invariant-loop-number l = record {
+  starts : AreStarts l.starts.items (string_bytes l.texts);
+  lines : (language : List ℕ) → AreFirstPlaces language l.concepts l.names l.names l.places
+      → lines_between l.starts.items (string_bytes l.texts) ≡ map (concept_line (name_among language l.names)) (take l.number l.concepts);
+  noted : AreNoted l.names (string_bytes l.texts) l.spans.items;
+}

@@ -1,0 +1,12 @@
+-- The line that tells of a concept.
+use Rattle.std.specs.Prelude.{ℕ, ◌++◌, List, [], ◌∷◌, codes, decimal, Option, None, Some}
+
+-- a name between bars behind a space, if there is one (Expression Constraint Language, "Concept references":
+-- a term behind its concept)
+abbrev pub name_text : Option (List ℕ) → List ℕ
+name_text None = []
+name_text (Some name) = codes " |" ++ name ++ codes "|"
+
+-- a concept on a line of its own: its identifier, and its name if it has one
+abbrev pub concept_line : (ℕ → Option (List ℕ)) → ℕ → List ℕ
+concept_line name concept = (decimal concept ++ name_text (name concept)) ++ 10 ∷ []
