@@ -1,0 +1,3 @@
+pub mod AnswerText
+pub mod LoadRefusal
+pub mod Prefix

@@ -1,0 +1,45 @@
+-- The line that tells why a list of files was refused.
+use Rattle.std.specs.Prelude.{ℕ, ◌++◌, List, [], ◌∷◌, codes, decimal, slice_index_or}
+use Rattle.std.specs.List.{flat_map}
+use Rattle.sctid.specs.declared.IdFault.{IdFault}
+use Rattle.sctid.specs.declared.IdFault.TheVariants.{Length, Digit, LeadingZero, Partition, Check}
+use Rattle.rf2_rows.specs.declared.fault.RowCause.{RowCause}
+use Rattle.rf2_rows.specs.declared.fault.RowCause.TheVariants.{Fields, Id, Time, Active, Group, Value, Utf8, Uuid}
+use Rattle.snapshot.specs.declared.fault.LoadFault.{LoadFault}
+use Rattle.snapshot.specs.declared.fault.LoadFault.TheVariants.{NoConceptFile, Header, Row, Duplicate, TooMany, Cycle, Memory}
+
+-- the word for the cause for which an identifier, and a row, is refused
+abbrev pub id_word : IdFault → List ℕ
+id_word Length = codes "id-length"
+id_word Digit = codes "id-digit"
+id_word LeadingZero = codes "id-zero"
+id_word Partition = codes "id-part"
+id_word Check = codes "id-check"
+
+abbrev pub cause_word : RowCause → List ℕ
+cause_word Fields = codes "fields"
+cause_word (Id fault) = id_word fault
+cause_word Time = codes "time"
+cause_word Active = codes "active"
+cause_word Group = codes "group"
+cause_word Value = codes "value"
+cause_word Utf8 = codes "utf8"
+cause_word Uuid = codes "uuid"
+
+-- `REFUSED` and words, each behind a space, on a line of their own
+abbrev pub refused_line : List (List ℕ) → List ℕ
+refused_line words = (codes "REFUSED" ++ flat_map (λ word. 32 ∷ word) words) ++ 10 ∷ []
+
+-- the words of a fault, over the names of the files
+abbrev pub refusal_words : List (List ℕ) → LoadFault → List (List ℕ)
+refusal_words names NoConceptFile = codes "no-concept-file" ∷ []
+refusal_words names (Header file) = codes "header" ∷ slice_index_or names file [] ∷ []
+refusal_words names (Row file line fault) =
+    codes "row" ∷ slice_index_or names file [] ∷ decimal line ∷ decimal fault.column ∷ cause_word fault.cause ∷ []
+refusal_words names (Duplicate file line) = codes "duplicate" ∷ slice_index_or names file [] ∷ decimal line ∷ []
+refusal_words names (TooMany file line) = codes "too-many" ∷ slice_index_or names file [] ∷ decimal line ∷ []
+refusal_words names (Cycle concept) = codes "cycle" ∷ decimal concept ∷ []
+refusal_words names Memory = codes "memory" ∷ []
+
+abbrev pub load_refusal : List (List ℕ) → LoadFault → List ℕ
+load_refusal names fault = refused_line (refusal_words names fault)

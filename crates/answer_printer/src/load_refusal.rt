@@ -1,0 +1,161 @@
+//! The line on standard error that tells why a release was refused.
+ghost use Rattle.std.specs.Prelude.{◌≡◌, ◌++◌, ◌∷◌, [], codes, decimal, OnErr, OnOk, IfOk, slice_index_or};
+ghost use Rattle.answer_printer.specs.LoadRefusal.{cause_word as word_of_cause, id_word as word_of_id, load_refusal, refused_line};
+ghost use Rattle.rf2_rows.specs.Parts.{texts_of};
+
+use rf2_rows::{RowCause, RowFault};
+use sctid::IdFault;
+use snapshot::LoadFault;
+use std::alloc::{AllocError, Global};
+
+/// Appends the line that tells why a release was refused: `REFUSED`, the kind of the fault, and then
+/// its file, line, column and cause or its concept, as far as it has them. `names` are the names of the
+/// files that were to be loaded, in their order; a fault's file is told by its name there. A line counts
+/// from 1, and so does a column; column 0 stands for a wrong number of fields. `AllocError` is answered
+/// where memory is refused; `output` is unchanged then.
+pub fn print_load_fault(
+    alloc: Global,
+    fault: LoadFault,
+    names: &[&str],
+    output: &mut Vec<u8>,
+) -> Result<(), AllocError>
+    ensures ok { OnOk result (output.new.items ≡ output.old.items ++ load_refusal (texts_of names.now) fault) }
+    ensures err { OnErr result (output.new.items ≡ output.old.items) }
+{
+    let line = refusal_line(alloc, fault, names)?;
+    output.extend_from_slice(line.as_slice())
+}
+
+// The line of a fault, apart, so that a growth that is refused leaves no part of it behind.
+fn refusal_line(alloc: Global, fault: LoadFault, names: &[&str]) -> Result<Vec<u8>, AllocError>
+    ensures { IfOk result (λ line. line.items ≡ load_refusal (texts_of names.now) fault) }
+{
+    match fault {
+        LoadFault::NoConceptFile => plain_line(alloc, b"no-concept-file"),
+        LoadFault::Header { file } => file_line(alloc, b"header", name_at(names, file)),
+        LoadFault::Row { file, line, fault } => row_line(alloc, name_at(names, file), line, fault),
+        LoadFault::Duplicate { file, line } => {
+            place_line(alloc, b"duplicate", name_at(names, file), line)
+        }
+        LoadFault::TooMany { file, line } => place_line(
+            alloc,
+            b"too-many",
+            name_at(names, file),
+            line,
+        ),
+        LoadFault::Cycle(concept) => cycle_line(alloc, concept.number()),
+        LoadFault::Memory => plain_line(alloc, b"memory"),
+    }
+}
+
+fn plain_line(alloc: Global, kind: &[u8]) -> Result<Vec<u8>, AllocError>
+    ensures { IfOk result (λ line. line.items ≡ refused_line (kind.now ∷ [])) }
+{
+    let mut line = begun(alloc, kind)?;
+    line.push(b'\n')?;
+    Ok(line)
+}
+
+/// The line that refuses a file, or a release for it: `REFUSED`, the kind of the refusal, the name of
+/// the file and LF. `AllocError` is answered where memory is refused.
+pub fn file_line(alloc: Global, kind: &[u8], name: &str) -> Result<Vec<u8>, AllocError>
+    ensures { IfOk result (λ line. line.items ≡ refused_line (kind.now ∷ name.now ∷ [])) }
+{
+    let mut line = begun(alloc, kind)?;
+    push_word(&mut line, name.as_bytes())?;
+    line.push(b'\n')?;
+    Ok(line)
+}
+
+fn place_line(alloc: Global, kind: &[u8], name: &str, number: u64) -> Result<Vec<u8>, AllocError>
+    ensures { IfOk result (λ line. line.items ≡ refused_line (kind.now ∷ name.now ∷ decimal number ∷ [])) }
+{
+    let mut line = begun(alloc, kind)?;
+    push_word(&mut line, name.as_bytes())?;
+    push_number(&mut line, number)?;
+    line.push(b'\n')?;
+    Ok(line)
+}
+
+fn row_line(alloc: Global, name: &str, number: u64, fault: RowFault) -> Result<Vec<u8>, AllocError>
+    ensures { IfOk result (λ line. line.items ≡ refused_line (codes "row" ∷ name.now ∷ decimal number ∷ decimal fault.column ∷ word_of_cause fault.cause ∷ [])) }
+{
+    let mut line = begun(alloc, b"row")?;
+    push_word(&mut line, name.as_bytes())?;
+    push_number(&mut line, number)?;
+    push_number(&mut line, u64::from(fault.column))?;
+    push_word(&mut line, cause_word(fault.cause))?;
+    line.push(b'\n')?;
+    Ok(line)
+}
+
+fn cycle_line(alloc: Global, concept: u64) -> Result<Vec<u8>, AllocError>
+    ensures { IfOk result (λ line. line.items ≡ refused_line (codes "cycle" ∷ decimal concept ∷ [])) }
+{
+    let mut line = begun(alloc, b"cycle")?;
+    push_number(&mut line, concept)?;
+    line.push(b'\n')?;
+    Ok(line)
+}
+
+// The name of a file, or no bytes where there is no such file.
+fn name_at<'a>(names: &[&'a str], file: usize) -> &'a str
+    ensures { result.now ≡ slice_index_or (texts_of names.now) file [] }
+{
+    match names.get(file) {
+        Some(name) => name,
+        None => "",
+    }
+}
+
+// A line as far as the kind of the fault.
+fn begun(alloc: Global, kind: &[u8]) -> Result<Vec<u8>, AllocError>
+    ensures { IfOk result (λ line. line.items ≡ codes "REFUSED" ++ 32 ∷ kind.now) }
+{
+    let mut line = Vec::from_slice(alloc, b"REFUSED")?;
+    push_word(&mut line, kind)?;
+    Ok(line)
+}
+
+// Adds a word behind a space.
+fn push_word(line: &mut Vec<u8>, word: &[u8]) -> Result<(), AllocError>
+    ensures { OnOk result (line.new.items ≡ line.old.items ++ 32 ∷ word.now) }
+{
+    line.push(b' ')?;
+    line.extend_from_slice(word)
+}
+
+// Adds a number behind a space.
+fn push_number(line: &mut Vec<u8>, number: u64) -> Result<(), AllocError>
+    ensures { OnOk result (line.new.items ≡ line.old.items ++ 32 ∷ decimal number) }
+{
+    let mut digits = itoa::Buffer::new();
+    push_word(line, digits.format(number).as_bytes())
+}
+
+fn cause_word(cause: RowCause) -> &'static [u8]
+    ensures { result.now ≡ word_of_cause cause }
+{
+    match cause {
+        RowCause::Fields => b"fields",
+        RowCause::Id(fault) => id_word(fault),
+        RowCause::Time => b"time",
+        RowCause::Active => b"active",
+        RowCause::Group => b"group",
+        RowCause::Value => b"value",
+        RowCause::Utf8 => b"utf8",
+        RowCause::Uuid => b"uuid",
+    }
+}
+
+fn id_word(fault: IdFault) -> &'static [u8]
+    ensures { result.now ≡ word_of_id fault }
+{
+    match fault {
+        IdFault::Length => b"id-length",
+        IdFault::Digit => b"id-digit",
+        IdFault::LeadingZero => b"id-zero",
+        IdFault::Partition => b"id-part",
+        IdFault::Check => b"id-check",
+    }
+}

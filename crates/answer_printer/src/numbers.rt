@@ -1,0 +1,14 @@
+//! Numbers in decimal.
+ghost use Rattle.std.specs.Prelude.{◌≡◌, ◌++◌, decimal, OnErr, OnOk};
+
+use std::alloc::AllocError;
+
+/// Appends a number in decimal. `AllocError` is answered where memory is refused; `output` is unchanged
+/// then.
+pub fn append_number(number: u64, output: &mut Vec<u8>) -> Result<(), AllocError>
+    ensures ok { OnOk result (output.new.items ≡ output.old.items ++ decimal number) }
+    ensures err { OnErr result (output.new.items ≡ output.old.items) }
+{
+    let mut digits = itoa::Buffer::new();
+    output.extend_from_slice(digits.format(number).as_bytes())
+}

@@ -1,0 +1,59 @@
+//! The line that refuses a text.
+ghost use Rattle.std.specs.Prelude.{◌≡◌, ◌≢◌, ◌++◌, ◌∷◌, decimal, IfOk, OnErr, OnOk};
+ghost use Rattle.ecl_lexer.specs.Refusals.{feature_name};
+ghost use Rattle.answer_printer.specs.AnswerText.{number_line, refusal_text};
+
+use crate::numbers::append_number;
+use ecl_lexer::{Feature, QueryFault};
+use std::alloc::{AllocError, Global};
+
+/// Appends the line that refuses a text: `ERR`, the fault, the offset of its place in bytes, from 0,
+/// and the form of the language that is not read, as far as it has them, and LF. Want of memory has no
+/// line. `AllocError` is answered where memory is refused; `output` is unchanged then.
+pub fn print_fault(alloc: Global, fault: QueryFault, output: &mut Vec<u8>) -> Result<(), AllocError>
+    requires { fault ≢ QueryFault.Memory }
+    ensures ok { OnOk result (output.new.items ≡ output.old.items ++ refusal_text fault) }
+    ensures err { OnErr result (output.new.items ≡ output.old.items) }
+{
+    let line = fault_line(alloc, fault)?;
+    output.extend_from_slice(line.as_slice())
+}
+
+// The line that refuses a text, apart, so that a growth that is refused leaves no part of it behind.
+fn fault_line(alloc: Global, fault: QueryFault) -> Result<Vec<u8>, AllocError>
+    requires { fault ≢ QueryFault.Memory }
+    ensures { IfOk result (λ line. line.items ≡ refusal_text fault) }
+{
+    match fault {
+        QueryFault::Long => Vec::from_slice(alloc, b"ERR long\n"),
+        QueryFault::Utf8 => Vec::from_slice(alloc, b"ERR utf8\n"),
+        QueryFault::Token(offset) => offset_line(alloc, b"ERR token ", offset),
+        QueryFault::Unsupported(offset, feature) => form_line(alloc, offset, feature),
+        QueryFault::Limit(offset) => offset_line(alloc, b"ERR limit ", offset),
+        QueryFault::Depth => Vec::from_slice(alloc, b"ERR depth\n"),
+        QueryFault::Syntax => Vec::from_slice(alloc, b"ERR syntax\n"),
+        QueryFault::Memory => unreachable!(),
+    }
+}
+
+// A line of words and an offset.
+fn offset_line(alloc: Global, words: &[u8], offset: usize) -> Result<Vec<u8>, AllocError>
+    ensures { IfOk result (λ line. line.items ≡ words.now ++ number_line offset) }
+{
+    let mut line = Vec::from_slice(alloc, words)?;
+    append_number(offset as u64, &mut line)?;
+    line.push(b'\n')?;
+    Ok(line)
+}
+
+// The line of a form of the language that is not read.
+fn form_line(alloc: Global, offset: usize, feature: Feature) -> Result<Vec<u8>, AllocError>
+    ensures { IfOk result (λ line. line.items ≡ refusal_text (QueryFault.Unsupported offset feature)) }
+{
+    let mut line = Vec::from_slice(alloc, b"ERR unsupported ")?;
+    append_number(offset as u64, &mut line)?;
+    line.push(b' ')?;
+    line.extend_from_slice(feature.name().as_bytes())?;
+    line.push(b'\n')?;
+    Ok(line)
+}
