@@ -180,8 +180,7 @@ fn refuses_forms_that_are_not_read(rt: HostRuntime) -> Result<(), Fail> {
 }
 
 // Prints the line that refuses a release of two files.
-fn load_refused(rt: &impl Abort, alloc: Global, fault: &LoadFault) -> Result<Vec<u8>, AllocError>
-{
+fn load_refused(rt: &impl Abort, alloc: Global, fault: &LoadFault) -> Result<Vec<u8>, AllocError> {
     let names = ["b", "c"];
     let mut output = Vec::from_slice(alloc, BEFORE)?;
     if print_load_fault(alloc, *fault, &names, &mut output).is_err() {
@@ -197,8 +196,7 @@ fn check_load_refused(
     alloc: Global,
     fault: &LoadFault,
     line: &[u8],
-) -> Result<(), AllocError>
-{
+) -> Result<(), AllocError> {
     let output = match load_refused(rt, alloc, fault) {
         Ok(output) => output,
         Err(AllocError) => load_refused(rt, alloc, fault)?,

@@ -7,8 +7,8 @@ ghost use Rattle.set_algebra.specs.Plan.{plan_of, plans_of};
 ghost use Rattle.executor.specs.Attributes.{reads_attributes, some_read};
 ghost use Rattle.executor.specs.Numbers.{numbers_in};
 
-use crate::reference_sets::members;
 use crate::nodes::{common, each_concept, either, no_concept, one_concept, without};
+use crate::reference_sets::members;
 use crate::walks::walk;
 use ancestor_index::AncestorIndex;
 use idset::ConceptSet;

@@ -38,21 +38,21 @@ loop-concept-preserved g c =
     let tested : beq (is_long (list_of lists (get_or concepts k 0))) c.args.long ≡ beq c.is_long.result c.args.long = (λ i. beq (is_long (sym c.list.ensures i)) c.args.long) ∙ (λ i. beq (sym c.is_long.ensures i) c.args.long) in
     elim c.if-is_long-long.branch [
       | then-is_long-long+in_ok-add_list w ↦ record {
-          joined = λ before joined.
-              subst (λ (some : List ℕ). AreJoined lists some (g.S.ConceptSet.items_of c.if-is_long-long.found))
-              (sym (with_length_more lists c.args.long concepts before k c.loop-concept-test.true (tested ∙ w.if-is_long-long.true)))
-              (subst (λ (found : _). AreJoined lists ((before ++ with_length lists c.args.long (take k concepts)) ++ get_or concepts k 0 ∷ []) (g.S.ConceptSet.items_of found)) (sym w.found-is)
-              (w.in_ok-add_list.ensures.joined (before ++ with_length lists c.args.long (take k concepts)) (c.loop-concept.invariant.joined before joined)));
-          bound = ap g.S.ConceptSet.bound_of w.found-is ∙ w.in_ok-add_list.ensures.bound ∙ c.loop-concept.invariant.bound;
-        }
+        joined = λ before joined.
+            subst (λ (some : List ℕ). AreJoined lists some (g.S.ConceptSet.items_of c.if-is_long-long.found))
+            (sym (with_length_more lists c.args.long concepts before k c.loop-concept-test.true (tested ∙ w.if-is_long-long.true)))
+            (subst (λ (found : _). AreJoined lists ((before ++ with_length lists c.args.long (take k concepts)) ++ get_or concepts k 0 ∷ []) (g.S.ConceptSet.items_of found)) (sym w.found-is)
+            (w.in_ok-add_list.ensures.joined (before ++ with_length lists c.args.long (take k concepts)) (c.loop-concept.invariant.joined before joined)));
+        bound = ap g.S.ConceptSet.bound_of w.found-is ∙ w.in_ok-add_list.ensures.bound ∙ c.loop-concept.invariant.bound;
+      }
       | else-is_long-long w ↦ record {
-          joined = λ before joined.
-              subst (λ (some : List ℕ). AreJoined lists (before ++ some) (g.S.ConceptSet.items_of c.if-is_long-long.found))
-              (sym (with_length_same lists c.args.long concepts k c.loop-concept-test.true (tested ∙ w.if-is_long-long.false)))
-              (subst (λ (found : _). AreJoined lists (before ++ with_length lists c.args.long (take k concepts)) (g.S.ConceptSet.items_of found)) (sym w.found-is)
-              (c.loop-concept.invariant.joined before joined));
-          bound = ap g.S.ConceptSet.bound_of w.found-is ∙ c.loop-concept.invariant.bound;
-        }
+        joined = λ before joined.
+            subst (λ (some : List ℕ). AreJoined lists (before ++ some) (g.S.ConceptSet.items_of c.if-is_long-long.found))
+            (sym (with_length_same lists c.args.long concepts k c.loop-concept-test.true (tested ∙ w.if-is_long-long.false)))
+            (subst (λ (found : _). AreJoined lists (before ++ with_length lists c.args.long (take k concepts)) (g.S.ConceptSet.items_of found)) (sym w.found-is)
+            (c.loop-concept.invariant.joined before joined));
+        bound = ap g.S.ConceptSet.bound_of w.found-is ∙ c.loop-concept.invariant.bound;
+      }
     ]
 
 pub returns-clause-joined : goal.returns-clause-joined
