@@ -1,5 +1,6 @@
 //! The index of a hierarchy, and its look-ups.
 ghost use Rattle.std.specs.Prelude.{◌≡◌, ◌↔◌, ◌<◌, IfOk, IfSome, IsSome, length};
+ghost use Rattle.std.specs.List.Sorted.{IsStrictlyIncreasing};
 ghost use Rattle.idset.specs.Sets.{has_item};
 ghost use Rattle.idset.specs.Words.{MarkedBelow};
 ghost use Rattle.snapshot.specs.KeyedLists.{list_of};
@@ -37,10 +38,11 @@ impl Model for AncestorIndex {
 }
 
 impl AncestorIndex {
-    /// The hierarchy of a release. Takes time and memory linear in the pairs of a concept and an
-    /// ancestor.
+    /// The hierarchy of a release, whose concepts are numbered in rising order. Takes time and memory
+    /// linear in the pairs of a concept and an ancestor.
     pub fn build(alloc: Global, snapshot: &Snapshot) -> Result<AncestorIndex, AllocError>
-        ensures { IfOk result (λ index. index ≡ hierarchy_of snapshot.now.release) }
+        ensures hierarchy { IfOk result (λ index. index ≡ hierarchy_of snapshot.now.release) }
+        ensures rising { IsStrictlyIncreasing snapshot.now.release.concepts }
     {
         let count = snapshot.concept_count();
         let rows = snapshot.isa_rows();

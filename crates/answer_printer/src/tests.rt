@@ -35,9 +35,9 @@ const DESCRIPTIONS: &[u8] =
 102018\t20240101\t1\t900000000000207008\t1000004\ten\t900000000000003001\t\t900000000000448009\r\n\
 103011\t20240101\t1\t900000000000207008\t138875005\ten\t900000000000003001\tR\xc3\xb6\xc3\xb6t (test)\t900000000000448009\r\n";
 
-// The release of the two files.
-fn loaded(rt: &impl Abort, alloc: Global) -> Result<Snapshot, AllocError> {
-    let files = [
+// The two files, of which nothing is known beforehand.
+fn files() -> [NamedBytes<'static>; 2] {
+    [
         NamedBytes {
             name: "sct2_Concept_Snapshot_INT_20240101.txt",
             bytes: CONCEPTS,
@@ -46,8 +46,12 @@ fn loaded(rt: &impl Abort, alloc: Global) -> Result<Snapshot, AllocError> {
             name: "sct2_Description_Snapshot-en_INT_20240101.txt",
             bytes: DESCRIPTIONS,
         },
-    ];
-    match Snapshot::load(alloc, &files, "en", Limits::standard()) {
+    ]
+}
+
+// The release of the two files.
+fn loaded(rt: &impl Abort, alloc: Global) -> Result<Snapshot, AllocError> {
+    match Snapshot::load(alloc, &files(), "en", Limits::standard()) {
         Ok(snapshot) => Ok(snapshot),
         Err(fault) => {
             assert!(rt; fault == LoadFault::Memory, "the release loads");

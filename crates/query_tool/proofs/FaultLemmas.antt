@@ -1,52 +1,75 @@
 -- What is written of the answers to some lines, seen from more lines.
-use Rattle.std.proofs.Common.{◌≡◌, ℕ, ◌+◌, ◌<◌, Bool, false, List, [], ◌++◌, length, take, get_or, Option, sym, ap, ◌∙◌, subst, append_assoc, length-append, arith}
+use Rattle.std.proofs.Common.{◌≡◌, ℕ, ◌+◌, ◌<◌, Bool, false, Result, Ok, Err, OnOk, List, [], ◌∷◌, ◌++◌, length, take, Option, refl, sym, ap, ◌∙◌, subst, append-nil, append_assoc, length-append, arith}
+use Rattle.std.specs.Prelude.{is_err}
+use Rattle.std.proofs.lemmas.Bool.{false≢true}
 use Rattle.std.specs.Io.KnownBytes.{Appends}
-use Rattle.std.proofs.KnownBytes.{Appends-trans}
+use Rattle.std.proofs.KnownBytes.{Appends-nil, Appends-trans}
 use Rattle.std.proofs.Math.Seq.{take-append-add}
 use Rattle.std.proofs.lemmas.List.{take-append-le, get_or_append_left, get_or-append-add}
-use Rattle.std.proofs.lemmas.List.Concat.{flat_map-append}
 use Rattle.snapshot.specs.Contents.{Contents}
-use Rattle.query_tool.specs.Answer.{line_answer}
-use Rattle.query_tool.specs.Lines.{answers}
+use Rattle.query_tool.specs.Answer.{IsAnswer}
+use Rattle.query_tool.specs.Lines.{AreAnswers, AreWritten}
 use Rattle.query_tool.specs.Fault.{WritesFirst, WritesPart, LeavesWritten, IsAnswerFault, HaveFailed, CountsTurns, AnswersEnded, whole_answers}
 use Rattle.query_tool.specs.declared.run.RunFault.{RunFault}
 use Rattle.query_tool.specs.declared.run.RunFault.TheVariants.{Read, Write, Memory, Turns}
 
+-- what holds of a result that is no error
+pub on_ok_here : {T E : Type 0} {P : Type 0} (result : Result T E) → is_err result ≡ false → OnOk result P → P
+on_ok_here (Ok done) sound holds = holds
+on_ok_here (Err fault) sound holds = absurd (false≢true (sym sound))
+
 module _ (contents : Contents) where
+  -- no lines have no answers
+  pub answers_none : (written : Option (List ℕ)) → AreWritten contents [] written written
+  answers_none written = ([], refl, Appends-nil written)
+
+  -- one line has its answer
+  pub answers_one : (before after : Option (List ℕ)) (line text : List ℕ) → IsAnswer contents line text → Appends before after text → AreWritten contents (line ∷ []) before after
+  answers_one before after line text is wrote = (text, (text, [], is, refl, sym (append-nil text)), wrote)
+
   -- the answers to more lines follow
-  pub answers_then : (before mid after : Option (List ℕ)) (lines more : List (List ℕ)) → Appends before mid (answers contents lines) → Appends mid after (answers contents more)
-      → Appends before after (answers contents (lines ++ more))
-  answers_then before mid after lines more first second =
-      subst (Appends before after) (sym (flat_map-append (line_answer contents) lines more))
-      (Appends-trans before mid after (answers contents lines) (answers contents more) first second)
+  answers_append : (lines more : List (List ℕ)) (text others : List ℕ) → AreAnswers contents lines text → AreAnswers contents more others → AreAnswers contents (lines ++ more) (text ++ others)
+  answers_append [] more text others none are = subst (λ (bytes : List ℕ). AreAnswers contents more (bytes ++ others)) (sym none) are
+  answers_append (line ∷ lines) more text others (first, rest, is, are, joined) follow = (
+    first,
+    rest ++ others,
+    is,
+    answers_append lines more rest others are follow,
+    ap (λ (bytes : List ℕ). bytes ++ others) joined ∙ append_assoc first rest others,
+  )
+
+  pub answers_then : (before mid after : Option (List ℕ)) (lines more : List (List ℕ)) → AreWritten contents lines before mid → AreWritten contents more mid after
+      → AreWritten contents (lines ++ more) before after
+  answers_then before mid after lines more (text, are, wrote) (others, follow, wrote_more) = (
+    text ++ others,
+    answers_append lines more text others are follow,
+    Appends-trans before mid after text others wrote wrote_more,
+  )
 
   module _ (done lines : List (List ℕ)) (count : ℕ) (before mid after : Option (List ℕ)) where
-    answers_after : answers contents (take (length done + count) (done ++ lines)) ≡ answers contents done ++ answers contents (take count lines)
-    answers_after = ap (answers contents) (take-append-add done lines count) ∙ flat_map-append (line_answer contents) done (take count lines)
-
-    first_after : Appends before mid (answers contents done) → WritesFirst contents lines count mid after
+    first_after : AreWritten contents done before mid → WritesFirst contents lines count mid after
         → WritesFirst contents (done ++ lines) (length done + count) before after
     first_after first writes = (
       omega (arith, length-append done lines, writes.0),
-      subst (Appends before after) (sym answers_after) (Appends-trans before mid after (answers contents done) (answers contents (take count lines)) first writes.1),
+      subst (λ (found : List (List ℕ)). AreWritten contents found before after) (sym (take-append-add done lines count))
+          (answers_then before mid after done (take count lines) first writes.1),
     )
 
-    part_after : Appends before mid (answers contents done) → WritesPart contents lines count mid after
+    part_after : AreWritten contents done before mid → WritesPart contents lines count mid after
         → WritesPart contents (done ++ lines) (length done + count) before after
-    part_after first (place, within, less, writes) =
-        let same : get_or lines count [] ≡ get_or (done ++ lines) (length done + count) [] = sym (get_or-append-add done lines count []) in
-        let part : List ℕ = take place (line_answer contents (get_or lines count [])) in
-        let joined : answers contents done ++ (answers contents (take count lines) ++ part) ≡ answers contents (take (length done + count) (done ++ lines)) ++ part =
-        sym (append_assoc (answers contents done) (answers contents (take count lines)) part) ∙ ap (λ (bytes : List ℕ). bytes ++ part) (sym answers_after) in (
-          place,
-          omega (arith, length-append done lines),
-          subst (λ (line : List ℕ). place < length (line_answer contents line)) same less,
-          subst (λ (line : List ℕ). Appends before after (answers contents (take (length done + count) (done ++ lines)) ++ take place (line_answer contents line))) same
-              (subst (Appends before after) joined (Appends-trans before mid after (answers contents done) (answers contents (take count lines) ++ part) first writes)),
-        )
+    part_after (text, are, wrote) (whole, next, place, within, wholes, is, less, writes) = (
+      text ++ whole,
+      next,
+      place,
+      omega (arith, length-append done lines),
+      subst (λ (found : List (List ℕ)). AreAnswers contents found (text ++ whole)) (sym (take-append-add done lines count)) (answers_append done (take count lines) text whole are wholes),
+      subst (λ (line : List ℕ). IsAnswer contents line next) (sym (get_or-append-add done lines count [])) is,
+      less,
+      subst (Appends before after) (sym (append_assoc text whole (take place next))) (Appends-trans before mid after text (whole ++ take place next) wrote writes),
+    )
 
     -- other lines were answered before
-    pub LeavesWritten_after : (fault : RunFault) → Appends before mid (answers contents done) → LeavesWritten contents lines count fault mid after
+    pub LeavesWritten_after : (fault : RunFault) → AreWritten contents done before mid → LeavesWritten contents lines count fault mid after
         → LeavesWritten contents (done ++ lines) (length done + count) fault before after
     LeavesWritten_after (Read answered) first writes = first_after first writes
     LeavesWritten_after (Write answered) first writes = part_after first writes
@@ -57,19 +80,20 @@ module _ (contents : Contents) where
     first_of_more : WritesFirst contents lines count before after → WritesFirst contents (lines ++ more) count before after
     first_of_more (within, writes) = (
       omega (arith, length-append lines more),
-      subst (λ (found : List (List ℕ)). Appends before after (answers contents found)) (sym (take-append-le count lines more within)) writes,
+      subst (λ (found : List (List ℕ)). AreWritten contents found before after) (sym (take-append-le count lines more within)) writes,
     )
 
     part_of_more : WritesPart contents lines count before after → WritesPart contents (lines ++ more) count before after
-    part_of_more (place, within, less, writes) =
-        let same : get_or lines count [] ≡ get_or (lines ++ more) count [] = sym (get_or_append_left lines more [] count within) in
-        let front : take count lines ≡ take count (lines ++ more) = sym (take-append-le count lines more (omega arith)) in (
-          place,
-          omega (arith, length-append lines more),
-          subst (λ (line : List ℕ). place < length (line_answer contents line)) same less,
-          subst (λ (line : List ℕ). Appends before after (answers contents (take count (lines ++ more)) ++ take place (line_answer contents line))) same
-              (subst (λ (found : List (List ℕ)). Appends before after (answers contents found ++ take place (line_answer contents (get_or lines count [])))) front writes),
-        )
+    part_of_more (whole, next, place, within, wholes, is, less, writes) = (
+      whole,
+      next,
+      place,
+      omega (arith, length-append lines more),
+      subst (λ (found : List (List ℕ)). AreAnswers contents found whole) (sym (take-append-le count lines more (omega arith))) wholes,
+      subst (λ (line : List ℕ). IsAnswer contents line next) (sym (get_or_append_left lines more [] count within)) is,
+      less,
+      writes,
+    )
 
     -- other lines come behind
     pub LeavesWritten-more : (fault : RunFault) → LeavesWritten contents lines count fault before after → LeavesWritten contents (lines ++ more) count fault before after
@@ -77,6 +101,14 @@ module _ (contents : Contents) where
     LeavesWritten-more (Write answered) writes = part_of_more writes
     LeavesWritten-more (Memory answered) writes = first_of_more writes
     LeavesWritten-more (Turns answered) writes = first_of_more writes
+
+  -- what a fault leaves of one answer
+  pub one_unwritten : (written : Option (List ℕ)) (line : List ℕ) → WritesFirst contents (line ∷ []) 0 written written
+  one_unwritten written line = (omega arith, answers_none written)
+
+  pub one_part : (before after : Option (List ℕ)) (line text : List ℕ) (place : ℕ) → IsAnswer contents line text → place < length text → Appends before after (take place text)
+      → WritesPart contents (line ∷ []) 0 before after
+  one_part before after line text place is less wrote = ([], text, place, omega arith, refl, is, less, wrote)
 
 -- what a fault of an answer says of a whole run
 pub AnswerFault-count : (fault : RunFault) (count : ℕ) (failed : Bool) → IsAnswerFault fault count failed → whole_answers fault ≡ count

@@ -1,12 +1,6 @@
-mod ChildrenLemmas
-mod DenotedLemmas
-pub mod Examples
+mod AnswerLemmas
 mod FaultLemmas
 mod HierarchyLemmas
 mod LineLemmas
-mod PrintLemmas
-mod QueryLemmas
 mod RunLemmas
-mod TokenLemmas
-mod WalkLemmas
 mod WordLemmas

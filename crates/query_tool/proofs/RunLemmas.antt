@@ -4,7 +4,7 @@ use Rattle.std.specs.Io.KnownBytes.{Appends, Consumes, IsAtEnd}
 use Rattle.std.proofs.KnownBytes.{Consumes-whole}
 use Rattle.std.proofs.lemmas.List.{take_at}
 use Rattle.snapshot.specs.Contents.{Contents}
-use Rattle.query_tool.specs.Lines.{answers, line_feed_count, query_lines, IsCutInto}
+use Rattle.query_tool.specs.Lines.{AreWritten, line_feed_count, query_lines, IsCutInto}
 use Rattle.query_tool.specs.Fault.{AnswersEnded, IsAnswerFault, LeavesWritten, WritesFirst, whole_answers}
 use Rattle.query_tool.specs.declared.run.RunFault.{RunFault}
 use Rattle.query_tool.proofs.LineLemmas.{query_lines_cut}
@@ -18,14 +18,14 @@ HasStopped contents input_old input_new output_old output_new fault =
     × LeavesWritten contents (query_lines read) (whole_answers fault) fault output_old output_new
     × AnswersEnded fault read
 
-module _ (contents : Contents) (read : List ℕ) (lines : List (List ℕ)) (pending : List ℕ) (cut : IsCutInto read lines pending) (answered : ℕ) (count : answered ≡ length lines) (output_old mid : Option (List ℕ)) (wrote : Appends output_old mid (answers contents lines)) where
+module _ (contents : Contents) (read : List ℕ) (lines : List (List ℕ)) (pending : List ℕ) (cut : IsCutInto read lines pending) (answered : ℕ) (count : answered ≡ length lines) (output_old mid : Option (List ℕ)) (wrote : AreWritten contents lines output_old mid) where
   -- the lines that have ended are the first ones
   pub WritesFirst_cut : WritesFirst contents (query_lines read) answered output_old mid
   WritesFirst_cut =
       let all = query_lines_cut read lines pending cut in
       let front : take answered (query_lines read) ≡ lines = ap (take answered) all ∙ take_at lines (query_lines pending) answered (sym count) in (
         omega (arith, ap length all, length-append lines (query_lines pending)),
-        subst (λ (found : List (List ℕ)). Appends output_old mid (answers contents found)) (sym front) wrote,
+        subst (λ (found : List (List ℕ)). AreWritten contents found output_old mid) (sym front) wrote,
       )
 
   pub feeds_cut : answered ≡ line_feed_count read
@@ -55,12 +55,12 @@ module _ (contents : Contents) (read : List ℕ) (lines : List (List ℕ)) (pend
         (omega (arith, ap length all, length-append lines (query_lines pending), count))
     finish_count (Err fault) at_end is = is
 
-    pub finish_answers : (result : Result ℕ RunFault) → IsAtEnd input_new → OnOk result (Appends mid output_new (answers contents (query_lines pending)))
-        → OnOk result (IfSome input_old (λ bytes. Appends output_old output_new (answers contents (query_lines bytes))))
+    pub finish_answers : (result : Result ℕ RunFault) → IsAtEnd input_new → OnOk result (AreWritten contents (query_lines pending) mid output_new)
+        → OnOk result (IfSome input_old (λ bytes. AreWritten contents (query_lines bytes) output_old output_new))
     finish_answers (Ok total) at_end is =
         let all = query_lines_cut read lines pending cut in
-        Consumes-whole input_old input_new read (λ (bytes : List ℕ). Appends output_old output_new (answers contents (query_lines bytes))) consumed at_end
-        (subst (λ (found : List (List ℕ)). Appends output_old output_new (answers contents found)) (sym all)
+        Consumes-whole input_old input_new read (λ (bytes : List ℕ). AreWritten contents (query_lines bytes) output_old output_new) consumed at_end
+        (subst (λ (found : List (List ℕ)). AreWritten contents found output_old output_new) (sym all)
         (answers_then contents output_old mid output_new lines (query_lines pending) wrote is))
     finish_answers (Err fault) at_end is = is
 

@@ -1,44 +1,48 @@
 -- The text that answers a query line.
-use Rattle.std.specs.Prelude.{ℕ, ◌++◌, Bool, if◌then◌else◌, List, [], ◌∷◌, length, codes, decimal, Option, None, Some, Result, Ok, Err}
-use Rattle.std.specs.List.{flat_map}
+use Rattle.std.specs.Prelude.{ℕ, ◌≡◌, ◌⊎◌, Bool, true, false, ◌||◌, if◌then◌else◌, List}
+use Rattle.ecl_lexer.specs.declared.fault.QueryFault.{QueryFault}
+use Rattle.ecl_lexer.specs.declared.fault.QueryFault.TheVariants.{Syntax}
 use Rattle.constraint_tree.specs.Denotation.{denotation}
+use Rattle.constraint_tree.specs.Refusal.{IsConstraint, IsRefusalOf}
+use Rattle.constraint_tree.specs.Tree.{Tree, concept_tree, any_tree, walk_tree, member_tree, and_tree, or_tree, minus_tree, dotted_tree, refined_tree, Trees, no_trees, tree_then}
 use Rattle.snapshot.specs.Contents.{Contents}
-use Rattle.snapshot.specs.Line.{concept_line}
 use Rattle.snapshot.specs.Name.{name_of}
-use Rattle.query_tool.specs.Query.{query_read, tree_of_query}
-use Rattle.query_tool.specs.declared.fault.QueryFault.{QueryFault}
-use Rattle.query_tool.specs.declared.fault.QueryFault.TheVariants.{Long, Utf8, Token, Limit, Syntax}
-use Rattle.query_tool.specs.declared.query.Query.{Query}
+use Rattle.answer_printer.specs.AnswerText.{answer_text, refusal_text}
 
--- a number on a line of its own
-abbrev pub number_line : ℕ → List ℕ
-number_line number = decimal number ++ 10 ∷ []
+-- whether a constraint has a refinement or a dotted attribute in it (Expression Constraint Language,
+-- "Refinements")
+abbrev mutual
+  pub has_attributes : Tree → Bool
+  has_attributes (concept_tree number) = false
+  has_attributes any_tree = false
+  has_attributes (walk_tree operator operand) = has_attributes operand
+  has_attributes (member_tree operand) = has_attributes operand
+  has_attributes (and_tree parts) = some_have parts
+  has_attributes (or_tree parts) = some_have parts
+  has_attributes (minus_tree first second) = has_attributes first || has_attributes second
+  has_attributes (dotted_tree start names) = true
+  has_attributes (refined_tree focus refinement) = true
 
--- `OK` and how many concepts there are, then a line for each, with the names that they have
-abbrev pub answer_text : (ℕ → Option (List ℕ)) → List ℕ → List ℕ
-answer_text name concepts = (codes "OK " ++ number_line (length concepts)) ++ flat_map (concept_line name) concepts
+  pub some_have : Trees → Bool
+  some_have no_trees = false
+  some_have (tree_then first rest) = has_attributes first || some_have rest
 
--- the line that refuses a text
-abbrev pub refusal_text : QueryFault → List ℕ
-refusal_text Long = codes "ERR long\n"
-refusal_text Utf8 = codes "ERR utf8\n"
-refusal_text (Token at) = codes "ERR token " ++ number_line at
-refusal_text (Limit at) = codes "ERR limit " ++ number_line at
-refusal_text Syntax = codes "ERR syntax\n"
+-- what answers a constraint: `OK` and the concepts that it denotes, with their names. One that has attributes
+-- is refused as none, since attributes are not answered yet
+abbrev pub constraint_answer : Contents → Tree → List ℕ
+constraint_answer contents tree =
+    if has_attributes tree
+    then refusal_text Syntax
+    else answer_text (name_of contents.release contents.language) (denotation contents.release tree)
 
--- what answers a text by what it was read as
-abbrev pub text_of : Contents → Result Query QueryFault → List ℕ
-text_of contents (Ok query) =
-    answer_text (name_of contents.release contents.language) (denotation contents.release (tree_of_query query))
-text_of contents (Err fault) = refusal_text fault
+-- a text answers a query line: it answers the constraint that the line is, or is the refusal of the line
+abbrev pub IsAnswer : Contents → List ℕ → List ℕ → Type 0
+IsAnswer contents line text =
+    ((tree : Tree) × IsConstraint line tree × (text ≡ constraint_answer contents tree))
+    ⊎ ((fault : QueryFault) × IsRefusalOf line fault × (text ≡ refusal_text fault))
 
--- what answers a query line
-unfoldable pub line_answer : Contents → List ℕ → List ℕ
-line_answer contents line = text_of contents (query_read line)
-
--- the concepts at the places that are marked
-abbrev pub marked_concepts : List Bool → List ℕ → List ℕ
-marked_concepts [] concepts = []
-marked_concepts (mark ∷ marks) [] = []
-marked_concepts (mark ∷ marks) (concept ∷ concepts) =
-    if mark then concept ∷ marked_concepts marks concepts else marked_concepts marks concepts
+-- no query line has two answers
+abbrev pub HasOneAnswer : Type 0
+HasOneAnswer =
+    (contents : Contents) (line one other : List ℕ) → IsAnswer contents line one → IsAnswer contents line other
+    → one ≡ other

@@ -1,10 +1,14 @@
 -- What the fields of an engine say, and what they keep.
+use Rattle.std.specs.Prelude.{◌≡◌}
+use Rattle.std.specs.List.Sorted.{IsStrictlyIncreasing}
 use Rattle.snapshot.specs.Contents.{Contents}
-use Rattle.query_tool.specs.Children.{AreChildrenIn}
+use Rattle.ancestor_index.specs.HierarchyLists.{hierarchy_of}
 use Rattle.query_tool.specs.declared.engine.Engine.TheInside.{Inside}
 
 abbrev pub contents_in : Inside → Contents
 contents_in inside = inside.snapshot
 
+-- the concepts of the release rise, and the index is that of the release
 abbrev pub IsReady : Inside → Type 0
-IsReady inside = AreChildrenIn inside.snapshot.release inside.children
+IsReady inside =
+    IsStrictlyIncreasing inside.snapshot.release.concepts × (inside.index ≡ hierarchy_of inside.snapshot.release)

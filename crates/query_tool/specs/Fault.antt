@@ -2,8 +2,8 @@
 use Rattle.std.specs.Prelude.{◌≡◌, ◌⊎◌, ℕ, ◌+◌, ◌-◌, ◌^◌, ◌<◌, ◌≤◌, Bool, true, false, List, [], ◌++◌, length, take, slice_index_or, Option, ⊤}
 use Rattle.std.specs.Io.KnownBytes.{Appends, Consumes}
 use Rattle.snapshot.specs.Contents.{Contents}
-use Rattle.query_tool.specs.Answer.{line_answer}
-use Rattle.query_tool.specs.Lines.{answers, line_feed_count, query_lines}
+use Rattle.query_tool.specs.Answer.{IsAnswer}
+use Rattle.query_tool.specs.Lines.{AreAnswers, AreWritten, line_feed_count, query_lines}
 use Rattle.query_tool.specs.declared.run.RunFault.{RunFault}
 use Rattle.query_tool.specs.declared.run.RunFault.TheVariants.{Read, Write, Memory, Turns}
 
@@ -24,16 +24,17 @@ whole_answers (Turns count) = count
 -- the answers to the first lines were written, and nothing else
 abbrev pub WritesFirst : Contents → List (List ℕ) → ℕ → Option (List ℕ) → Option (List ℕ) → Type 0
 WritesFirst contents lines count before after =
-    (count ≤ length lines) × Appends before after (answers contents (take count lines))
+    (count ≤ length lines) × AreWritten contents (take count lines) before after
 
 -- the answers to the first lines were written and then a front of the next answer, not all of it
 abbrev pub WritesPart : Contents → List (List ℕ) → ℕ → Option (List ℕ) → Option (List ℕ) → Type 0
 WritesPart contents lines count before after =
-    let next = line_answer contents (slice_index_or lines count []) in
-    (place : ℕ)
+    (whole : List ℕ) × (next : List ℕ) × (place : ℕ)
     × (count < length lines)
+    × AreAnswers contents (take count lines) whole
+    × IsAnswer contents (slice_index_or lines count []) next
     × (place < length next)
-    × Appends before after (answers contents (take count lines) ++ take place next)
+    × Appends before after (whole ++ take place next)
 
 -- what was written of the answers to some lines, `count` of them whole, where a fault came
 abbrev pub LeavesWritten : Contents → List (List ℕ) → ℕ → RunFault → Option (List ℕ) → Option (List ℕ) → Type 0

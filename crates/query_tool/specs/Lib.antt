@@ -1,13 +1,8 @@
 pub mod Answer
-pub mod Children
 pub mod CommandLine
 pub mod EngineInside
 pub mod Fault
-pub mod Lexing
+pub mod FolderRefusal
 pub mod Lines
-pub mod LoadRefusal
-pub mod Query
 pub mod SampleContents
 pub mod Serve
-pub mod Tokens
-pub mod Walk

@@ -1,8 +1,9 @@
 -- The query lines of an input, and what answers them.
-use Rattle.std.specs.Prelude.{◌≡◌, ◌≢◌, ℕ, ◌==◌, List, [], ◌∷◌, ◌++◌, length, All, count_by}
-use Rattle.std.specs.List.{flat_map, slice_split}
+use Rattle.std.specs.Prelude.{◌≡◌, ◌≢◌, ℕ, ◌==◌, List, [], ◌∷◌, ◌++◌, length, All, Option, count_by}
+use Rattle.std.specs.Io.KnownBytes.{Appends}
+use Rattle.std.specs.List.{slice_split}
 use Rattle.snapshot.specs.Contents.{Contents}
-use Rattle.query_tool.specs.Answer.{line_answer}
+use Rattle.query_tool.specs.Answer.{IsAnswer}
 
 -- the byte that ends a line
 abbrev pub line_feed : ℕ
@@ -23,9 +24,17 @@ query_lines bytes = without_empty_last (slice_split (λ byte. byte == line_feed)
 abbrev pub line_feed_count : List ℕ → ℕ
 line_feed_count bytes = count_by (λ byte. byte == line_feed) bytes
 
--- the answers to lines, one behind the other
-abbrev pub answers : Contents → List (List ℕ) → List ℕ
-answers contents lines = flat_map (line_answer contents) lines
+-- a text answers query lines: the answers to them, one behind the other
+abbrev pub AreAnswers : Contents → List (List ℕ) → List ℕ → Type 0
+AreAnswers contents [] text = text ≡ []
+AreAnswers contents (line ∷ lines) text =
+    (first : List ℕ) × (rest : List ℕ)
+    × IsAnswer contents line first × AreAnswers contents lines rest × (text ≡ first ++ rest)
+
+-- the answers to query lines were written, and nothing else
+abbrev pub AreWritten : Contents → List (List ℕ) → Option (List ℕ) → Option (List ℕ) → Type 0
+AreWritten contents lines before after =
+    (text : List ℕ) × AreAnswers contents lines text × Appends before after text
 
 -- no line feed is among the bytes
 abbrev pub HasNoFeed : List ℕ → Type 0

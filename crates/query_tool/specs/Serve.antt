@@ -5,7 +5,7 @@ use Rattle.snapshot.specs.Contents.{Contents, load_of}
 use Rattle.snapshot.specs.Files.{FileText}
 use Rattle.snapshot.specs.Limits.{standard_limits}
 use Rattle.snapshot.specs.declared.fault.LoadFault.{LoadFault}
-use Rattle.query_tool.specs.Lines.{answers, query_lines}
+use Rattle.query_tool.specs.Lines.{AreWritten, query_lines}
 use Rattle.query_tool.specs.SampleContents.{sample_contents}
 use Rattle.query_tool.specs.declared.run.RunFault.{RunFault}
 use Rattle.query_tool.specs.declared.run.RunFault.TheVariants.{Read, Write, Memory, Turns}
@@ -31,7 +31,7 @@ loaded Query language files = load_of standard_limits language files
 -- the input is at its end, and its lines were answered over a release
 abbrev pub IsAnswered : Contents → Option (List ℕ) → Option (List ℕ) → Option (List ℕ) → Option (List ℕ) → Type 0
 IsAnswered contents given left before after =
-    IsAtEnd left × IfSome given (λ bytes. Appends before after (answers contents (query_lines bytes)))
+    IsAtEnd left × IfSome given (λ bytes. AreWritten contents (query_lines bytes) before after)
 
 -- the line that tells of a fault of a run
 abbrev pub fault_text : RunFault → List ℕ

@@ -1,19 +1,24 @@
 //! The engine: a release that answers queries.
-ghost use Rattle.std.specs.Prelude.{◌≡◌, ◌++◌, IfErr, IfOk, Ok, OnErr, OnOk, map};
+ghost use Rattle.std.specs.Prelude.{ℕ, ◌≡◌, ◌++◌, List, IfErr, IfOk, Ok, OnErr, OnOk, map};
 ghost use Rattle.std.specs.List.Sorted.{IsStrictlyIncreasing};
+ghost use Rattle.ancestor_index.specs.HierarchyLists.{hierarchy_of};
 ghost use Rattle.constraint_tree.specs.Denotation.{denotation};
+ghost use Rattle.constraint_tree.specs.Tree.{Tree, tree_of};
 ghost use Rattle.snapshot.specs.Contents.{IsFaultOf, load_of};
 ghost use Rattle.snapshot.specs.Files.{file_text};
-ghost use Rattle.query_tool.specs.Answer.{line_answer};
-ghost use Rattle.query_tool.specs.Children.{AreChildrenIn};
-ghost use Rattle.query_tool.specs.Query.{tree_of_query};
-ghost use Rattle.query_tool.specs.declared.query.Query.{Query};
+ghost use Rattle.query_tool.specs.Answer.{constraint_answer, IsAnswer};
 
-use crate::printer::{print_answer, print_fault};
-use crate::query::parse;
-use crate::walk::denoted;
+use crate::attributes::has_attributes;
+use ancestor_index::AncestorIndex;
+use answer_printer::{print_answer, print_fault};
+use constraint_tree::Constraint;
+use ecl_lexer::QueryFault;
+use ecl_parser::parse;
+use executor::execute;
+use idset::MixedSet;
 use release_files::NamedBytes;
-use snapshot::{KeyedLists, Limits, LoadFault, Snapshot};
+use set_algebra::lower;
+use snapshot::{Limits, LoadFault, Snapshot};
 use std::alloc::{AllocError, Global};
 use std::marker::Model;
 
@@ -21,8 +26,7 @@ use std::marker::Model;
 #[derive(Drop)]
 pub struct Engine {
     snapshot: Snapshot,
-    // the children of each concept
-    children: KeyedLists,
+    index: AncestorIndex,
 }
 
 impl Model for Engine {
@@ -51,8 +55,8 @@ impl Engine {
     {
         match Snapshot::load(alloc, files, lang, limits) {
             Ok(snapshot) => {
-                let children = children_in(alloc, &snapshot)?;
-                Ok(Engine { snapshot, children })
+                let index = AncestorIndex::build(alloc, &snapshot)?;
+                Ok(Engine { snapshot, index })
             }
             Err(fault) => Err(fault),
         }
@@ -60,29 +64,54 @@ impl Engine {
 
     /// Appends the answer to a query line: `OK` and the number of concepts that it denotes, then
     /// each of them in rising order on a line of its own, its identifier and its name between bars
-    /// if it has one. A line that is no query is answered by `ERR` and its first fault: `long`,
-    /// `utf8`, `token` or `limit` with the offset in bytes, or `syntax`. Where memory is refused
-    /// `output` is unchanged.
+    /// if it has one. A line that is no constraint is answered by `ERR` and its first refusal, as
+    /// `ecl_parser::parse` gives it, with the offset in bytes where it has one. Until attributes are
+    /// answered a constraint with a refinement or a dotted attribute is refused as `ERR syntax`. Where
+    /// memory is refused `output` is unchanged.
     pub fn answer(&self, alloc: Global, line: &[u8], output: &mut Vec<u8>) -> Result<(), AllocError>
-        ensures ok { OnOk result (output.new.items ≡ output.old.items ++ line_answer self.now line.now) }
+        ensures ok { OnOk result ((text : List ℕ) × IsAnswer self.now line.now text × (output.new.items ≡ output.old.items ++ text)) }
         ensures err { OnErr result (output.new.items ≡ output.old.items) }
-        ensures rising { (query : Query) → IsStrictlyIncreasing (denotation self.now.release (tree_of_query query)) }
+        ensures rising { (tree : Tree) → IsStrictlyIncreasing (denotation self.now.release tree) }
     {
-        match parse(line) {
-            Ok(query) => {
-                let marks = denoted(alloc, query, &self.snapshot, &self.children)?;
-                print_answer(alloc, &self.snapshot, marks.as_slice(), output)
-            }
-            Err(fault) => print_fault(alloc, fault, output),
-        }
+        answer_line(alloc, &self.snapshot, &self.index, line, output)
     }
 }
 
-// The children of each concept, by the numbers of concepts.
-fn children_in(alloc: Global, snapshot: &Snapshot) -> Result<KeyedLists, AllocError>
-    ensures { IfOk result (λ children. AreChildrenIn snapshot.now.release children) }
+// Appends what answers a line over a release.
+fn answer_line(
+    alloc: Global,
+    snapshot: &Snapshot,
+    index: &AncestorIndex,
+    line: &[u8],
+    output: &mut Vec<u8>,
+) -> Result<(), AllocError>
+    requires { index.now ≡ hierarchy_of snapshot.now.release }
+    ensures ok { OnOk result ((text : List ℕ) × IsAnswer snapshot.now line.now text × (output.new.items ≡ output.old.items ++ text)) }
+    ensures err { OnErr result (output.new.items ≡ output.old.items) }
 {
-    let count = snapshot.concept_count();
-    let parents = KeyedLists::from_pairs(alloc, count, snapshot.isa_rows())?;
-    parents.turned(alloc, count)
+    match parse(alloc, line) {
+        Ok(constraint) => answer_constraint(alloc, snapshot, index, &constraint, output),
+        Err(QueryFault::Memory) => Err(AllocError),
+        Err(fault) => print_fault(alloc, fault, output),
+    }
+}
+
+// Appends what answers a constraint over a release.
+fn answer_constraint(
+    alloc: Global,
+    snapshot: &Snapshot,
+    index: &AncestorIndex,
+    constraint: &Constraint,
+    output: &mut Vec<u8>,
+) -> Result<(), AllocError>
+    requires { index.now ≡ hierarchy_of snapshot.now.release }
+    ensures ok { OnOk result (output.new.items ≡ output.old.items ++ constraint_answer snapshot.now (tree_of constraint.now)) }
+    ensures err { OnErr result (output.new.items ≡ output.old.items) }
+{
+    if has_attributes(constraint) {
+        return print_fault(alloc, QueryFault::Syntax, output);
+    }
+    let plan = lower(alloc, constraint)?;
+    let found: MixedSet = execute(alloc, &plan, snapshot, index)?;
+    print_answer(alloc, snapshot, &found, output)
 }

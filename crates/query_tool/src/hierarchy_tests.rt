@@ -2,10 +2,7 @@
 ghost use Rattle.std.specs.Prelude.{◌≡◌};
 ghost use Rattle.ancestor_index.specs.HierarchyLists.{hierarchy_of};
 
-use crate::load_tests::{
-    NAME, RELATIONSHIP_NAME, RELATIONSHIPS, chain_file, concept_file, identifiers, replaced,
-};
-use crate::sample::sample_files;
+use crate::load_tests::{NAME, RELATIONSHIP_NAME, RELATIONSHIPS, chain_of, replaced, sample};
 use ancestor_index::AncestorIndex;
 use release_files::NamedBytes;
 use snapshot::{Limits, Snapshot};
@@ -112,7 +109,7 @@ fn sample_with(
     changed: &[u8],
 ) -> Result<Vec<NamedBytes<'_>>, AllocError> {
     let mut files = Vec::new(alloc);
-    for (at, named) in sample_files().iter().enumerate() {
+    for (at, named) in sample().iter().enumerate() {
         let bytes = if at == place { changed } else { named.bytes };
         files.push(NamedBytes {
             name: named.name,
@@ -122,69 +119,74 @@ fn sample_with(
     Ok(files)
 }
 
+// Looks at the hierarchy of a release of some is-a rows, which of each concept is as wanted. Lists of more
+// than a 32nd of all concepts are kept as words.
+fn assert_hierarchy(
+    rt: &impl Abort,
+    alloc: Global,
+    files: &[NamedBytes<'_>],
+    rows: usize,
+    wants: &[Around<'_>],
+) -> Result<(), Fail> {
+    let snapshot = Snapshot::load(alloc, files, "en", Limits::standard())?;
+    let index = AncestorIndex::build(alloc, &snapshot)?;
+    assert_eq!(rt; snapshot.isa_rows().len(), rows);
+    assert_eq!(rt; snapshot.concept_count() as usize, wants.len());
+    for (number, want) in (0u32..).zip(wants) {
+        let is_wide = want[1].len() > wants.len() / 32;
+        assert_around(rt, &snapshot, &index, number, want);
+        assert_words(rt, &snapshot, &index, number, is_wide);
+    }
+    assert_parents_first(rt, &snapshot);
+    Ok(())
+}
+
 #[test]
 fn lists_the_sample_hierarchy(rt: HostRuntime) -> Result<(), Fail> {
-    let snapshot = Snapshot::load(rt.alloc(), &sample_files(), "en", Limits::standard())?;
-    let index = AncestorIndex::build(rt.alloc(), &snapshot)?;
-    assert_eq!(rt; snapshot.concept_count(), 10);
-    for (number, want) in (0u32..).zip(&SAMPLE) {
-        assert_around(&rt, &snapshot, &index, number, want);
-    }
-    assert_parents_first(&rt, &snapshot);
-    Ok(())
+    assert_hierarchy(&rt, rt.alloc(), &sample(), 10, &SAMPLE)
 }
 
 // A row that repeats another row's ends is one more row, and changes no list.
 #[test]
 fn lists_a_repeated_row_once(rt: HostRuntime) -> Result<(), Fail> {
-    let files = sample_files();
-    let Some(rows) = files.get(RELATIONSHIPS) else {
-        panic!(rt; "the sample has relationships")
-    };
-    let changed = replaced(rt.alloc(), rows.bytes, b"121022\t", D_IS_B)?;
+    let rows = sample()[RELATIONSHIPS].bytes;
+    let changed = replaced(rt.alloc(), rows, b"121022\t", D_IS_B)?;
     let files = sample_with(rt.alloc(), RELATIONSHIPS, changed.as_slice())?;
-    let snapshot = Snapshot::load(rt.alloc(), files.as_slice(), "en", Limits::standard())?;
-    let index = AncestorIndex::build(rt.alloc(), &snapshot)?;
-    assert_eq!(rt; snapshot.isa_rows().len(), 11);
-    for (number, want) in (0u32..).zip(&SAMPLE) {
-        assert_around(&rt, &snapshot, &index, number, want);
-    }
-    assert_parents_first(&rt, &snapshot);
-    Ok(())
+    assert_hierarchy(&rt, rt.alloc(), files.as_slice(), 11, &SAMPLE)
 }
 
-// In a chain each concept has all before it as ancestors and all behind it as descendants. More than a
-// 32nd of 300 concepts are 10.
+// In a chain each concept has all before it as ancestors and all behind it as descendants.
 #[test]
 fn lists_a_chain(rt: HostRuntime) -> Result<(), Fail> {
     let alloc = rt.alloc();
-    let concepts = identifiers(&rt, alloc, b"00", u64::from(CHAIN))?;
-    let ids = identifiers(&rt, alloc, b"02", u64::from(CHAIN))?;
-    let concept_bytes = concept_file(alloc, concepts.as_slice())?;
-    let rows = chain_file(alloc, ids.as_slice(), concepts.as_slice())?;
+    let (concepts, rows) = chain_of(&rt, alloc, u64::from(CHAIN))?;
     let files = [
         NamedBytes {
             name: NAME,
-            bytes: concept_bytes.as_slice(),
+            bytes: concepts.as_slice(),
         },
         NamedBytes {
             name: RELATIONSHIP_NAME,
             bytes: rows.as_slice(),
         },
     ];
-    let snapshot = Snapshot::load(alloc, &files, "en", Limits::standard())?;
-    let index = AncestorIndex::build(alloc, &snapshot)?;
-    assert_eq!(rt; snapshot.concept_count(), CHAIN);
     let numbers: Vec<u32> = (0..CHAIN).collect(alloc)?;
-    for (place, number) in numbers.iter().enumerate() {
-        let (before, from) = numbers.as_slice().split_at(place);
+    let wants = arounds_in_a_chain(alloc, numbers.as_slice())?;
+    assert_hierarchy(&rt, alloc, &files, 299, wants.as_slice())
+}
+
+// What stands around each of some numbers in a chain of them.
+fn arounds_in_a_chain<'a>(
+    alloc: Global,
+    numbers: &'a [u32],
+) -> Result<Vec<Around<'a>>, AllocError> {
+    let mut arounds = Vec::new(alloc);
+    for place in 0..numbers.len() {
+        let (before, from) = numbers.split_at(place);
         let behind = from.get(1..).unwrap_or(&[]);
         let parents = before.get(place.saturating_sub(1)..).unwrap_or(&[]);
         let children = behind.get(..1).unwrap_or(&[]);
-        let want = [before, behind, parents, children];
-        assert_around(&rt, &snapshot, &index, *number, &want);
-        assert_words(&rt, &snapshot, &index, *number, behind.len() >= 10);
+        arounds.push([before, behind, parents, children])?;
     }
-    assert_parents_first(&rt, &snapshot);
-    Ok(())
+    Ok(arounds)
 }

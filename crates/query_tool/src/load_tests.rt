@@ -37,6 +37,11 @@ const RELATIONSHIP_HEADER: &[u8] =
 
 const ISA_REST: &[u8] = b"\t0\t116680003\t900000000000011006\t900000000000451002\r\n";
 
+/// The files of the sample release, of which nothing is known beforehand.
+pub fn sample() -> [NamedBytes<'static>; 5] {
+    sample_files()
+}
+
 /// The bytes with the first `from` in them replaced.
 pub fn replaced(
     alloc: Global,
@@ -68,7 +73,7 @@ fn fault_with(
     from: &[u8],
     to: &[u8],
 ) -> Result<Option<LoadFault>, AllocError> {
-    let sample = sample_files();
+    let sample = sample();
     let Some(named) = sample.get(place) else {
         return Ok(None);
     };
@@ -223,9 +228,16 @@ fn refuses_changed_loads(rt: HostRuntime) -> Result<(), Fail> {
         // an |Is a| among the concrete values belongs to nothing, and cannot make a cycle
         (CONCRETE_VALUES, b"\t105000\t", b"\t116680003\t", None),
     ];
-    for (place, from, to, want) in changed {
-        let fault = fault_with(rt.alloc(), place, from, to)?;
-        assert!(rt; fault == want, "{fault:?} in place of {want:?}");
+    assert_faults(&rt, rt.alloc(), &changed)
+}
+
+// A change of the sample: the place of the file, what is replaced in it and by what, and the fault.
+type Change<'a> = (usize, &'a [u8], &'a [u8], Option<LoadFault>);
+
+fn assert_faults(rt: &impl Abort, alloc: Global, changes: &[Change<'_>]) -> Result<(), Fail> {
+    for (place, from, to, want) in changes {
+        let fault = fault_with(alloc, *place, from, to)?;
+        assert!(rt; fault == *want, "{fault:?} in place of {want:?}");
     }
     Ok(())
 }
@@ -234,32 +246,32 @@ fn refuses_changed_loads(rt: HostRuntime) -> Result<(), Fail> {
 fn keeps_to_limits_and_names(rt: HostRuntime) {
     let mut limits = Limits::standard();
     limits.concepts = 10;
-    let many = fault_of(rt.alloc(), &sample_files(), limits);
+    let many = fault_of(rt.alloc(), &sample(), limits);
     assert!(rt; many == Some(LoadFault::TooMany { file: 1, line: 12 }));
     limits.concepts = 11;
-    assert!(rt; fault_of(rt.alloc(), &sample_files(), limits).is_none());
+    assert!(rt; fault_of(rt.alloc(), &sample(), limits).is_none());
     limits.descriptions = 10;
-    let many = fault_of(rt.alloc(), &sample_files(), limits);
+    let many = fault_of(rt.alloc(), &sample(), limits);
     assert!(rt; many == Some(LoadFault::TooMany { file: 2, line: 12 }));
     limits.descriptions = 11;
-    assert!(rt; fault_of(rt.alloc(), &sample_files(), limits).is_none());
+    assert!(rt; fault_of(rt.alloc(), &sample(), limits).is_none());
     limits.concrete = 1;
-    let many = fault_of(rt.alloc(), &sample_files(), limits);
+    let many = fault_of(rt.alloc(), &sample(), limits);
     assert!(rt; many == Some(LoadFault::TooMany { file: 3, line: 3 }));
     limits.concrete = 2;
     limits.members = 2;
-    let many = fault_of(rt.alloc(), &sample_files(), limits);
+    let many = fault_of(rt.alloc(), &sample(), limits);
     assert!(rt; many == Some(LoadFault::TooMany { file: 0, line: 4 }));
     limits.members = 3;
-    assert!(rt; fault_of(rt.alloc(), &sample_files(), limits).is_none());
-    let files = sample_files();
+    assert!(rt; fault_of(rt.alloc(), &sample(), limits).is_none());
+    let files = sample();
     let none = fault_of(rt.alloc(), &files[2..], Limits::standard());
     assert!(rt; none == Some(LoadFault::NoConceptFile));
 }
 
 #[test]
 fn numbers_concepts(rt: HostRuntime) {
-    match Snapshot::load(rt.alloc(), &sample_files(), "en", Limits::standard()) {
+    match Snapshot::load(rt.alloc(), &sample(), "en", Limits::standard()) {
         Ok(snapshot) => {
             assert_eq!(rt; snapshot.concept_count(), 10);
             assert_eq!(rt; snapshot.index_of(103007), Some(3));
@@ -303,7 +315,7 @@ fn holds_the_sample_release(rt: HostRuntime) {
         None,
         Some("Root (test)"),
     ];
-    match Snapshot::load(rt.alloc(), &sample_files(), "en", Limits::standard()) {
+    match Snapshot::load(rt.alloc(), &sample(), "en", Limits::standard()) {
         Ok(snapshot) => {
             for (number, id) in concepts.iter().enumerate() {
                 assert_eq!(rt; snapshot.index_of(*id), Some(number as u32));
@@ -347,7 +359,7 @@ fn keeps_lines(rt: HostRuntime) {
 
 // The lines of the sample's concepts, with their names in a language.
 fn assert_lines(rt: &impl Abort, alloc: Global, language: &str, lines: &[&str]) {
-    match Snapshot::load(alloc, &sample_files(), language, Limits::standard()) {
+    match Snapshot::load(alloc, &sample(), language, Limits::standard()) {
         Ok(snapshot) => {
             assert_eq!(rt; snapshot.concept_count() as usize, lines.len());
             for number in 0..snapshot.concept_count() {
@@ -408,6 +420,19 @@ pub fn chain_file(alloc: Global, ids: &[SctId], concepts: &[SctId]) -> Result<Ve
         }
     }
     Ok(bytes)
+}
+
+/// The concept file and the relationship file of a chain of so many concepts.
+pub fn chain_of(
+    rt: &impl Abort,
+    alloc: Global,
+    count: u64,
+) -> Result<(Vec<u8>, Vec<u8>), AllocError> {
+    let concepts = identifiers(rt, alloc, b"00", count)?;
+    let ids = identifiers(rt, alloc, b"02", count)?;
+    let concept_bytes = concept_file(alloc, concepts.as_slice())?;
+    let rows = chain_file(alloc, ids.as_slice(), concepts.as_slice())?;
+    Ok((concept_bytes, rows))
 }
 
 fn push_row(bytes: &mut Vec<u8>, id: SctId, child: SctId, parent: SctId) -> Result<(), AllocError> {
@@ -507,23 +532,24 @@ fn finds_repeated_identifiers_in_any_order(rt: HostRuntime) -> Result<(), Fail> 
         ([b, d, a, c, d], 6),
         ([b, d, d, b, a], 4),
     ];
-    for (concepts, line) in lists {
-        let bytes = concept_file(alloc, &concepts)?;
-        let file = NamedBytes {
-            name: NAME,
-            bytes: bytes.as_slice(),
+    for (concepts, line) in &lists {
+        let fault = fault_of_concepts(alloc, concepts)?;
+        let want = LoadFault::Duplicate {
+            file: 0,
+            line: *line,
         };
-        let fault = fault_of(alloc, &[file], Limits::standard());
-        assert!(rt;
-            fault == Some(LoadFault::Duplicate { file: 0, line }),
-            "{fault:?}"
-        );
+        assert!(rt; fault == Some(want), "{fault:?}");
     }
-    let bytes = concept_file(alloc, &[b, d, a, c])?;
+    assert!(rt; fault_of_concepts(alloc, &[b, d, a, c])?.is_none());
+    Ok(())
+}
+
+// The fault of a concept file with a row for each identifier.
+fn fault_of_concepts(alloc: Global, ids: &[SctId]) -> Result<Option<LoadFault>, AllocError> {
+    let bytes = concept_file(alloc, ids)?;
     let file = NamedBytes {
         name: NAME,
         bytes: bytes.as_slice(),
     };
-    assert!(rt; fault_of(alloc, &[file], Limits::standard()).is_none());
-    Ok(())
+    Ok(fault_of(alloc, &[file], Limits::standard()))
 }

@@ -1,19 +1,18 @@
 //! Answers queries over a SNOMED CT release, one to a line of standard input.
 #![tactic(auto)]
 
+mod attributes;
 mod engine;
-mod fault;
+#[cfg(test)]
+mod execute_tests;
 mod folder;
 #[cfg(test)]
 mod hierarchy_tests;
-mod lexer;
-mod load_refusal;
+mod laws;
 #[cfg(test)]
 mod load_tests;
 #[cfg(test)]
 mod many_rows_tests;
-mod printer;
-mod query;
 #[cfg(test)]
 mod reader_tests;
 mod run;
@@ -32,7 +31,6 @@ mod streams;
 mod test_streams;
 #[cfg(test)]
 mod tests;
-mod walk;
 mod words;
 
 use folder::{FolderFault, FolderFile, read_folder};

@@ -1,7 +1,7 @@
 //! The attribute rows and the report of the sample release.
 ghost use Rattle.std.specs.Prelude.{◌<◌, length};
 
-use crate::sample::sample_files;
+use crate::load_tests::sample;
 use rf2_rows::Value;
 use snapshot::{Limits, Report, Snapshot};
 use std::process::Abort;
@@ -43,7 +43,7 @@ fn assert_row(rt: &impl Abort, snapshot: &Snapshot, number: u32, want: &(u32, u3
 
 #[test]
 fn reads_rows_and_report_of_the_sample(rt: HostRuntime) -> Result<(), Fail> {
-    let snapshot = Snapshot::load(rt.alloc(), &sample_files(), "en", Limits::standard())?;
+    let snapshot = Snapshot::load(rt.alloc(), &sample(), "en", Limits::standard())?;
     assert_eq!(rt; snapshot.attribute_count(), 9);
     for (number, want) in (0u32..).zip(&ROWS) {
         assert!(rt; number < snapshot.attribute_count());

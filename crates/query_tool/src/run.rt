@@ -1,9 +1,9 @@
 //! The run: answers the query lines of an input one after the other.
 ghost use Rattle.std.specs.Prelude.{◌≡◌, ℕ, ◌+◌, ◌^◌, ◌<◌, ◌≤◌, ◌∷◌, ◌++◌, false, IfErr, IfOk, IfSome, List, MatchOption, OnErr, OnOk, [], is_err, length, take, vec_len};
 ghost use Rattle.std.specs.Io.KnownBytes.{Appends, IsAtEnd};
-ghost use Rattle.query_tool.specs.Answer.{line_answer};
+ghost use Rattle.query_tool.specs.Answer.{IsAnswer};
 ghost use Rattle.query_tool.specs.Fault.{CountsTurns, EndsAt, HaveFailed, IsAnswerFault, LeavesWritten, number_of};
-ghost use Rattle.query_tool.specs.Lines.{HasNoFeed, IsCutInto, answers, line_feed, query_lines};
+ghost use Rattle.query_tool.specs.Lines.{AreWritten, HasNoFeed, IsCutInto, line_feed, query_lines};
 
 use crate::engine::Engine;
 use crate::streams::{AnswerOutput, IoFault, QueryInput};
@@ -63,7 +63,7 @@ pub fn run<R: QueryInput, W: AnswerOutput>(
     requires output { W.has_failed output.old ≡ false }
     ensures end { OnOk result (IsAtEnd (R.remaining input.new)) }
     ensures count { IfOk result (λ count. IfSome (R.remaining input.old) (λ bytes. count ≡ length (query_lines bytes))) }
-    ensures answers { OnOk result (IfSome (R.remaining input.old) (λ bytes. Appends (W.written output.old) (W.written output.new) (answers engine.now (query_lines bytes)))) }
+    ensures answers { OnOk result (IfSome (R.remaining input.old) (λ bytes. AreWritten engine.now (query_lines bytes) (W.written output.old) (W.written output.new))) }
     ensures sound { OnOk result ((R.has_failed input.new ≡ false) × (W.has_failed output.new ≡ false)) }
     ensures fault { IfErr result (λ fault. EndsAt fault engine.now (R.remaining input.old) (R.remaining input.new) (W.written output.old) (W.written output.new)) }
     ensures failed { IfErr result (λ fault. HaveFailed fault (R.has_failed input.new) (W.has_failed output.new)) }
@@ -133,7 +133,7 @@ impl Progress {
         ensures ok { OnOk result ((lines : List (List ℕ))
             × IsCutInto (self.old.pending.items ++ piece.now) lines self.new.pending.items
             × (self.new.answered ≡ self.old.answered + length lines)
-            × Appends (W.written output.old) (W.written output.new) (answers engine.now lines)) }
+            × AreWritten engine.now lines (W.written output.old) (W.written output.new)) }
         ensures few { OnOk result (self.new.answered ≤ self.old.answered + length piece.now) }
         ensures sound { OnOk result (W.has_failed output.new ≡ false) }
         ensures fault { IfErr result (λ fault. (count : ℕ)
@@ -166,7 +166,7 @@ impl Progress {
         ensures pending { OnOk result (self.new.pending.items ≡ []) }
         ensures answered { OnOk result (self.new.answered ≡ self.old.answered + 1) }
         ensures sound { OnOk result (W.has_failed output.new ≡ false) }
-        ensures answer { OnOk result (Appends (W.written output.old) (W.written output.new) (line_answer engine.now (self.old.pending.items ++ line.now))) }
+        ensures answer { OnOk result (AreWritten engine.now ((self.old.pending.items ++ line.now) ∷ []) (W.written output.old) (W.written output.new)) }
         ensures fault { IfErr result (λ fault.
             IsAnswerFault fault self.old.answered (W.has_failed output.new)
             × LeavesWritten engine.now ((self.old.pending.items ++ line.now) ∷ []) 0 fault (W.written output.old) (W.written output.new)) }
@@ -191,7 +191,7 @@ impl Progress {
         line: &[u8],
     ) -> Result<(), AllocError>
         ensures pending { OnOk result (self.new.pending.items ≡ []) }
-        ensures answer { OnOk result (self.new.answer.items ≡ line_answer engine.now (self.old.pending.items ++ line.now)) }
+        ensures answer { OnOk result (IsAnswer engine.now (self.old.pending.items ++ line.now) self.new.answer.items) }
         ensures answered { self.new.answered ≡ self.old.answered }
     {
         self.pending.extend_from_slice(line)?;
@@ -213,7 +213,7 @@ impl Progress {
         requires sound { W.has_failed output.old ≡ false }
         ensures count { IfOk result (λ count. count ≡ self.old.answered + length (query_lines self.old.pending.items)) }
         ensures sound { OnOk result (W.has_failed output.new ≡ false) }
-        ensures answer { OnOk result (Appends (W.written output.old) (W.written output.new) (answers engine.now (query_lines self.old.pending.items))) }
+        ensures answer { OnOk result (AreWritten engine.now (query_lines self.old.pending.items) (W.written output.old) (W.written output.new)) }
         ensures fault { IfErr result (λ fault.
             IsAnswerFault fault self.old.answered (W.has_failed output.new)
             × LeavesWritten engine.now (query_lines self.old.pending.items) 0 fault (W.written output.old) (W.written output.new)) }

@@ -2,8 +2,8 @@
 ghost use Rattle.std.specs.Prelude.{◌≡◌, false};
 
 use crate::engine::Engine;
+use crate::load_tests::sample;
 use crate::run::{RunFault, run};
-use crate::sample::sample_files;
 use crate::streams::{AnswerOutput, QueryInput, StreamInput, StreamOutput};
 use crate::test_streams::{PieceInput, PieceOutput, ROOM};
 use snapshot::Limits;
@@ -26,7 +26,7 @@ fn check_run(
     requires input { input.failed ≡ false }
     requires output { output.failed ≡ false }
 {
-    match Engine::load(alloc, &sample_files(), "en", Limits::standard()) {
+    match Engine::load(alloc, &sample(), "en", Limits::standard()) {
         Ok(engine) => {
             let found = run(alloc, &engine, &mut input, &mut output);
             assert!(rt; found == answer);
@@ -111,7 +111,7 @@ fn runs_over_streams(rt: HostRuntime) -> Result<(), Fail> {
     let mut input = StreamInput::new(bytes);
     let mut written = Vec::new(rt.alloc());
     let mut output = StreamOutput::new(&mut written);
-    match Engine::load(rt.alloc(), &sample_files(), "en", Limits::standard()) {
+    match Engine::load(rt.alloc(), &sample(), "en", Limits::standard()) {
         Ok(engine) => {
             let found = run(rt.alloc(), &engine, &mut input, &mut output);
             assert!(rt; found == Ok(1));

@@ -1,11 +1,10 @@
 //! What the program answers to its words, and to releases that are refused.
 use crate::folder::FolderFault;
-use crate::load_refusal::print_load_fault;
-use crate::load_tests::replaced;
-use crate::sample::sample_files;
+use crate::load_tests::{replaced, sample};
 use crate::serve::{Status, refuse_folder, serve};
 use crate::test_streams::{PieceInput, PieceOutput, ROOM};
 use crate::words::{Mode, Request, WordFault, read_words};
+use answer_printer::print_load_fault;
 use release_files::NamedBytes;
 use rf2_rows::{RowCause, RowFault};
 use sctid::IdFault;
@@ -109,11 +108,11 @@ fn serves_releases(rt: HostRuntime) -> Result<(), Fail> {
     let alloc = rt.alloc();
     let done = (Status::Done, ANSWER, b"".as_slice());
     check_served(&rt, alloc, Mode::Sample, "en", &[], done)?;
-    check_served(&rt, alloc, Mode::Query, "en", &sample_files(), done)?;
+    check_served(&rt, alloc, Mode::Query, "en", &sample(), done)?;
     let danish =
         b"OK 3\n101009 |Beta (finding)|\n102002 |Gamma (finding)|\n103007 |Delta (fund)|\n";
     let done = (Status::Done, danish.as_slice(), b"".as_slice());
-    check_served(&rt, alloc, Mode::Query, "da", &sample_files(), done)
+    check_served(&rt, alloc, Mode::Query, "da", &sample(), done)
 }
 
 // The sample release with the first `from` in a file replaced is refused by a line.
@@ -125,7 +124,7 @@ fn check_refused(
     to: &[u8],
     line: &[u8],
 ) -> Result<(), Fail> {
-    let sample = sample_files();
+    let sample = sample();
     let Some(named) = sample.get(place) else {
         return Ok(());
     };
@@ -180,8 +179,8 @@ fn refuses_releases(rt: HostRuntime) -> Result<(), Fail> {
             b"REFUSED cycle 100005\n",
         ),
     ];
-    for (place, from, to, line) in changes {
-        check_refused(&rt, rt.alloc(), place, from, to, line)?;
+    for (place, from, to, line) in &changes {
+        check_refused(&rt, rt.alloc(), *place, from, to, line)?;
     }
     let none = (
         Status::ReleaseRefused,

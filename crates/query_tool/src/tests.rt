@@ -1,45 +1,92 @@
 //! Queries and their answers over small releases.
 use crate::engine::Engine;
-use crate::sample::sample_files;
+use crate::load_tests::sample;
 use release_files::NamedBytes;
 use snapshot::Limits;
-use std::alloc::Global;
+use std::alloc::{AllocError, Global};
 use std::process::Abort;
 use std::test::Fail;
 
-// Lines and their answers by the sample release.
-const ANSWERS: [(&[u8], &[u8]); 12] = [
-    (
-        b"*",
-        b"OK 10\n100005 |Alpha (finding)|\n101009 |Beta (finding)|\n102002 |Gamma (finding)|\n103007 |Delta (finding)|\n104001 |Type T (attribute)|\n105000 |Type U (attribute)|\n106004 |Value X (value)|\n107008 |Value Y (value)|\n108003\n138875005 |Root (test)|\n",
-    ),
-    (b"100005", b"OK 1\n100005 |Alpha (finding)|\n"),
-    (
-        b"<100005",
-        b"OK 3\n101009 |Beta (finding)|\n102002 |Gamma (finding)|\n103007 |Delta (finding)|\n",
-    ),
-    (
-        b"<<100005",
-        b"OK 4\n100005 |Alpha (finding)|\n101009 |Beta (finding)|\n102002 |Gamma (finding)|\n103007 |Delta (finding)|\n",
-    ),
-    (
-        b" < \t100005 \r\n",
-        b"OK 3\n101009 |Beta (finding)|\n102002 |Gamma (finding)|\n103007 |Delta (finding)|\n",
-    ),
-    (b"<<107008", b"OK 1\n107008 |Value Y (value)|\n"),
-    (b"<103007", b"OK 0\n"),
-    (
-        b"< *",
-        b"OK 9\n100005 |Alpha (finding)|\n101009 |Beta (finding)|\n102002 |Gamma (finding)|\n103007 |Delta (finding)|\n104001 |Type T (attribute)|\n105000 |Type U (attribute)|\n106004 |Value X (value)|\n107008 |Value Y (value)|\n108003\n",
-    ),
-    (b"109006", b"OK 0\n"),
-    (b"<<109006", b"OK 0\n"),
-    (b"999999", b"OK 0\n"),
-    (b"123456789012345678", b"OK 0\n"),
+// The lines of the concepts of the sample release.
+const A: &[u8] = b"100005 |Alpha (finding)|\n";
+
+const B: &[u8] = b"101009 |Beta (finding)|\n";
+
+const C: &[u8] = b"102002 |Gamma (finding)|\n";
+
+const D: &[u8] = b"103007 |Delta (finding)|\n";
+
+const T: &[u8] = b"104001 |Type T (attribute)|\n";
+
+const U: &[u8] = b"105000 |Type U (attribute)|\n";
+
+const X: &[u8] = b"106004 |Value X (value)|\n";
+
+const Y: &[u8] = b"107008 |Value Y (value)|\n";
+
+const Q: &[u8] = b"108003\n";
+
+const ROOT: &[u8] = b"138875005 |Root (test)|\n";
+
+// A query line, and the lines of the concepts that answer it.
+type Row = (&'static [u8], &'static [&'static [u8]]);
+
+// One concept or all, alone or behind an operator.
+const HIERARCHY: [Row; 24] = [
+    (b"*", &[A, B, C, D, T, U, X, Y, Q, ROOT]),
+    (b"100005", &[A]),
+    (b"<100005", &[B, C, D]),
+    (b"<<100005", &[A, B, C, D]),
+    (b" < \t100005 \r", &[B, C, D]),
+    (b"<<107008", &[Y]),
+    (b"<103007", &[]),
+    (b"< *", &[A, B, C, D, T, U, X, Y, Q]),
+    (b"<< *", &[A, B, C, D, T, U, X, Y, Q, ROOT]),
+    (b"109006", &[]),
+    (b"<<109006", &[]),
+    (b"999999", &[]),
+    (b"123456789012345678", &[]),
+    (b">103007", &[A, B, C, ROOT]),
+    (b">>103007", &[A, B, C, D, ROOT]),
+    (b">!103007", &[B, C]),
+    (b"<!138875005", &[A, T, U, X, Q]),
+    (b"<<!100005", &[A, B, C]),
+    (b">>!107008", &[X, Y]),
+    (b"> 138875005", &[]),
+    (b">!*", &[A, B, C, X, ROOT]),
+    (b"!!>103007", &[D]),
+    (b"!!>*", &[ROOT]),
+    (b"!!<*", &[D, T, U, Y, Q]),
 ];
 
-// Lines that are of no query, and why. A place counts the bytes before it.
-const REFUSALS: [(&[u8], &[u8]); 20] = [
+// Sets, brackets, reference sets, terms and comments.
+const SETS: [Row; 22] = [
+    (b"!!>(<100005)", &[B, C]),
+    (b"!!<(<<100005)", &[D]),
+    (b"!!>(100005 OR 103007)", &[A]),
+    (b"!!<(100005 OR 103007)", &[D]),
+    (b"<<(101009 AND 102002)", &[]),
+    (b"<<101009 AND <<102002", &[D]),
+    (b"< 100005 |Alpha| /* c */ and 101009", &[B]),
+    (b"<<101009,<<102002 , *", &[D]),
+    (b"<(101009 OR 102002)", &[D]),
+    (b">(101009 OR 107008)", &[A, X, ROOT]),
+    (b"<!(100005 OR 101009)", &[B, C, D]),
+    (b"101009 OR 107008 OR 100005", &[A, B, Y]),
+    (b"<100005 MINUS 101009", &[C, D]),
+    (b"101009 MINUS <100005", &[]),
+    (b"* MINUS (<<100005 OR <<106004)", &[T, U, Q, ROOT]),
+    (b"(<100005 AND <<101009) OR 104001", &[B, D, T]),
+    (b"^108003", &[B, D]),
+    (b"<^108003", &[D]),
+    (b"^*", &[B, D]),
+    (b"^(108003 AND 100005)", &[]),
+    (b"<<^108003 MINUS ^108003", &[]),
+    (b">^108003 AND < 138875005", &[A, B, C]),
+];
+
+// Lines that are no constraint, and why. A place counts the bytes before it.
+const REFUSALS: [(&[u8], &[u8]); 35] = [
     (b"", b"ERR syntax\n"),
     (b"99", b"ERR syntax\n"),
     (b"0", b"ERR syntax\n"),
@@ -48,13 +95,20 @@ const REFUSALS: [(&[u8], &[u8]); 20] = [
     (b"<<<100005", b"ERR syntax\n"),
     (b"< <100005", b"ERR syntax\n"),
     (b"< 100005 100005", b"ERR syntax\n"),
+    (b"100005 AND 101009 OR 102002", b"ERR syntax\n"),
+    (b"100005 MINUS 100005 MINUS 100005", b"ERR syntax\n"),
+    (b"*:105000=*,105000=* OR 105000=*", b"ERR syntax\n"),
+    (b"*:{R 105000=*}", b"ERR syntax\n"),
+    (b"*:105000=#2.", b"ERR syntax\n"),
     (b"007", b"ERR token 0\n"),
     (b"100005x", b"ERR token 6\n"),
     (b"100005 |Alpha", b"ERR token 7\n"),
+    (b"100005 XOR 101009", b"ERR token 7\n"),
+    (b"100005 AND(101009)", b"ERR token 7\n"),
     (b"1234567890123456789", b"ERR limit 0\n"),
     (b"<< 1234567890123456789", b"ERR limit 3\n"),
     (b"\xff", b"ERR utf8\n"),
-    // of two faults the one at the least place, however many tokens stand before it
+    // of two refusals the one at the least place, however many tokens stand before it
     (b"007 x", b"ERR token 0\n"),
     (b"x 1234567890123456789", b"ERR token 0\n"),
     (b"1234567890123456789 x", b"ERR limit 0\n"),
@@ -62,6 +116,15 @@ const REFUSALS: [(&[u8], &[u8]); 20] = [
     (b"* \xc3\xa9", b"ERR token 2\n"),
     // a text that is not UTF-8 has no tokens
     (b"x \xff", b"ERR utf8\n"),
+    (b"*{{C active=1}}", b"ERR unsupported 1 filter\n"),
+    (b"*{{+HISTORY}}", b"ERR unsupported 1 history\n"),
+    (b"^[a]108003", b"ERR unsupported 0 fields\n"),
+    (b"LOINC#1-8", b"ERR unsupported 0 identifier\n"),
+    (b"*:105000=\"x\"", b"ERR unsupported 9 string\n"),
+    (b"*:105000=true", b"ERR unsupported 9 boolean\n"),
+    // attributes are not answered yet
+    (b"<100005:104001=106004", b"ERR syntax\n"),
+    (b"<(<100005.104001)", b"ERR syntax\n"),
 ];
 
 // A concept file whose rows are not in the order of their identifiers.
@@ -90,22 +153,48 @@ fn answered(
     Ok(output)
 }
 
+// The answer of some concepts, by their lines.
+fn answer_of(alloc: Global, lines: &[&[u8]]) -> Result<Vec<u8>, AllocError> {
+    let mut digits = itoa::Buffer::new();
+    let mut answer = Vec::from_slice(alloc, b"before\nOK ")?;
+    answer.extend_from_slice(digits.format(lines.len() as u64).as_bytes())?;
+    answer.push(b'\n')?;
+    for line in lines {
+        answer.extend_from_slice(line)?;
+    }
+    Ok(answer)
+}
+
+fn assert_answers(rt: &impl Abort, alloc: Global, rows: &[Row]) -> Result<(), Fail> {
+    for (line, lines) in rows {
+        let output = answered(rt, alloc, &sample(), "en", line)?;
+        let answer = answer_of(alloc, lines)?;
+        assert!(rt; output.as_slice() == answer.as_slice());
+    }
+    Ok(())
+}
+
 #[test]
-fn answers_queries(rt: HostRuntime) -> Result<(), Fail> {
-    for (line, answer) in ANSWERS {
-        let output = answered(&rt, rt.alloc(), &sample_files(), "en", line)?;
-        assert!(rt; output.as_slice().strip_prefix(b"before\n".as_slice()) == Some(answer));
+fn answers_queries_of_the_hierarchy(rt: HostRuntime) -> Result<(), Fail> {
+    assert_answers(&rt, rt.alloc(), &HIERARCHY)
+}
+
+#[test]
+fn answers_queries_of_sets(rt: HostRuntime) -> Result<(), Fail> {
+    assert_answers(&rt, rt.alloc(), &SETS)
+}
+
+fn assert_refusals(rt: &impl Abort, alloc: Global, rows: &[(&[u8], &[u8])]) -> Result<(), Fail> {
+    for (line, answer) in rows {
+        let output = answered(rt, alloc, &sample(), "en", line)?;
+        assert!(rt; output.as_slice().strip_prefix(b"before\n".as_slice()) == Some(*answer));
     }
     Ok(())
 }
 
 #[test]
 fn refuses_other_lines(rt: HostRuntime) -> Result<(), Fail> {
-    for (line, answer) in REFUSALS {
-        let output = answered(&rt, rt.alloc(), &sample_files(), "en", line)?;
-        assert!(rt; output.as_slice().strip_prefix(b"before\n".as_slice()) == Some(answer));
-    }
-    Ok(())
+    assert_refusals(&rt, rt.alloc(), &REFUSALS)
 }
 
 #[test]
@@ -116,8 +205,27 @@ fn refuses_long_lines(rt: HostRuntime) -> Result<(), Fail> {
     ];
     for (count, answer) in answers {
         let line = vec![in rt.alloc(); b' '; count]?;
-        let output = answered(&rt, rt.alloc(), &sample_files(), "en", line.as_slice())?;
+        let output = answered(&rt, rt.alloc(), &sample(), "en", line.as_slice())?;
         assert!(rt; output.as_slice().strip_prefix(b"before\n".as_slice()) == Some(answer));
+    }
+    Ok(())
+}
+
+// As many brackets as may be open at once, and one more.
+#[test]
+fn refuses_deep_brackets(rt: HostRuntime) -> Result<(), Fail> {
+    let everything = answer_of(rt.alloc(), &[A, B, C, D, T, U, X, Y, Q, ROOT])?;
+    let answers = [
+        (64, everything.as_slice()),
+        (65, b"before\nERR depth\n".as_slice()),
+    ];
+    for (count, answer) in answers {
+        let mut line = vec![in rt.alloc(); b'('; count]?;
+        line.push(b'*')?;
+        let closing = vec![in rt.alloc(); b')'; count]?;
+        line.extend_from_slice(closing.as_slice())?;
+        let output = answered(&rt, rt.alloc(), &sample(), "en", line.as_slice())?;
+        assert!(rt; output.as_slice() == answer);
     }
     Ok(())
 }
@@ -149,7 +257,7 @@ fn names_concepts_in_a_language(rt: HostRuntime) -> Result<(), Fail> {
         ("fr", b"103007", b"OK 1\n103007 |Delta (finding)|\n"),
     ];
     for (language, line, answer) in answers {
-        let output = answered(&rt, rt.alloc(), &sample_files(), language, line)?;
+        let output = answered(&rt, rt.alloc(), &sample(), language, line)?;
         assert!(rt; output.as_slice().strip_prefix(b"before\n".as_slice()) == Some(answer));
     }
     Ok(())

@@ -1,11 +1,12 @@
-use Rattle.std.proofs.Common.{◌≡◌, ◌⊎◌, ℕ, ◌+◌, ◌-◌, ◌^◌, ◌++◌, [], List, take, subst, append-nil, length-append, Option, inl, inr, min, arith, rules}
+use Rattle.std.proofs.Common.{◌≡◌, ◌≢◌, ◌⊎◌, ℕ, ◌+◌, ◌-◌, ◌^◌, ◌++◌, [], List, take, sym, subst, append-nil, length-append, Option, inl, inr, min, arith, rules}
 use Rattle.std.specs.Io.KnownBytes.{Consumes}
-use Rattle.std.proofs.KnownBytes.{Consumes-trans, Consumes-kept}
+use Rattle.std.proofs.KnownBytes.{Consumes-trans, Consumes-kept, Consumes-nil}
 use Rattle.std.proofs.lemmas.Bool.{cases_lt}
 use Rattle.std.proofs.lemmas.List.{length-take-le}
-use Rattle.query_tool.specs.Lines.{query_lines}
-use Rattle.query_tool.proofs.LineLemmas.{IsCutInto-then}
-use Rattle.query_tool.proofs.FaultLemmas.{answers_then}
+use Rattle.std.proofs.lemmas.List.Elements.{All-nil}
+use Rattle.query_tool.specs.Lines.{IsCutInto, query_lines}
+use Rattle.query_tool.proofs.LineLemmas.{IsCutInto-pending, IsCutInto-then}
+use Rattle.query_tool.proofs.FaultLemmas.{answers_none, answers_then}
 use Rattle.query_tool.proofs.RunLemmas.{WritesFirst_cut, feeds_cut, HasStopped_in, finish_count, finish_answers, finish_fault}
 use Rattle.query_tool.proofs.run.run.Goals as goal
 
@@ -21,6 +22,24 @@ next_turn before mid after turn (inl is) counted = elim (cases_lt mid (2 ^ 64 - 
   | inr more ↦ inr (omega arith)
 ]
 next_turn before mid after turn (inr full) counted = inr (omega arith)
+
+pub loop-turn-init : goal.loop-turn-init
+loop-turn-init g c =
+    let written = g.W.AnswerOutput.written c.args.output.now in record {
+      input_sound = c.requires.input;
+      output_sound = c.requires.output;
+      turns = inl (omega arith);
+      room = search rules;
+      few = omega (arith, c.new-progress.ensures.answered);
+      lines = (
+        [],
+        [],
+        Consumes-nil (g.R.QueryInput.remaining c.args.input.now),
+        subst (IsCutInto [] []) (sym c.new-progress.ensures.pending) (IsCutInto-pending [] (All-nil (λ byte. byte ≢ 10))),
+        c.new-progress.ensures.answered,
+        answers_none c.args.engine.now written,
+      );
+    }
 
 pub returns-in-Err-read-clause-fault : goal.returns-in-Err-read-clause-fault
 returns-in-Err-read-clause-fault g c =

@@ -1,6 +1,6 @@
 use Rattle.std.proofs.Common.{◌≡◌, ◌⊎◌, ℕ, ◌+◌, ◌-◌, ◌*◌, ◌^◌, ◌≤◌, false, List, length}
 use Rattle.std.specs.Io.KnownBytes.{Appends, Consumes}
-use Rattle.query_tool.specs.Lines.{IsCutInto, answers}
+use Rattle.query_tool.specs.Lines.{AreWritten, IsCutInto}
 use Rattle.query_tool.proofs.run.run.Given as goal
 
 -- what was read is cut into lines that were answered, and the pending bytes
@@ -15,5 +15,5 @@ invariant-loop-turn g l = record {
       × Consumes (g.R.QueryInput.remaining l.fn.input) (g.R.QueryInput.remaining l.input) read
       × IsCutInto read lines l.progress.pending.items
       × (l.progress.answered ≡ length lines)
-      × Appends (g.W.AnswerOutput.written l.fn.output) (g.W.AnswerOutput.written l.output) (answers l.engine lines);
+      × AreWritten l.engine lines (g.W.AnswerOutput.written l.fn.output) (g.W.AnswerOutput.written l.output);
 }

@@ -1,5 +1,6 @@
 use Rattle.std.proofs.Common.{[], ◌∷◌, List, ℕ, ap, sym, ◌∙◌, subst, codes}
-use Rattle.query_tool.specs.LoadRefusal.{folder_refusal, refused_line}
+use Rattle.answer_printer.specs.LoadRefusal.{refused_line}
+use Rattle.query_tool.specs.FolderRefusal.{folder_refusal}
 use Rattle.query_tool.specs.Serve.{IsTold}
 use Rattle.query_tool.proofs.serve.refuse_folder.Goals as goal
 

@@ -97,8 +97,8 @@ invariant_of-result c =
     ap (λ (lists : List (List ℕ)). length lists) c.in_ok-descendants.ensures ∙ length-lists_by c.concept_count-count.result (turned_from 0 c.in_ok-ancestors.ancestors) in
     (omega (arith, fit, long), subst (λ (n : ℕ). AreWide n c.in_ok-descendants.descendants c.in_ok-wide.wide.ends.items c.in_ok-wide.wide.words.items) (sym long) c.in_ok-wide.ensures)
 
-pub returns : goal.returns
-returns c =
+pub returns-clause-hierarchy : goal.returns-clause-hierarchy
+returns-clause-hierarchy c =
     let rows = c.isa_rows-rows.result.now in
     let count = c.concept_count-count.result in
     let all = length c.args.snapshot.now.release.concepts in

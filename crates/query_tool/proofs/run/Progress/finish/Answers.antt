@@ -3,9 +3,10 @@ use Rattle.std.specs.Io.KnownBytes.{Appends}
 use Rattle.std.proofs.KnownBytes.{Appends-nil}
 use Rattle.std.proofs.lemmas.Bool.{eqb-true, eqb-false}
 use Rattle.std.proofs.lemmas.List.{nil_from_length}
-use Rattle.query_tool.specs.Lines.{answers, query_lines, HasNoFeed}
+use Rattle.query_tool.specs.Lines.{AreWritten, query_lines, HasNoFeed}
 use Rattle.query_tool.specs.Fault.{LeavesWritten}
 use Rattle.query_tool.proofs.LineLemmas.{query_lines-nil, query_lines_pending}
+use Rattle.query_tool.proofs.FaultLemmas.{answers_none}
 use Rattle.query_tool.proofs.run.Progress.finish.Goals as goal
 
 -- no pending bytes are no line
@@ -30,7 +31,7 @@ returns-then-is_empty-clause-answer g c =
     let pending = c.args.self.now.pending in
     let none = no_line pending.items _ c.is_empty.result pending.ok.0 c.is_empty.ensures c.if-is_empty.true in
     let written = g.W.AnswerOutput.written c.args.output.now in
-    subst (λ (lines : List (List ℕ)). Appends written written (answers c.args.engine.now lines)) (sym none) (Appends-nil written)
+    subst (λ (lines : List (List ℕ)). AreWritten c.args.engine.now lines written written) (sym none) (answers_none c.args.engine.now written)
 
 pub returns-in-Ok-clause-count : goal.returns-in-Ok-clause-count
 returns-in-Ok-clause-count g c =
@@ -44,8 +45,7 @@ returns-in-Ok-clause-answer g c =
     let one = one_line pending.items _ c.is_empty.result pending.ok.0 c.is_empty.ensures c.if-is_empty.false c.requires.unended in
     let old = g.W.AnswerOutput.written c.args.output.now in
     let new = g.W.AnswerOutput.written c.answer_line.new.output in
-    let wrote : Appends old new (answers c.args.engine.now ((pending.items ++ []) ∷ [])) = rw append-nil c.in-Ok.ensures.answer in
-    subst (λ (lines : List (List ℕ)). Appends old new (answers c.args.engine.now lines)) (sym one) wrote
+    subst (λ (lines : List (List ℕ)). AreWritten c.args.engine.now lines old new) (sym one) c.in-Ok.ensures.answer
 
 pub returns-in-Err-clause-fault : goal.returns-in-Err-clause-fault
 returns-in-Err-clause-fault g c =

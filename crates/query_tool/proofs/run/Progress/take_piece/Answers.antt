@@ -1,10 +1,10 @@
 use Rattle.std.proofs.Common.{◌≡◌, ℕ, ◌+◌, ◌∷◌, ◌++◌, [], List, length, refl, sym, ap, ◌∙◌, subst, append-nil, append_assoc, length-append, arith}
 use Rattle.std.specs.Io.KnownBytes.{Appends}
 use Rattle.std.proofs.KnownBytes.{Appends-nil}
-use Rattle.query_tool.specs.Lines.{IsCutInto, HasNoFeed, answers, query_lines}
+use Rattle.query_tool.specs.Lines.{IsCutInto, HasNoFeed, query_lines}
 use Rattle.query_tool.specs.Fault.{IsAnswerFault, LeavesWritten}
 use Rattle.query_tool.proofs.LineLemmas.{IsCutInto-pending, IsCutInto-ended, IsCutInto-unended, query_lines_from}
-use Rattle.query_tool.proofs.FaultLemmas.{answers_then, LeavesWritten_after, LeavesWritten-more}
+use Rattle.query_tool.proofs.FaultLemmas.{answers_none, answers_then, LeavesWritten_after, LeavesWritten-more}
 use Rattle.query_tool.proofs.run.Progress.take_piece.Goals as goal
 
 pub loop-line-init : goal.loop-line-init
@@ -17,7 +17,7 @@ loop-line-init g c = record {
     refl,
     IsCutInto-pending c.args.self.now.pending.items c.requires.unended,
     omega arith,
-    Appends-nil (g.W.AnswerOutput.written c.args.output.now),
+    answers_none c.args.engine.now (g.W.AnswerOutput.written c.args.output.now),
   );
 }
 
@@ -30,8 +30,7 @@ loop-line-preserved g c =
     let pending = c.loop-line.self.pending.items in
     let rest_is : c.loop-line.rest.now ≡ line ++ 10 ∷ rest = c.in-Some.ensures.0 in
     let clear : HasNoFeed line = c.in-Some.ensures.1 in
-    let wrote_line : Appends (g.W.AnswerOutput.written c.loop-line.output) (g.W.AnswerOutput.written c.answer_line.new.output) (answers c.args.engine.now ((pending ++ line) ∷ [])) =
-    rw append-nil c.in-Ok.ensures.answer in record {
+    record {
       sound = c.in-Ok.ensures.sound;
       few = omega (arith, ap length rest_is, length-append line (10 ∷ rest), c.in-Ok.ensures.answered, c.loop-line.invariant.few);
       lines = (
@@ -41,7 +40,7 @@ loop-line-preserved g c =
         subst (IsCutInto (before ++ (line ++ 10 ∷ [])) (lines ++ (pending ++ line) ∷ [])) (sym c.in-Ok.ensures.pending) (IsCutInto-ended before lines pending line cut clear),
         omega (arith, c.in-Ok.ensures.answered, count, length-append lines ((pending ++ line) ∷ [])),
         answers_then c.args.engine.now (g.W.AnswerOutput.written c.args.output.now) (g.W.AnswerOutput.written c.loop-line.output) (g.W.AnswerOutput.written c.answer_line.new.output)
-            lines ((pending ++ line) ∷ []) wrote wrote_line,
+            lines ((pending ++ line) ∷ []) wrote c.in-Ok.ensures.answer,
       );
     }
 

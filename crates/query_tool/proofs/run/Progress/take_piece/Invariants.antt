@@ -1,6 +1,6 @@
 use Rattle.std.proofs.Common.{◌≡◌, ℕ, ◌+◌, ◌≤◌, ◌++◌, false, List, length}
 use Rattle.std.specs.Io.KnownBytes.{Appends}
-use Rattle.query_tool.specs.Lines.{IsCutInto, answers}
+use Rattle.query_tool.specs.Lines.{AreWritten, IsCutInto}
 use Rattle.query_tool.proofs.run.Progress.take_piece.Given as goal
 
 -- what came before the rest of the piece is cut into lines that were answered
@@ -12,7 +12,7 @@ invariant-loop-line g l = record {
       × (l.fn.self.pending.items ++ l.piece ≡ before ++ l.rest)
       × IsCutInto before lines l.self.pending.items
       × (l.self.answered ≡ l.fn.self.answered + length lines)
-      × Appends (g.W.AnswerOutput.written l.fn.output) (g.W.AnswerOutput.written l.output) (answers l.engine lines);
+      × AreWritten l.engine lines (g.W.AnswerOutput.written l.fn.output) (g.W.AnswerOutput.written l.output);
 }
 
 abbrev pub decreases-loop-line : goal.decreases-loop-line

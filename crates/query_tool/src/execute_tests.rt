@@ -1,0 +1,144 @@
+//! Queries over the sample release and over a chain, executed in each form of set.
+ghost use Rattle.std.specs.Prelude.{◌≡◌};
+ghost use Rattle.ancestor_index.specs.HierarchyLists.{hierarchy_of};
+
+use crate::attributes::has_attributes;
+use crate::load_tests::{NAME, RELATIONSHIP_NAME, chain_of, sample};
+use ancestor_index::AncestorIndex;
+use ecl_parser::parse;
+use executor::execute;
+use idset::{ConceptSet, MixedSet, SortedSet, WordSet};
+use release_files::NamedBytes;
+use set_algebra::lower;
+use snapshot::{Limits, Snapshot};
+use std::alloc::{AllocError, Global};
+use std::process::Abort;
+use std::test::Fail;
+
+// A query line, and the numbers of the concepts that answer it: A 0, B 1, C 2, D 3, T 4, U 5, X 6, Y 7, Q 8
+// and Root 9.
+type Row = (&'static [u8], &'static [u32]);
+
+const ROWS: [Row; 22] = [
+    (b"*", &[0, 1, 2, 3, 4, 5, 6, 7, 8, 9]),
+    (b"103007", &[3]),
+    (b"999999", &[]),
+    (b"<100005", &[1, 2, 3]),
+    (b"<<*", &[0, 1, 2, 3, 4, 5, 6, 7, 8, 9]),
+    (b"!!>(<100005)", &[1, 2]),
+    (b"!!<(<<100005)", &[3]),
+    (b"!!>(100005 OR 103007)", &[0]),
+    (b">103007", &[0, 1, 2, 9]),
+    (b">!103007", &[1, 2]),
+    (b"<!138875005", &[0, 4, 5, 6, 8]),
+    (b">>!107008", &[6, 7]),
+    (b"<<(101009 AND 102002)", &[]),
+    (b"<<101009 AND <<102002", &[3]),
+    (b"<<(101009 OR 107008)", &[1, 3, 7]),
+    (b">(101009 OR 107008)", &[0, 6, 9]),
+    (b"<!(100005 OR 101009)", &[1, 2, 3]),
+    (b"* MINUS (<<100005 OR <<106004)", &[4, 5, 8, 9]),
+    (b"<100005 MINUS 101009", &[2, 3]),
+    (b"^108003", &[1, 3]),
+    (b"<^108003", &[3]),
+    (b"^*", &[1, 3]),
+];
+
+// How many concepts are in the chain.
+const CHAIN: u32 = 300;
+
+// The numbers of the concepts that answer a line, or nothing where it is no constraint without attributes.
+fn executed<S: ConceptSet>(
+    alloc: Global,
+    snapshot: &Snapshot,
+    index: &AncestorIndex,
+    line: &[u8],
+) -> Result<Option<Vec<u32>>, AllocError>
+    requires { index.now ≡ hierarchy_of snapshot.now.release }
+{
+    let Ok(constraint) = parse(alloc, line) else {
+        return Ok(None);
+    };
+    if has_attributes(&constraint) {
+        return Ok(None);
+    }
+    let plan = lower(alloc, &constraint)?;
+    let found: S = execute(alloc, &plan, snapshot, index)?;
+    Ok(Some(found.items(alloc)?))
+}
+
+fn assert_executed(
+    rt: &impl Abort,
+    alloc: Global,
+    snapshot: &Snapshot,
+    index: &AncestorIndex,
+    line: &[u8],
+    want: &[u32],
+) -> Result<(), Fail>
+    requires { index.now ≡ hierarchy_of snapshot.now.release }
+{
+    let found = [
+        executed::<SortedSet>(alloc, snapshot, index, line)?,
+        executed::<WordSet>(alloc, snapshot, index, line)?,
+        executed::<MixedSet>(alloc, snapshot, index, line)?,
+    ];
+    for numbers in &found {
+        match numbers {
+            Some(numbers) => assert!(rt; numbers.as_slice() == want),
+            None => assert!(rt; false, "the line is a constraint"),
+        }
+    }
+    Ok(())
+}
+
+// Queries over a release, each by its numbers of concepts.
+fn assert_all_executed(
+    rt: &impl Abort,
+    alloc: Global,
+    files: &[NamedBytes<'_>],
+    rows: &[(&[u8], &[u32])],
+) -> Result<(), Fail> {
+    let snapshot = Snapshot::load(alloc, files, "en", Limits::standard())?;
+    let index = AncestorIndex::build(alloc, &snapshot)?;
+    for (line, want) in rows {
+        assert_executed(rt, alloc, &snapshot, &index, line, want)?;
+    }
+    Ok(())
+}
+
+#[test]
+fn executes_in_each_form_of_set(rt: HostRuntime) -> Result<(), Fail> {
+    assert_all_executed(&rt, rt.alloc(), &sample(), &ROWS)
+}
+
+// Long lists, which are kept as words and joined before the short ones.
+#[test]
+fn executes_over_a_chain(rt: HostRuntime) -> Result<(), Fail> {
+    let alloc = rt.alloc();
+    let (concepts, rows) = chain_of(&rt, alloc, u64::from(CHAIN))?;
+    let files = [
+        NamedBytes {
+            name: NAME,
+            bytes: concepts.as_slice(),
+        },
+        NamedBytes {
+            name: RELATIONSHIP_NAME,
+            bytes: rows.as_slice(),
+        },
+    ];
+    let numbers: Vec<u32> = (0..CHAIN).collect(alloc)?;
+    let all = numbers.as_slice();
+    let (first, behind) = all.split_at(1);
+    let (before, last) = all.split_at(all.len().saturating_sub(1));
+    let wants: [(&[u8], &[u32]); 8] = [
+        (b"<*", behind),
+        (b"<<*", all),
+        (b">*", before),
+        (b">>*", all),
+        (b"<!*", behind),
+        (b">!*", before),
+        (b"!!>*", first),
+        (b"!!<*", last),
+    ];
+    assert_all_executed(&rt, alloc, &files, &wants)
+}
