@@ -8,6 +8,7 @@ use Rattle.constraint_tree.specs.declared.operator.Operator.TheVariants.{Descend
 use Rattle.idset.specs.Sets.{all_items, has_item, numbers_where}
 use Rattle.snapshot.specs.KeyedLists.{list_of}
 use Rattle.ancestor_index.specs.HierarchyLists.{Hierarchy, hierarchy_of}
+use Rattle.ancestor_index.specs.Wide.{IsWide}
 use Rattle.executor.specs.declared.family.Family.{Family}
 use Rattle.executor.specs.declared.family.Family.TheVariants as family
 
@@ -17,6 +18,13 @@ lists_of hierarchy family.Ancestors = hierarchy.ancestors
 lists_of hierarchy family.Descendants = hierarchy.descendants
 lists_of hierarchy family.Parents = hierarchy.parents
 lists_of hierarchy family.Children = hierarchy.children
+
+-- whether an index has the list of a concept as words of bits too: lists of descendants that are wide
+abbrev pub HasWords : Hierarchy → Family → ℕ → Type 0
+HasWords hierarchy family.Ancestors concept = ⊥
+HasWords hierarchy family.Descendants concept = IsWide (length hierarchy.descendants) (list_of hierarchy.descendants concept)
+HasWords hierarchy family.Parents concept = ⊥
+HasWords hierarchy family.Children concept = ⊥
 
 -- the numbers below a count that are in the list of one of some concepts
 abbrev pub joined : ℕ → List (List ℕ) → List ℕ → List ℕ

@@ -1,10 +1,10 @@
 //! The four families of lists of a hierarchy.
-ghost use Rattle.std.specs.Prelude.{◌≡◌, ◌<◌, IfSome, length};
+ghost use Rattle.std.specs.Prelude.{◌≡◌, ◌↔◌, ◌<◌, IfSome, IsSome, length};
 ghost use Rattle.idset.specs.Sets.{has_item};
 ghost use Rattle.idset.specs.Words.{MarkedBelow};
 ghost use Rattle.snapshot.specs.KeyedLists.{list_of};
 ghost use Rattle.executor.specs.Joined.{is_whole as is_whole_of, near_of};
-ghost use Rattle.executor.specs.Steps.{lists_of};
+ghost use Rattle.executor.specs.Steps.{HasWords, lists_of};
 
 use ancestor_index::AncestorIndex;
 
@@ -58,7 +58,8 @@ impl Family {
     /// The list of a concept as words of bits, if the index has them.
     pub fn words(self, index: &AncestorIndex, concept: u32) -> Option<&[u64]>
         requires { concept < length (lists_of index.now self) }
-        ensures { IfSome result (λ words. MarkedBelow (length (lists_of index.now self)) words.now (has_item (list_of (lists_of index.now self) concept))) }
+        ensures some { IfSome result (λ words. MarkedBelow (length (lists_of index.now self)) words.now (has_item (list_of (lists_of index.now self) concept))) }
+        ensures wide { IsSome result ↔ HasWords index.now self concept }
     {
         match self {
             Family::Descendants => index.descendant_words(concept),

@@ -19,7 +19,7 @@ words-requires g c = omega (arith, c.requires.below, over_length (g.S.ConceptSet
 pub from_words-requires : goal.from_words-requires
 from_words-requires g c =
     subst (λ (count : ℕ). AreWordsBelow count c.in-Some.words.now)
-    (over_length (g.S.ConceptSet.bound_of c.args.found.now) c.args.index.now c.requires.over c.args.family ∙ sym c.bound.ensures) c.in-Some.ensures.below
+    (over_length (g.S.ConceptSet.bound_of c.args.found.now) c.args.index.now c.requires.over c.args.family ∙ sym c.bound.ensures) c.in-Some.ensures.some.below
 
 pub list-requires : goal.list-requires
 list-requires g c = omega (arith, c.requires.below, over_length (g.S.ConceptSet.bound_of c.args.found.now) c.args.index.now c.requires.over c.args.family)
@@ -35,7 +35,7 @@ returns-in_ok-both-in-Some-clause-joined g c = λ before joined.
     let lists = lists_of c.args.index.now c.args.family in
     let rises = over_rising count c.args.index.now c.requires.over c.args.family c.args.concept c.requires.below in
     let wide : g.S.ConceptSet.items_of c.in_ok-wide-in-Some.wide ≡ list_of lists c.args.concept =
-    c.in_ok-wide-in-Some.ensures.items ∙ words_list count c.bound.result c.in-Some.words.now (list_of lists c.args.concept) c.bound.ensures rises c.in-Some.ensures.marked in
+    c.in_ok-wide-in-Some.ensures.items ∙ words_list count c.bound.result c.in-Some.words.now (list_of lists c.args.concept) c.bound.ensures rises c.in-Some.ensures.some.marked in
     join_list lists before (g.S.ConceptSet.items_of c.args.found.now) (g.S.ConceptSet.items_of c.in_ok-wide-in-Some.wide) (g.S.ConceptSet.items_of c.in_ok-both-in-Some.both) count c.args.concept
     (g.met.S.ConceptSet.rising c.args.found.now) (subst (λ (list : List ℕ). IsRisingBelow count list) (sym wide) rises) wide c.in_ok-both-in-Some.ensures.items joined
 

@@ -11,7 +11,7 @@ words-requires g c = omega (arith, c.requires.below, over_length c.args.count c.
 
 pub from_words-requires : goal.from_words-requires
 from_words-requires g c =
-    subst (λ (count : ℕ). AreWordsBelow count c.in-Some.words.now) (over_length c.args.count c.args.index.now c.requires.over c.args.family) c.in-Some.ensures.below
+    subst (λ (count : ℕ). AreWordsBelow count c.in-Some.words.now) (over_length c.args.count c.args.index.now c.requires.over c.args.family) c.in-Some.ensures.some.below
 
 pub list-requires : goal.list-requires
 list-requires g c = omega (arith, c.requires.below, over_length c.args.count c.args.index.now c.requires.over c.args.family)
@@ -22,7 +22,7 @@ from_items-requires g c =
 
 pub returns-in-Some-clause-items : goal.returns-in-Some-clause-items
 returns-in-Some-clause-items g c = IfOk-weaker c.from_words.result _ _
-    (λ found items. items ∙ words_joined c.args.count (lists_of c.args.index.now c.args.family) c.args.concept c.in-Some.words.now c.in-Some.ensures.marked)
+    (λ found items. items ∙ words_joined c.args.count (lists_of c.args.index.now c.args.family) c.args.concept c.in-Some.words.now c.in-Some.ensures.some.marked)
     c.from_words.ensures.items
 
 pub returns-in-None-clause-items : goal.returns-in-None-clause-items
