@@ -79,24 +79,32 @@ fn answered<S: ConceptSet>(
     Ok(output)
 }
 
+// Looks at the answer of the concepts with some numbers.
+fn check_answer<S: ConceptSet>(
+    rt: &impl Abort,
+    alloc: Global,
+    snapshot: &Snapshot,
+    concepts: &[u32],
+    answer: &[u8],
+) -> Result<(), AllocError>
+    requires { IsRisingBelow 4 concepts.now }
+{
+    let output = answered::<S>(rt, alloc, snapshot, concepts)?;
+    assert!(rt; output.as_slice() == answer);
+    Ok(())
+}
+
 // Sets of concepts, as one form of set, and their answers.
 fn check_answers<S: ConceptSet>(rt: &impl Abort, alloc: Global) -> Result<(), AllocError> {
     let snapshot = loaded(rt, alloc)?;
-    let none = answered::<S>(rt, alloc, &snapshot, &[])?;
-    assert!(rt; none.as_slice() == b"before\nOK 0\n".as_slice());
-    let nameless = answered::<S>(rt, alloc, &snapshot, &[1])?;
-    assert!(rt; nameless.as_slice() == b"before\nOK 1\n101009\n".as_slice());
-    let ends = answered::<S>(rt, alloc, &snapshot, &[0, 3])?;
-    assert!(rt;
-        ends.as_slice()
-            == b"before\nOK 2\n100005 |Alpha (finding)|\n138875005 |R\xc3\xb6\xc3\xb6t (test)|\n".as_slice()
-    );
-    let all = answered::<S>(rt, alloc, &snapshot, &[0, 1, 2, 3])?;
-    assert!(rt;
-        all.as_slice()
-            == b"before\nOK 4\n100005 |Alpha (finding)|\n101009\n1000004 ||\n138875005 |R\xc3\xb6\xc3\xb6t (test)|\n".as_slice()
-    );
-    Ok(())
+    check_answer::<S>(rt, alloc, &snapshot, &[], b"before\nOK 0\n")?;
+    check_answer::<S>(rt, alloc, &snapshot, &[1], b"before\nOK 1\n101009\n")?;
+    let ends =
+        b"before\nOK 2\n100005 |Alpha (finding)|\n138875005 |R\xc3\xb6\xc3\xb6t (test)|\n".as_slice();
+    check_answer::<S>(rt, alloc, &snapshot, &[0, 3], ends)?;
+    let all =
+        b"before\nOK 4\n100005 |Alpha (finding)|\n101009\n1000004 ||\n138875005 |R\xc3\xb6\xc3\xb6t (test)|\n".as_slice();
+    check_answer::<S>(rt, alloc, &snapshot, &[0, 1, 2, 3], all)
 }
 
 fn check_answers_again<S: ConceptSet>(rt: &impl Abort, alloc: Global) -> Result<(), AllocError> {
@@ -176,9 +184,17 @@ fn refuses_forms_that_are_not_read(rt: HostRuntime) -> Result<(), Fail> {
         (Feature::Boolean, b"ERR unsupported 12 boolean\n"),
         (Feature::String, b"ERR unsupported 12 string\n"),
     ];
+    check_forms(&rt, rt.alloc(), &forms)?;
+    Ok(())
+}
+
+fn check_forms(
+    rt: &impl Abort,
+    alloc: Global,
+    forms: &[(Feature, &[u8])],
+) -> Result<(), AllocError> {
     for (feature, line) in forms {
-        let fault = QueryFault::Unsupported(12, feature);
-        check_refused(&rt, rt.alloc(), fault, line)?;
+        check_refused(rt, alloc, QueryFault::Unsupported(12, *feature), line)?;
     }
     Ok(())
 }
@@ -271,13 +287,25 @@ fn tells_causes_of_rows(rt: HostRuntime) -> Result<(), Fail> {
         (RowCause::Utf8, 8, b"REFUSED row c 2 8 utf8\n"),
         (RowCause::Uuid, 1, b"REFUSED row c 2 1 uuid\n"),
     ];
+    check_causes(&rt, rt.alloc(), &causes)?;
+    Ok(())
+}
+
+fn check_causes(
+    rt: &impl Abort,
+    alloc: Global,
+    causes: &[(RowCause, u8, &[u8])],
+) -> Result<(), AllocError> {
     for (cause, column, line) in causes {
         let fault = LoadFault::Row {
             file: 1,
             line: 2,
-            fault: RowFault { cause, column },
+            fault: RowFault {
+                cause: *cause,
+                column: *column,
+            },
         };
-        check_load_refused(&rt, rt.alloc(), &fault, line)?;
+        check_load_refused(rt, alloc, &fault, line)?;
     }
     Ok(())
 }
