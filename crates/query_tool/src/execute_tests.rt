@@ -3,7 +3,7 @@ ghost use Rattle.std.specs.Prelude.{◌≡◌};
 ghost use Rattle.ancestor_index.specs.HierarchyLists.{hierarchy_of};
 
 use crate::attributes::has_attributes;
-use crate::load_tests::{NAME, RELATIONSHIP_NAME, chain_of, sample};
+use crate::load_tests::{chain_of, files_of, sample};
 use ancestor_index::AncestorIndex;
 use ecl_parser::parse;
 use executor::execute;
@@ -116,16 +116,7 @@ fn executes_in_each_form_of_set(rt: HostRuntime) -> Result<(), Fail> {
 fn executes_over_a_chain(rt: HostRuntime) -> Result<(), Fail> {
     let alloc = rt.alloc();
     let (concepts, rows) = chain_of(&rt, alloc, u64::from(CHAIN))?;
-    let files = [
-        NamedBytes {
-            name: NAME,
-            bytes: concepts.as_slice(),
-        },
-        NamedBytes {
-            name: RELATIONSHIP_NAME,
-            bytes: rows.as_slice(),
-        },
-    ];
+    let files = files_of(concepts.as_slice(), rows.as_slice());
     let numbers: Vec<u32> = (0..CHAIN).collect(alloc)?;
     let all = numbers.as_slice();
     let (first, behind) = all.split_at(1);

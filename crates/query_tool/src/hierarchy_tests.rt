@@ -2,7 +2,7 @@
 ghost use Rattle.std.specs.Prelude.{◌≡◌};
 ghost use Rattle.ancestor_index.specs.HierarchyLists.{hierarchy_of};
 
-use crate::load_tests::{NAME, RELATIONSHIP_NAME, RELATIONSHIPS, chain_of, replaced, sample};
+use crate::load_tests::{RELATIONSHIPS, chain_of, files_of, replaced, sample};
 use ancestor_index::AncestorIndex;
 use release_files::NamedBytes;
 use snapshot::{Limits, Snapshot};
@@ -160,16 +160,7 @@ fn lists_a_repeated_row_once(rt: HostRuntime) -> Result<(), Fail> {
 fn lists_a_chain(rt: HostRuntime) -> Result<(), Fail> {
     let alloc = rt.alloc();
     let (concepts, rows) = chain_of(&rt, alloc, u64::from(CHAIN))?;
-    let files = [
-        NamedBytes {
-            name: NAME,
-            bytes: concepts.as_slice(),
-        },
-        NamedBytes {
-            name: RELATIONSHIP_NAME,
-            bytes: rows.as_slice(),
-        },
-    ];
+    let files = files_of(concepts.as_slice(), rows.as_slice());
     let numbers: Vec<u32> = (0..CHAIN).collect(alloc)?;
     let wants = arounds_in_a_chain(alloc, numbers.as_slice())?;
     assert_hierarchy(&rt, alloc, &files, 299, wants.as_slice())

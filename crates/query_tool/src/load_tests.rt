@@ -435,6 +435,20 @@ pub fn chain_of(
     Ok((concept_bytes, rows))
 }
 
+/// The files of a release of concepts and relationships.
+pub fn files_of<'a>(concepts: &'a [u8], rows: &'a [u8]) -> [NamedBytes<'a>; 2] {
+    [
+        NamedBytes {
+            name: NAME,
+            bytes: concepts,
+        },
+        NamedBytes {
+            name: RELATIONSHIP_NAME,
+            bytes: rows,
+        },
+    ]
+}
+
 fn push_row(bytes: &mut Vec<u8>, id: SctId, child: SctId, parent: SctId) -> Result<(), AllocError> {
     push_number(bytes, id)?;
     bytes.extend_from_slice(b"\t20240101\t1\t900000000000207008\t")?;

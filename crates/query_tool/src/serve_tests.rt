@@ -4,11 +4,7 @@ use crate::load_tests::{replaced, sample};
 use crate::serve::{Status, refuse_folder, serve};
 use crate::test_streams::{PieceInput, PieceOutput, ROOM};
 use crate::words::{Mode, Request, WordFault, read_words};
-use answer_printer::print_load_fault;
 use release_files::NamedBytes;
-use rf2_rows::{RowCause, RowFault};
-use sctid::IdFault;
-use snapshot::LoadFault;
 use std::alloc::Global;
 use std::process::Abort;
 use std::test::Fail;
@@ -188,58 +184,6 @@ fn refuses_releases(rt: HostRuntime) -> Result<(), Fail> {
         b"REFUSED no-concept-file\n".as_slice(),
     );
     check_served(&rt, rt.alloc(), Mode::Query, "en", &[], none)
-}
-
-// Each cause has its word.
-#[test]
-fn tells_causes(rt: HostRuntime) -> Result<(), Fail> {
-    let causes = [
-        (RowCause::Fields, b"REFUSED row c 2 0 fields\n".as_slice()),
-        (
-            RowCause::Id(IdFault::Length),
-            b"REFUSED row c 2 0 id-length\n",
-        ),
-        (
-            RowCause::Id(IdFault::Digit),
-            b"REFUSED row c 2 0 id-digit\n",
-        ),
-        (
-            RowCause::Id(IdFault::LeadingZero),
-            b"REFUSED row c 2 0 id-zero\n",
-        ),
-        (
-            RowCause::Id(IdFault::Partition),
-            b"REFUSED row c 2 0 id-part\n",
-        ),
-        (
-            RowCause::Id(IdFault::Check),
-            b"REFUSED row c 2 0 id-check\n",
-        ),
-        (RowCause::Time, b"REFUSED row c 2 0 time\n"),
-        (RowCause::Active, b"REFUSED row c 2 0 active\n"),
-        (RowCause::Group, b"REFUSED row c 2 0 group\n"),
-        (RowCause::Value, b"REFUSED row c 2 0 value\n"),
-        (RowCause::Utf8, b"REFUSED row c 2 0 utf8\n"),
-        (RowCause::Uuid, b"REFUSED row c 2 0 uuid\n"),
-    ];
-    for (cause, line) in causes {
-        let fault = LoadFault::Row {
-            file: 0,
-            line: 2,
-            fault: RowFault { cause, column: 0 },
-        };
-        check_line(&rt, rt.alloc(), fault, line)?;
-    }
-    let many = LoadFault::TooMany { file: 0, line: 12 };
-    check_line(&rt, rt.alloc(), many, b"REFUSED too-many c 12\n")?;
-    check_line(&rt, rt.alloc(), LoadFault::Memory, b"REFUSED memory\n")
-}
-
-fn check_line(rt: &impl Abort, alloc: Global, fault: LoadFault, wanted: &[u8]) -> Result<(), Fail> {
-    let mut line = Vec::new(alloc);
-    print_load_fault(alloc, fault, &["c"], &mut line)?;
-    assert!(rt; line.as_slice() == wanted);
-    Ok(())
 }
 
 #[test]
