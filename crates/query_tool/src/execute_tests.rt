@@ -1,4 +1,7 @@
 //! Queries over the sample release and over a chain, executed in each form of set.
+//!
+//! Where an allocation failed a test is run once more, so that it holds with every allocation failing in
+//! its turn.
 ghost use Rattle.std.specs.Prelude.{◌≡◌};
 ghost use Rattle.ancestor_index.specs.HierarchyLists.{hierarchy_of};
 
@@ -10,7 +13,7 @@ use executor::execute;
 use idset::{ConceptSet, MixedSet, SortedSet, WordSet};
 use release_files::NamedBytes;
 use set_algebra::lower;
-use snapshot::{Limits, Snapshot};
+use snapshot::{Limits, LoadFault, Snapshot};
 use std::alloc::{AllocError, Global};
 use std::process::Abort;
 use std::test::Fail;
@@ -74,7 +77,7 @@ fn assert_executed(
     index: &AncestorIndex,
     line: &[u8],
     want: &[u32],
-) -> Result<(), Fail>
+) -> Result<(), AllocError>
     requires { index.now ≡ hierarchy_of snapshot.now.release }
 {
     let found = [
@@ -85,7 +88,8 @@ fn assert_executed(
     for numbers in &found {
         match numbers {
             Some(numbers) => assert!(rt; numbers.as_slice() == want),
-            None => assert!(rt; false, "the line is a constraint"),
+            // no constraint, or there was no memory to read it
+            None => return Err(AllocError),
         }
     }
     Ok(())
@@ -97,8 +101,14 @@ fn assert_all_executed(
     alloc: Global,
     files: &[NamedBytes<'_>],
     rows: &[(&[u8], &[u32])],
-) -> Result<(), Fail> {
-    let snapshot = Snapshot::load(alloc, files, "en", Limits::standard())?;
+) -> Result<(), AllocError> {
+    let snapshot = match Snapshot::load(alloc, files, "en", Limits::standard()) {
+        Ok(snapshot) => snapshot,
+        Err(fault) => {
+            assert!(rt; fault == LoadFault::Memory, "the release loads");
+            return Err(AllocError);
+        }
+    };
     let index = AncestorIndex::build(alloc, &snapshot)?;
     for (line, want) in rows {
         assert_executed(rt, alloc, &snapshot, &index, line, want)?;
@@ -106,16 +116,21 @@ fn assert_all_executed(
     Ok(())
 }
 
-#[test]
-fn executes_in_each_form_of_set(rt: HostRuntime) -> Result<(), Fail> {
-    assert_all_executed(&rt, rt.alloc(), &sample(), &ROWS)
+fn assert_sample(rt: &impl Abort, alloc: Global) -> Result<(), AllocError> {
+    assert_all_executed(rt, alloc, &sample(), &ROWS)
 }
 
-// Long lists, which are kept as words and joined before the short ones.
 #[test]
-fn executes_over_a_chain(rt: HostRuntime) -> Result<(), Fail> {
-    let alloc = rt.alloc();
-    let (concepts, rows) = chain_of(&rt, alloc, u64::from(CHAIN))?;
+fn executes_in_each_form_of_set(rt: HostRuntime) -> Result<(), Fail> {
+    match assert_sample(&rt, rt.alloc()) {
+        Ok(()) => {}
+        Err(AllocError) => assert_sample(&rt, rt.alloc())?,
+    }
+    Ok(())
+}
+
+fn assert_chain(rt: &impl Abort, alloc: Global) -> Result<(), AllocError> {
+    let (concepts, rows) = chain_of(rt, alloc, u64::from(CHAIN))?;
     let files = files_of(concepts.as_slice(), rows.as_slice());
     let numbers: Vec<u32> = (0..CHAIN).collect(alloc)?;
     let all = numbers.as_slice();
@@ -131,5 +146,15 @@ fn executes_over_a_chain(rt: HostRuntime) -> Result<(), Fail> {
         (b"!!>*", first),
         (b"!!<*", last),
     ];
-    assert_all_executed(&rt, alloc, &files, &wants)
+    assert_all_executed(rt, alloc, &files, &wants)
+}
+
+// Long lists, which are kept as words and joined before the short ones.
+#[test]
+fn executes_over_a_chain(rt: HostRuntime) -> Result<(), Fail> {
+    match assert_chain(&rt, rt.alloc()) {
+        Ok(()) => {}
+        Err(AllocError) => assert_chain(&rt, rt.alloc())?,
+    }
+    Ok(())
 }

@@ -2,7 +2,7 @@
 use crate::engine::Engine;
 use crate::load_tests::sample;
 use release_files::NamedBytes;
-use snapshot::Limits;
+use snapshot::{Limits, LoadFault};
 use std::alloc::{AllocError, Global};
 use std::process::Abort;
 use std::test::Fail;
@@ -140,17 +140,21 @@ fn answered(
     files: &[NamedBytes<'_>],
     language: &str,
     line: &[u8],
-) -> Result<Vec<u8>, Fail> {
+) -> Result<Vec<u8>, AllocError> {
     let mut output = Vec::from_slice(alloc, b"before\n")?;
     match Engine::load(alloc, files, language, Limits::standard()) {
         Ok(engine) => {
             if engine.answer(alloc, line, &mut output).is_err() {
                 assert!(rt; output.as_slice() == b"before\n".as_slice());
+                engine.answer(alloc, line, &mut output)?;
             }
+            Ok(output)
         }
-        Err(_) => assert!(rt; false, "the release loads"),
+        Err(fault) => {
+            assert!(rt; fault == LoadFault::Memory, "the release loads");
+            Err(AllocError)
+        }
     }
-    Ok(output)
 }
 
 // The answer of some concepts, by their lines.
@@ -165,7 +169,7 @@ fn answer_of(alloc: Global, lines: &[&[u8]]) -> Result<Vec<u8>, AllocError> {
     Ok(answer)
 }
 
-fn assert_answers(rt: &impl Abort, alloc: Global, rows: &[Row]) -> Result<(), Fail> {
+fn assert_answers(rt: &impl Abort, alloc: Global, rows: &[Row]) -> Result<(), AllocError> {
     for (line, lines) in rows {
         let output = answered(rt, alloc, &sample(), "en", line)?;
         let answer = answer_of(alloc, lines)?;
@@ -176,15 +180,27 @@ fn assert_answers(rt: &impl Abort, alloc: Global, rows: &[Row]) -> Result<(), Fa
 
 #[test]
 fn answers_queries_of_the_hierarchy(rt: HostRuntime) -> Result<(), Fail> {
-    assert_answers(&rt, rt.alloc(), &HIERARCHY)
+    match assert_answers(&rt, rt.alloc(), &HIERARCHY) {
+        Ok(()) => {}
+        Err(AllocError) => assert_answers(&rt, rt.alloc(), &HIERARCHY)?,
+    }
+    Ok(())
 }
 
 #[test]
 fn answers_queries_of_sets(rt: HostRuntime) -> Result<(), Fail> {
-    assert_answers(&rt, rt.alloc(), &SETS)
+    match assert_answers(&rt, rt.alloc(), &SETS) {
+        Ok(()) => {}
+        Err(AllocError) => assert_answers(&rt, rt.alloc(), &SETS)?,
+    }
+    Ok(())
 }
 
-fn assert_refusals(rt: &impl Abort, alloc: Global, rows: &[(&[u8], &[u8])]) -> Result<(), Fail> {
+fn assert_refusals(
+    rt: &impl Abort,
+    alloc: Global,
+    rows: &[(&[u8], &[u8])],
+) -> Result<(), AllocError> {
     for (line, answer) in rows {
         let output = answered(rt, alloc, &sample(), "en", line)?;
         assert!(rt; output.as_slice().strip_prefix(b"before\n".as_slice()) == Some(*answer));
@@ -194,7 +210,11 @@ fn assert_refusals(rt: &impl Abort, alloc: Global, rows: &[(&[u8], &[u8])]) -> R
 
 #[test]
 fn refuses_other_lines(rt: HostRuntime) -> Result<(), Fail> {
-    assert_refusals(&rt, rt.alloc(), &REFUSALS)
+    match assert_refusals(&rt, rt.alloc(), &REFUSALS) {
+        Ok(()) => {}
+        Err(AllocError) => assert_refusals(&rt, rt.alloc(), &REFUSALS)?,
+    }
+    Ok(())
 }
 
 #[test]
