@@ -8,7 +8,7 @@ ghost use Rattle.ancestor_index.specs.HierarchyLists.{hierarchy_of};
 ghost use Rattle.ancestor_index.specs.Wide.{IsWide};
 
 use crate::closure::ancestor_lists;
-use crate::rising::rising_lists;
+use crate::linked::linked_lists;
 use crate::wide::{WideLists, wide_lists};
 use snapshot::{KeyedLists, Snapshot};
 use std::alloc::{AllocError, Global};
@@ -46,8 +46,7 @@ impl AncestorIndex {
     {
         let count = snapshot.concept_count();
         let rows = snapshot.isa_rows();
-        let by_row = KeyedLists::from_pairs(alloc, count, rows)?;
-        let parents = rising_lists(alloc, &by_row, count)?;
+        let parents = linked_lists(alloc, count, rows)?;
         let children = parents.turned(alloc, count)?;
         let ancestors = ancestor_lists(alloc, &parents, snapshot.parents_first())?;
         let descendants = ancestors.turned(alloc, count)?;

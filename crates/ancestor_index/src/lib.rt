@@ -1,14 +1,18 @@
 //! The hierarchy of a release as complete lists.
 //!
 //! `AncestorIndex` has for each concept, by its number, all its ancestors and descendants, its parents
-//! and its children, in rising order and once each.
+//! and its children, in rising order and once each. `linked_lists` makes such lists of other rows
+//! between concepts, and `keep_rising` brings numbers into the form that they have.
 #![tactic(auto)]
 
 mod closure;
 mod index;
 mod laws;
+mod linked;
 mod rising;
 mod wide;
 
 pub use crate::index::AncestorIndex;
 pub use crate::laws::lists_are_complete;
+pub use crate::linked::linked_lists;
+pub use crate::rising::keep_rising;

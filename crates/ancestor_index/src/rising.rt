@@ -23,7 +23,7 @@ pub fn rising_lists(alloc: Global, lists: &KeyedLists, bound: u32) -> Result<Key
     Ok(rising)
 }
 
-/// Brings numbers in rising order, and leaves each once.
+/// Brings numbers in rising order, and leaves each once. Asks for no memory.
 pub fn keep_rising(numbers: &mut Vec<u32>)
     ensures { (bound : ℕ) → All (λ number. number < bound) numbers.old.items → numbers.new.items ≡ listed_numbers bound numbers.old.items }
 {

@@ -1,7 +1,8 @@
 -- From what was kept of the rows to the contents of a snapshot.
 use Rattle.std.proofs.Common.{ℕ, ◌≡◌, ◌≤◌, ◌+◌, ◌-◌, All, refl, List, [], ◌∷◌, length, map, Option, None, Some, Ok, Err, sym, ◌∙◌, ap, subst, arith, Bool, true, false, cond, nat_lt, nat_eq, ◌&&◌}
 use Rattle.std.proofs.lemmas.List.{length-map}
-use Rattle.std.proofs.lemmas.List.Elements.{All-cons}
+use Rattle.std.proofs.lemmas.Bool.{and_parts}
+use Rattle.std.proofs.lemmas.List.Elements.{All-cons, All-weaker, filter_passes}
 use Rattle.std.proofs.lemmas.List.Sums.{length-filter, count_by-le-length}
 use Rattle.std.specs.Prelude.{option_map}
 use Rattle.std.specs.List.{filter_map}
@@ -119,6 +120,13 @@ attributes_among-known concepts (attribute ∷ attributes) = by (has concepts at
     by true there true rest = All-cons (λ (row : Attribute). has concepts row.source ≡ true) attribute (attributes_among concepts attributes) there rest
     by true there false rest = rest
     by false lacks value rest = rest
+
+-- and their values that are concepts are among these
+pub attributes_among-values : (concepts : List ℕ) (attributes : List Attribute) → All (λ (row : Attribute). is_value_among concepts row.value ≡ true) (attributes_among concepts attributes)
+attributes_among-values concepts attributes =
+    All-weaker (λ (row : Attribute). (has concepts row.source && is_value_among concepts row.value) ≡ true) (λ (row : Attribute). is_value_among concepts row.value ≡ true)
+    (λ row both. (and_parts (has concepts row.source) (is_value_among concepts row.value) both).1)
+    (attributes_among concepts attributes) (filter_passes (λ (row : Attribute). has concepts row.source && is_value_among concepts row.value) attributes)
 
 -- the fault that names the least concept that reaches itself is that of the load
 pub least_cycle : (fault : LoadFault) (concepts : List ℕ) → IsStrictlyIncreasing concepts → (ends : List (ℕ × ℕ)) → IsLeastCycle fault concepts (filter_map (numbered_row concepts) ends) → IsCycle fault (first_cyclic concepts (rows_among concepts ends))

@@ -21,4 +21,5 @@ pub mod RisingLemmas
 pub mod SearchLemmas
 pub mod SortLemmas
 pub mod SortedLemmas
+pub mod SpanLemmas
 pub mod WayLemmas

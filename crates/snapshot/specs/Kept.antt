@@ -1,5 +1,5 @@
 -- What a load keeps of the rows that it has read, one place after another.
-use Rattle.std.specs.Prelude.{ℕ, ◌+◌, ◌-◌, ◌==◌, ◌&&◌, ◌≡◌, ◌≢◌, ◌≤◌, nat_eq, Bool, true, not, if◌then◌else◌, List, [], ◌∷◌, ◌++◌, filter, length, Option, None, Some, option_map, Result, Ok, Err}
+use Rattle.std.specs.Prelude.{ℕ, ◌+◌, ◌-◌, ◌==◌, ◌&&◌, ◌≡◌, ◌≢◌, ◌≤◌, nat_eq, Bool, true, not, if◌then◌else◌, List, [], ◌∷◌, ◌++◌, All, filter, length, Option, None, Some, option_map, Result, Ok, Err}
 use Rattle.std.specs.List.{IsDistinct}
 use Rattle.rf2_rows.specs.Release.{Attribute, Name, Release, Value, concept_value, number_value, text_value}
 use Rattle.rf2_rows.specs.Rows.{ConcreteText, DescriptionText}
@@ -145,6 +145,10 @@ abbrev pub is_value_among : List ℕ → Value → Bool
 is_value_among concepts (concept_value concept) = has concepts concept
 is_value_among concepts (number_value number) = true
 is_value_among concepts (text_value text) = true
+
+-- each value of an attribute that is a concept is in force
+abbrev pub AreValuesInForce : Release → Type 0
+AreValuesInForce release = All (λ (row : Attribute). is_value_among release.concepts row.value ≡ true) release.attributes
 
 -- the attributes of some concepts whose values are among them, where they are concepts
 abbrev pub attributes_among : List ℕ → List Attribute → List Attribute

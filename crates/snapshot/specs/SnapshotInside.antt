@@ -1,7 +1,9 @@
 -- What the fields of a snapshot say, and what they keep.
-use Rattle.std.specs.Prelude.{◌≡◌, ◌<◌, ◌^◌, map, length, string_bytes}
+use Rattle.std.specs.Prelude.{◌≡◌, ◌<◌, ◌^◌, true, All, map, length, string_bytes}
 use Rattle.std.specs.List.Sorted.{IsStrictlyIncreasing}
+use Rattle.rf2_rows.specs.Release.{Attribute}
 use Rattle.snapshot.specs.Contents.{Contents}
+use Rattle.snapshot.specs.Kept.{is_value_among}
 use Rattle.snapshot.specs.Line.{concept_line}
 use Rattle.snapshot.specs.Name.{name_among}
 use Rattle.snapshot.specs.Numbering.{row_of_numbers}
@@ -26,16 +28,17 @@ contents_in inside = record {
 }
 
 -- the concepts rise, and each is found at its number; the numbers in rows are those of concepts; the lines are
--- those of the concepts; parents come first in the order of the concepts; and the attribute rows are sorted by
--- source, few enough to number
+-- those of the concepts; parents come first in the order of the concepts; the attribute rows are sorted by
+-- source, few enough to number; and their values that are concepts are in force
 abbrev pub IsNumbered : Inside → Type 0
 IsNumbered inside =
     IsStrictlyIncreasing inside.concepts.items
     × (inside.numbers.keys ≡ inside.concepts.items)
-    × (length inside.concepts.items < 2 ^ 32)
+    × (length inside.concepts.items < 2 ^ 31)
     × IsWithin (length inside.concepts.items) inside.isa.items
     × IsWithin (length inside.concepts.items) inside.members.items
     × (inside.lines.lines ≡ map (concept_line (name_among (string_bytes inside.language) inside.lines.names)) inside.concepts.items)
     × IsParentsFirst (length inside.concepts.items) inside.isa.items inside.order.items
     × IsSortedBySource inside.concepts.items inside.attributes
-    × (length inside.attributes.rows < 2 ^ 32)
+    × (length inside.attributes.rows < 2 ^ 31)
+    × All (λ (row : Attribute). is_value_among inside.concepts.items row.value ≡ true) (in_file_order inside.concepts.items inside.attributes)

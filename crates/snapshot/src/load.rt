@@ -1,16 +1,17 @@
 //! Loading a release, and reading it.
-ghost use Rattle.std.specs.Prelude.{◌≡◌, ◌<◌, ◌^◌, ℕ, List, Err, None, Some, Ok, false, IfOk, IfErr, OnOk, map, length, slice_index, string_bytes, count_by, nat_eq};
+ghost use Rattle.std.specs.Prelude.{◌≡◌, ◌<◌, ◌^◌, ℕ, List, Err, None, Some, Ok, false, true, IfOk, IfErr, OnOk, map, length, slice_index, string_bytes, count_by, nat_eq};
 ghost use Rattle.std.specs.List.{filter_map, list_any, slice_get, IsDistinct};
 ghost use Rattle.std.specs.List.Sorted.{IsStrictlyIncreasing};
 ghost use Rattle.snapshot.specs.AttributesBySource.{attribute_of, attributes_by_source, with_source};
 ghost use Rattle.snapshot.specs.Contents.{IsFaultOf, first_cyclic, load_of};
 ghost use Rattle.snapshot.specs.Files.{file_text, has_kind as has_kind_of, is_concept_file as is_concept_file_of, places_from};
 ghost use Rattle.snapshot.specs.InForce.{rising as rising_of, rows_among};
-ghost use Rattle.snapshot.specs.Kept.{IsApart, attributes_among, names_among, IsCycle, IsFaultIn, finished, nothing_kept, read_all};
+ghost use Rattle.snapshot.specs.Kept.{AreValuesInForce, IsApart, attributes_among, is_value_among, names_among, IsCycle, IsFaultIn, finished, nothing_kept, read_all};
 ghost use Rattle.snapshot.specs.Line.{concept_line};
 ghost use Rattle.snapshot.specs.Name.{name_among, name_of, text_lent};
 ghost use Rattle.snapshot.specs.Numbering.{number_of, numbered_row, row_of_numbers};
 ghost use Rattle.rf2_rows.specs.Hierarchy.{Reaches};
+ghost use Rattle.rf2_rows.specs.Rows.{value_lent};
 ghost use Rattle.snapshot.specs.ParentsFirst.{IsParentsFirst};
 ghost use Rattle.snapshot.specs.RowsKept.{kept_in};
 ghost use Rattle.snapshot.specs.Search.{IsLeastCycle, IsWithin};
@@ -103,9 +104,10 @@ impl Snapshot {
         }
     }
 
-    /// How many concepts are in force.
+    /// How many concepts are in force: fewer than 2^31.
     pub fn concept_count(&self) -> u32
         ensures count { result ≡ length self.now.release.concepts }
+        ensures few { length self.now.release.concepts < 2 ^ 31 }
         ensures rising { IsStrictlyIncreasing self.now.release.concepts }
     {
         self.concepts.len() as u32
@@ -173,20 +175,25 @@ impl Snapshot {
         self.members.as_slice()
     }
 
-    /// How many attribute rows are in force.
+    /// How many attribute rows are in force: fewer than 2^31, and as many by source. Each value that is
+    /// a concept is in force.
     pub fn attribute_count(&self) -> u32
-        ensures { result ≡ length self.now.release.attributes }
+        ensures count { result ≡ length self.now.release.attributes }
+        ensures few { length self.now.release.attributes < 2 ^ 31 }
+        ensures by_source { length (attributes_by_source self.now.release) ≡ length self.now.release.attributes }
+        ensures values { AreValuesInForce self.now.release }
     {
         self.attributes.len() as u32
     }
 
     /// An attribute row in force by its number, which is below `attribute_count`. The rows are
     /// numbered by source: those of the first concept come first, and those of one concept are in the
-    /// order of the files and their lines.
+    /// order of the files and their lines. A value that is a concept is in force.
     pub fn attribute_row(&self, n: u32) -> AttributeRow<'_>
         requires { n < length self.now.release.attributes }
         ensures row { slice_get (attributes_by_source self.now.release) n ≡ Some (with_source self.now.release.concepts (attribute_of result)) }
         ensures source { result.source < length self.now.release.concepts }
+        ensures value { is_value_among self.now.release.concepts (value_lent result.value) ≡ true }
     {
         self.attributes.row(n as usize)
     }

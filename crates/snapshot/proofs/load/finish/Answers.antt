@@ -1,10 +1,11 @@
-use Rattle.std.proofs.Common.{ℕ, ◌≡◌, ◌<◌, ◌≤◌, ◌∙◌, List, length, map, ap, sym, subst, arith, None}
+use Rattle.std.proofs.Common.{ℕ, ◌≡◌, ◌<◌, ◌≤◌, ◌∙◌, List, All, true, length, map, ap, sym, subst, arith, None}
 use Rattle.std.specs.List.{filter_map}
 use Rattle.std.specs.List.Sorted.{IsStrictlyIncreasing}
 use Rattle.std.specs.Prelude.{string_bytes}
+use Rattle.rf2_rows.specs.Release.{Attribute}
 use Rattle.snapshot.specs.Contents.{first_cyclic}
 use Rattle.snapshot.specs.InForce.{rising, rows_among}
-use Rattle.snapshot.specs.Kept.{IsCycle, attributes_among, names_among}
+use Rattle.snapshot.specs.Kept.{IsCycle, attributes_among, is_value_among, names_among}
 use Rattle.snapshot.specs.Line.{concept_line}
 use Rattle.snapshot.specs.Name.{name_among}
 use Rattle.snapshot.specs.Numbering.{numbered_row}
@@ -12,7 +13,7 @@ use Rattle.snapshot.specs.ParentsFirst.{IsParentsFirst}
 use Rattle.snapshot.specs.RowsKept.{kept_in}
 use Rattle.snapshot.specs.Search.{IsWithin}
 use Rattle.snapshot.specs.Sorted.{IsSortedBySource, in_file_order}
-use Rattle.snapshot.proofs.FinishLemmas.{finished-Ok, finished-Err, length-attributes_among, length-rising}
+use Rattle.snapshot.proofs.FinishLemmas.{attributes_among-values, finished-Ok, finished-Err, length-attributes_among, length-rising}
 use Rattle.snapshot.proofs.NumberingLemmas.{IsWithin-numbered}
 use Rattle.snapshot.proofs.load.finish.Goals as goal
 
@@ -54,7 +55,7 @@ invariant_of-result c =
     let rises : c.rising-concepts.result.items ≡ rising (kept_in c.args.rows).active_concepts = c.rising-concepts.ensures.rising ∙ ap rising c.into_active-concepts.ensures.concepts in
     let long : length c.rising-concepts.result.items ≡ length (rising (kept_in c.args.rows).active_concepts) = ap length rises in
     let short : length (rising (kept_in c.args.rows).active_concepts) ≤ length (kept_in c.args.rows).active_concepts = length-rising (kept_in c.args.rows).active_concepts in
-    let few : length c.rising-concepts.result.items < 4294967296 = omega (arith, c.requires.1, c.requires.5) in
+    let few : length c.rising-concepts.result.items < 2147483648 = omega (arith, c.requires.1, c.requires.5) in
     let rows : c.in-Ok.hierarchy.isa.items ≡ filter_map (numbered_row c.rising-concepts.result.items) c.as_slice-2.result.now =
     c.in-Ok.ensures.rows ∙ ap (λ (concepts : List ℕ). filter_map (numbered_row concepts) c.as_slice-2.result.now) same in
     let lists = c.in_ok-lists-in-Ok.lists in
@@ -68,7 +69,10 @@ invariant_of-result c =
       length-attributes_among c.in-Ok.hierarchy.numbers.keys c.into_active-concepts.result.attributes,
       ap length c.into_active-concepts.ensures.attributes,
     ) in
-    let few_read : length (kept_in c.args.rows).attributes < 4294967296 = omega (arith, c.requires.3, c.requires.7, c.requires.8) in (
+    let few_read : length (kept_in c.args.rows).attributes < 2147483648 = omega (arith, c.requires.3, c.requires.7, c.requires.8) in
+    let attributes = c.into_active-concepts.result.attributes in
+    let listed : in_file_order c.rising-concepts.result.items lists.attributes ≡ attributes_among c.rising-concepts.result.items attributes =
+    (λ i. in_file_order (sym keys i) lists.attributes) ∙ c.in_ok-lists-in-Ok.ensures.attributes ∙ (λ i. attributes_among (keys i) attributes) in (
       c.rising-concepts.ensures.increasing,
       keys,
       few,
@@ -78,6 +82,7 @@ invariant_of-result c =
       subst (λ (count : ℕ). IsParentsFirst count c.in-Ok.hierarchy.isa.items c.in-Ok.hierarchy.order.items) (ap length same) c.in-Ok.ensures.order,
       subst (λ (concepts : List ℕ). IsSortedBySource concepts lists.attributes) keys c.in_ok-lists-in-Ok.ensures.sorted,
       omega (arith, few_rows, few_read),
+      subst (λ (rows : List Attribute). All (λ (row : Attribute). is_value_among c.rising-concepts.result.items row.value ≡ true) rows) (sym listed) (attributes_among-values c.rising-concepts.result.items attributes),
     )
 
 pub returns-in_ok-lists-in-Ok-clause-ok : goal.returns-in_ok-lists-in-Ok-clause-ok

@@ -1,39 +1,25 @@
-use Rattle.std.proofs.Common.{ℕ, ◌≡◌, ◌<◌, ◌^◌, ◌∙◌, List, length, map, sym, subst, ap, arith}
-use Rattle.idset.specs.Sets.{listed_numbers}
+use Rattle.std.proofs.Common.{ℕ, ◌≡◌, ◌<◌, ◌^◌, ◌∙◌, List, length, sym, subst, ap, arith}
 use Rattle.rf2_rows.specs.Hierarchy.{reaches}
 use Rattle.snapshot.specs.KeyedLists.{turned, turned_from}
 use Rattle.snapshot.specs.Search.{IsWithin}
 use Rattle.snapshot.proofs.KeyedLemmas.{length-lists_by}
-use Rattle.snapshot.proofs.WayLemmas.{parents_below}
 use Rattle.ancestor_index.specs.HierarchyLists.{is_child, lists_where}
 use Rattle.ancestor_index.specs.Wide.{AreWide}
-use Rattle.ancestor_index.proofs.BuildLemmas.{ancestors_told, given_parents, hierarchy_told, order_count, parents_listed, turned_where, where_below}
+use Rattle.ancestor_index.proofs.BuildLemmas.{ancestors_told, given_parents, hierarchy_told, order_count, turned_where, where_below}
 use Rattle.ancestor_index.proofs.ClosureLemmas.{length-where}
 use Rattle.ancestor_index.proofs.index.AncestorIndex.build.Goals as goal
 
-pub rising_lists-requires-clause-items : goal.rising_lists-requires-clause-items
-rising_lists-requires-clause-items c =
-    let rows = c.isa_rows-rows.result.now in
-    let within : IsWithin c.concept_count-count.result rows = subst (λ (n : ℕ). IsWithin n rows) (sym c.concept_count-count.ensures.count) c.isa_rows-rows.ensures.within in
-    parents_below c.concept_count-count.result rows c.in_ok-by_row.by_row within c.in_ok-by_row.ensures
-
-pub rising_lists-requires-clause-few : goal.rising_lists-requires-clause-few
-rising_lists-requires-clause-few c =
-    let fit : c.concept_count-count.result < 2 ^ 32 = c.concept_count-count.type_inv in
-    omega (arith, ap (λ (all : List (List ℕ)). length all) c.in_ok-by_row.ensures, length-lists_by c.concept_count-count.result c.isa_rows-rows.result.now, fit)
+pub linked_lists-requires : goal.linked_lists-requires
+linked_lists-requires c = subst (λ (n : ℕ). IsWithin n c.isa_rows-rows.result.now) (sym c.concept_count-count.ensures.count) c.isa_rows-rows.ensures.within
 
 pub turned-requires-clause-items : goal.turned-requires-clause-items
 turned-requires-clause-items c =
-    let count = c.concept_count-count.result in
-    where_below count (is_child c.isa_rows-rows.result.now) c.in_ok-parents.parents
-    (c.in_ok-parents.ensures ∙ ap (map (listed_numbers count)) c.in_ok-by_row.ensures ∙ parents_listed count c.isa_rows-rows.result.now)
+    where_below c.concept_count-count.result (is_child c.isa_rows-rows.result.now) c.in_ok-parents.parents c.in_ok-parents.ensures
 
 pub turned-requires-clause-few : goal.turned-requires-clause-few
 turned-requires-clause-few c =
     let fit : c.concept_count-count.result < 2 ^ 32 = c.concept_count-count.type_inv in
-    let count = c.concept_count-count.result in
-    let parents = c.in_ok-parents.ensures ∙ ap (map (listed_numbers count)) c.in_ok-by_row.ensures ∙ parents_listed count c.isa_rows-rows.result.now in
-    omega (arith, ap (λ (all : List (List ℕ)). length all) parents, length-where count (is_child c.isa_rows-rows.result.now), fit)
+    omega (arith, ap (λ (all : List (List ℕ)). length all) c.in_ok-parents.ensures, length-where c.concept_count-count.result (is_child c.isa_rows-rows.result.now), fit)
 
 pub ancestor_lists-requires-clause-few : goal.ancestor_lists-requires-clause-few
 ancestor_lists-requires-clause-few c =
@@ -45,12 +31,10 @@ ancestor_lists-requires-clause-few c =
 pub ancestor_lists-requires-clause-parents : goal.ancestor_lists-requires-clause-parents
 ancestor_lists-requires-clause-parents c =
     let rows = c.isa_rows-rows.result.now in
-    let count = c.concept_count-count.result in
-    let parents = c.in_ok-parents.ensures ∙ ap (map (listed_numbers count)) c.in_ok-by_row.ensures ∙ parents_listed count rows in
     let first = c.parents_first.ensures rows c.isa_rows-rows.ensures.rows c.isa_rows-rows.ensures.within in (
       rows,
       given_parents (length c.args.snapshot.now.release.concepts) rows c.in_ok-parents.parents c.parents_first.result.now c.isa_rows-rows.ensures.within
-          (parents ∙ (λ i. lists_where (c.concept_count-count.ensures.count i) (is_child rows))) first,
+          (c.in_ok-parents.ensures ∙ (λ i. lists_where (c.concept_count-count.ensures.count i) (is_child rows))) first,
     )
 
 pub turned-requires-2-clause-items : goal.turned-requires-2-clause-items
@@ -58,8 +42,7 @@ turned-requires-2-clause-items c =
     let rows = c.isa_rows-rows.result.now in
     let count = c.concept_count-count.result in
     let all = length c.args.snapshot.now.release.concepts in
-    let parents : c.in_ok-parents.parents ≡ lists_where count (is_child rows) = c.in_ok-parents.ensures ∙ ap (map (listed_numbers count)) c.in_ok-by_row.ensures ∙ parents_listed count rows in
-    let ancestors = ancestors_told all count rows c.in_ok-parents.parents c.in_ok-ancestors.ancestors c.parents_first.result.now c.concept_count-count.ensures.count c.isa_rows-rows.ensures.within parents
+    let ancestors = ancestors_told all count rows c.in_ok-parents.parents c.in_ok-ancestors.ancestors c.parents_first.result.now c.concept_count-count.ensures.count c.isa_rows-rows.ensures.within c.in_ok-parents.ensures
     (c.parents_first.ensures rows c.isa_rows-rows.ensures.rows c.isa_rows-rows.ensures.within) c.in_ok-ancestors.ensures in
     where_below count (reaches rows) c.in_ok-ancestors.ancestors ancestors
 
@@ -69,8 +52,7 @@ turned-requires-2-clause-few c =
     let rows = c.isa_rows-rows.result.now in
     let count = c.concept_count-count.result in
     let all = length c.args.snapshot.now.release.concepts in
-    let parents : c.in_ok-parents.parents ≡ lists_where count (is_child rows) = c.in_ok-parents.ensures ∙ ap (map (listed_numbers count)) c.in_ok-by_row.ensures ∙ parents_listed count rows in
-    let ancestors = ancestors_told all count rows c.in_ok-parents.parents c.in_ok-ancestors.ancestors c.parents_first.result.now c.concept_count-count.ensures.count c.isa_rows-rows.ensures.within parents
+    let ancestors = ancestors_told all count rows c.in_ok-parents.parents c.in_ok-ancestors.ancestors c.parents_first.result.now c.concept_count-count.ensures.count c.isa_rows-rows.ensures.within c.in_ok-parents.ensures
     (c.parents_first.ensures rows c.isa_rows-rows.ensures.rows c.isa_rows-rows.ensures.within) c.in_ok-ancestors.ensures in
     omega (arith, ap (λ (lists : List (List ℕ)). length lists) ancestors, length-where count (reaches rows), fit)
 
@@ -79,8 +61,7 @@ wide_lists-requires-clause-items c =
     let rows = c.isa_rows-rows.result.now in
     let count = c.concept_count-count.result in
     let all = length c.args.snapshot.now.release.concepts in
-    let parents : c.in_ok-parents.parents ≡ lists_where count (is_child rows) = c.in_ok-parents.ensures ∙ ap (map (listed_numbers count)) c.in_ok-by_row.ensures ∙ parents_listed count rows in
-    let ancestors = ancestors_told all count rows c.in_ok-parents.parents c.in_ok-ancestors.ancestors c.parents_first.result.now c.concept_count-count.ensures.count c.isa_rows-rows.ensures.within parents
+    let ancestors = ancestors_told all count rows c.in_ok-parents.parents c.in_ok-ancestors.ancestors c.parents_first.result.now c.concept_count-count.ensures.count c.isa_rows-rows.ensures.within c.in_ok-parents.ensures
     (c.parents_first.ensures rows c.isa_rows-rows.ensures.rows c.isa_rows-rows.ensures.within) c.in_ok-ancestors.ensures in
     let descendants : c.in_ok-descendants.descendants ≡ lists_where count (λ concept other. reaches rows other concept) = c.in_ok-descendants.ensures ∙ ap (turned count) ancestors ∙ turned_where count (reaches rows) in
     where_below count (λ concept other. reaches rows other concept) c.in_ok-descendants.descendants descendants
@@ -102,10 +83,9 @@ returns-clause-hierarchy c =
     let rows = c.isa_rows-rows.result.now in
     let count = c.concept_count-count.result in
     let all = length c.args.snapshot.now.release.concepts in
-    let parents : c.in_ok-parents.parents ≡ lists_where count (is_child rows) = c.in_ok-parents.ensures ∙ ap (map (listed_numbers count)) c.in_ok-by_row.ensures ∙ parents_listed count rows in
-    let ancestors = ancestors_told all count rows c.in_ok-parents.parents c.in_ok-ancestors.ancestors c.parents_first.result.now c.concept_count-count.ensures.count c.isa_rows-rows.ensures.within parents
+    let ancestors = ancestors_told all count rows c.in_ok-parents.parents c.in_ok-ancestors.ancestors c.parents_first.result.now c.concept_count-count.ensures.count c.isa_rows-rows.ensures.within c.in_ok-parents.ensures
     (c.parents_first.ensures rows c.isa_rows-rows.ensures.rows c.isa_rows-rows.ensures.within) c.in_ok-ancestors.ensures in
-    let children : c.in_ok-children.children ≡ lists_where count (λ concept other. is_child rows other concept) = c.in_ok-children.ensures ∙ ap (turned count) parents ∙ turned_where count (is_child rows) in
+    let children : c.in_ok-children.children ≡ lists_where count (λ concept other. is_child rows other concept) = c.in_ok-children.ensures ∙ ap (turned count) c.in_ok-parents.ensures ∙ turned_where count (is_child rows) in
     let descendants : c.in_ok-descendants.descendants ≡ lists_where count (λ concept other. reaches rows other concept) = c.in_ok-descendants.ensures ∙ ap (turned count) ancestors ∙ turned_where count (reaches rows) in
     hierarchy_told c.args.snapshot.now.release rows count c.concept_count-count.ensures.count c.concept_count-count.ensures.rising c.isa_rows-rows.ensures.within c.isa_rows-rows.ensures.rows
-    c.in_ok-ancestors.ancestors c.in_ok-descendants.descendants c.in_ok-parents.parents c.in_ok-children.children ancestors descendants parents children
+    c.in_ok-ancestors.ancestors c.in_ok-descendants.descendants c.in_ok-parents.parents c.in_ok-children.children ancestors descendants c.in_ok-parents.ensures children

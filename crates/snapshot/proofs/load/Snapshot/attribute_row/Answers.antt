@@ -1,10 +1,12 @@
-use Rattle.std.proofs.Common.{ℕ, ◌≡◌, ◌<◌, ◌∙◌, List, Some, length, map, ap, sym, arith}
+use Rattle.std.proofs.Common.{ℕ, ◌≡◌, ◌<◌, ◌∙◌, List, Some, true, length, get_or, map, ap, sym, subst, arith}
 use Rattle.std.specs.List.{slice_get}
 use Rattle.std.proofs.lemmas.List.{get_or-map, length-map}
 use Rattle.std.proofs.lemmas.Option.{slice_get-get_or}
 use Rattle.rf2_rows.specs.Release.{Attribute}
 use Rattle.snapshot.specs.AttributesBySource.{attribute_of, attributes_by_source, with_source}
 use Rattle.snapshot.specs.Contents.{Contents}
+use Rattle.snapshot.specs.Kept.{is_value_among}
+use Rattle.snapshot.proofs.SortedLemmas.{All-sorted}
 use Rattle.snapshot.proofs.load.Snapshot.attribute_row.Goals as goal
 
 pub returns-clause-row : goal.returns-clause-row
@@ -31,3 +33,17 @@ returns-clause-source c =
     let below : c.args.n < length rows = omega (arith, c.requires, c.self.invariant.7.count, ap (λ (contents : Contents). length contents.release.attributes) c.self.view_is) in
     let same : length c.self.inside.concepts.items ≡ length c.args.self.now.release.concepts = ap (λ (contents : Contents). length contents.release.concepts) c.self.view_is in
     omega (arith, same, c.self.invariant.7.within c.args.n row below, ap (λ (found : Attribute). found.source) (c.row.ensures row))
+
+pub returns-clause-value : goal.returns-clause-value
+returns-clause-value c =
+    let concepts = c.self.inside.concepts.items in
+    let rows = c.self.inside.attributes.rows in
+    let row = attribute_of c.row.result in
+    let same : concepts ≡ c.args.self.now.release.concepts = ap (λ (contents : Contents). contents.release.concepts) c.self.view_is in
+    let below : c.args.n < length rows = omega (arith, c.requires, c.self.invariant.7.count, ap (λ (contents : Contents). length contents.release.attributes) c.self.view_is) in
+    let found : get_or (map (with_source concepts) rows) c.args.n (with_source concepts row) ≡ with_source concepts row =
+    get_or-map (with_source concepts) rows c.args.n row (with_source concepts row) below ∙ ap (with_source concepts) (sym (c.row.ensures row)) in
+    let all = All-sorted (λ (row : Attribute). is_value_among concepts row.value ≡ true) concepts c.self.inside.attributes c.self.invariant.7 c.self.invariant.9 in
+    subst (λ (concepts : List ℕ). is_value_among concepts row.value ≡ true) same
+    (subst (λ (row : Attribute). is_value_among concepts row.value ≡ true) found
+    (all c.args.n (with_source concepts row) (omega (arith, below, length-map rows (with_source concepts)))))

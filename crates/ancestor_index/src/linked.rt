@@ -1,0 +1,22 @@
+//! What rows between concepts lead to, as lists.
+ghost use Rattle.std.specs.Prelude.{◌≡◌, IfOk};
+ghost use Rattle.snapshot.specs.Search.{IsWithin};
+ghost use Rattle.ancestor_index.specs.HierarchyLists.{is_child, lists_where};
+
+use crate::rising::rising_lists;
+use snapshot::KeyedLists;
+use std::alloc::{AllocError, Global};
+
+/// For each concept the concepts that some rows lead to, in rising order and once each. Both ends of
+/// each row are below `count`.
+pub fn linked_lists(
+    alloc: Global,
+    count: u32,
+    rows: &[(u32, u32)],
+) -> Result<KeyedLists, AllocError>
+    requires { IsWithin count rows.now }
+    ensures { IfOk result (λ lists. lists ≡ lists_where count (is_child rows.now)) }
+{
+    let by_row = KeyedLists::from_pairs(alloc, count, rows)?;
+    rising_lists(alloc, &by_row, count)
+}

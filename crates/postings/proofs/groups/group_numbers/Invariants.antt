@@ -1,0 +1,11 @@
+use Rattle.std.proofs.Common.{◌==◌, ◌≡◌, ◌<◌, ◌^◌, map, not, take}
+use Rattle.std.specs.Prelude.{All}
+use Rattle.std.specs.List.{filter}
+use Rattle.postings.specs.declared.rows.CodedRow.{CodedRow}
+use Rattle.postings.proofs.groups.group_numbers.Given as goal
+
+abbrev pub invariant-loop-row : goal.invariant-loop-row
+invariant-loop-row l = record {
+  numbers : l.numbers.items ≡ filter (λ group. not (group == 0)) (map (λ (row : CodedRow). row.group) (take l.row-index l.rows));
+  small : All (λ number. number < 2 ^ 32) l.numbers.items;
+}

@@ -1,0 +1,99 @@
+use Rattle.std.proofs.Common.{ℕ, ◌+◌, ◌≡◌, ◌≤◌, ◌++◌, ◌∷◌, [], ◌∙◌, List, ap, append_assoc, arith, drop, get_or, length, length-take, not, sym, take}
+use Rattle.std.specs.List.{list_any}
+use Rattle.std.proofs.lemmas.List.{take_all, take_more}
+use Rattle.indexmap.specs.IndexSet.{insert_key}
+use Rattle.snapshot.proofs.KeyedLemmas.{split_at}
+use Rattle.postings.specs.Coded.{group_codes, has_same_in_group, loose_pairs, marks_after, numbers_of_groups, place_in_source}
+use Rattle.postings.specs.declared.rows.CodedRow.{CodedRow}
+use Rattle.postings.proofs.DistinctLemmas.{distinct-map_more}
+use Rattle.postings.proofs.GroupLemmas.{length-group_codes, length-group_codes-le, place_in_source-le}
+use Rattle.postings.proofs.MarkLemmas.{any-keys, grouped_code, grouped_eq, grouped_eq_equiv, marks_more, same_grouped}
+use Rattle.postings.proofs.groups.push_groups.Goals as goal
+use Rattle.postings.proofs.groups.push_groups.Goals.{After-len-2, In_ok-place}
+
+-- a row that stands for none
+none : CodedRow
+none = record { source = 0; kind = 0; group = 0; value = 0 }
+
+-- the place that was found is that of the row's group
+placed : (c : In_ok-place) → c.in_ok-place.place ≡ place_in_source c.args.rows.now (get_or c.args.rows.now c.loop-row.row-index none)
+unfolding none
+placed c =
+    let rows : List CodedRow = c.args.rows.now in
+    let at : ℕ = c.loop-row.row-index in
+    let row : CodedRow = get_or rows at none in
+    let split : rows ≡ take at rows ++ row ∷ drop (at + 1) rows = split_at rows at none c.loop-row-test.true in
+    c.in_ok-place.ensures.place (take at rows) (drop (at + 1) rows) (c.as_slice.ensures.value ∙ c.in_ok-numbers.ensures.numbers ∙ ap numbers_of_groups split) c.loop-row.invariant.loose
+    ∙ ap (λ (rows : List CodedRow). place_in_source rows row) (sym split)
+
+-- it is no further than there are rows
+near : (c : In_ok-place) → c.in_ok-place.place ≤ length c.args.rows.now
+near c =
+    let rows = c.args.rows.now in
+    omega (arith, placed c, place_in_source-le rows (get_or rows c.loop-row.row-index none), length-group_codes-le rows)
+
+pub group_place-requires-clause-few : goal.group_place-requires-clause-few
+group_place-requires-clause-few c =
+    let before : List CodedRow = take c.loop-row.row-index c.args.rows.now in
+    omega (arith, c.requires, ap (λ (keys : List (ℕ × ℕ)). length keys) c.loop-row.invariant.loose, length-group_codes before, length-group_codes-le before, length-take c.loop-row.row-index c.args.rows.now)
+
+pub overflow_cast-place : goal.overflow_cast-place
+overflow_cast-place c = omega (arith, c.requires, near (goal.at.overflow_cast-place c).In_ok-place)
+
+pub overflow_add-ahead : goal.overflow_add-ahead
+overflow_add-ahead c = omega (arith, c.requires, near (goal.at.overflow_add-ahead c).In_ok-place)
+
+pub new-requires : goal.new-requires
+new-requires c = omega (arith, c.requires, near (goal.at.new-requires c).In_ok-place)
+
+pub loop-row-preserved : goal.loop-row-preserved
+unfolding none
+loop-row-preserved c =
+    let rows : List CodedRow = c.args.rows.now in
+    let at : ℕ = c.loop-row.row-index in
+    let row : CodedRow = get_or rows at none in
+    let within = c.loop-row-test.true in
+    let number : CodedRow → ℕ = λ row. c.args.ahead + place_in_source rows row in
+    record {
+      loose = c.in_ok-place.ensures.loose (take at rows) c.loop-row.invariant.loose ∙ ap loose_pairs (sym (take_more rows at none within));
+      seen = c.in_ok-is_first.ensures.keys
+          ∙ ap (λ keys. insert_key grouped_eq keys (grouped_code row)) c.loop-row.invariant.seen
+          ∙ sym (distinct-map_more grouped_eq grouped_eq_equiv grouped_code rows at none within);
+      marks = c.in_ok-push.ensures.items
+          ∙ (λ i. c.loop-row.invariant.marks i ++ c.new.result ∷ [])
+          ∙ append_assoc c.args.groups.now.items (marks_after has_same_in_group number [] (take at rows)) (c.new.result ∷ [])
+          ∙ ap (λ marks. c.args.groups.now.items ++ marks) (marks_more has_same_in_group number rows at none c.new.result within
+          (c.new.ensures.number ∙ ap (λ (place : ℕ). c.args.ahead + place) (placed (goal.at.loop-row-preserved c).In_ok-place))
+          (c.new.ensures.first ∙ c.in_ok-is_first.ensures.added
+          ∙ (λ i. not (list_any (grouped_eq (grouped_code row)) (c.loop-row.invariant.seen i)))
+          ∙ ap not (any-keys has_same_in_group grouped_eq grouped_eq_equiv grouped_code same_grouped (take at rows) row)));
+    }
+
+-- there are as many groups as numbers and pairs without one
+counted : (c : After-len-2) → c.len.result + c.len-2.result ≡ length (group_codes c.args.rows.now)
+counted c =
+    let rows : List CodedRow = c.args.rows.now in
+    omega (
+      arith,
+      c.len.ensures,
+      c.len-2.ensures.len,
+      ap (λ (numbers : List ℕ). length numbers) c.in_ok-numbers.ensures.numbers,
+      ap (λ (keys : List (ℕ × ℕ)). length keys) (c.loop-row.invariant.loose ∙ ap loose_pairs (take_all c.loop-row.row-index rows c.loop-row-test.false)),
+      length-group_codes rows,
+    )
+
+pub overflow_cast-result : goal.overflow_cast-result
+overflow_cast-result c = omega (arith, c.requires, counted c, length-group_codes-le c.args.rows.now)
+
+pub returns-clause-groups : goal.returns-clause-groups
+returns-clause-groups c =
+    let rows : List CodedRow = c.args.rows.now in
+    let number : CodedRow → ℕ = λ row. c.args.ahead + place_in_source rows row in
+    c.loop-row.invariant.marks
+    ∙ ap (λ (own : List CodedRow). c.args.groups.now.items ++ marks_after has_same_in_group number [] own) (take_all c.loop-row.row-index rows c.loop-row-test.false)
+
+pub returns-clause-count : goal.returns-clause-count
+returns-clause-count c = counted (goal.at.returns-clause-count c).After-len-2
+
+pub returns-clause-few : goal.returns-clause-few
+returns-clause-few c = omega (arith, counted (goal.at.returns-clause-few c).After-len-2, length-group_codes-le c.args.rows.now)

@@ -1,0 +1,38 @@
+use Rattle.std.proofs.Common.{ℕ, ◌≡◌, ◌++◌, ◌∷◌, [], ◌∙◌, List, ap, append_assoc, get_or, not, refl, sym, take}
+use Rattle.std.specs.List.{list_any}
+use Rattle.std.proofs.lemmas.List.{take_all}
+use Rattle.indexmap.specs.IndexSet.{insert_key}
+use Rattle.postings.specs.Coded.{code_eq, has_same_pair, pair_code, source_marks}
+use Rattle.postings.specs.Columns.{Mark}
+use Rattle.postings.specs.declared.rows.CodedRow.{CodedRow}
+use Rattle.postings.proofs.DistinctLemmas.{distinct-map_more}
+use Rattle.postings.proofs.MarkLemmas.{any-keys, code_eq_equiv, marks_more}
+use Rattle.postings.proofs.groups.push_sources.Goals as goal
+
+pub loop-row-preserved : goal.loop-row-preserved
+loop-row-preserved c =
+    let rows : List CodedRow = c.args.rows.now in
+    let at : ℕ = c.loop-row.row-index in
+    let within = c.loop-row-test.true in
+    let none : CodedRow = record { source = 0; kind = 0; group = 0; value = 0 } in
+    let row : CodedRow = get_or rows at none in
+    let before : List Mark = c.args.sources.now.items in
+    let mark : Mark = c.new.result in
+    let pushed : c.push.new.self.items ≡ c.loop-row.sources.items ++ mark ∷ [] = c.in_ok-push.ensures.items in
+    record {
+      seen = c.in_ok-is_first.ensures.keys
+          ∙ ap (λ keys. insert_key code_eq keys (pair_code row)) c.loop-row.invariant.seen
+          ∙ sym (distinct-map_more code_eq code_eq_equiv pair_code rows at none within);
+      marks = pushed
+          ∙ (λ i. c.loop-row.invariant.marks i ++ mark ∷ [])
+          ∙ append_assoc before (source_marks (take at rows)) (mark ∷ [])
+          ∙ ap (λ marks. before ++ marks) (marks_more has_same_pair (λ row. row.source) rows at none mark within c.new.ensures.number
+          (c.new.ensures.first ∙ c.in_ok-is_first.ensures.added
+          ∙ (λ i. not (list_any (code_eq (pair_code row)) (c.loop-row.invariant.seen i)))
+          ∙ ap not (any-keys has_same_pair code_eq code_eq_equiv pair_code (λ one other. refl) (take at rows) row)));
+    }
+
+pub returns : goal.returns
+returns c =
+    c.loop-row.invariant.marks
+    ∙ ap (λ (rows : List CodedRow). c.args.sources.now.items ++ source_marks rows) (take_all c.loop-row.row-index c.args.rows.now c.loop-row-test.false)

@@ -1,0 +1,95 @@
+use Rattle.std.proofs.Common.{ℕ, ◌+◌, ◌≡◌, ◌<◌, ◌++◌, ◌∙◌, List, ap, arith, get_or, length, map, subst, sym}
+use Rattle.std.specs.Prelude.{All}
+use Rattle.std.proofs.lemmas.List.{length-map}
+use Rattle.snapshot.specs.KeyedLists.{list_of}
+use Rattle.snapshot.proofs.SortedLemmas.{flat_map-more}
+use Rattle.postings.specs.Coded.{group_codes, group_marks, groups_ahead, of_source, source_marks}
+use Rattle.postings.specs.declared.rows.CodedRow.{CodedRow}
+use Rattle.postings.proofs.PlaceLemmas.{list_of-places_by-within, rows_of_source}
+use Rattle.postings.proofs.SourceLemmas.{groups_ahead-more, of_source-own, rows_left, starts_more}
+use Rattle.postings.proofs.groups.row_marks.Goals as goal
+use Rattle.postings.proofs.groups.row_marks.Goals.{In_ok-gather}
+
+-- the places that are asked for are those of the source
+pub gather-requires : goal.gather-requires
+gather-requires c =
+    let keys : List ℕ = map (λ (row : CodedRow). row.source) c.args.rows.now in
+    let source : ℕ = c.loop-source.source in
+    let count : ℕ = length c.args.by_source.now in
+    let are = c.of.ensures ∙ ap (λ (lists : List (List ℕ)). list_of lists source) c.requires.lists in
+    let below : source < count = omega (arith, c.len-source-end.ensures.count) in
+    let places = subst (λ (places : List ℕ). All (λ place. place < length keys) places) (sym are) (list_of-places_by-within count keys source below) in
+    λ k d inside. omega (arith, places k d inside, length-map c.args.rows.now (λ (row : CodedRow). row.source))
+
+-- the rows that are gathered are those of the source
+record Gathered (rows found : List CodedRow) (count source : ℕ) : Type 0 where
+  below : source < count
+  own : found ≡ of_source rows source
+
+gathered : (c : In_ok-gather) → Gathered c.args.rows.now c.gather.new.own.items (length c.args.by_source.now) c.loop-source.source
+gathered c =
+    let none : CodedRow = record { source = 0; kind = 0; group = 0; value = 0 } in
+    let rows : List CodedRow = c.args.rows.now in
+    let source : ℕ = c.loop-source.source in
+    let count : ℕ = length c.args.by_source.now in
+    let below : source < count = omega (arith, c.len-source-end.ensures.count) in record {
+      below = below;
+      own = c.in_ok-gather.ensures none
+          ∙ ap (map (λ (place : ℕ). get_or rows place none)) (c.of.ensures ∙ ap (λ (lists : List (List ℕ)). list_of lists source) c.requires.lists)
+          ∙ rows_of_source rows count source none below;
+    }
+
+pub push_sources-requires : goal.push_sources-requires
+push_sources-requires c =
+    let rows : List CodedRow = c.args.rows.now in
+    let source : ℕ = c.loop-source.source in
+    let turn = gathered (goal.at.push_sources-requires c).In_ok-gather in
+    let own = subst (λ (own : List CodedRow). All (λ (row : CodedRow). row.source ≡ source) own) (sym (c.as_slice.ensures.value ∙ turn.own)) (of_source-own rows source) in
+    λ k d inside. omega (arith, own k d inside, turn.below, c.requires.few_sources)
+
+pub push_groups-requires : goal.push_groups-requires
+push_groups-requires c =
+    let turn = gathered (goal.at.push_groups-requires c).In_ok-gather in
+    omega (
+      arith,
+      c.requires.few,
+      c.loop-source.invariant.ahead,
+      rows_left c.args.rows.now (length c.args.by_source.now) c.loop-source.source c.requires.sorted turn.below,
+      ap (λ (own : List CodedRow). length own) (c.as_slice-in-loop-source.ensures.value ∙ turn.own),
+    )
+
+pub overflow_add-ahead : goal.overflow_add-ahead
+overflow_add-ahead c =
+    let turn = gathered (goal.at.overflow_add-ahead c).In_ok-gather in
+    omega (
+      arith,
+      c.requires.few,
+      c.loop-source.invariant.ahead,
+      c.in_ok-ahead.ensures.few,
+      rows_left c.args.rows.now (length c.args.by_source.now) c.loop-source.source c.requires.sorted turn.below,
+      ap (λ (own : List CodedRow). length own) (c.as_slice-in-loop-source.ensures.value ∙ turn.own),
+    )
+
+pub loop-source-preserved : goal.loop-source-preserved
+loop-source-preserved c =
+    let rows : List CodedRow = c.args.rows.now in
+    let source : ℕ = c.loop-source.source in
+    let so_far = c.loop-source.invariant in
+    let turn = gathered (goal.at.loop-source-preserved c).In_ok-gather in
+    let first = c.as_slice.ensures.value ∙ turn.own in
+    let own = c.as_slice-in-loop-source.ensures.value ∙ turn.own in
+    let ahead : c.loop-source.ahead + c.in_ok-ahead.field-0 ≡ groups_ahead rows (source + 1) =
+    (λ i. so_far.ahead i + (c.in_ok-ahead.ensures.count ∙ ap (λ (own : List CodedRow). length (group_codes own)) own) i) ∙ sym (groups_ahead-more rows source) in
+    record {
+      sources = c.in_ok-push_sources.ensures
+          ∙ (λ i. so_far.sources i ++ source_marks (first i))
+          ∙ sym (flat_map-more (λ source. source_marks (of_source rows source)) source);
+      groups = c.in_ok-ahead.ensures.groups
+          ∙ (λ i. so_far.groups i ++ group_marks (so_far.ahead i) (own i))
+          ∙ sym (flat_map-more (λ source. group_marks (groups_ahead rows source) (of_source rows source)) source);
+      ahead = ahead;
+      starts_len = omega (arith, c.in_ok-push-2.ensures.len, so_far.starts_len);
+      starts = λ k le.
+          ap (λ (starts : List ℕ). get_or starts k 0) c.in_ok-push-2.ensures.items
+          ∙ starts_more rows c.loop-source.marks.starts.items source (c.loop-source.ahead + c.in_ok-ahead.field-0) (omega (arith, so_far.starts_len)) so_far.starts ahead k le;
+    }

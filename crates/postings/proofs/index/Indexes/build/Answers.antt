@@ -1,0 +1,27 @@
+use Rattle.std.proofs.Common.{ℕ, ◌≡◌, ◌<◌, ◌^◌, List, length, subst, sym}
+use Rattle.std.specs.List.Sorted.{IsStrictlyIncreasing}
+use Rattle.snapshot.specs.AttributesBySource.{attributes_by_source}
+use Rattle.postings.proofs.BuildLemmas.{indexes_of_own, length-members, members_told, rows_told}
+use Rattle.postings.proofs.index.Indexes.build.Goals as goal
+
+pub invariant_of-result : goal.invariant_of-result
+invariant_of-result c =
+    let release = c.args.snapshot.now.release in
+    let all = c.in_ok-concepts.concepts.items in
+    let same : all ≡ release.concepts = c.in_ok-concepts.ensures in record {
+      rising = subst (λ (ids : List ℕ). IsStrictlyIncreasing ids) (sym same) c.concept_count.ensures.rising;
+      few = subst (λ (ids : List ℕ). length ids < 2 ^ 31) (sym same) c.concept_count.ensures.few;
+      rows = indexes_of_own release.concepts all (attributes_by_source release) c.in_ok-rows.rows same c.in_ok-rows.ensures;
+      members = length-members release.concepts all c.concept_count.result c.member_rows.result.now c.in_ok-members.members same c.concept_count.ensures.count c.in_ok-members.ensures;
+    }
+
+pub returns : goal.returns
+returns c =
+    let release = c.args.snapshot.now.release in
+    let all = c.in_ok-concepts.concepts.items in
+    let same : all ≡ release.concepts = c.in_ok-concepts.ensures in record {
+      concepts = same;
+      hierarchy = c.in_ok-hierarchy.ensures.hierarchy;
+      rows = rows_told release.concepts all (attributes_by_source release) c.in_ok-rows.rows same c.in_ok-rows.ensures;
+      members = members_told release.concepts c.concept_count.result c.member_rows.result.now release.members c.in_ok-members.members c.concept_count.ensures.rising c.concept_count.ensures.count c.member_rows.ensures.within c.member_rows.ensures.rows c.in_ok-members.ensures;
+    }

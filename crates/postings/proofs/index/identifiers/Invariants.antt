@@ -1,0 +1,6 @@
+-- The identifiers so far.
+use Rattle.std.proofs.Common.{◌≡◌, take}
+use Rattle.postings.proofs.index.identifiers.Given as goal
+
+abbrev pub invariant-loop-concept : goal.invariant-loop-concept
+invariant-loop-concept l = l.concepts.items ≡ take l.concept l.snapshot.release.concepts

@@ -1,0 +1,20 @@
+use Rattle.std.proofs.Common.{◌≡◌, ◌≤◌, length, map, take}
+use Rattle.std.specs.Prelude.{All}
+use Rattle.snapshot.specs.AttributesBySource.{attributes_by_source}
+use Rattle.postings.specs.Coded.{IsCoded, row_coded}
+use Rattle.postings.specs.Indexed.{types_of}
+use Rattle.postings.specs.ValueTables.{values_in}
+use Rattle.postings.proofs.rows.coded_rows.Given as goal
+
+abbrev pub invariant-loop-n : goal.invariant-loop-n
+invariant-loop-n l =
+    let release = l.snapshot.release in
+    let done = take l.n (attributes_by_source release) in
+    let all_values = values_in release.concepts l.values in
+    record {
+      rows : map (row_coded release.concepts l.types.numbers.keys all_values) l.rows.items ≡ done;
+      within : All (IsCoded release.concepts l.types.numbers.keys all_values) l.rows.items;
+      types : l.types.numbers.keys ≡ types_of done;
+      ids : l.types.ids.items ≡ l.types.numbers.keys;
+      few : length l.types.numbers.keys ≤ l.n;
+    }

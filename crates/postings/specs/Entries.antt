@@ -1,0 +1,35 @@
+-- The attribute rows with what is wanted to count distinct pairs without looking for repeats: whether a row is the first with
+-- its pair, in its concept and in its group.
+use Rattle.std.specs.Prelude.{ℕ, ◌==◌, ◌&&◌, ◌++◌, Bool, not, List, [], ◌∷◌, filter}
+use Rattle.std.specs.List.{list_any}
+use Rattle.rf2_rows.specs.Pairs.{pair_eq, pair_of, value_eq}
+use Rattle.rf2_rows.specs.Release.{Attribute, concept_value}
+
+-- whether two rows are of one concept and have one pair, and of one group besides
+abbrev pub is_alike : Attribute → Attribute → Bool
+is_alike one other = (one.source == other.source) && pair_eq (pair_of one) (pair_of other)
+
+abbrev pub is_alike_in_group : Attribute → Attribute → Bool
+is_alike_in_group one other = (one.group == other.group) && is_alike one other
+
+pub record Entry : Type 0 where
+  pub row : Attribute
+  pub is_first : Bool
+  pub is_first_in_group : Bool
+
+-- the rows behind some others
+abbrev pub entries_after : List Attribute → List Attribute → List Entry
+entries_after before [] = []
+entries_after before (row ∷ rows) =
+    record { row = row; is_first = not (list_any (is_alike row) before); is_first_in_group = not (list_any (is_alike_in_group row) before) }
+    ∷ entries_after (before ++ row ∷ []) rows
+
+abbrev pub entries_of : List Attribute → List Entry
+entries_of rows = entries_after [] rows
+
+-- of the entries those of a type, and those of a value that is a concept
+abbrev pub entries_with_type : List Attribute → ℕ → List Entry
+entries_with_type rows id = filter (λ (entry : Entry). entry.row.type_id == id) (entries_of rows)
+
+abbrev pub entries_with_value : List Attribute → ℕ → List Entry
+entries_with_value rows concept = filter (λ (entry : Entry). value_eq entry.row.value (concept_value concept)) (entries_of rows)

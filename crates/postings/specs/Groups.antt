@@ -1,0 +1,71 @@
+-- The groups of the attribute rows of a release, over all its concepts (Release File Specification, "Relationship file",
+-- relationshipGroup). They are those of each concept, in an order in which they can be numbered.
+use Rattle.std.specs.Prelude.{ℕ, ◌==◌, ◌&&◌, ◌++◌, Bool, if◌then◌else◌, List, [], ◌∷◌, map, take}
+use Rattle.std.specs.List.{flat_map}
+use Rattle.rf2_rows.specs.Groups.{group_numbers, pairs_in}
+use Rattle.rf2_rows.specs.Pairs.{Pair, pair_eq, pair_of}
+use Rattle.rf2_rows.specs.Release.{Attribute, Release}
+use Rattle.snapshot.specs.InForce.{rising}
+use Rattle.postings.specs.Indexed.{Indexed}
+use Rattle.postings.specs.Places.{places_where}
+
+-- what tells the groups of a concept apart: a number, or of the rows without one the pair
+pub data GroupKey : Type 0 where
+  numbered : ℕ → GroupKey
+  ungrouped : Pair → GroupKey
+
+-- a group of a concept
+pub record ConceptGroup : Type 0 where
+  pub concept : ℕ
+  pub key : GroupKey
+
+-- the groups of a concept: those with a number, rising, and then the pairs without one, each where it is first
+abbrev pub keys_of : Release → ℕ → List GroupKey
+keys_of release concept =
+    map numbered (rising (group_numbers release concept)) ++ map ungrouped (pairs_in release concept 0)
+
+-- the groups of some concepts, and of all: a group's number is its place in this list
+abbrev pub groups_among : Release → List ℕ → List ConceptGroup
+groups_among release concepts =
+    flat_map (λ concept. map (λ key. record { concept = concept; key = key }) (keys_of release concept)) concepts
+
+abbrev pub all_groups : Release → List ConceptGroup
+all_groups release = groups_among release release.concepts
+
+-- the group that a row belongs to
+abbrev pub key_of : Attribute → GroupKey
+key_of row = if row.group == 0 then ungrouped (pair_of row) else numbered row.group
+
+abbrev pub group_of : Attribute → ConceptGroup
+group_of row = record { concept = row.source; key = key_of row }
+
+-- whether a row belongs to a group
+abbrev pub has_key : GroupKey → Attribute → Bool
+has_key (numbered number) row = row.group == number
+has_key (ungrouped pair) row = (row.group == 0) && pair_eq (pair_of row) pair
+
+abbrev pub is_in_group : ConceptGroup → Attribute → Bool
+is_in_group group row = (row.source == group.concept) && has_key group.key row
+
+-- the distinct pairs of a group
+abbrev pub pairs_of_group : Release → ConceptGroup → List Pair
+pairs_of_group release group = pairs_with group.key
+  where
+    pairs_with : GroupKey → List Pair
+    pairs_with (numbered number) = pairs_in release group.concept number
+    pairs_with (ungrouped pair) = pair ∷ []
+
+-- some concepts and attribute rows as a release
+abbrev pub rows_alone : List ℕ → List Attribute → Release
+rows_alone concepts rows = record { concepts = concepts; isa = []; attributes = rows; members = []; names = [] }
+
+-- the groups of the indexes, and those of the concepts before one
+abbrev pub groups_in : Indexed → List ConceptGroup
+groups_in indexed = all_groups (rows_alone indexed.concepts indexed.rows)
+
+abbrev pub groups_before : Indexed → ℕ → List ConceptGroup
+groups_before indexed concept = groups_among (rows_alone indexed.concepts indexed.rows) (take concept indexed.concepts)
+
+-- the numbers of the rows of a group
+abbrev pub rows_of_group : Indexed → ConceptGroup → List ℕ
+rows_of_group indexed group = places_where (is_in_group group) indexed.rows

@@ -1,0 +1,28 @@
+-- What the fields of the indexes say, and what they keep.
+use Rattle.std.specs.Prelude.{◌≡◌, ◌<◌, ◌^◌, length, map}
+use Rattle.std.specs.List.Sorted.{IsStrictlyIncreasing}
+use Rattle.postings.specs.Coded.{row_coded}
+use Rattle.postings.specs.Indexed.{Indexed}
+use Rattle.postings.specs.RowIndexes.{AreRowIndexes}
+use Rattle.postings.specs.ValueTables.{texts_in, values_in}
+use Rattle.postings.specs.declared.index.Indexes.TheInside.{Inside}
+
+abbrev pub indexed_in : Inside → Indexed
+indexed_in inside = record {
+  concepts = inside.concepts.items;
+  hierarchy = inside.hierarchy;
+  rows =
+      map (row_coded inside.concepts.items inside.rows.coded.types.numbers.keys (values_in inside.concepts.items inside.rows.coded.values))
+      inside.rows.coded.rows.items;
+  members = inside.members;
+  decimals = inside.rows.coded.values.decimals.keys;
+  texts = texts_in inside.rows.coded.values;
+}
+
+-- the concepts rise and have numbers of less than 31 bits; the rows and their lists are those that they stand for; and each
+-- concept has a list of members
+pub record AreIndexed (inside : Inside) : Type 0 where
+  pub rising : IsStrictlyIncreasing inside.concepts.items
+  pub few : length inside.concepts.items < 2 ^ 31
+  pub rows : AreRowIndexes inside.concepts.items (indexed_in inside).rows inside.rows
+  pub members : length inside.members ≡ length inside.concepts.items

@@ -1,0 +1,40 @@
+-- What the flags of the rows are for: to count distinct pairs is to count the rows that are the first with their pair.
+use Rattle.std.specs.Prelude.{ℕ, ◌==◌, ◌≡◌, ◌&&◌, Bool, true, All, Contains, List, [], ◌∷◌, count_by, filter, map}
+use Rattle.std.specs.List.Sorted.{IsStrictlyIncreasing}
+use Rattle.rf2_rows.specs.Groups.{groups_of}
+use Rattle.rf2_rows.specs.Pairs.{Pair, in_pairs, out_pairs, pair_of, reverse_pair_of, value_eq}
+use Rattle.rf2_rows.specs.Release.{Attribute, Release, concept_value}
+use Rattle.snapshot.specs.AttributesBySource.{attributes_by_source}
+use Rattle.snapshot.specs.InForce.{has}
+use Rattle.postings.specs.Entries.{Entry, entries_of}
+use Rattle.postings.specs.Groups.{ConceptGroup, all_groups, groups_among, is_in_group, pairs_of_group, rows_alone}
+
+-- the distinct pairs of a concept are those of its rows that are the first with their pair
+abbrev pub AreFirstOfConcept : Type 0
+AreFirstOfConcept =
+    (release : Release) → IsStrictlyIncreasing release.concepts → (concept : ℕ) → Contains release.concepts concept
+    → out_pairs release concept
+    ≡ map (λ (entry : Entry). pair_of entry.row) (filter (λ (entry : Entry). (entry.row.source == concept) && entry.is_first) (entries_of (attributes_by_source release)))
+
+-- the distinct pairs of a group are those of its rows that are the first with their pair in it
+abbrev pub AreFirstOfGroup : Type 0
+AreFirstOfGroup =
+    (release : Release) → IsStrictlyIncreasing release.concepts → (group : ConceptGroup)
+    → Contains (all_groups (rows_alone release.concepts (attributes_by_source release))) group
+    → pairs_of_group release group
+    ≡ map (λ (entry : Entry). pair_of entry.row) (filter (λ (entry : Entry). is_in_group group entry.row && entry.is_first_in_group) (entries_of (attributes_by_source release)))
+
+-- read backwards, as many distinct pairs of a value pass a test as of its rows that are the first with their pair in their concept
+abbrev pub CountsFirstBack : Type 0
+CountsFirstBack =
+    (release : Release) → All (λ (row : Attribute). has release.concepts row.source ≡ true) release.attributes
+    → (test : Pair → Bool) (concept : ℕ)
+    → count_by test (in_pairs release concept)
+    ≡ count_by test (map (λ (entry : Entry). reverse_pair_of entry.row)
+    (filter (λ (entry : Entry). value_eq entry.row.value (concept_value concept) && entry.is_first) (entries_of (attributes_by_source release))))
+
+-- the groups of a concept, in the order in which they are numbered, are its groups
+abbrev pub CountsGroups : Type 0
+CountsGroups =
+    (release : Release) (test : List Pair → Bool) (concept : ℕ)
+    → count_by test (map (pairs_of_group release) (groups_among release (concept ∷ []))) ≡ count_by test (groups_of release concept)

@@ -1,0 +1,13 @@
+pub mod Cells
+pub mod Coded
+pub mod Columns
+pub mod Entries
+pub mod Groups
+pub mod IndexInside
+pub mod Indexed
+pub mod KeyedPlaces
+pub mod Laws
+pub mod Packed
+pub mod Places
+pub mod RowIndexes
+pub mod ValueTables

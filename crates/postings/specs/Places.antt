@@ -1,0 +1,17 @@
+-- The places of the items of a list that pass a test.
+use Rattle.std.specs.Prelude.{ℕ, ◌+◌, ◌==◌, Bool, if◌then◌else◌, List, [], ◌∷◌, map}
+use Rattle.std.specs.List.{range_with_len}
+
+-- the places of the items that pass a test, in rising order, where the first item has a place
+abbrev pub places_from : {X : Type 0} → ℕ → (X → Bool) → List X → List ℕ
+places_from place test [] = []
+places_from place test (item ∷ items) =
+    if test item then place ∷ places_from (place + 1) test items else places_from (place + 1) test items
+
+-- the places of the items that pass a test, from 0 on
+abbrev pub places_where : {X : Type 0} → (X → Bool) → List X → List ℕ
+places_where test items = places_from 0 test items
+
+-- of the keys of some items, for each key below a count the places of the items that have it
+abbrev pub places_by : ℕ → List ℕ → List (List ℕ)
+places_by count keys = map (λ key. places_where (λ other. other == key) keys) (range_with_len 0 count)

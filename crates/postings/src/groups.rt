@@ -1,0 +1,151 @@
+//! The groups of attribute rows, numbered over all concepts, and which rows are the first with their pair.
+ghost use Rattle.std.specs.Prelude.{ℕ, ◌≡◌, ◌+◌, ◌≤◌, ◌<◌, ◌^◌, ◌++◌, ◌∷◌, [], List, All, IfOk, OnOk, length, map, nat_lt, slice_index, slice_index_or, vec_len};
+ghost use Rattle.idset.specs.Sets.{IsRising, place_of};
+ghost use Rattle.postings.specs.Coded.{IsBySource, all_group_marks, all_source_marks, group_codes, group_marks, groups_ahead, loose_pairs, numbers_of_groups, place_in_source, source_marks};
+ghost use Rattle.postings.specs.Places.{places_by};
+
+use crate::mark::Mark;
+use crate::rows::CodedRow;
+use ancestor_index::keep_rising;
+use indexmap::IndexSet;
+use snapshot::KeyedLists;
+use std::alloc::{AllocError, Global};
+
+/// For each attribute row the number of its source and that of its group, and for each source how many groups
+/// the sources before it have.
+#[derive(Drop, Debug)]
+pub struct RowMarks {
+    /// The source of each row, and whether the row is the first with its pair in its source.
+    pub sources: Vec<Mark>,
+    /// The group of each row, and whether the row is the first with its pair in its group.
+    pub groups: Vec<Mark>,
+    /// For each source how many groups the sources before it have, and at the end how many there are.
+    pub starts: Vec<u32>,
+}
+
+/// The marks of rows that stand source by source. `by_source` has for each source the places of its rows.
+pub fn row_marks(
+    alloc: Global,
+    rows: &[CodedRow],
+    by_source: &KeyedLists,
+) -> Result<RowMarks, AllocError>
+    requires few { length rows.now < 2 ^ 31 }
+    requires few_sources { length by_source.now < 2 ^ 31 }
+    requires lists { by_source.now ≡ places_by (length by_source.now) (map (λ (row : CodedRow). row.source) rows.now) }
+    requires sorted { IsBySource (length by_source.now) rows.now }
+    ensures sources { IfOk result (λ marks. marks.sources.items ≡ all_source_marks rows.now (length by_source.now)) }
+    ensures groups { IfOk result (λ marks. marks.groups.items ≡ all_group_marks rows.now (length by_source.now)) }
+    ensures starts_len { IfOk result (λ marks. vec_len marks.starts ≡ length by_source.now + 1) }
+    ensures starts { IfOk result (λ marks. (source : ℕ) → source ≤ length by_source.now → slice_index marks.starts.items source ≡ groups_ahead rows.now source) }
+{
+    let mut marks = RowMarks {
+        sources: Vec::with_capacity(alloc, rows.len())?,
+        groups: Vec::with_capacity(alloc, rows.len())?,
+        starts: Vec::with_capacity(alloc, by_source.len() as usize + 1)?,
+    };
+    let mut own = Vec::new(alloc);
+    let mut ahead = 0u32;
+    marks.starts.push(ahead)?;
+    for source in 0..by_source.len() {
+        gather(rows, by_source.of(source), &mut own)?;
+        push_sources(alloc, own.as_slice(), &mut marks.sources)?;
+        ahead += push_groups(alloc, own.as_slice(), ahead, &mut marks.groups)?;
+        marks.starts.push(ahead)?;
+    }
+    Ok(marks)
+}
+
+// Puts the rows at some places in place of those that were there.
+fn gather(rows: &[CodedRow], places: &[u32], own: &mut Vec<CodedRow>) -> Result<(), AllocError>
+    requires { All (λ place. place < length rows.now) places.now }
+    ensures { OnOk result ((default : CodedRow) → own.new.items ≡ map (λ place. slice_index_or rows.now place default) places.now) }
+{
+    own.clear();
+    for place in places {
+        own.push(rows[*place as usize])?;
+    }
+    Ok(())
+}
+
+// Adds the marks of the rows of a source with the source.
+fn push_sources(alloc: Global, rows: &[CodedRow], sources: &mut Vec<Mark>) -> Result<(), AllocError>
+    requires { All (λ (row : CodedRow). row.source < 2 ^ 31) rows.now }
+    ensures { OnOk result (sources.new.items ≡ sources.old.items ++ source_marks rows.now) }
+{
+    let mut seen = IndexSet::new(alloc);
+    for row in rows {
+        let is_first = seen.insert((row.kind, row.value))?;
+        sources.push(Mark::new(row.source, is_first))?;
+    }
+    Ok(())
+}
+
+// Adds the marks of the rows of a source with their groups, and tells how many groups there are.
+fn push_groups(
+    alloc: Global,
+    rows: &[CodedRow],
+    ahead: u32,
+    groups: &mut Vec<Mark>,
+) -> Result<u32, AllocError>
+    requires { ahead + length rows.now < 2 ^ 31 }
+    ensures groups { OnOk result (groups.new.items ≡ groups.old.items ++ group_marks ahead rows.now) }
+    ensures count { IfOk result (λ count. count ≡ length (group_codes rows.now)) }
+    ensures few { IfOk result (λ count. count ≤ length rows.now) }
+{
+    let numbers = group_numbers(alloc, rows)?;
+    let mut loose = IndexSet::new(alloc);
+    let mut seen = IndexSet::new(alloc);
+    for row in rows {
+        let is_first = seen.insert((row.group, row.kind, row.value))?;
+        let place = group_place(numbers.as_slice(), &mut loose, row)?;
+        groups.push(Mark::new(ahead + place as u32, is_first))?;
+    }
+    Ok((numbers.len() + loose.len()) as u32)
+}
+
+// The place of a row's group among those of its source. `numbers` has the numbers of these groups, and `loose` the
+// pairs of the rows before it that have no group; its own pair is added if it has none.
+fn group_place(
+    numbers: &[u32],
+    loose: &mut IndexSet<(u32, u32)>,
+    row: &CodedRow,
+) -> Result<usize, AllocError>
+    requires rising { IsRising numbers.now }
+    requires few { length loose.old.keys < 2 ^ 32 }
+    ensures place { IfOk result (λ place. (before behind : List CodedRow) → numbers.now ≡ numbers_of_groups (before ++ row.now ∷ behind)
+        → loose.old.keys ≡ loose_pairs before → place ≡ place_in_source (before ++ row.now ∷ behind) row.now) }
+    ensures loose { OnOk result ((before : List CodedRow) → loose.old.keys ≡ loose_pairs before → loose.new.keys ≡ loose_pairs (before ++ row.now ∷ [])) }
+{
+    if row.group != 0 {
+        return Ok(place_of(numbers, row.group));
+    }
+    let (place, _) = loose.insert_full((row.kind, row.value))?;
+    Ok(numbers.len() + place)
+}
+
+// The numbers of the groups of some rows, rising and once each, without 0.
+fn group_numbers(alloc: Global, rows: &[CodedRow]) -> Result<Vec<u32>, AllocError>
+    ensures numbers { IfOk result (λ numbers. numbers.items ≡ numbers_of_groups rows.now) }
+    ensures rising { IfOk result (λ numbers. IsRising numbers.items) }
+{
+    let mut numbers = Vec::new(alloc);
+    for row in rows {
+        if row.group != 0 {
+            numbers.push(row.group)?;
+        }
+    }
+    keep_rising(&mut numbers);
+    Ok(numbers)
+}
+
+// How many of some rising numbers are below one.
+fn place_of(numbers: &[u32], number: u32) -> usize
+    requires { IsRising numbers.now }
+    ensures { result ≡ place_of numbers.now number }
+{
+    numbers.partition_point(
+        |other: &u32| -> bool
+            ensures { result ≡ nat_lt other.now number }
+        { *other < number },
+    )
+}

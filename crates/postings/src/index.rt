@@ -1,0 +1,267 @@
+//! The indexes of a release, and their look-ups.
+ghost use Rattle.std.specs.Prelude.{◌≡◌, ◌<◌, ◌+◌, ◌^◌, IfOk, IfSome, Some, length, slice_get, slice_index};
+ghost use Rattle.std.specs.List.Sorted.{IsSorted, IsStrictlyIncreasing};
+ghost use Rattle.std.specs.Ordering.{int_cmp};
+ghost use Rattle.rf2_rows.specs.Rows.{value_lent};
+ghost use Rattle.snapshot.specs.AttributesBySource.{attribute_of, with_source};
+ghost use Rattle.snapshot.specs.KeyedLists.{list_of};
+ghost use Rattle.snapshot.specs.Numbering.{number_of};
+ghost use Rattle.postings.specs.Columns.{AreGroups, AreSources, AreTypes, AreValues};
+ghost use Rattle.postings.specs.Entries.{entries_with_type, entries_with_value};
+ghost use Rattle.postings.specs.Groups.{group_of, groups_before, groups_in, rows_of_group};
+ghost use Rattle.postings.specs.Indexed.{IsIndexOf, rows_by_source, rows_by_type, rows_by_value, types_of, value_at, values_of};
+
+use crate::columns::{TypeColumns, ValueColumns};
+use crate::row_indexes::{RowIndexes, row_indexes};
+use ancestor_index::{AncestorIndex, linked_lists};
+use rf2_rows::{Decimal, Value};
+use sctid::SctId;
+use snapshot::{AttributeRow, KeyedLists, Snapshot};
+use std::alloc::{AllocError, Global};
+use std::marker::Model;
+use std::ops::Range;
+
+/// The indexes of a release: its hierarchy, its attribute rows by what queries ask of them, and its reference
+/// sets. Concepts go by their numbers, which rise with their identifiers. Attribute rows are numbered by source,
+/// those of one source in the order of the files and their lines. Groups are numbered over all concepts: of each
+/// concept first those with a number, rising, and then each distinct pair of its rows without one, in the order of
+/// the first rows. A look-up takes no memory.
+#[derive(Drop)]
+pub struct Indexes {
+    concepts: Vec<SctId>,
+    hierarchy: AncestorIndex,
+    rows: RowIndexes,
+    members: KeyedLists,
+}
+
+impl Model for Indexes {
+    ghost use Rattle.postings.specs.Indexed.{Indexed};
+
+    ghost Value = { Indexed };
+
+    ghost use Rattle.postings.specs.IndexInside.{AreIndexed, indexed_in};
+
+    ghost view = { indexed_in };
+
+    ghost invariant = { AreIndexed };
+}
+
+impl Indexes {
+    /// The indexes of a release.
+    pub fn build(alloc: Global, snapshot: &Snapshot) -> Result<Indexes, AllocError>
+        ensures { IfOk result (λ indexes. IsIndexOf indexes snapshot.now.release) }
+    {
+        let hierarchy = AncestorIndex::build(alloc, snapshot)?;
+        let members = linked_lists(alloc, snapshot.concept_count(), snapshot.member_rows())?;
+        let concepts = identifiers(alloc, snapshot)?;
+        let rows = row_indexes(alloc, snapshot)?;
+        Ok(Indexes {
+            concepts,
+            hierarchy,
+            rows,
+            members,
+        })
+    }
+
+    /// The hierarchy.
+    pub fn hierarchy(&self) -> &AncestorIndex
+        ensures { result.now ≡ self.now.hierarchy }
+    {
+        &self.hierarchy
+    }
+
+    /// How many concepts are in force.
+    pub fn concept_count(&self) -> u32
+        ensures count { result ≡ length self.now.concepts }
+        ensures few { length self.now.concepts < 2 ^ 31 }
+        ensures rising { IsStrictlyIncreasing self.now.concepts }
+    {
+        self.concepts.len() as u32
+    }
+
+    /// The number of the concept with an identifier, or `None` where there is none in force.
+    pub fn index_of(&self, id: u64) -> Option<u32>
+        ensures { result ≡ number_of self.now.concepts id }
+    {
+        let place = self.concepts.binary_search_by_key(
+            &id,
+            |concept: &SctId| -> u64
+                ensures { result ≡ concept.now }
+            { concept.number() },
+        );
+        match place {
+            Ok(number) => Some(number as u32),
+            Err(_) => None,
+        }
+    }
+
+    /// The components of the reference set that a concept is, in rising order and once each. `concept` is below
+    /// the number of concepts (Release File Specification, "Simple reference set").
+    pub fn members(&self, concept: u32) -> &[u32]
+        requires { concept < length self.now.concepts }
+        ensures { result.now ≡ list_of self.now.members concept }
+    {
+        self.members.of(concept)
+    }
+
+    /// How many attribute rows are in force.
+    pub fn row_count(&self) -> u32
+        ensures count { result ≡ length self.now.rows }
+        ensures few { length self.now.rows < 2 ^ 31 }
+    {
+        self.rows.coded.rows.len() as u32
+    }
+
+    /// An attribute row by its number, which is below `row_count`.
+    pub fn row(&self, n: u32) -> AttributeRow<'_>
+        requires { n < length self.now.rows }
+        ensures row { slice_get self.now.rows n ≡ Some (with_source self.now.concepts (attribute_of result)) }
+        ensures source { result.source < length self.now.concepts }
+    {
+        let row = self.rows.coded.rows[n as usize];
+        AttributeRow {
+            source: row.source,
+            type_id: self.rows.coded.types.ids[row.kind as usize],
+            group: row.group,
+            value: self.value(row.value),
+        }
+    }
+
+    /// The numbers of the rows of a type, rising. Any number may be asked for.
+    pub fn by_type(&self, id: u64) -> &[u32]
+        ensures { result.now ≡ rows_by_type self.now id }
+    {
+        match self.rows.coded.types.numbers.get_index_of(&id) {
+            Some(kind) => self.rows.by_type.rows.of(kind as u32),
+            None => &[],
+        }
+    }
+
+    /// The columns of the rows of a type, in the order of `by_type`.
+    pub fn type_columns(&self, id: u64) -> TypeColumns<'_>
+        ensures sources { AreSources self.now.concepts (entries_with_type self.now.rows id) result.sources.now }
+        ensures values { AreValues (values_of self.now) (entries_with_type self.now.rows id) result.values.now }
+        ensures groups { AreGroups (groups_in self.now) (entries_with_type self.now.rows id) result.groups.now }
+    {
+        match self.rows.coded.types.numbers.get_index_of(&id) {
+            Some(kind) => self.rows.by_type.type_columns(kind as u32),
+            None => TypeColumns {
+                sources: &[],
+                values: &[],
+                groups: &[],
+            },
+        }
+    }
+
+    /// The numbers of the rows whose value is a concept, rising. `concept` is below the number of concepts.
+    pub fn by_value(&self, concept: u32) -> &[u32]
+        requires { concept < length self.now.concepts }
+        ensures { result.now ≡ rows_by_value self.now concept }
+    {
+        self.rows.by_value.rows.of(concept)
+    }
+
+    /// The columns of the rows whose value is a concept, in the order of `by_value`. `concept` is below the number
+    /// of concepts.
+    pub fn value_columns(&self, concept: u32) -> ValueColumns<'_>
+        requires { concept < length self.now.concepts }
+        ensures sources { AreSources self.now.concepts (entries_with_value self.now.rows (slice_index self.now.concepts concept)) result.sources.now }
+        ensures types { AreTypes (types_of self.now.rows) (entries_with_value self.now.rows (slice_index self.now.concepts concept)) result.types.now }
+        ensures groups { AreGroups (groups_in self.now) (entries_with_value self.now.rows (slice_index self.now.concepts concept)) result.groups.now }
+    {
+        self.rows.by_value.value_columns(concept)
+    }
+
+    /// The numbers of the rows of a source, rising. `concept` is below the number of concepts.
+    pub fn rows_of(&self, concept: u32) -> &[u32]
+        requires { concept < length self.now.concepts }
+        ensures { result.now ≡ rows_by_source self.now concept }
+    {
+        self.rows.by_source.of(concept)
+    }
+
+    /// The types of all rows, each once, in the order of their first rows.
+    pub fn types(&self) -> &[SctId]
+        ensures { result.now ≡ types_of self.now.rows }
+    {
+        self.rows.coded.types.ids.as_slice()
+    }
+
+    /// The decimals among the values of the rows in rising order and once each, as so many times 10^-18. Their
+    /// numbers as values begin at the number of concepts.
+    pub fn decimals(&self) -> &[i128]
+        ensures decimals { result.now ≡ self.now.decimals }
+        ensures rising { IsSorted int_cmp self.now.decimals }
+    {
+        self.rows.coded.values.decimals.as_slice()
+    }
+
+    /// The value with a number: of a concept its own number, of a decimal its place in `decimals` behind the
+    /// concepts. The number is that of a value.
+    pub fn value(&self, number: u32) -> Value<'_>
+        requires { number < length (values_of self.now) }
+        ensures { value_lent result ≡ value_at (values_of self.now) number }
+    {
+        let number = number as usize;
+        let concepts = self.concepts.len();
+        if number < concepts {
+            return Value::Concept(self.concepts[number]);
+        }
+        self.rows.coded.values.value(number - concepts)
+    }
+
+    /// How many groups all concepts have.
+    pub fn group_count(&self) -> u32
+        ensures count { result ≡ length (groups_in self.now) }
+        ensures few { length (groups_in self.now) < 2 ^ 31 }
+    {
+        self.rows.groups.concepts.len() as u32
+    }
+
+    /// The numbers of the groups of a concept. `concept` is below the number of concepts (Release File
+    /// Specification, "Relationship file", relationshipGroup).
+    pub fn units_of(&self, concept: u32) -> Range<u32>
+        requires { concept < length self.now.concepts }
+        ensures start { result.start ≡ length (groups_before self.now concept) }
+        ensures end { result.end ≡ length (groups_before self.now (concept + 1)) }
+    {
+        let starts = &self.rows.groups.starts;
+        starts[concept as usize]..starts[concept as usize + 1]
+    }
+
+    /// The numbers of the rows of a group, rising. `unit` is below `group_count`.
+    pub fn unit_rows(&self, unit: u32) -> &[u32]
+        requires { unit < length (groups_in self.now) }
+        ensures { IfSome (slice_get (groups_in self.now) unit) (λ group. result.now ≡ rows_of_group self.now group) }
+    {
+        self.rows.groups.rows.of(unit)
+    }
+
+    /// The concept of a group. `unit` is below `group_count`.
+    pub fn unit_concept(&self, unit: u32) -> u32
+        requires { unit < length (groups_in self.now) }
+        ensures within { result < length self.now.concepts }
+        ensures concept { IfSome (slice_get (groups_in self.now) unit) (λ group. slice_index self.now.concepts result ≡ group.concept) }
+    {
+        self.rows.groups.concepts[unit as usize]
+    }
+
+    /// The group of a row, whose number is below `row_count`.
+    pub fn unit_of(&self, n: u32) -> u32
+        requires { n < length self.now.rows }
+        ensures { IfSome (slice_get self.now.rows n) (λ row. slice_get (groups_in self.now) result ≡ Some (group_of row)) }
+    {
+        self.rows.groups.of_rows[n as usize].number()
+    }
+}
+
+// The identifiers of the concepts in force.
+fn identifiers(alloc: Global, snapshot: &Snapshot) -> Result<Vec<SctId>, AllocError>
+    ensures { IfOk result (λ concepts. concepts.items ≡ snapshot.now.release.concepts) }
+{
+    let mut concepts = Vec::with_capacity(alloc, snapshot.concept_count() as usize)?;
+    for concept in 0..snapshot.concept_count() {
+        concepts.push(snapshot.id_at(concept))?;
+    }
+    Ok(concepts)
+}

@@ -1,0 +1,42 @@
+//! Lists of rows by a key, and columns beside them.
+ghost use Rattle.std.specs.Prelude.{ℕ, ◌≡◌, ◌<◌, ◌^◌, All, IfOk, length, map, slice_index_or};
+ghost use Rattle.postings.specs.KeyedPlaces.{keyed_places};
+ghost use Rattle.postings.specs.Places.{places_by};
+
+use snapshot::KeyedLists;
+use std::alloc::{AllocError, Global};
+
+/// Of the keys of some rows, for each key below `count` the places of the rows that have it, in rising order.
+pub fn places_by_key(alloc: Global, count: u32, keys: &[u32]) -> Result<KeyedLists, AllocError>
+    requires { length keys.now < 2 ^ 32 }
+    ensures { IfOk result (λ lists. lists ≡ places_by count keys.now) }
+{
+    let pairs = key_places(alloc, count, keys)?;
+    KeyedLists::from_pairs(alloc, count, pairs.as_slice())
+}
+
+// Each key below a count with its place.
+fn key_places(alloc: Global, count: u32, keys: &[u32]) -> Result<Vec<(u32, u32)>, AllocError>
+    requires { length keys.now < 2 ^ 32 }
+    ensures { IfOk result (λ pairs. pairs.items ≡ keyed_places count 0 keys.now) }
+{
+    let mut pairs = Vec::with_capacity(alloc, keys.len())?;
+    for (place, key) in keys.iter().enumerate() {
+        if *key < count {
+            pairs.push((*key, place as u32))?;
+        }
+    }
+    Ok(pairs)
+}
+
+/// The cells of a column at the places of some rows.
+pub fn column<T: Copy>(alloc: Global, cells: &[T], places: &[u32]) -> Result<Vec<T>, AllocError>
+    requires { All (λ place. place < length cells.now) places.now }
+    ensures { IfOk result (λ column. (default : T) → column.items ≡ map (λ place. slice_index_or cells.now place default) places.now) }
+{
+    let mut column = Vec::with_capacity(alloc, places.len())?;
+    for place in places {
+        column.push(cells[*place as usize])?;
+    }
+    Ok(column)
+}
