@@ -72,7 +72,7 @@ all_at P marks holds places within d =
     All-map P (λ place. get_or marks place d) places (λ k e below. holds (get_or places k e) d (within k e below))
 
 -- ---- columns of the rows that pass a test
-module _ (rows : List Attribute) (test : Attribute → Bool) (lists : List (List ℕ)) (k : ℕ) (within : k < length lists) (below : All (λ place. place < length rows) (concat lists)) (is : list_of lists k ≡ places_where test rows) where
+module _ (rows : List Attribute) (test : Attribute → Bool) (lists : List (List ℕ)) (k : ℕ) (within : k < length lists) (is : list_of lists k ≡ places_where test rows) where
   abbrev passes : Entry → Bool
   passes entry = test entry.row
 

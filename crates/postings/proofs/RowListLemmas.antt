@@ -2,7 +2,6 @@
 use Rattle.std.proofs.Common.{ℕ, ◌+◌, ◌-◌, ◌==◌, ◌≡◌, ◌≤◌, ◌<◌, ◌^◌, ◌∙◌, [], Bool, true, List, All, length, get_or, map, replicate, refl, sym, ap, subst, arith}
 use Rattle.std.specs.List.{concat, flat_map, range_with_len}
 use Rattle.std.specs.List.Sorted.{IsStrictlyIncreasing}
-use Rattle.std.proofs.lemmas.List.{length-map}
 use Rattle.std.proofs.lemmas.List.Elements.{All-map, All-weaker}
 use Rattle.std.proofs.lemmas.Simd.{map-map}
 use Rattle.rf2_rows.specs.Pairs.{value_eq}
@@ -22,9 +21,8 @@ use Rattle.postings.specs.declared.row_indexes.GroupLists.{GroupLists}
 use Rattle.postings.specs.declared.rows.CodedRow.{CodedRow}
 use Rattle.postings.specs.declared.values.Values.{Values}
 use Rattle.postings.proofs.CellLemmas.{groups_at, long_cells, sources_at, types_at, values_at}
-use Rattle.postings.proofs.ColumnLemmas.{places_by-within}
 use Rattle.postings.proofs.IndexLemmas.{list_at, rows_of_entries}
-use Rattle.postings.proofs.RowIndexLemmas.{by_type_are, by_value_are, concepts_are, few_groups, group_rows_are, groups_are, length-coded, sources_are, starts_are}
+use Rattle.postings.proofs.RowIndexLemmas.{by_type_are, by_value_are, concepts_are, few_groups, group_rows_are, groups_are, sources_are, starts_are}
 
 module _ (release : Release) (rises : IsStrictlyIncreasing release.concepts) (coded : List CodedRow) (types : List ℕ) (values : Values)
     (are : map (row_coded release.concepts types (values_in release.concepts values)) coded ≡ attributes_by_source release)
@@ -75,11 +73,6 @@ module _ (release : Release) (rises : IsStrictlyIncreasing release.concepts) (co
     groups_told : AreGroups groups (entries_of rows) marks
     groups_told = subst (AreGroups groups (entries_of rows)) (sym marks_is) (groups_are release rises coded types values are within types_are tables)
 
-    below_with : length keys ≡ length coded → All (λ place. place < length rows) (concat lists.rows)
-    below_with long =
-        subst (λ (all : List (List ℕ)). All (λ place. place < length rows) (concat all)) (sym rows_is)
-        (subst (λ (n : ℕ). All (λ place. place < n) (concat (places_by count keys))) (long ∙ length-coded release rises coded types values are within types_are tables) (places_by-within count keys))
-
     mark : Mark
     mark = record { number = 0; is_first = true }
 
@@ -93,12 +86,12 @@ module _ (release : Release) (rises : IsStrictlyIncreasing release.concepts) (co
       };
       each = each;
       sources = λ kind less.
-          sources_at rows (test kind) lists.rows kind (at kind less).0 below (at kind less).1 release.concepts sources lists.sources.items marks_told (cells_with sources lists.sources.items source_cells);
+          sources_at rows (test kind) lists.rows kind (at kind less).0 (at kind less).1 release.concepts sources lists.sources.items marks_told (cells_with sources lists.sources.items source_cells);
       others = λ kind less.
-          values_at rows (test kind) lists.rows kind (at kind less).0 below (at kind less).1 all others lists.others.items
+          values_at rows (test kind) lists.rows kind (at kind less).0 (at kind less).1 all others lists.others.items
           (subst (AreValues all (entries_of rows)) (sym others_are) values_told) (cells_with others lists.others.items other_cells);
       groups = λ kind less.
-          groups_at rows (test kind) lists.rows kind (at kind less).0 below (at kind less).1 groups marks lists.groups.items groups_told (cells_with marks lists.groups.items group_cells);
+          groups_at rows (test kind) lists.rows kind (at kind less).0 (at kind less).1 groups marks lists.groups.items groups_told (cells_with marks lists.groups.items group_cells);
     }
       where
         test : ℕ → Attribute → Bool
@@ -113,9 +106,6 @@ module _ (release : Release) (rises : IsStrictlyIncreasing release.concepts) (co
         at : (kind : ℕ) → kind < length (types_of rows) → (kind < length lists.rows) × (list_of lists.rows kind ≡ places_where (λ (row : Attribute). row.type_id == get_or (types_of rows) kind 0) rows)
         at kind less = list_at lists.rows (λ kind. places_where (λ (row : Attribute). row.type_id == get_or (types_of rows) kind 0) rows) (length (types_of rows)) kind each less
 
-        below : All (λ place. place < length rows) (concat lists.rows)
-        below = below_with (ap (λ (xs : List ℕ). length xs) keys_are ∙ length-map coded (λ (row : CodedRow). row.kind))
-
     -- the lists by value
     pub by_value_told : count ≡ length release.concepts → keys ≡ map (λ (row : CodedRow). row.value) coded → others ≡ map (λ (row : CodedRow). row.kind) coded → AreByValue release.concepts rows lists
     by_value_told count_is keys_are others_are = record {
@@ -126,12 +116,12 @@ module _ (release : Release) (rises : IsStrictlyIncreasing release.concepts) (co
       };
       each = each;
       sources = λ concept less.
-          sources_at rows (test concept) lists.rows concept (at concept less).0 below (at concept less).1 release.concepts sources lists.sources.items marks_told (cells_with sources lists.sources.items source_cells);
+          sources_at rows (test concept) lists.rows concept (at concept less).0 (at concept less).1 release.concepts sources lists.sources.items marks_told (cells_with sources lists.sources.items source_cells);
       others = λ concept less.
-          types_at rows (test concept) lists.rows concept (at concept less).0 below (at concept less).1 (types_of rows) others lists.others.items
+          types_at rows (test concept) lists.rows concept (at concept less).0 (at concept less).1 (types_of rows) others lists.others.items
           (subst (AreTypes (types_of rows) (entries_of rows)) (sym others_are) types_told) (cells_with others lists.others.items other_cells);
       groups = λ concept less.
-          groups_at rows (test concept) lists.rows concept (at concept less).0 below (at concept less).1 groups marks lists.groups.items groups_told (cells_with marks lists.groups.items group_cells);
+          groups_at rows (test concept) lists.rows concept (at concept less).0 (at concept less).1 groups marks lists.groups.items groups_told (cells_with marks lists.groups.items group_cells);
     }
       where
         test : ℕ → Attribute → Bool
@@ -142,9 +132,6 @@ module _ (release : Release) (rises : IsStrictlyIncreasing release.concepts) (co
 
         at : (concept : ℕ) → concept < length release.concepts → (concept < length lists.rows) × (list_of lists.rows concept ≡ places_where (λ (row : Attribute). value_eq row.value (concept_value (get_or release.concepts concept 0))) rows)
         at concept less = list_at lists.rows (λ concept. places_where (λ (row : Attribute). value_eq row.value (concept_value (get_or release.concepts concept 0))) rows) (length release.concepts) concept each less
-
-        below : All (λ place. place < length rows) (concat lists.rows)
-        below = below_with (ap (λ (xs : List ℕ). length xs) keys_are ∙ length-map coded (λ (row : CodedRow). row.value))
 
   -- the groups of the rows
   module _ (lists : GroupLists) (starts : List ℕ) (marks : List Mark) (long : length starts ≡ length release.concepts + 1)
