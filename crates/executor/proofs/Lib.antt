@@ -4,3 +4,4 @@ pub mod MemberLemmas
 pub mod NodeLemmas
 pub mod Normal
 pub mod StepLemmas
+pub mod TimesLemmas

@@ -1,5 +1,5 @@
 -- What each kind of plan means, from what its parts mean.
-use Rattle.std.proofs.Common.{ℕ, zero, suc, ◌≡◌, ◌<◌, arith, ◌∙◌, ◌∷◌, [], Bool, true, false, not, ◌==◌, ◌&&◌, ◌||◌, List, length, get_or, map, take, ◌+◌, refl, sym, ap}
+use Rattle.std.proofs.Common.{ℕ, zero, suc, ◌≡◌, ◌<◌, arith, ◌∙◌, ◌∷◌, [], Bool, true, false, ◌==◌, ◌&&◌, ◌||◌, List, length, get_or, take, ◌+◌, refl, sym, ap}
 use Rattle.std.proofs.lemmas.Bool.{false≢true}
 use Rattle.std.specs.List.{list_all, list_any, range_with_len}
 use Rattle.rf2_rows.specs.Release.{Release}
@@ -9,7 +9,7 @@ use Rattle.idset.specs.Sets.{all_items, common_items, other_items}
 use Rattle.ancestor_index.specs.HierarchyLists.{Hierarchy, hierarchy_of}
 use Rattle.set_algebra.specs.declared.plan.ConceptPlan.{ConceptPlan}
 use Rattle.set_algebra.specs.Meaning.{all_mean, means, some_means}
-use Rattle.set_algebra.specs.Plan.{Plan, Plans, all_plan, and_plan, empty_plan, members_plan, minus_plan, one_plan, or_plan, plan_of, plans_of, walk_plan}
+use Rattle.set_algebra.specs.Plan.{Plan, all_plan, and_plan, empty_plan, members_plan, minus_plan, one_plan, or_plan, plan_of, plans_of, walk_plan}
 use Rattle.set_algebra.proofs.MeaningLemmas.{in_force_if_meant}
 use Rattle.executor.specs.Attributes.{reads_attributes, some_read}
 use Rattle.executor.specs.Members.{components_of}

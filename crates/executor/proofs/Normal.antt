@@ -1,9 +1,9 @@
 -- Sets of concepts of a release by their numbers, and what joins them.
-use Rattle.std.proofs.Common.{ℕ, ◌≡◌, ◌<◌, ◌∙◌, ◌∷◌, [], inl, inr, Bool, true, false, not, ◌&&◌, ◌||◌, ◌==◌, List, length, get_or, map, ltb, cond, refl, sym, ap, subst, arith, Option, None, Some}
-use Rattle.std.specs.Prelude.{Contains, filter}
+use Rattle.std.proofs.Common.{ℕ, ◌≡◌, ◌<◌, ◌∙◌, ◌∷◌, [], inl, inr, Bool, true, false, not, ◌&&◌, ◌||◌, ◌==◌, List, length, get_or, map, ltb, cond, refl, sym, ap, arith, Option, None, Some}
+use Rattle.std.specs.Prelude.{filter}
 use Rattle.std.specs.List.{range_with_len}
 use Rattle.std.specs.List.Sorted.{IsStrictlyIncreasing}
-use Rattle.std.proofs.lemmas.Bool.{and_parts, cases_order, cases_Bool, eq-eqb, eqb-true, false≢true, lt-ltb, ltb-false, ne_eqb, not-true}
+use Rattle.std.proofs.lemmas.Bool.{and_parts, cases_order, cases_Bool, eq-eqb, eqb-true, false≢true, lt-ltb, ltb-false, not-true}
 use Rattle.std.proofs.lemmas.List.Elements.{Contains-get_or}
 use Rattle.std.proofs.lemmas.List.FromFn.{fill_by_all}
 use Rattle.std.proofs.lemmas.List.Quantifiers.{position-Some}
@@ -11,7 +11,7 @@ use Rattle.std.proofs.lemmas.List.Sums.{prefix_len_passes}
 use Rattle.rf2_rows.specs.Release.{Release}
 use Rattle.constraint_tree.specs.Walks.{is_in_force}
 use Rattle.constraint_tree.proofs.WalkLemmas.{tells_in_force}
-use Rattle.idset.specs.Sets.{all_items, common_items, has_item, numbers_where, other_items}
+use Rattle.idset.specs.Sets.{all_items, common_items, has_item, other_items}
 use Rattle.idset.specs.Sets.{IsRisingBelow}
 use Rattle.idset.proofs.Rising.{rises_from_on, rising_is_where}
 use Rattle.idset.proofs.Normal.{all_items-numbers_where, common_items-numbers_where, has_item-numbers_where_any, numbers_where-agree, numbers_where-all, numbers_where-none, other_items-numbers_where}

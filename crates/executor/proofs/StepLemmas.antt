@@ -1,5 +1,5 @@
 -- Where the operators lead by the lists of an index is where they lead by the is-a rows.
-use Rattle.std.proofs.Common.{ℕ, ◌≡◌, ◌<◌, ◌∙◌, Bool, true, false, not, ◌&&◌, ◌||◌, List, length, get_or, refl, sym, ap, subst, arith}
+use Rattle.std.proofs.Common.{ℕ, ◌≡◌, ◌<◌, ◌∙◌, Bool, true, not, ◌&&◌, ◌||◌, List, length, get_or, refl, sym, ap, subst}
 use Rattle.std.specs.Prelude.{Contains, filter}
 use Rattle.std.specs.List.{list_any}
 use Rattle.std.proofs.lemmas.Bool.{and_from, and_parts}
@@ -11,14 +11,14 @@ use Rattle.constraint_tree.specs.Walks.{is_above, is_below, is_child, is_just_ab
 use Rattle.constraint_tree.specs.declared.operator.Operator.{Operator}
 use Rattle.constraint_tree.specs.declared.operator.Operator.TheVariants.{Descendants, DescendantsOrSelf, Children, ChildrenOrSelf, Ancestors, AncestorsOrSelf, Parents, ParentsOrSelf, Top, Bottom}
 use Rattle.constraint_tree.proofs.WalkLemmas.{passing_item, some_item_passes}
-use Rattle.idset.specs.Sets.{all_items, has_item, numbers_where}
+use Rattle.idset.specs.Sets.{all_items, has_item}
 use Rattle.idset.proofs.Normal.{filter-numbers_where, has_item-numbers_where, numbers_where-agree}
 use Rattle.snapshot.specs.KeyedLists.{list_of}
 use Rattle.ancestor_index.specs.HierarchyLists.{hierarchy_of, lists_where}
 use Rattle.ancestor_index.proofs.ClosureLemmas.{both_ways, item_there, list_of-where, there_item, there_where, where_there}
 use Rattle.executor.specs.Numbers.{numbers_in}
 use Rattle.executor.specs.Steps.{apart, joined, led_to}
-use Rattle.executor.proofs.Normal.{either_in, in_force_kept}
+use Rattle.executor.proofs.Normal.{either_in}
 
 module _ (release : Release) (set : ℕ → Bool) (items : List ℕ) (is : items ≡ numbers_in release set) where
   abbrev count : ℕ

@@ -1,4 +1,5 @@
 pub mod Attributes
+pub mod Counted
 pub mod Joined
 pub mod Members
 pub mod Numbers

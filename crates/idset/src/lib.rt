@@ -16,7 +16,7 @@ mod tests;
 mod word_set;
 
 pub use concept_set::ConceptSet;
-pub use marks::{is_marked, marks_of, word_count};
+pub use marks::{is_marked, mark, marks_of, word_count};
 pub use mixed_set::MixedSet;
 pub use sorted_set::SortedSet;
 pub use word_set::WordSet;

@@ -1,4 +1,4 @@
-use Rattle.std.proofs.Common.{ℕ, List, ◌≡◌, ◌∷◌, [], ◌∙◌, None, Some, sym}
+use Rattle.std.proofs.Common.{◌∙◌, None, Some, sym}
 use Rattle.std.proofs.lemmas.Result.{IfOk-weaker}
 use Rattle.executor.proofs.Normal.{one_in}
 use Rattle.executor.proofs.nodes.one_concept.Goals as goal

@@ -1,9 +1,9 @@
-use Rattle.std.proofs.Common.{ℕ, List, Bool, true, false, ◌≡◌, ◌+◌, ◌∙◌, ◌&&◌, [], ◌∷◌, length, take, refl, sym, ap, subst, rules, arith}
+use Rattle.std.proofs.Common.{List, ◌∙◌, ◌&&◌, sym, ap, arith}
 use Rattle.std.specs.List.{list_all, list_any}
 use Rattle.std.proofs.lemmas.List.{nil_from_length, take_all}
 use Rattle.set_algebra.specs.declared.plan.ConceptPlan.{ConceptPlan}
 use Rattle.set_algebra.specs.Meaning.{means}
-use Rattle.set_algebra.specs.Plan.{Plan, Plans, and_plan, members_plan, minus_plan, or_plan, plan_of, plans_of, walk_plan}
+use Rattle.set_algebra.specs.Plan.{and_plan, members_plan, minus_plan, or_plan, plan_of, plans_of, walk_plan}
 use Rattle.set_algebra.proofs.PlanLemmas.{plan_of-And, plan_of-Or}
 use Rattle.executor.specs.Attributes.{reads_attributes, some_read}
 use Rattle.executor.specs.Numbers.{numbers_in}

@@ -1,4 +1,4 @@
-use Rattle.std.proofs.Common.{ℕ, List, Vec, Bool, true, false, ◌≡◌, ◌<◌, ◌∙◌, ◌∷◌, ◌++◌, [], get_or, map, take, refl, sym, ap, append-nil, arith}
+use Rattle.std.proofs.Common.{ℕ, List, Vec, Bool, ◌≡◌, ◌∙◌, ◌∷◌, ◌++◌, [], get_or, map, sym, ap, arith}
 use Rattle.std.specs.Prelude.{filter}
 use Rattle.std.proofs.lemmas.List.{take_all}
 use Rattle.idset.specs.Sets.{has_item}

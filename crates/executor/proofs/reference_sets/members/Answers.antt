@@ -1,5 +1,5 @@
-use Rattle.std.proofs.Common.{ℕ, List, ◌≡◌, ◌<◌, ◌∙◌, length, map, sym, ap, subst}
-use Rattle.std.specs.Prelude.{All, filter}
+use Rattle.std.proofs.Common.{ℕ, List, ◌<◌, ◌∙◌, length, sym, subst}
+use Rattle.std.specs.Prelude.{All}
 use Rattle.std.proofs.lemmas.Result.{IfOk-weaker}
 use Rattle.idset.specs.Sets.{has_item, listed_numbers}
 use Rattle.idset.specs.Words.{is_set}

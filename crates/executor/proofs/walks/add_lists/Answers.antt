@@ -1,4 +1,4 @@
-use Rattle.std.proofs.Common.{ℕ, List, Bool, ◌≡◌, ◌<◌, ◌+◌, ◌++◌, ◌∷◌, [], ◌∙◌, length, get_or, take, refl, sym, ap, subst, arith, append-nil}
+use Rattle.std.proofs.Common.{ℕ, List, ◌≡◌, ◌<◌, ◌++◌, ◌∷◌, [], ◌∙◌, get_or, take, refl, sym, ap, subst, arith, append-nil}
 use Rattle.std.specs.Bool.{beq}
 use Rattle.std.proofs.lemmas.List.{take_all}
 use Rattle.snapshot.specs.KeyedLists.{list_of}

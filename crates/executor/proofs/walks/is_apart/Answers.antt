@@ -1,10 +1,9 @@
-use Rattle.std.proofs.Common.{ℕ, List, Bool, true, false, not, ◌≡◌, ◌∙◌, length, sym, ap, subst, arith}
+use Rattle.std.proofs.Common.{true, not, ◌≡◌, ◌∙◌, sym, ap, arith}
 use Rattle.std.specs.List.{list_any}
 use Rattle.idset.specs.Sets.{has_item}
 use Rattle.snapshot.specs.KeyedLists.{list_of}
 use Rattle.executor.specs.Joined.{near_of}
 use Rattle.executor.specs.Steps.{lists_of}
-use Rattle.executor.specs.declared.family.Family.{Family}
 use Rattle.executor.proofs.JoinedLemmas.{over_length, over_near}
 use Rattle.executor.proofs.walks.is_apart.Goals as goal
 

@@ -1,7 +1,5 @@
-use Rattle.std.proofs.Common.{ℕ, List, Vec, Bool, true, false, not, ◌≡◌, ◌<◌, ◌∙◌, ◌∷◌, [], get_or, take, refl, sym, ap, append-nil, arith}
-use Rattle.std.specs.Prelude.{filter}
+use Rattle.std.proofs.Common.{ℕ, Vec, Bool, true, false, not, ◌∙◌, sym, ap, append-nil}
 use Rattle.std.specs.List.{list_any}
-use Rattle.std.proofs.lemmas.List.{take_all}
 use Rattle.idset.specs.Sets.{has_item}
 use Rattle.idset.proofs.Places.{filter_step}
 use Rattle.snapshot.specs.KeyedLists.{list_of}

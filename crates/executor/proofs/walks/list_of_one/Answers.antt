@@ -1,4 +1,4 @@
-use Rattle.std.proofs.Common.{ℕ, List, ◌≡◌, ◌∙◌, length, sym, subst, arith}
+use Rattle.std.proofs.Common.{ℕ, List, ◌∙◌, sym, subst, arith}
 use Rattle.std.proofs.lemmas.Result.{IfOk-weaker}
 use Rattle.idset.specs.Sets.{IsRisingBelow}
 use Rattle.idset.specs.Words.{AreWordsBelow}

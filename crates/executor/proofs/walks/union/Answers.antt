@@ -1,4 +1,4 @@
-use Rattle.std.proofs.Common.{ℕ, List, Bool, true, false, ◌≡◌, ◌∙◌, ◌++◌, [], sym, ap, subst}
+use Rattle.std.proofs.Common.{ℕ, List, true, false, ◌≡◌, ◌∙◌, ◌++◌, [], sym, ap, subst}
 use Rattle.std.proofs.lemmas.Result.{IfOk-weaker}
 use Rattle.idset.specs.Sets.{has_item, IsRisingBelow, numbers_where}
 use Rattle.idset.specs.Words.{is_set}
