@@ -8,12 +8,16 @@ use Rattle.snapshot.specs.KeyedLists.{list_of}
 abbrev pub IsWide : ℕ → List ℕ → Type 0
 IsWide count list = count < 32 * length list
 
+-- words of bits mark the items of a list
+abbrev pub AreWordsOf : ℕ → List ℕ → List ℕ → Type 0
+AreWordsOf count list words = MarkedBelow count words (has_item list)
+
 -- the words of a list end at a place, or there are none, and the place is 0
 abbrev pub IsKept : ℕ → List ℕ → List ℕ → ℕ → Type 0
 IsKept count list words end =
     ((end ≡ 0) × (32 * length list ≤ count))
     ⊎ ((0 < end) × IsWide count list × (words_for count ≤ end) × (end ≤ length words)
-    × MarkedBelow count (slice_range words (end - words_for count) end) (has_item list))
+    × AreWordsOf count list (slice_range words (end - words_for count) end))
 
 -- the words of each list that is wide, one behind the other
 pub record AreWide (count : ℕ) (lists : List (List ℕ)) (ends words : List ℕ) : Type 0 where

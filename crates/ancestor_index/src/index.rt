@@ -1,11 +1,9 @@
 //! The index of a hierarchy, and its look-ups.
 ghost use Rattle.std.specs.Prelude.{◌≡◌, ◌↔◌, ◌<◌, IfOk, IfSome, IsSome, length};
 ghost use Rattle.std.specs.List.Sorted.{IsStrictlyIncreasing};
-ghost use Rattle.idset.specs.Sets.{has_item};
-ghost use Rattle.idset.specs.Words.{MarkedBelow};
 ghost use Rattle.snapshot.specs.KeyedLists.{list_of};
 ghost use Rattle.ancestor_index.specs.HierarchyLists.{hierarchy_of};
-ghost use Rattle.ancestor_index.specs.Wide.{IsWide};
+ghost use Rattle.ancestor_index.specs.Wide.{AreWordsOf, IsWide};
 
 use crate::closure::ancestor_lists;
 use crate::linked::linked_lists;
@@ -82,7 +80,7 @@ impl AncestorIndex {
     /// a 32nd of all concepts; `None` where they are fewer. `concept` is below the number of concepts.
     pub fn descendant_words(&self, concept: u32) -> Option<&[u64]>
         requires { concept < length self.now.descendants }
-        ensures some { IfSome result (λ words. MarkedBelow (length self.now.descendants) words.now (has_item (list_of self.now.descendants concept))) }
+        ensures some { IfSome result (λ words. AreWordsOf (length self.now.descendants) (list_of self.now.descendants concept) words.now) }
         ensures wide { IsSome result ↔ IsWide (length self.now.descendants) (list_of self.now.descendants concept) }
     {
         self.wide.of(concept, self.descendants.len())

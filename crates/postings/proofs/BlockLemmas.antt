@@ -1,5 +1,6 @@
 -- Lists in blocks, one for each number of a range: what filters, maps and tests make of them.
-use Rattle.std.proofs.Common.{ℕ, zero, suc, ◌+◌, ◌≡◌, ◌<◌, ◌≤◌, ◌++◌, ◌∷◌, [], ◌∙◌, ◌&&◌, ◌||◌, List, length, get_or, map, take, Bool, true, false, cond, refl, ap, subst, arith, length-append}
+use Rattle.std.proofs.Common.{ℕ, zero, suc, ◌+◌, ◌≡◌, ◌<◌, ◌≤◌, ◌++◌, ◌∷◌, [], ◌∙◌, ◌&&◌}
+use Rattle.std.proofs.Common.{◌||◌, List, length, get_or, map, take, Bool, true, false, cond, refl, ap, subst, arith, length-append}
 use Rattle.std.specs.Prelude.{All, Contains}
 use Rattle.std.specs.List.{filter, flat_map, list_any, range_with_len}
 use Rattle.std.proofs.lemmas.List.{get_or-map, length-map, map-append}
@@ -14,7 +15,8 @@ module _ {X : Type 0} where
   filter-map p f [] = refl
   filter-map p f (x ∷ xs) =
       let rest = filter-map p f xs in
-      elim (p (f x)) as (λ b. cond b (f x ∷ filter p (map f xs)) (filter p (map f xs)) ≡ map f (cond b (x ∷ filter (λ x. p (f x)) xs) (filter (λ x. p (f x)) xs)))
+      elim (p (f x)) as (λ b. cond b (f x ∷ filter p (map f xs)) (filter p (map f xs))
+      ≡ map f (cond b (x ∷ filter (λ x. p (f x)) xs) (filter (λ x. p (f x)) xs)))
       [ true ↦ (λ i. f x ∷ rest i) | false ↦ rest ]
 
   -- tests that agree on the items leave the same
@@ -30,7 +32,8 @@ module _ {X : Type 0} where
   filter-twice p q [] = refl
   filter-twice p q (x ∷ xs) =
       let rest = filter-twice p q xs in
-      elim (q x) as (λ b. filter p (cond b (x ∷ filter q xs) (filter q xs)) ≡ cond (b && p x) (x ∷ filter (λ x. q x && p x) xs) (filter (λ x. q x && p x) xs))
+      elim (q x) as (λ b. filter p (cond b (x ∷ filter q xs) (filter q xs))
+      ≡ cond (b && p x) (x ∷ filter (λ x. q x && p x) xs) (filter (λ x. q x && p x) xs))
       [ true ↦ (λ i. cond (p x) (x ∷ rest i) (rest i)) | false ↦ rest ]
 
   -- where no item passes, nothing is left
@@ -45,7 +48,8 @@ module _ {X : Type 0} where
   filter-all p [] all = refl
   filter-all p (x ∷ xs) all =
       let here : p x ≡ true = All-head (λ x. p x ≡ true) x xs all in
-      (λ i. cond (here i) (x ∷ filter p xs) (filter p xs)) ∙ ap (λ (rest : List X). x ∷ rest) (filter-all p xs (All-tail (λ x. p x ≡ true) x xs all))
+      (λ i. cond (here i) (x ∷ filter p xs) (filter p xs))
+      ∙ ap (λ (rest : List X). x ∷ rest) (filter-all p xs (All-tail (λ x. p x ≡ true) x xs all))
 
   -- functions that agree on the items give the same
   pub map-within : {Y : Type 0} (f g : X → Y) (xs : List X) → All (λ x. f x ≡ g x) xs → map f xs ≡ map g xs
@@ -64,7 +68,8 @@ module _ {X : Type 0} where
       λ i. here i ++ rest i
 
   -- the same item for each
-  pub map-constant : {Y Z : Type 0} (z : Z) (xs : List X) (ys : List Y) → length xs ≡ length ys → map (λ (x : X). z) xs ≡ map (λ (y : Y). z) ys
+  pub map-constant : {Y Z : Type 0} (z : Z) (xs : List X) (ys : List Y) → length xs ≡ length ys
+      → map (λ (x : X). z) xs ≡ map (λ (y : Y). z) ys
   map-constant z [] [] long = refl
   map-constant z [] (y ∷ ys) long = absurd (omega arith)
   map-constant z (x ∷ xs) [] long = absurd (omega arith)
@@ -115,32 +120,41 @@ module _ {X : Type 0} where
   pub Contains-map : {Y : Type 0} (f : X → Y) (xs : List X) (x : X) → Contains xs x → Contains (map f xs) (f x)
   Contains-map f [] x there = absurd (omega (arith, there.1))
   Contains-map f (y ∷ xs) x (zero, within, is) = (0, omega arith, ap f is)
-  Contains-map f (y ∷ xs) x (suc k, within, is) = Contains-append_right (f y ∷ []) (map f xs) (f x) (Contains-map f xs x (k, omega arith, is))
+  Contains-map f (y ∷ xs) x (suc k, within, is) =
+      Contains-append_right (f y ∷ []) (map f xs) (f x) (Contains-map f xs x (k, omega arith, is))
 
 -- ---- blocks
 module _ {X : Type 0} where
   -- a filter of blocks is the filter of each
-  pub filter-flat_map : {K : Type 0} (p : X → Bool) (f : K → List X) (keys : List K) → filter p (flat_map f keys) ≡ flat_map (λ key. filter p (f key)) keys
+  pub filter-flat_map : {K : Type 0} (p : X → Bool) (f : K → List X) (keys : List K)
+      → filter p (flat_map f keys) ≡ flat_map (λ key. filter p (f key)) keys
   filter-flat_map p f [] = refl
-  filter-flat_map p f (key ∷ keys) = filter-append p (f key) (flat_map f keys) ∙ ap (λ rest. filter p (f key) ++ rest) (filter-flat_map p f keys)
+  filter-flat_map p f (key ∷ keys) = filter-append p (f key) (flat_map f keys)
+      ∙ ap (λ rest. filter p (f key) ++ rest) (filter-flat_map p f keys)
 
   -- and so with a map
-  pub map-flat_map : {K Y : Type 0} (h : X → Y) (f : K → List X) (keys : List K) → map h (flat_map f keys) ≡ flat_map (λ key. map h (f key)) keys
+  pub map-flat_map : {K Y : Type 0} (h : X → Y) (f : K → List X) (keys : List K)
+      → map h (flat_map f keys) ≡ flat_map (λ key. map h (f key)) keys
   map-flat_map h f [] = refl
   map-flat_map h f (key ∷ keys) = map-append h (f key) (flat_map f keys) ∙ ap (λ rest. map h (f key) ++ rest) (map-flat_map h f keys)
 
   -- and a test passes for some item where it does for some item of a block
-  pub any-flat_map : {K : Type 0} (p : X → Bool) (f : K → List X) (keys : List K) → list_any p (flat_map f keys) ≡ list_any (λ key. list_any p (f key)) keys
+  pub any-flat_map : {K : Type 0} (p : X → Bool) (f : K → List X) (keys : List K)
+      → list_any p (flat_map f keys) ≡ list_any (λ key. list_any p (f key)) keys
   any-flat_map p f [] = refl
-  any-flat_map p f (key ∷ keys) = list_any-append p (f key) (flat_map f keys) ∙ ap (λ (b : Bool). list_any p (f key) || b) (any-flat_map p f keys)
+  any-flat_map p f (key ∷ keys) = list_any-append p (f key) (flat_map f keys)
+      ∙ ap (λ (b : Bool). list_any p (f key) || b) (any-flat_map p f keys)
 
   -- blocks that are the same for each number of a range
-  pub blocks-same : (f g : ℕ → List X) (from n : ℕ) → ((k : ℕ) → k < from + n → f k ≡ g k) → flat_map f (range_with_len from n) ≡ flat_map g (range_with_len from n)
+  pub blocks-same : (f g : ℕ → List X) (from n : ℕ) → ((k : ℕ) → k < from + n → f k ≡ g k)
+      → flat_map f (range_with_len from n) ≡ flat_map g (range_with_len from n)
   blocks-same f g from zero same = refl
   blocks-same f g from (suc n) same = λ i. same from (omega arith) i ++ blocks-same f g (from + 1) n (λ k below. same k (omega arith)) i
 
   -- and blocks that are as long
-  pub blocks-long : {Y : Type 0} (f : ℕ → List X) (g : ℕ → List Y) (from n : ℕ) → ((k : ℕ) → k < from + n → length (f k) ≡ length (g k)) → length (flat_map f (range_with_len from n)) ≡ length (flat_map g (range_with_len from n))
+  pub blocks-long : {Y : Type 0} (f : ℕ → List X) (g : ℕ → List Y) (from n : ℕ)
+      → ((k : ℕ) → k < from + n → length (f k) ≡ length (g k))
+      → length (flat_map f (range_with_len from n)) ≡ length (flat_map g (range_with_len from n))
   blocks-long f g from zero same = refl
   blocks-long f g from (suc n) same =
       omega (
@@ -152,36 +166,44 @@ module _ {X : Type 0} where
       )
 
   -- what holds of each item of each block
-  pub All-blocks : (P : X → Type 0) (f : ℕ → List X) (from n : ℕ) → ((k : ℕ) → from ≤ k → k < from + n → All P (f k)) → All P (flat_map f (range_with_len from n))
+  pub All-blocks : (P : X → Type 0) (f : ℕ → List X) (from n : ℕ) → ((k : ℕ) → from ≤ k → k < from + n → All P (f k))
+      → All P (flat_map f (range_with_len from n))
   All-blocks P f from zero all = All-nil P
   All-blocks P f from (suc n) all =
       All-append P (f from) (flat_map f (range_with_len (from + 1) n)) (all from (omega arith) (omega arith))
       (All-blocks P f (from + 1) n (λ k above below. all k (omega arith) (omega arith)))
 
   -- the same for the blocks of any keys
-  pub All-flat_map : {K : Type 0} (P : X → Type 0) (f : K → List X) (keys : List K) → ((key : K) → Contains keys key → All P (f key)) → All P (flat_map f keys)
+  pub All-flat_map : {K : Type 0} (P : X → Type 0) (f : K → List X) (keys : List K)
+      → ((key : K) → Contains keys key → All P (f key)) → All P (flat_map f keys)
   All-flat_map P f [] all = All-nil P
   All-flat_map P f (key ∷ keys) all =
-      All-append P (f key) (flat_map f keys) (all key (0, omega arith, refl)) (All-flat_map P f keys (λ other there. all other (Contains-append_right (key ∷ []) keys other there)))
+      All-append P (f key) (flat_map f keys) (all key (0, omega arith, refl))
+      (All-flat_map P f keys (λ other there. all other (Contains-append_right (key ∷ []) keys other there)))
 
 -- ---- numbers of a range
 -- what holds of each number of a range
-pub All-range : (P : ℕ → Type 0) (from n : ℕ) → ((k : ℕ) → from ≤ k → k < from + n → P k) → All P (range_with_len from n)
+pub All-range : (P : ℕ → Type 0) (from n : ℕ) → ((k : ℕ) → from ≤ k → k < from + n → P k)
+    → All P (range_with_len from n)
 All-range P from zero all = All-nil P
-All-range P from (suc n) all = All-cons P from (range_with_len (from + 1) n) (all from (omega arith) (omega arith)) (All-range P (from + 1) n (λ k above below. all k (omega arith) (omega arith)))
+All-range P from (suc n) all = All-cons P from (range_with_len (from + 1) n) (all from (omega arith) (omega arith))
+    (All-range P (from + 1) n (λ k above below. all k (omega arith) (omega arith)))
 
 -- a list is its items by their places
 pub items_by_place : {X : Type 0} (xs : List X) (d : X) → xs ≡ map (λ k. get_or xs k d) (range_with_len 0 (length xs))
 items_by_place xs d = fill_by_all (λ k. get_or xs k d) xs (length xs) d refl (λ k within. refl)
 
 -- and its first items are those at its first places
-pub items_before : {X : Type 0} (xs : List X) (d : X) (n : ℕ) → n ≤ length xs → take n xs ≡ map (λ k. get_or xs k d) (range_with_len 0 n)
+pub items_before : {X : Type 0} (xs : List X) (d : X) (n : ℕ) → n ≤ length xs
+    → take n xs ≡ map (λ k. get_or xs k d) (range_with_len 0 n)
 items_before xs d n within = ap (take n) (items_by_place xs d) ∙ take-map-range_with_len (λ k. get_or xs k d) 0 (length xs) n within
 
 -- the blocks of the items of a list are those of its places
-pub blocks_by_place : {X Y : Type 0} (f : X → List Y) (xs : List X) (d : X) → flat_map f xs ≡ flat_map (λ k. f (get_or xs k d)) (range_with_len 0 (length xs))
+pub blocks_by_place : {X Y : Type 0} (f : X → List Y) (xs : List X) (d : X)
+    → flat_map f xs ≡ flat_map (λ k. f (get_or xs k d)) (range_with_len 0 (length xs))
 blocks_by_place f xs d = ap (flat_map f) (items_by_place xs d) ∙ flat_map-map f (λ k. get_or xs k d) (range_with_len 0 (length xs))
 
 -- and those of its first items those of its first places
-pub blocks_before : {X Y : Type 0} (f : X → List Y) (xs : List X) (d : X) (n : ℕ) → n ≤ length xs → flat_map f (take n xs) ≡ flat_map (λ k. f (get_or xs k d)) (range_with_len 0 n)
+pub blocks_before : {X Y : Type 0} (f : X → List Y) (xs : List X) (d : X) (n : ℕ) → n ≤ length xs
+    → flat_map f (take n xs) ≡ flat_map (λ k. f (get_or xs k d)) (range_with_len 0 n)
 blocks_before f xs d n within = ap (flat_map f) (items_before xs d n within) ∙ flat_map-map f (λ k. get_or xs k d) (range_with_len 0 n)

@@ -14,26 +14,30 @@ use Rattle.snapshot.specs.Search.{IsWithin}
 use Rattle.ancestor_index.specs.HierarchyLists.{is_child, lists_where}
 use Rattle.ancestor_index.proofs.BuildLemmas.{lists_where-agree, same_child}
 use Rattle.ancestor_index.proofs.ClosureLemmas.{length-where}
-use Rattle.postings.specs.Coded.{IsCoded, row_coded}
+use Rattle.postings.specs.Coded.{IsCoded, row_coded, rows_coded}
 use Rattle.postings.specs.Indexed.{value_at}
 use Rattle.postings.specs.RowIndexes.{AreRowIndexes}
-use Rattle.postings.specs.ValueTables.{values_in}
 use Rattle.postings.specs.declared.row_indexes.RowIndexes.{RowIndexes}
 use Rattle.postings.specs.declared.rows.CodedRow.{CodedRow}
 
 -- ---- a row by its numbers
-module _ (concepts types ids : List ℕ) (values : List Value) (coded : List CodedRow) (n : ℕ) (row : CodedRow) (below : n < length coded) (is : row ≡ get_or coded n row) where
+module _ (concepts types ids : List ℕ) (values : List Value) (coded : List CodedRow) (n : ℕ) (row : CodedRow) (below : n < length coded)
+    (is : row ≡ get_or coded n row) where
   -- its numbers are within their tables
   pub row_within : All (IsCoded concepts types values) coded → IsCoded concepts types values row
   row_within within = subst (λ (found : CodedRow). IsCoded concepts types values found) (sym is) (within n row below)
 
   -- and the row that they stand for is the one at its place
-  pub row_told : (id : ℕ) (value : LentValue) → ids ≡ types → row.kind < length types → id ≡ get_or ids row.kind id → value_lent value ≡ value_at values row.value
-      → slice_get (map (row_coded concepts types values) coded) n ≡ Some (with_source concepts (attribute_of (record { source = row.source; type_id = id; group = row.group; value = value })))
-  row_told id value same kind typed valued =
+  pub row_told : (id : ℕ) (value : LentValue) → ids ≡ types → row.type_place < length types → id ≡ get_or ids row.type_place id
+      → value_lent value ≡ value_at values row.value
+      → slice_get (map (row_coded concepts types values) coded) n
+      ≡ Some (with_source concepts (attribute_of (record { source = row.source; type_id = id; group = row.group; value = value })))
+  row_told id value same type_place typed valued =
       let stands : Attribute = row_coded concepts types values row in
-      let named : get_or types row.kind 0 ≡ id = get_or_default types row.kind 0 id kind ∙ (λ i. get_or (sym same i) row.kind id) ∙ sym typed in
-      slice_get-get_or (map (row_coded concepts types values) coded) n stands (omega (arith, below, length-map coded (row_coded concepts types values)))
+      let named : get_or types row.type_place 0 ≡ id = get_or_default types row.type_place 0 id type_place
+      ∙ (λ i. get_or (sym same i) row.type_place id) ∙ sym typed in
+      slice_get-get_or (map (row_coded concepts types values) coded) n stands
+      (omega (arith, below, length-map coded (row_coded concepts types values)))
       ∙ ap (λ (found : Attribute). Some found) (
       get_or-map (row_coded concepts types values) coded n row stands below
       ∙ ap (row_coded concepts types values) (sym is)
@@ -42,31 +46,38 @@ module _ (concepts types ids : List ℕ) (values : List Value) (coded : List Cod
 
 -- ---- the rows that the indexes stand for
 -- they are those that the indexes are of
-pub rows_told : (concepts all : List ℕ) (rows : List Attribute) (indexes : RowIndexes) → all ≡ concepts → AreRowIndexes concepts rows indexes
-    → map (row_coded all indexes.coded.types.numbers.keys (values_in all indexes.coded.values)) indexes.coded.rows.items ≡ rows
+pub rows_told : (concepts all : List ℕ) (rows : List Attribute) (indexes : RowIndexes) → all ≡ concepts
+    → AreRowIndexes concepts rows indexes
+    → rows_coded all indexes.coded ≡ rows
 rows_told concepts all rows indexes same are =
-    (λ i. map (row_coded (same i) indexes.coded.types.numbers.keys (values_in (same i) indexes.coded.values)) indexes.coded.rows.items) ∙ are.coded
+    ap (λ (ids : List ℕ). rows_coded ids indexes.coded) same ∙ are.coded.stand_for
 
 -- so the indexes are of them
-pub indexes_of_own : (concepts all : List ℕ) (rows : List Attribute) (indexes : RowIndexes) → all ≡ concepts → AreRowIndexes concepts rows indexes
-    → AreRowIndexes all (map (row_coded all indexes.coded.types.numbers.keys (values_in all indexes.coded.values)) indexes.coded.rows.items) indexes
+pub indexes_of_own : (concepts all : List ℕ) (rows : List Attribute) (indexes : RowIndexes) → all ≡ concepts
+    → AreRowIndexes concepts rows indexes
+    → AreRowIndexes all (rows_coded all indexes.coded) indexes
 indexes_of_own concepts all rows indexes same are =
     subst (λ (found : List Attribute). AreRowIndexes all found indexes) (sym (rows_told concepts all rows indexes same are))
     (subst (λ (ids : List ℕ). AreRowIndexes ids rows indexes) (sym same) are)
 
 -- ---- the members
 -- there is a list for each concept
-pub length-members : (concepts all : List ℕ) (count : ℕ) (rows : List (ℕ × ℕ)) (lists : List (List ℕ)) → all ≡ concepts → count ≡ length concepts → lists ≡ lists_where count (is_child rows)
+pub length-members : (concepts all : List ℕ) (count : ℕ) (rows : List (ℕ × ℕ)) (lists : List (List ℕ)) → all ≡ concepts
+    → count ≡ length concepts → lists ≡ lists_where count (is_child rows)
     → length lists ≡ length all
 length-members concepts all count rows lists same counted are =
-    ap (λ (found : List (List ℕ)). length found) are ∙ length-where count (is_child rows) ∙ counted ∙ ap (λ (ids : List ℕ). length ids) (sym same)
+    ap (λ (found : List (List ℕ)). length found) are ∙ length-where count (is_child rows) ∙ counted
+    ∙ ap (λ (ids : List ℕ). length ids) (sym same)
 
 -- lists by the numbers of some rows are those by their identifiers
-pub members_told : (concepts : List ℕ) (count : ℕ) (rows members : List (ℕ × ℕ)) (lists : List (List ℕ)) → IsStrictlyIncreasing concepts → count ≡ length concepts
+pub members_told : (concepts : List ℕ) (count : ℕ) (rows members : List (ℕ × ℕ)) (lists : List (List ℕ))
+    → IsStrictlyIncreasing concepts → count ≡ length concepts
     → IsWithin (length concepts) rows → map (row_of_numbers concepts) rows ≡ members → lists ≡ lists_where count (is_child rows)
-    → lists ≡ lists_where (length concepts) (λ refset component. is_child members (slice_index concepts refset) (slice_index concepts component))
+    → lists ≡ lists_where (length concepts) (λ refset component. is_child members (slice_index concepts refset)
+    (slice_index concepts component))
 members_told concepts count rows members lists rises counted within named are =
     are
     ∙ (λ i. lists_where (counted i) (is_child rows))
-    ∙ lists_where-agree (length concepts) (is_child rows) (λ refset component. is_child members (slice_index concepts refset) (slice_index concepts component))
+    ∙ lists_where-agree (length concepts) (is_child rows)
+    (λ refset component. is_child members (slice_index concepts refset) (slice_index concepts component))
     (λ a b near far. same_child concepts rows members rises within named a b near far)

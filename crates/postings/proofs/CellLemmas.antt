@@ -1,5 +1,6 @@
 -- The part of a column that belongs to a key.
-use Rattle.std.proofs.Common.{ℕ, ◌+◌, ◌-◌, ◌≡◌, ◌<◌, ◌++◌, ◌∷◌, [], ◌∙◌, Bool, true, List, Some, length, get_or, map, take, drop, refl, sym, ap, arith, length-append}
+use Rattle.std.proofs.Common.{ℕ, ◌+◌, ◌-◌, ◌≡◌, ◌<◌, ◌++◌, ◌∷◌, [], ◌∙◌, Bool, true, List, Some, length}
+use Rattle.std.proofs.Common.{get_or, map, take, drop, refl, sym, ap, arith, length-append}
 use Rattle.std.specs.Prelude.{All, slice_get, slice_index, slice_index_or}
 use Rattle.std.specs.List.{concat, filter, slice_range}
 use Rattle.std.proofs.lemmas.List.{drop-map, drop_at, drop_more, get_or-map, length-map, take-append-drop, take-map, take_at}
@@ -7,7 +8,7 @@ use Rattle.std.proofs.lemmas.List.Elements.{All-map, All-same, All-tail}
 use Rattle.rf2_rows.specs.Release.{Attribute, Value, concept_value}
 use Rattle.snapshot.specs.KeyedLists.{list_of}
 use Rattle.snapshot.proofs.SpanLemmas.{concat-append, concat-take_more}
-use Rattle.postings.specs.Cells.{cells_of}
+use Rattle.postings.specs.Cells.{IsColumn, cells_of}
 use Rattle.postings.specs.Columns.{AreGroups, AreSources, AreTypes, AreValues, Mark}
 use Rattle.postings.specs.Entries.{Entry, entries_of}
 use Rattle.postings.specs.Groups.{ConceptGroup, group_of}
@@ -26,7 +27,8 @@ span_list lists k within =
     let behind = concat (drop (k + 1) lists) in
     let count = length (concat (take (k + 1) lists)) - length before in
     let whole : concat lists ≡ before ++ (list ++ behind) =
-    ap concat (sym (take-append-drop k lists)) ∙ concat-append (take k lists) (drop k lists) ∙ ap (λ (rest : List (List ℕ)). before ++ concat rest) (drop_more lists k [] within) in
+    ap concat (sym (take-append-drop k lists)) ∙ concat-append (take k lists) (drop k lists)
+    ∙ ap (λ (rest : List (List ℕ)). before ++ concat rest) (drop_more lists k [] within) in
     let long : length list ≡ count =
     omega (arith, ap (λ (xs : List ℕ). length xs) (concat-take_more lists k within), length-append before list) in
     ap (λ (xs : List ℕ). slice_range xs (length before) (length (concat (take (k + 1) lists)))) whole
@@ -38,13 +40,15 @@ range_map : {X Y : Type 0} (f : X → Y) (xs : List X) (from to : ℕ) → slice
 range_map f xs from to = ap (take (to - from)) (drop-map f from xs) ∙ take-map f (to - from) (drop from xs)
 
 -- the cells of a key are what is made of its list
-pub cells_list : {X : Type 0} (lists : List (List ℕ)) (f : ℕ → X) (k : ℕ) → k < length lists → cells_of lists (map f (concat lists)) k ≡ map f (list_of lists k)
+pub cells_list : {X : Type 0} (lists : List (List ℕ)) (f : ℕ → X) (k : ℕ) → k < length lists
+    → cells_of lists (map f (concat lists)) k ≡ map f (list_of lists k)
 cells_list lists f k within =
     range_map f (concat lists) (length (concat (take k lists))) (length (concat (take (k + 1) lists)))
     ∙ ap (map f) (span_list lists k within)
 
 -- a column with a cell for each place is as long as all lists
-pub long_cells : {X : Type 0} (lists : List (List ℕ)) (marks cells : List X) → ((d : X) → cells ≡ map (λ place. slice_index_or marks place d) (concat lists))
+pub long_cells : {X : Type 0} (lists : List (List ℕ)) (marks cells : List X)
+    → IsColumn marks (concat lists) cells
     → (d : X) → length cells ≡ length (concat lists)
 long_cells {X} lists marks cells are d =
     ap (λ (xs : List X). length xs) (are d) ∙ length-map (concat lists) (λ place. slice_index_or marks place d)
@@ -57,7 +61,8 @@ pub restricted : {X E A : Type 0} (g : X → A) (h : E → A) (marks : List X) (
 restricted g h marks entries same [] within d e = refl
 restricted {X} {E} {A} g h marks entries same (place ∷ places) within d e =
     let there : place < length marks = within 0 place (omega arith) in
-    let long : length marks ≡ length entries = sym (length-map marks g) ∙ ap (λ (xs : List A). length xs) same ∙ length-map entries h in
+    let long : length marks ≡ length entries = sym (length-map marks g) ∙ ap (λ (xs : List A). length xs) same
+    ∙ length-map entries h in
     let here : g (get_or marks place d) ≡ h (get_or entries place e) =
     sym (get_or-map g marks place d (g d) there)
     ∙ ap (λ (xs : List A). get_or xs place (g d)) same
@@ -66,22 +71,26 @@ restricted {X} {E} {A} g h marks entries same (place ∷ places) within d e =
     λ i. here i ∷ rest i
 
 -- what holds of all items holds of those at some places
-pub all_at : {X : Type 0} (P : X → Type 0) (marks : List X) → All P marks → (places : List ℕ) → All (λ place. place < length marks) places → (d : X)
+pub all_at : {X : Type 0} (P : X → Type 0) (marks : List X) → All P marks → (places : List ℕ)
+    → All (λ place. place < length marks) places → (d : X)
     → All P (map (λ place. get_or marks place d) places)
 all_at P marks holds places within d =
     All-map P (λ place. get_or marks place d) places (λ k e below. holds (get_or places k e) d (within k e below))
 
 -- ---- columns of the rows that pass a test
-module _ (rows : List Attribute) (test : Attribute → Bool) (lists : List (List ℕ)) (k : ℕ) (within : k < length lists) (is : list_of lists k ≡ places_where test rows) where
+module _ (rows : List Attribute) (test : Attribute → Bool) (lists : List (List ℕ)) (k : ℕ) (within : k < length lists)
+    (is : list_of lists k ≡ places_where test rows) where
   abbrev passes : Entry → Bool
   passes entry = test entry.row
 
   -- the places of the entries are those of the rows
   entry_places : places_where passes (entries_of rows) ≡ places_where test rows
-  entry_places = sym (places_where-map (λ (entry : Entry). entry.row) test (entries_of rows)) ∙ ap (places_where test) (rows_of_entries [] rows)
+  entry_places = sym (places_where-map (λ (entry : Entry). entry.row) test (entries_of rows))
+      ∙ ap (places_where test) (rows_of_entries [] rows)
 
   -- the entries at the places of the rows that pass are those whose rows pass
-  entries_there : (e : Entry) → map (λ place. get_or (entries_of rows) place e) (places_where test rows) ≡ filter passes (entries_of rows)
+  entries_there : (e : Entry) → map (λ place. get_or (entries_of rows) place e) (places_where test rows)
+      ≡ filter passes (entries_of rows)
   entries_there e = ap (map (λ place. get_or (entries_of rows) place e)) (sym entry_places) ∙ rows_at_places passes (entries_of rows) e
 
   -- the cells of the key are the items at these places
@@ -93,7 +102,8 @@ module _ (rows : List Attribute) (test : Attribute → Bool) (lists : List (List
       ∙ ap (map (λ place. slice_index_or marks place d)) is
 
   -- a column that says something of each entry has an item for each place
-  places_there : {X A : Type 0} (g : X → A) (h : Entry → A) (marks : List X) → map g marks ≡ map h (entries_of rows) → All (λ place. place < length marks) (places_where test rows)
+  places_there : {X A : Type 0} (g : X → A) (h : Entry → A) (marks : List X) → map g marks ≡ map h (entries_of rows)
+      → All (λ place. place < length marks) (places_where test rows)
   places_there {X} {A} g h marks same i d inside =
       omega (
         arith,
@@ -106,21 +116,28 @@ module _ (rows : List Attribute) (test : Attribute → Bool) (lists : List (List
       )
 
   an_entry : Entry
-  an_entry = record { row = record { source = 0; group = 0; type_id = 0; value = concept_value 0 }; is_first = true; is_first_in_group = true }
+  an_entry = record {
+    row = record { source = 0; group = 0; type_id = 0; value = concept_value 0 };
+    is_first = true;
+    is_first_in_group =
+        true;
+  }
 
   abbrev a_mark : Mark
   a_mark = record { number = 0; is_first = true }
 
   -- so what such a column says of the entries its cells of the key say of those whose rows pass
   said : {X A : Type 0} (g : X → A) (h : Entry → A) (marks cells : List X) (d : X) → map g marks ≡ map h (entries_of rows)
-      → cells ≡ map (λ place. slice_index_or marks place d) (concat lists) → map g (cells_of lists cells k) ≡ map h (filter passes (entries_of rows))
+      → cells ≡ map (λ place. slice_index_or marks place d) (concat lists)
+      → map g (cells_of lists cells k) ≡ map h (filter passes (entries_of rows))
   said g h marks cells d same are =
       ap (map g) (cells_there marks cells d are)
       ∙ restricted g h marks (entries_of rows) same (places_where test rows) (places_there g h marks same) d an_entry
       ∙ ap (map h) (entries_there an_entry)
 
   -- and what holds of all its items holds of these cells
-  kept : {X A : Type 0} (P : X → Type 0) (g : X → A) (h : Entry → A) (marks cells : List X) (d : X) → map g marks ≡ map h (entries_of rows)
+  kept : {X A : Type 0} (P : X → Type 0) (g : X → A) (h : Entry → A) (marks cells : List X) (d : X)
+      → map g marks ≡ map h (entries_of rows)
       → cells ≡ map (λ place. slice_index_or marks place d) (concat lists) → All P marks → All P (cells_of lists cells k)
   kept P g h marks cells d same are holds =
       All-same P (cells_of lists cells k) (map (λ place. get_or marks place d) (places_where test rows)) (cells_there marks cells d are)
@@ -128,42 +145,52 @@ module _ (rows : List Attribute) (test : Attribute → Bool) (lists : List (List
 
   -- the sources
   pub sources_at : (concepts : List ℕ) (marks cells : List Mark) → AreSources concepts (entries_of rows) marks
-      → ((d : Mark) → cells ≡ map (λ place. slice_index_or marks place d) (concat lists))
+      → IsColumn marks (concat lists) cells
       → AreSources concepts (filter (λ (entry : Entry). test entry.row) (entries_of rows)) (cells_of lists cells k)
   sources_at concepts marks cells are column =
       let source : Mark → ℕ = λ (mark : Mark). slice_index concepts mark.number in
       record {
-        within = kept (λ (mark : Mark). mark.number < length concepts) source (λ (entry : Entry). entry.row.source) marks cells a_mark are.sources (column a_mark) are.within;
+        within = kept (λ (mark : Mark). mark.number < length concepts) source (λ (entry : Entry). entry.row.source) marks cells a_mark
+            are.sources (column a_mark) are.within;
         sources = said source (λ (entry : Entry). entry.row.source) marks cells a_mark are.sources (column a_mark);
         firsts = said (λ (mark : Mark). mark.is_first) (λ (entry : Entry). entry.is_first) marks cells a_mark are.firsts (column a_mark);
       }
 
   -- the groups
   pub groups_at : (groups : List ConceptGroup) (marks cells : List Mark) → AreGroups groups (entries_of rows) marks
-      → ((d : Mark) → cells ≡ map (λ place. slice_index_or marks place d) (concat lists))
+      → IsColumn marks (concat lists) cells
       → AreGroups groups (filter (λ (entry : Entry). test entry.row) (entries_of rows)) (cells_of lists cells k)
   groups_at groups marks cells are column =
       record {
-        groups = said (λ (mark : Mark). slice_get groups mark.number) (λ (entry : Entry). Some (group_of entry.row)) marks cells a_mark are.groups (column a_mark);
-        firsts = said (λ (mark : Mark). mark.is_first) (λ (entry : Entry). entry.is_first_in_group) marks cells a_mark are.firsts (column a_mark);
+        groups = said (λ (mark : Mark). slice_get groups mark.number) (λ (entry : Entry). Some (group_of entry.row)) marks cells a_mark
+            are.groups (column a_mark);
+        firsts = said (λ (mark : Mark). mark.is_first) (λ (entry : Entry). entry.is_first_in_group) marks cells a_mark are.firsts
+            (column a_mark);
       }
+
+  -- numbers below a bound, of which each tells something of its entry
+  numbers_at : {A : Type 0} (bound : ℕ) (tell : ℕ → A) (field : Entry → A) (numbers cells : List ℕ)
+      → All (λ number. number < bound) numbers → map tell numbers ≡ map field (entries_of rows)
+      → IsColumn numbers (concat lists) cells
+      → All (λ number. number < bound) (cells_of lists cells k)
+      × (map tell (cells_of lists cells k) ≡ map field (filter passes (entries_of rows)))
+  numbers_at bound tell field numbers cells small told column = (
+    kept (λ number. number < bound) tell field numbers cells 0 told (column 0) small,
+    said tell field numbers cells 0 told (column 0),
+  )
 
   -- the values
   pub values_at : (values : List Value) (numbers cells : List ℕ) → AreValues values (entries_of rows) numbers
-      → ((d : ℕ) → cells ≡ map (λ place. slice_index_or numbers place d) (concat lists))
+      → IsColumn numbers (concat lists) cells
       → AreValues values (filter (λ (entry : Entry). test entry.row) (entries_of rows)) (cells_of lists cells k)
   values_at values numbers cells are column =
-      record {
-        within = kept (λ number. number < length values) (value_at values) (λ (entry : Entry). entry.row.value) numbers cells 0 are.values (column 0) are.within;
-        values = said (value_at values) (λ (entry : Entry). entry.row.value) numbers cells 0 are.values (column 0);
-      }
+      let here = numbers_at (length values) (value_at values) (λ entry. entry.row.value) numbers cells are.within are.values column in
+      record { within = here.0; values = here.1 }
 
   -- the types
   pub types_at : (types : List ℕ) (numbers cells : List ℕ) → AreTypes types (entries_of rows) numbers
-      → ((d : ℕ) → cells ≡ map (λ place. slice_index_or numbers place d) (concat lists))
+      → IsColumn numbers (concat lists) cells
       → AreTypes types (filter (λ (entry : Entry). test entry.row) (entries_of rows)) (cells_of lists cells k)
   types_at types numbers cells are column =
-      record {
-        within = kept (λ place. place < length types) (slice_index types) (λ (entry : Entry). entry.row.type_id) numbers cells 0 are.types (column 0) are.within;
-        types = said (slice_index types) (λ (entry : Entry). entry.row.type_id) numbers cells 0 are.types (column 0);
-      }
+      let here = numbers_at (length types) (slice_index types) (λ entry. entry.row.type_id) numbers cells are.within are.types column in
+      record { within = here.0; types = here.1 }

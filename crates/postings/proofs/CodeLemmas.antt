@@ -1,5 +1,6 @@
 -- Rows that numbers stand for: the tests on them are those on the numbers, so no two rows of numbers stand for one row.
-use Rattle.std.proofs.Common.{ℕ, ◌==◌, ◌≡◌, ◌≢◌, ◌<◌, ◌&&◌, ◌∷◌, [], ◌∙◌, ⊎_elim, ◌⊎◌, List, length, get_or, map, nat_eq, refl, sym, ap, arith, inl, inr}
+use Rattle.std.proofs.Common.{ℕ, ◌==◌, ◌≡◌, ◌≢◌, ◌<◌, ◌&&◌, ◌∷◌, [], ◌∙◌, ⊎_elim, ◌⊎◌, List}
+use Rattle.std.proofs.Common.{length, get_or, map, nat_eq, refl, sym, ap, arith, inl, inr}
 use Rattle.std.specs.Prelude.{All}
 use Rattle.std.specs.List.{IsDistinct}
 use Rattle.std.specs.List.Sorted.{IsStrictlyIncreasing}
@@ -17,48 +18,65 @@ use Rattle.postings.specs.Indexed.{value_at}
 use Rattle.postings.specs.declared.rows.CodedRow.{CodedRow}
 
 -- two numbers of concepts are the same exactly where the concepts are
-pub same_concept : (concepts : List ℕ) → IsStrictlyIncreasing concepts → (a b : ℕ) → a < length concepts → b < length concepts → (get_or concepts a 0 == get_or concepts b 0) ≡ (a == b)
+pub same_concept : (concepts : List ℕ) → IsStrictlyIncreasing concepts → (a b : ℕ) → a < length concepts → b < length concepts
+    → (get_or concepts a 0 == get_or concepts b 0) ≡ (a == b)
 same_concept concepts rising a b near far = ⊎_elim
-    (λ (same : a ≡ b). eq-eqb (get_or concepts a 0) (get_or concepts b 0) (ap (λ k. get_or concepts k 0) same) ∙ sym (eq-eqb a b same))
+    (λ (same : a ≡ b). eq-eqb (get_or concepts a 0) (get_or concepts b 0) (ap (λ k. get_or concepts k 0) same)
+    ∙ sym (eq-eqb a b same))
     (λ (other : a ≢ b).
-    ne_eqb (get_or concepts a 0) (get_or concepts b 0) (λ same. other (sym (place_of-get_or concepts rising a near) ∙ ap (place_of concepts) same ∙ place_of-get_or concepts rising b far))
+    ne_eqb (get_or concepts a 0) (get_or concepts b 0)
+    (λ same. other (sym (place_of-get_or concepts rising a near) ∙ ap (place_of concepts) same
+    ∙ place_of-get_or concepts rising b far))
     ∙ sym (ne_eqb a b other))
     (cases_eq a b)
 
 -- and so for the places of types that do not repeat
-pub same_type : (types : List ℕ) → IsDistinct nat_eq types → (a b : ℕ) → a < length types → b < length types → (get_or types a 0 == get_or types b 0) ≡ (a == b)
+pub same_type : (types : List ℕ) → IsDistinct nat_eq types → (a b : ℕ) → a < length types → b < length types
+    → (get_or types a 0 == get_or types b 0) ≡ (a == b)
 same_type types once a b near far = by (cases_order a b)
   where
     by : (a ≡ b) ⊎ ((a < b) ⊎ (b < a)) → (get_or types a 0 == get_or types b 0) ≡ (a == b)
     by (inl same) = eq-eqb (get_or types a 0) (get_or types b 0) (ap (λ k. get_or types k 0) same) ∙ sym (eq-eqb a b same)
     by (inr (inl less)) = apart_from_distinct nat_eq types a b 0 once less far ∙ sym (ne_eqb a b (λ same. absurd (omega arith)))
-    by (inr (inr more)) = nat_eq_equiv.symm (get_or types a 0) (get_or types b 0) ∙ apart_from_distinct nat_eq types b a 0 once more near ∙ sym (ne_eqb a b (λ same. absurd (omega arith)))
+    by (inr (inr more)) = nat_eq_equiv.symm (get_or types a 0) (get_or types b 0) ∙ apart_from_distinct nat_eq types b a 0 once more near
+        ∙ sym (ne_eqb a b (λ same. absurd (omega arith)))
 
 module _ (concepts types : List ℕ) (values : List Value) (rising : IsStrictlyIncreasing concepts) (once : IsDistinct nat_eq types)
-    (exact : (v w : ℕ) → v < length values → w < length values → value_eq (value_at values v) (value_at values w) ≡ (v == w)) where
+    (exact : (v w : ℕ) → v < length values → w < length values
+    → value_eq (value_at values v) (value_at values w) ≡ (v == w)) where
   -- the pairs of two rows are the same exactly where their numbers are
   pub same_pair_coded : (a b : CodedRow) → IsCoded concepts types values a → IsCoded concepts types values b
       → pair_eq (pair_of (row_coded concepts types values a)) (pair_of (row_coded concepts types values b)) ≡ has_same_pair a b
-  same_pair_coded a b one other = λ i. same_type types once a.kind b.kind one.kind other.kind i && exact a.value b.value one.value other.value i
+  same_pair_coded a b one other = λ i. same_type types once a.type_place b.type_place one.type_place other.type_place i
+      && exact a.value b.value one.value other.value i
 
   -- and so are the rows of one concept, and of one group
   pub alike_coded : (a b : CodedRow) → IsCoded concepts types values a → IsCoded concepts types values b
       → is_alike (row_coded concepts types values a) (row_coded concepts types values b) ≡ ((a.source == b.source) && has_same_pair a b)
-  alike_coded a b one other = λ i. same_concept concepts rising a.source b.source one.source other.source i && same_pair_coded a b one other i
+  alike_coded a b one other = λ i. same_concept concepts rising a.source b.source one.source other.source i
+      && same_pair_coded a b one other i
 
   -- and so are those of one concept and one group
   pub alike_in_group_coded : (a b : CodedRow) → IsCoded concepts types values a → IsCoded concepts types values b
-      → is_alike_in_group (row_coded concepts types values a) (row_coded concepts types values b) ≡ ((a.group == b.group) && ((a.source == b.source) && has_same_pair a b))
+      → is_alike_in_group (row_coded concepts types values a) (row_coded concepts types values b)
+      ≡ ((a.group == b.group) && ((a.source == b.source) && has_same_pair a b))
   alike_in_group_coded a b one other = λ i. (a.group == b.group) && alike_coded a b one other i
 
   -- rows of numbers that stand for one row are one
-  pub same_coded : (a b : CodedRow) → IsCoded concepts types values a → IsCoded concepts types values b → row_coded concepts types values a ≡ row_coded concepts types values b → a ≡ b
+  pub same_coded : (a b : CodedRow) → IsCoded concepts types values a → IsCoded concepts types values b
+      → row_coded concepts types values a ≡ row_coded concepts types values b → a ≡ b
   same_coded a b one other same =
-      let source : a.source ≡ b.source = eqb-true a.source b.source (sym (same_concept concepts rising a.source b.source one.source other.source) ∙ eq-eqb _ _ (ap (λ (row : Attribute). row.source) same)) in
-      let kind : a.kind ≡ b.kind = eqb-true a.kind b.kind (sym (same_type types once a.kind b.kind one.kind other.kind) ∙ eq-eqb _ _ (ap (λ (row : Attribute). row.type_id) same)) in
-      let value : a.value ≡ b.value = eqb-true a.value b.value (sym (exact a.value b.value one.value other.value) ∙ (tells_same_value (value_at values a.value) (value_at values b.value)).1 (ap (λ (row : Attribute). row.value) same)) in
+      let source : a.source ≡ b.source = eqb-true a.source b.source
+      (sym (same_concept concepts rising a.source b.source one.source other.source)
+      ∙ eq-eqb _ _ (ap (λ (row : Attribute). row.source) same)) in
+      let type_place : a.type_place ≡ b.type_place =
+      eqb-true a.type_place b.type_place (sym (same_type types once a.type_place b.type_place one.type_place other.type_place)
+      ∙ eq-eqb _ _ (ap (λ (row : Attribute). row.type_id) same)) in
+      let value : a.value ≡ b.value = eqb-true a.value b.value
+      (sym (exact a.value b.value one.value other.value)
+      ∙ (tells_same_value (value_at values a.value) (value_at values b.value)).1 (ap (λ (row : Attribute). row.value) same)) in
       let group : a.group ≡ b.group = ap (λ (row : Attribute). row.group) same in
-      λ i. record { source = source i; kind = kind i; group = group i; value = value i }
+      λ i. record { source = source i; type_place = type_place i; group = group i; value = value i }
 
   -- and so are lists of them
   pub same_all_coded : (xs ys : List CodedRow) → All (IsCoded concepts types values) xs → All (IsCoded concepts types values) ys
@@ -69,6 +87,8 @@ module _ (concepts types : List ℕ) (values : List Value) (rising : IsStrictlyI
   same_all_coded (x ∷ xs) (y ∷ ys) near far same =
       let first : row_coded concepts types values x ≡ row_coded concepts types values y = cc in
       let others : map (row_coded concepts types values) xs ≡ map (row_coded concepts types values) ys = cc in
-      let here = same_coded x y (All-head (IsCoded concepts types values) x xs near) (All-head (IsCoded concepts types values) y ys far) first in
-      let rest = same_all_coded xs ys (All-tail (IsCoded concepts types values) x xs near) (All-tail (IsCoded concepts types values) y ys far) others in
+      let here = same_coded x y (All-head (IsCoded concepts types values) x xs near) (All-head (IsCoded concepts types values) y ys far)
+      first in
+      let rest = same_all_coded xs ys (All-tail (IsCoded concepts types values) x xs near)
+      (All-tail (IsCoded concepts types values) y ys far) others in
       λ i. here i ∷ rest i

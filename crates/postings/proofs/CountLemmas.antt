@@ -1,6 +1,7 @@
 -- The distinct pairs of a concept, of a group, and of the rows that have a concept as their value, by the entries that are first; and
 -- the groups of a concept, in whatever order they come.
-use Rattle.std.proofs.Common.{ℕ, ◌+◌, ◌==◌, ◌≡◌, ◌&&◌, ◌||◌, ◌↔◌, ◌++◌, ◌∷◌, [], ◌∙◌, not, List, get_or, map, Bool, true, false, cond, nat_eq, refl, sym, ap, arith, append-nil}
+use Rattle.std.proofs.Common.{ℕ, ◌+◌, ◌==◌, ◌≡◌, ◌&&◌, ◌||◌, ◌↔◌, ◌++◌, ◌∷◌, [], ◌∙◌, not}
+use Rattle.std.proofs.Common.{List, get_or, map, Bool, true, false, cond, nat_eq, refl, sym, ap, arith, append-nil}
 use Rattle.std.specs.Prelude.{All, Contains, count_by}
 use Rattle.std.specs.Cmp.{IsEquivalence, equiv}
 use Rattle.std.specs.List.{IsDistinct, filter, flat_map, list_any}
@@ -8,7 +9,8 @@ use Rattle.std.specs.List.Sorted.{IsStrictlyIncreasing}
 use Rattle.std.proofs.lemmas.Bool.{and_parts, eqb-true, ne_eqb}
 use Rattle.std.proofs.lemmas.Cmp.{nat_eq_equiv}
 use Rattle.std.proofs.lemmas.List.{map-append}
-use Rattle.std.proofs.lemmas.List.Elements.{All-append, All-contains, All-contains_itself, All-head, All-map, All-tail, All-weaker, Contains-get_or, filter_passes}
+use Rattle.std.proofs.lemmas.List.Elements.{All-append, All-contains, All-contains_itself, All-head, All-map, All-tail, All-weaker}
+use Rattle.std.proofs.lemmas.List.Elements.{Contains-get_or, filter_passes}
 use Rattle.std.proofs.lemmas.List.Folds.{fold-map, list_any_none}
 use Rattle.std.proofs.lemmas.List.Kept.{AllPairs-filter, AllPairs-from_increasing}
 use Rattle.std.proofs.lemmas.List.Sums.{length-filter, sum_by-append}
@@ -26,9 +28,11 @@ use Rattle.snapshot.specs.InForce.{has, rising}
 use Rattle.snapshot.proofs.PassedLemmas.{keeps_rising}
 use Rattle.ancestor_index.proofs.ClosureLemmas.{both_ways}
 use Rattle.postings.specs.Entries.{Entry, entries_of, is_alike, is_alike_in_group}
-use Rattle.postings.specs.Groups.{ConceptGroup, GroupKey, all_groups, groups_among, is_in_group, keys_of, numbered, pairs_of_group, rows_alone, ungrouped}
+use Rattle.postings.specs.Groups.{ConceptGroup, GroupKey, all_groups, groups_among, is_in_group, keys_of, numbered, pairs_of_group}
+use Rattle.postings.specs.Groups.{rows_alone, ungrouped}
 use Rattle.postings.proofs.AgainLemmas.{rows_of_again}
-use Rattle.postings.proofs.BlockLemmas.{All-flat_map, Contains-filter, any-filter, any-flat_map, any-map, any-within, filter-map, filter-none, filter-twice, flat_map-within}
+use Rattle.postings.proofs.BlockLemmas.{All-flat_map, Contains-filter, any-filter, any-flat_map, any-map, any-within, filter-map}
+use Rattle.postings.proofs.BlockLemmas.{filter-none, filter-twice, flat_map-within}
 use Rattle.postings.proofs.FirstLemmas.{firsts_give_distinct, pair_eq-flips}
 use Rattle.postings.proofs.KeyLemmas.{group_with, groups_at}
 use Rattle.postings.proofs.OnceLemmas.{All-distinct}
@@ -36,7 +40,8 @@ use Rattle.postings.proofs.OnceLemmas.{All-distinct}
 -- ---- counts of lists that have the same members, each once
 module _ {X : Type 0} (same : X → X → Bool) (laws : IsEquivalence same) (exact : (x y : X) → same x y ≡ true → x ≡ y) where
   -- an item is found in both lists or in neither
-  any_members : (xs ys : List X) → ((x : X) → Contains xs x ↔ Contains ys x) → (q : X) → list_any (same q) xs ≡ list_any (same q) ys
+  any_members : (xs ys : List X) → ((x : X) → Contains xs x ↔ Contains ys x) → (q : X)
+      → list_any (same q) xs ≡ list_any (same q) ys
   any_members xs ys members q =
       both_ways (list_any (same q) xs) (list_any (same q) ys)
       (λ told. list_any-from_Contains laws q ys ((members q).0 (Contains-from_any exact q xs told)))
@@ -69,10 +74,12 @@ module _ {X : Type 0} (same : X → X → Bool) (laws : IsEquivalence same) (exa
   -- what is left of items that stand once stands once
   kept_once : (test : X → Bool) (xs : List X) → IsDistinct same xs → IsDistinct same (filter test xs)
   kept_once test xs once =
-      IsDistinct-from_apart same (filter test xs) (AllPairs-filter (λ x y. same x y ≡ false) test xs (λ i j d less below. apart_from_distinct same xs i j d once less below))
+      IsDistinct-from_apart same (filter test xs) (AllPairs-filter (λ x y. same x y ≡ false) test xs
+      (λ i j d less below. apart_from_distinct same xs i j d once less below))
 
   -- as many of them pass a test
-  pub count_members : (test : X → Bool) (xs ys : List X) → IsDistinct same xs → IsDistinct same ys → ((x : X) → Contains xs x ↔ Contains ys x) → count_by test xs ≡ count_by test ys
+  pub count_members : (test : X → Bool) (xs ys : List X) → IsDistinct same xs → IsDistinct same ys
+      → ((x : X) → Contains xs x ↔ Contains ys x) → count_by test xs ≡ count_by test ys
   count_members test xs ys once also members =
       sym (length-filter test xs)
       ∙ length-from_same_keys laws (filter test xs) (filter test ys) (kept_once test xs once) (kept_once test ys also)
@@ -103,38 +110,50 @@ HasPair release concept (numbered number) = Unit {0}
 HasPair release concept (ungrouped pair) = Contains (pairs_in release concept 0) pair
 
 -- the groups of some concepts are of these, and have such pairs
-groups_have : (release : Release) (concepts : List ℕ) → All (λ (group : ConceptGroup). Contains concepts group.concept × HasPair release group.concept group.key) (groups_among release concepts)
+groups_have : (release : Release) (concepts : List ℕ)
+    → All (λ (group : ConceptGroup). Contains concepts group.concept × HasPair release group.concept group.key)
+    (groups_among release concepts)
 groups_have release concepts =
-    All-flat_map (λ (group : ConceptGroup). Contains concepts group.concept × HasPair release group.concept group.key) (groups_at release) concepts
-    (λ concept there. All-map (λ (group : ConceptGroup). Contains concepts group.concept × HasPair release group.concept group.key) (group_with concept) (keys_of release concept)
-    (All-weaker (HasPair release concept) (λ key. Contains concepts concept × HasPair release concept key) (λ key has_it. (there, has_it)) (keys_of release concept) (keys_have concept)))
+    All-flat_map (λ (group : ConceptGroup). Contains concepts group.concept × HasPair release group.concept group.key) (groups_at release)
+    concepts
+    (λ concept there. All-map (λ (group : ConceptGroup). Contains concepts group.concept × HasPair release group.concept group.key)
+    (group_with concept) (keys_of release concept)
+    (All-weaker (HasPair release concept) (λ key. Contains concepts concept × HasPair release concept key)
+    (λ key has_it. (there, has_it)) (keys_of release concept) (keys_have concept)))
   where
     keys_have : (concept : ℕ) → All (HasPair release concept) (keys_of release concept)
     keys_have concept =
-        All-append (HasPair release concept) (map numbered (rising (group_numbers release concept))) (map ungrouped (pairs_in release concept 0))
+        All-append (HasPair release concept) (map numbered (rising (group_numbers release concept)))
+        (map ungrouped (pairs_in release concept 0))
         (All-map (HasPair release concept) numbered (rising (group_numbers release concept)) (λ k d below. tt))
         (All-map (HasPair release concept) ungrouped (pairs_in release concept 0) (All-contains_itself (pairs_in release concept 0)))
 
 -- of items that are all one the distinct ones are that one
-distinct_one : (pairs : List Pair) (pair : Pair) → All (λ other. other ≡ pair) pairs → Contains pairs pair → distinct pair_eq pairs ≡ pair ∷ []
+distinct_one : (pairs : List Pair) (pair : Pair) → All (λ other. other ≡ pair) pairs → Contains pairs pair
+    → distinct pair_eq pairs ≡ pair ∷ []
 distinct_one [] pair all there = absurd (omega (arith, there.1))
 distinct_one (first ∷ pairs) pair all there =
     let is : first ≡ pair = All-head (λ other. other ≡ pair) first pairs all in
-    let others : All (λ other. other ≡ pair) (distinct pair_eq pairs) = All-distinct pair_eq (λ other. other ≡ pair) pairs (All-tail (λ other. other ≡ pair) first pairs all) in
+    let others : All (λ other. other ≡ pair) (distinct pair_eq pairs) =
+    All-distinct pair_eq (λ other. other ≡ pair) pairs (All-tail (λ other. other ≡ pair) first pairs all) in
     (λ i. is i ∷ filter-none (λ other. not (pair_eq first other)) (distinct pair_eq pairs)
-    (All-weaker (λ other. other ≡ pair) (λ other. not (pair_eq first other) ≡ false) (λ other same. ap not ((tells_same_pair first other).1 (is ∙ sym same))) (distinct pair_eq pairs) others) i)
+    (All-weaker (λ other. other ≡ pair) (λ other. not (pair_eq first other) ≡ false)
+    (λ other same. ap not ((tells_same_pair first other).1 (is ∙ sym same))) (distinct pair_eq pairs) others) i)
 
 module _ (concepts : List ℕ) (rows : List Attribute) where
   -- the pairs of the group with a key
   of_key : (concept : ℕ) (key : GroupKey) → HasPair (rows_alone concepts rows) concept key
       → pairs_of_group (rows_alone concepts rows) (group_with concept key)
-      ≡ map (λ (entry : Entry). pair_of entry.row) (filter (λ (entry : Entry). is_in_group (group_with concept key) entry.row && entry.is_first_in_group) (entries_of rows))
+      ≡ map (λ (entry : Entry). pair_of entry.row)
+      (filter (λ (entry : Entry). is_in_group (group_with concept key) entry.row && entry.is_first_in_group) (entries_of rows))
   of_key concept (numbered number) has_it =
-      ap (λ (own : List Attribute). distinct pair_eq (map pair_of own)) (filter-twice (λ (row : Attribute). row.group == number) (λ (row : Attribute). row.source == concept) rows)
+      ap (λ (own : List Attribute). distinct pair_eq (map pair_of own))
+      (filter-twice (λ (row : Attribute). row.group == number) (λ (row : Attribute). row.source == concept) rows)
       ∙ sym (firsts_give_distinct (λ (row : Attribute). (row.source == concept) && (row.group == number)) pair_of is_alike_in_group
       (λ row other is.
       let parts = and_parts (row.source == concept) (row.group == number) is in
-      (λ i. turned row.group other.group number (eqb-true row.group number parts.1) i && (turned row.source other.source concept (eqb-true row.source concept parts.0) i && pair_eq (pair_of row) (pair_of other)))
+      (λ i. turned row.group other.group number (eqb-true row.group number parts.1) i
+      && (turned row.source other.source concept (eqb-true row.source concept parts.0) i && pair_eq (pair_of row) (pair_of other)))
       ∙ order (other.group == number) (other.source == concept) (pair_eq (pair_of row) (pair_of other)))
       (λ (entry : Entry). entry.is_first_in_group) (λ row before. refl) rows)
     where
@@ -145,20 +164,24 @@ module _ (concepts : List ℕ) (rows : List Attribute) where
       order false false c = refl
   of_key concept (ungrouped pair) has_it =
       let own = filter (λ (row : Attribute). row.source == concept) rows in
-      let loose = filter (λ (row : Attribute). row.group == 0) own in
+      let ungrouped_own = filter (λ (row : Attribute). row.group == 0) own in
       let is_one : Pair → Bool = λ other. pair_eq other pair in
-      let there : Contains (map pair_of loose) pair = ((keeps_each_pair_once (map pair_of loose)).1 pair).0 has_it in
-      let kept : map pair_of (filter (λ (row : Attribute). (row.source == concept) && ((row.group == 0) && is_one (pair_of row))) rows) ≡ filter is_one (map pair_of loose) =
+      let there : Contains (map pair_of ungrouped_own) pair = ((keeps_each_pair_once (map pair_of ungrouped_own)).1 pair).0 has_it in
+      let kept : map pair_of (filter (λ (row : Attribute). (row.source == concept) && ((row.group == 0) && is_one (pair_of row))) rows)
+      ≡ filter is_one (map pair_of ungrouped_own) =
       ap (map pair_of)
-      (sym (filter-twice (λ (row : Attribute). (row.group == 0) && is_one (pair_of row)) (λ (row : Attribute). row.source == concept) rows)
+      (sym (filter-twice (λ (row : Attribute). (row.group == 0) && is_one (pair_of row)) (λ (row : Attribute). row.source == concept)
+      rows)
       ∙ sym (filter-twice (λ (row : Attribute). is_one (pair_of row)) (λ (row : Attribute). row.group == 0) own))
-      ∙ sym (filter-map is_one pair_of loose) in
-      sym (firsts_give_distinct (λ (row : Attribute). (row.source == concept) && ((row.group == 0) && is_one (pair_of row))) pair_of is_alike_in_group agree
+      ∙ sym (filter-map is_one pair_of ungrouped_own) in
+      sym (firsts_give_distinct (λ (row : Attribute). (row.source == concept) && ((row.group == 0) && is_one (pair_of row))) pair_of
+      is_alike_in_group agree
       (λ (entry : Entry). entry.is_first_in_group) (λ row before. refl) rows
       ∙ ap (distinct pair_eq) kept
-      ∙ distinct_one (filter is_one (map pair_of loose)) pair
-      (All-weaker (λ other. is_one other ≡ true) (λ other. other ≡ pair) (λ other told. same_pair other pair told) (filter is_one (map pair_of loose)) (filter_passes is_one (map pair_of loose)))
-      (Contains-filter is_one (map pair_of loose) pair ((tells_same_pair pair pair).1 refl) there))
+      ∙ distinct_one (filter is_one (map pair_of ungrouped_own)) pair
+      (All-weaker (λ other. is_one other ≡ true) (λ other. other ≡ pair) (λ other told. same_pair other pair told)
+      (filter is_one (map pair_of ungrouped_own)) (filter_passes is_one (map pair_of ungrouped_own)))
+      (Contains-filter is_one (map pair_of ungrouped_own) pair ((tells_same_pair pair pair).1 refl) there))
     where
       order : (a b c : Bool) → (a && (b && c)) ≡ ((b && (a && c)) && c)
       order true true true = refl
@@ -168,31 +191,41 @@ module _ (concepts : List ℕ) (rows : List Attribute) where
       order false false c = refl
 
       agree : (row other : Attribute) → ((row.source == concept) && ((row.group == 0) && pair_eq (pair_of row) pair)) ≡ true
-          → is_alike_in_group row other ≡ (((other.source == concept) && ((other.group == 0) && pair_eq (pair_of other) pair)) && pair_eq (pair_of row) (pair_of other))
+          → is_alike_in_group row other ≡ (((other.source == concept) && ((other.group == 0) && pair_eq (pair_of other) pair))
+          && pair_eq (pair_of row) (pair_of other))
       agree row other is =
           let parts = and_parts (row.source == concept) ((row.group == 0) && pair_eq (pair_of row) pair) is in
           let more = and_parts (row.group == 0) (pair_eq (pair_of row) pair) parts.1 in
           let same : pair_of row ≡ pair = same_pair (pair_of row) pair more.1 in
-          let test : pair_eq (pair_of row) (pair_of other) ≡ pair_eq (pair_of other) pair = ap (λ (one : Pair). pair_eq one (pair_of other)) same ∙ pair_eq-flips pair (pair_of other) in
-          (λ i. turned row.group other.group 0 (eqb-true row.group 0 more.0) i && (turned row.source other.source concept (eqb-true row.source concept parts.0) i && pair_eq (pair_of row) (pair_of other)))
+          let test : pair_eq (pair_of row) (pair_of other) ≡ pair_eq (pair_of other) pair =
+          ap (λ (one : Pair). pair_eq one (pair_of other)) same ∙ pair_eq-flips pair (pair_of other) in
+          (λ i. turned row.group other.group 0 (eqb-true row.group 0 more.0) i
+          && (turned row.source other.source concept (eqb-true row.source concept parts.0) i && pair_eq (pair_of row) (pair_of other)))
           ∙ order (other.group == 0) (other.source == concept) (pair_eq (pair_of row) (pair_of other))
           ∙ (λ i. ((other.source == concept) && ((other.group == 0) && test i)) && pair_eq (pair_of row) (pair_of other))
 
   -- the pairs of a group are those of its entries that are first in it
   pub first_entries_of_group_alone : (group : ConceptGroup) → Contains (all_groups (rows_alone concepts rows)) group
-      → pairs_of_group (rows_alone concepts rows) group ≡ map (λ (entry : Entry). pair_of entry.row) (filter (λ (entry : Entry). is_in_group group entry.row && entry.is_first_in_group) (entries_of rows))
+      → pairs_of_group (rows_alone concepts rows) group
+      ≡ map (λ (entry : Entry). pair_of entry.row)
+      (filter (λ (entry : Entry). is_in_group group entry.row && entry.is_first_in_group) (entries_of rows))
   first_entries_of_group_alone group there =
       of_key group.concept group.key
-      (All-contains (λ (group : ConceptGroup). Contains concepts group.concept × HasPair (rows_alone concepts rows) group.concept group.key) (all_groups (rows_alone concepts rows)) group (groups_have (rows_alone concepts rows) concepts) there).1
+      (All-contains (λ (group : ConceptGroup). Contains concepts group.concept
+      × HasPair (rows_alone concepts rows) group.concept group.key) (all_groups (rows_alone concepts rows)) group
+      (groups_have (rows_alone concepts rows) concepts) there).1
 
 module _ (release : Release) (increases : IsStrictlyIncreasing release.concepts) where
   -- the pairs of a concept are those of its entries that are first
   pub first_entries : (concept : ℕ) → Contains release.concepts concept
-      → out_pairs release concept ≡ map (λ (entry : Entry). pair_of entry.row) (filter (λ (entry : Entry). (entry.row.source == concept) && entry.is_first) (entries_of (attributes_by_source release)))
+      → out_pairs release concept ≡ map (λ (entry : Entry). pair_of entry.row)
+      (filter (λ (entry : Entry). (entry.row.source == concept) && entry.is_first) (entries_of (attributes_by_source release)))
   first_entries concept there =
-      ap (λ (rows : List Attribute). distinct pair_eq (map pair_of rows)) (sym (rows_of_again release increases (attributes_by_source release) refl concept there))
+      ap (λ (rows : List Attribute). distinct pair_eq (map pair_of rows))
+      (sym (rows_of_again release increases (attributes_by_source release) refl concept there))
       ∙ sym (firsts_give_distinct (λ (row : Attribute). row.source == concept) pair_of is_alike
-      (λ row other is i. turned row.source other.source concept (eqb-true row.source concept is) i && pair_eq (pair_of row) (pair_of other))
+      (λ row other is i. turned row.source other.source concept (eqb-true row.source concept is) i
+      && pair_eq (pair_of row) (pair_of other))
       (λ (entry : Entry). entry.is_first) (λ row before. refl) (attributes_by_source release))
 
   -- the groups of some of its concepts are those of its rows by source
@@ -200,11 +233,15 @@ module _ (release : Release) (increases : IsStrictlyIncreasing release.concepts)
       → groups_among (rows_alone release.concepts (attributes_by_source release)) concepts ≡ groups_among release concepts
   groups_again concepts among =
       flat_map-within (groups_at (rows_alone release.concepts (attributes_by_source release))) (groups_at release) concepts
-      (λ k d below. ap (map (group_with (get_or concepts k d))) (keys_again (get_or concepts k d) (among (get_or concepts k d) (Contains-get_or concepts k d below))))
+      (λ k d below. ap (map (group_with (get_or concepts k d)))
+      (keys_again (get_or concepts k d) (among (get_or concepts k d) (Contains-get_or concepts k d below))))
     where
-      keys_again : (concept : ℕ) → Contains release.concepts concept → keys_of (rows_alone release.concepts (attributes_by_source release)) concept ≡ keys_of release concept
+      keys_again : (concept : ℕ) → Contains release.concepts concept
+          → keys_of (rows_alone release.concepts (attributes_by_source release)) concept ≡ keys_of release concept
       keys_again concept there =
-          ap (λ (own : List Attribute). map numbered (rising (distinct nat_eq (filter (λ group. not (group == 0)) (map (λ (row : Attribute). row.group) own)))) ++ map ungrouped (distinct pair_eq (map pair_of (filter (λ (row : Attribute). row.group == 0) own))))
+          ap (λ (own : List Attribute). map numbered (rising
+          (distinct nat_eq (filter (λ group. not (group == 0)) (map (λ (row : Attribute). row.group) own))))
+          ++ map ungrouped (distinct pair_eq (map pair_of (filter (λ (row : Attribute). row.group == 0) own))))
           (rows_of_again release increases (attributes_by_source release) refl concept there)
 
   -- the groups of the release are those of its rows by source
@@ -212,30 +249,41 @@ module _ (release : Release) (increases : IsStrictlyIncreasing release.concepts)
   all_groups_again = groups_again release.concepts (λ concept there. there)
 
   -- and so are the pairs of a group of one of its concepts
-  pub pairs_of_group_again : (group : ConceptGroup) → Contains release.concepts group.concept → pairs_of_group (rows_alone release.concepts (attributes_by_source release)) group ≡ pairs_of_group release group
+  pub pairs_of_group_again : (group : ConceptGroup) → Contains release.concepts group.concept
+      → pairs_of_group (rows_alone release.concepts (attributes_by_source release)) group ≡ pairs_of_group release group
   pairs_of_group_again group there = by group.key
     where
-      by : (key : GroupKey) → pairs_of_group (rows_alone release.concepts (attributes_by_source release)) (group_with group.concept key) ≡ pairs_of_group release (group_with group.concept key)
+      by : (key : GroupKey) → pairs_of_group (rows_alone release.concepts (attributes_by_source release)) (group_with group.concept key)
+          ≡ pairs_of_group release (group_with group.concept key)
       by (numbered number) =
-          ap (λ (own : List Attribute). distinct pair_eq (map pair_of (filter (λ (row : Attribute). row.group == number) own))) (rows_of_again release increases (attributes_by_source release) refl group.concept there)
+          ap (λ (own : List Attribute). distinct pair_eq (map pair_of (filter (λ (row : Attribute). row.group == number) own)))
+          (rows_of_again release increases (attributes_by_source release) refl group.concept there)
       by (ungrouped pair) = refl
 
   -- the pairs of a group are those of its entries that are first in it
-  pub first_entries_of_group : (group : ConceptGroup) → Contains (all_groups (rows_alone release.concepts (attributes_by_source release))) group
+  pub first_entries_of_group : (group : ConceptGroup)
+      → Contains (all_groups (rows_alone release.concepts (attributes_by_source release))) group
       → pairs_of_group release group
-      ≡ map (λ (entry : Entry). pair_of entry.row) (filter (λ (entry : Entry). is_in_group group entry.row && entry.is_first_in_group) (entries_of (attributes_by_source release)))
+      ≡ map (λ (entry : Entry). pair_of entry.row)
+      (filter (λ (entry : Entry). is_in_group group entry.row && entry.is_first_in_group) (entries_of (attributes_by_source release)))
   first_entries_of_group group there =
-      sym (pairs_of_group_again group (in_release there).0) ∙ first_entries_of_group_alone release.concepts (attributes_by_source release) group there
+      sym (pairs_of_group_again group (in_release there).0)
+      ∙ first_entries_of_group_alone release.concepts (attributes_by_source release) group there
     where
-      in_release : Contains (all_groups (rows_alone release.concepts (attributes_by_source release))) group → Contains release.concepts group.concept × HasPair (rows_alone release.concepts (attributes_by_source release)) group.concept group.key
+      in_release : Contains (all_groups (rows_alone release.concepts (attributes_by_source release))) group
+          → Contains release.concepts group.concept × HasPair (rows_alone release.concepts (attributes_by_source release)) group.concept
+          group.key
       in_release there =
-          All-contains (λ (group : ConceptGroup). Contains release.concepts group.concept × HasPair (rows_alone release.concepts (attributes_by_source release)) group.concept group.key)
-          (all_groups (rows_alone release.concepts (attributes_by_source release))) group (groups_have (rows_alone release.concepts (attributes_by_source release)) release.concepts) there
+          All-contains (λ (group : ConceptGroup). Contains release.concepts group.concept
+          × HasPair (rows_alone release.concepts (attributes_by_source release)) group.concept group.key)
+          (all_groups (rows_alone release.concepts (attributes_by_source release))) group
+          (groups_have (rows_alone release.concepts (attributes_by_source release)) release.concepts) there
 
 -- ---- pairs read backwards
 
 -- a test passes for some of the rows by source where it does for some of the rows, if their sources are all concepts
-any_by_source : (test : Attribute → Bool) (concepts : List ℕ) (rows : List Attribute) → All (λ (row : Attribute). has concepts row.source ≡ true) rows
+any_by_source : (test : Attribute → Bool) (concepts : List ℕ) (rows : List Attribute)
+    → All (λ (row : Attribute). has concepts row.source ≡ true) rows
     → list_any test (flat_map (λ concept. filter (λ (row : Attribute). row.source == concept) rows) concepts) ≡ list_any test rows
 any_by_source test concepts rows known =
     any-flat_map test (λ concept. filter (λ (row : Attribute). row.source == concept) rows) concepts ∙ along rows known
@@ -261,41 +309,56 @@ any_by_source test concepts rows known =
         order false b c = refl
 
     one_more : (row : Attribute) (rows : List Attribute) (concept : ℕ)
-        → list_any test (filter (λ (row : Attribute). row.source == concept) (row ∷ rows)) ≡ (((row.source == concept) && test row) || list_any test (filter (λ (row : Attribute). row.source == concept) rows))
+        → list_any test (filter (λ (row : Attribute). row.source == concept) (row ∷ rows))
+        ≡ (((row.source == concept) && test row) || list_any test (filter (λ (row : Attribute). row.source == concept) rows))
     one_more row rows concept =
-        elim (row.source == concept) as (λ b. list_any test (cond b (row ∷ filter (λ (row : Attribute). row.source == concept) rows) (filter (λ (row : Attribute). row.source == concept) rows)) ≡ ((b && test row) || list_any test (filter (λ (row : Attribute). row.source == concept) rows)))
+        elim (row.source == concept) as (λ b. list_any test
+        (cond b (row ∷ filter (λ (row : Attribute). row.source == concept) rows)
+        (filter (λ (row : Attribute). row.source == concept) rows))
+        ≡ ((b && test row) || list_any test (filter (λ (row : Attribute). row.source == concept) rows)))
         [ true ↦ refl | false ↦ refl ]
 
-    along : (rows : List Attribute) → All (λ (row : Attribute). has concepts row.source ≡ true) rows → list_any (λ concept. list_any test (filter (λ (row : Attribute). row.source == concept) rows)) concepts ≡ list_any test rows
+    along : (rows : List Attribute) → All (λ (row : Attribute). has concepts row.source ≡ true) rows
+        → list_any (λ concept. list_any test (filter (λ (row : Attribute). row.source == concept) rows)) concepts ≡ list_any test rows
     along [] known = list_any_none (λ concept. false) concepts (λ k d below. refl)
     along (row ∷ rows) known =
         let here : has concepts row.source ≡ true = All-head (λ (row : Attribute). has concepts row.source ≡ true) row rows known in
         let rest = along rows (All-tail (λ (row : Attribute). has concepts row.source ≡ true) row rows known) in
         any-within (λ concept. list_any test (filter (λ (row : Attribute). row.source == concept) (row ∷ rows)))
-        (λ concept. ((row.source == concept) && test row) || list_any test (filter (λ (row : Attribute). row.source == concept) rows)) concepts (λ k d below. one_more row rows (get_or concepts k d))
-        ∙ both (λ concept. (row.source == concept) && test row) (λ concept. list_any test (filter (λ (row : Attribute). row.source == concept) rows)) concepts
+        (λ concept. ((row.source == concept) && test row) || list_any test (filter (λ (row : Attribute). row.source == concept) rows))
+        concepts (λ k d below. one_more row rows (get_or concepts k d))
+        ∙ both (λ concept. (row.source == concept) && test row)
+        (λ concept. list_any test (filter (λ (row : Attribute). row.source == concept) rows)) concepts
         ∙ (λ i. with (λ concept. row.source == concept) (test row) concepts i || rest i)
         ∙ (λ i. (here i && test row) || list_any test rows)
 
 -- the distinct pairs of some rows, where a test passes for some of them exactly where it does for some of others
-same_pairs : (one other : List Pair) → ((test : Pair → Bool) → list_any test one ≡ list_any test other) → (pair : Pair) → Contains (distinct pair_eq one) pair ↔ Contains (distinct pair_eq other) pair
+same_pairs : (one other : List Pair) → ((test : Pair → Bool) → list_any test one ≡ list_any test other) → (pair : Pair)
+    → Contains (distinct pair_eq one) pair ↔ Contains (distinct pair_eq other) pair
 same_pairs one other same pair = (across one other same, across other one (λ test. sym (same test)))
   where
-    across : (one other : List Pair) → ((test : Pair → Bool) → list_any test one ≡ list_any test other) → Contains (distinct pair_eq one) pair → Contains (distinct pair_eq other) pair
+    across : (one other : List Pair) → ((test : Pair → Bool) → list_any test one ≡ list_any test other)
+        → Contains (distinct pair_eq one) pair → Contains (distinct pair_eq other) pair
     across one other same there =
         ((keeps_each_pair_once other).1 pair).1
-        (Contains-from_any same_pair pair other (sym (same (pair_eq pair)) ∙ list_any-from_Contains pair_eq_equiv pair one (((keeps_each_pair_once one).1 pair).0 there)))
+        (Contains-from_any same_pair pair other (sym (same (pair_eq pair))
+        ∙ list_any-from_Contains pair_eq_equiv pair one (((keeps_each_pair_once one).1 pair).0 there)))
 
 -- as many pairs of the rows that have a concept as their value pass a test as of the entries of these that are first
-pub back_count : (release : Release) → All (λ (row : Attribute). has release.concepts row.source ≡ true) release.attributes → (test : Pair → Bool) (concept : ℕ)
+pub back_count : (release : Release) → All (λ (row : Attribute). has release.concepts row.source ≡ true) release.attributes
+    → (test : Pair → Bool) (concept : ℕ)
     → count_by test (in_pairs release concept)
-    ≡ count_by test (map (λ (entry : Entry). reverse_pair_of entry.row) (filter (λ (entry : Entry). value_eq entry.row.value (concept_value concept) && entry.is_first) (entries_of (attributes_by_source release))))
+    ≡ count_by test (map (λ (entry : Entry). reverse_pair_of entry.row)
+    (filter (λ (entry : Entry). value_eq entry.row.value (concept_value concept) && entry.is_first)
+    (entries_of (attributes_by_source release))))
 back_count release known test concept =
-    count_members pair_eq pair_eq_equiv same_pair test (distinct pair_eq (back release.attributes)) (distinct pair_eq (back (attributes_by_source release)))
+    count_members pair_eq pair_eq_equiv same_pair test (distinct pair_eq (back release.attributes))
+    (distinct pair_eq (back (attributes_by_source release)))
     (keeps_each_pair_once (back release.attributes)).0 (keeps_each_pair_once (back (attributes_by_source release))).0
     (same_pairs (back release.attributes) (back (attributes_by_source release)) same)
     ∙ ap (count_by test)
-    (sym (firsts_give_distinct pick reverse_pair_of is_alike agree (λ (entry : Entry). entry.is_first) (λ row before. refl) (attributes_by_source release)))
+    (sym (firsts_give_distinct pick reverse_pair_of is_alike agree (λ (entry : Entry). entry.is_first) (λ row before. refl)
+    (attributes_by_source release)))
   where
     pick : Attribute → Bool
     pick row = value_eq row.value (concept_value concept)
@@ -303,7 +366,8 @@ back_count release known test concept =
     back : List Attribute → List Pair
     back rows = map reverse_pair_of (filter pick rows)
 
-    any_back : (test : Pair → Bool) (rows : List Attribute) → list_any test (back rows) ≡ list_any (λ row. pick row && test (reverse_pair_of row)) rows
+    any_back : (test : Pair → Bool) (rows : List Attribute)
+        → list_any test (back rows) ≡ list_any (λ row. pick row && test (reverse_pair_of row)) rows
     any_back test rows = any-map test reverse_pair_of (filter pick rows) ∙ any-filter (λ row. test (reverse_pair_of row)) pick rows
 
     same : (test : Pair → Bool) → list_any test (back release.attributes) ≡ list_any test (back (attributes_by_source release))
@@ -322,10 +386,12 @@ back_count release known test concept =
     order false false true = refl
     order false false false = refl
 
-    agree : (row other : Attribute) → pick row ≡ true → is_alike row other ≡ (pick other && pair_eq (reverse_pair_of row) (reverse_pair_of other))
+    agree : (row other : Attribute) → pick row ≡ true
+        → is_alike row other ≡ (pick other && pair_eq (reverse_pair_of row) (reverse_pair_of other))
     agree row other is =
         let value : row.value ≡ concept_value concept = (tells_same_value row.value (concept_value concept)).0 is in
-        let turned_value : value_eq row.value other.value ≡ pick other = ap (λ one. value_eq one other.value) value ∙ value_flips (concept_value concept) other.value in
+        let turned_value : value_eq row.value other.value ≡ pick other = ap (λ one. value_eq one other.value) value
+        ∙ value_flips (concept_value concept) other.value in
         (λ i. (row.source == other.source) && ((row.type_id == other.type_id) && turned_value i))
         ∙ order (row.source == other.source) (row.type_id == other.type_id) (pick other)
       where
@@ -338,11 +404,13 @@ back_count release known test concept =
 -- ---- the groups of a concept
 
 -- the numbers of a list in rising order are the distinct ones, so as many pass a test
-count_rising : (test : ℕ → Bool) (numbers : List ℕ) → IsDistinct nat_eq numbers → count_by test (rising numbers) ≡ count_by test numbers
+count_rising : (test : ℕ → Bool) (numbers : List ℕ) → IsDistinct nat_eq numbers
+    → count_by test (rising numbers) ≡ count_by test numbers
 count_rising test numbers once =
     count_members nat_eq nat_eq_equiv (λ x y told. eqb-true x y told) test (rising numbers) numbers
     (IsDistinct-from_apart nat_eq (rising numbers) (λ i j d less below. ne_eqb (get_or (rising numbers) i d) (get_or (rising numbers) j d)
-    (λ same. let up = AllPairs-from_increasing (rising numbers) (keeps_rising numbers).0 i j d less below in absurd (omega (arith, up, same)))))
+    (λ same. let up = AllPairs-from_increasing (rising numbers) (keeps_rising numbers).0 i j d less below in
+    absurd (omega (arith, up, same)))))
     once
     (keeps_rising numbers).1
 

@@ -1,45 +1,45 @@
 -- The distinct items of lists that grow at their end.
-use Rattle.std.proofs.Common.{ℕ, ◌+◌, ◌≡◌, ◌≤◌, ◌<◌, ◌&&◌, ◌||◌, ◌++◌, ◌∷◌, [], ◌∙◌, Bool, true, false, cond, not, List, length, get_or, map, take, refl, sym, ap, arith, append-nil}
+use Rattle.std.proofs.Common.{ℕ, ◌+◌, ◌≡◌, ◌≤◌, ◌<◌, ◌&&◌, ◌||◌, ◌++◌, ◌∷◌, [], ◌∙◌, Bool}
+use Rattle.std.proofs.Common.{true, false, cond, not, List, length, get_or, map, take, refl, sym, ap, arith, append-nil}
 use Rattle.std.specs.Prelude.{All}
 use Rattle.std.specs.Cmp.{IsEquivalence}
 use Rattle.std.specs.List.{filter, list_any, position_or_len}
 use Rattle.std.proofs.lemmas.List.{map_more}
 use Rattle.std.proofs.lemmas.List.Elements.{All-cons, All-filter, All-head, All-tail, All-weaker, filter-append, filter_agree}
 use Rattle.std.proofs.lemmas.List.Sums.{count_by-le-length, length-filter}
-use Rattle.std.proofs.lemmas.Map.Views.{any-filter_same}
 use Rattle.indexmap.specs.IndexSet.{insert_key}
 use Rattle.rf2_rows.specs.Pairs.{distinct}
+use Rattle.rf2_rows.proofs.DistinctLemmas.{any_distinct}
+use Rattle.postings.proofs.BlockLemmas.{filter-twice}
 
 -- ---- lists, tests and places
 module _ {X : Type 0} where
-  -- what passes two tests, one after the other, passes both
-  pub filter-filter : (one other : X → Bool) (xs : List X) → filter one (filter other xs) ≡ filter (λ x. other x && one x) xs
-  filter-filter one other [] = refl
-  filter-filter one other (x ∷ xs) =
-      let rest = filter-filter one other xs in
-      elim (other x) as (λ b. filter one (cond b (x ∷ filter other xs) (filter other xs)) ≡ cond (b && one x) (x ∷ filter (λ x. other x && one x) xs) (filter (λ x. other x && one x) xs))
-      [ true ↦ (λ i. cond (one x) (x ∷ rest i) (rest i)) | false ↦ rest ]
-
   -- of what is made of items, what passes is made of the items that pass, where the tests agree on them
-  pub filter-map_agree : {Y : Type 0} (f : Y → X) (one : X → Bool) (other : Y → Bool) (ys : List Y) → All (λ y. one (f y) ≡ other y) ys → filter one (map f ys) ≡ map f (filter other ys)
+  pub filter-map_agree : {Y : Type 0} (f : Y → X) (one : X → Bool) (other : Y → Bool) (ys : List Y)
+      → All (λ y. one (f y) ≡ other y) ys → filter one (map f ys) ≡ map f (filter other ys)
   filter-map_agree f one other [] agree = refl
   filter-map_agree f one other (y ∷ ys) agree =
       let rest = filter-map_agree f one other ys (All-tail (λ y. one (f y) ≡ other y) y ys agree) in
       (λ i. cond (All-head (λ y. one (f y) ≡ other y) y ys agree i) (f y ∷ rest i) (rest i))
-      ∙ (elim (other y) as (λ b. cond b (f y ∷ map f (filter other ys)) (map f (filter other ys)) ≡ map f (cond b (y ∷ filter other ys) (filter other ys))) [ true ↦ refl | false ↦ refl ])
+      ∙ (elim (other y) as (λ b. cond b (f y ∷ map f (filter other ys)) (map f (filter other ys))
+      ≡ map f (cond b (y ∷ filter other ys) (filter other ys))) [ true ↦ refl | false ↦ refl ])
 
   -- where an item of a list passes, the first that does stays where it is when the list grows
-  pub position_or_len-append_found : (test : X → Bool) (xs ys : List X) → list_any test xs ≡ true → position_or_len test (xs ++ ys) ≡ position_or_len test xs
+  pub position_or_len-append_found : (test : X → Bool) (xs ys : List X) → list_any test xs ≡ true
+      → position_or_len test (xs ++ ys) ≡ position_or_len test xs
   position_or_len-append_found test [] ys found = absurd (cc)
   position_or_len-append_found test (x ∷ xs) ys found =
-      (elim (test x) as (λ b. (b || list_any test xs) ≡ true → cond (not b) (1 + position_or_len test (xs ++ ys)) 0 ≡ cond (not b) (1 + position_or_len test xs) 0)
+      (elim (test x) as (λ b. (b || list_any test xs) ≡ true
+      → cond (not b) (1 + position_or_len test (xs ++ ys)) 0 ≡ cond (not b) (1 + position_or_len test xs) 0)
       [ true ↦ (λ _. refl) | false ↦ (λ rest. ap (λ n. 1 + n) (position_or_len-append_found test xs ys rest)) ]) found
 
   -- where no item of a list passes, the place behind the list is that of an item that does
-  pub position_or_len-append_none : (test : X → Bool) (xs : List X) (y : X) (ys : List X) → list_any test xs ≡ false → test y ≡ true → position_or_len test (xs ++ y ∷ ys) ≡ position_or_len test xs
+  pub position_or_len-append_none : (test : X → Bool) (xs : List X) (y : X) (ys : List X) → list_any test xs ≡ false
+      → test y ≡ true → position_or_len test (xs ++ y ∷ ys) ≡ position_or_len test xs
   position_or_len-append_none test [] y ys none here = ap (λ b. cond (not b) (1 + position_or_len test ys) 0) here
   position_or_len-append_none test (x ∷ xs) y ys none here =
-      (elim (test x) as (λ b. (b || list_any test xs) ≡ false → cond (not b) (1 + position_or_len test (xs ++ y ∷ ys)) 0 ≡ cond (not b) (1 + position_or_len test xs) 0)
+      (elim (test x) as (λ b. (b || list_any test xs) ≡ false
+      → cond (not b) (1 + position_or_len test (xs ++ y ∷ ys)) 0 ≡ cond (not b) (1 + position_or_len test xs) 0)
       [ true ↦ (λ _. refl) | false ↦ (λ rest. ap (λ n. 1 + n) (position_or_len-append_none test xs y ys rest here)) ]) none
 
 -- what all items have, all distinct items have
@@ -51,8 +51,9 @@ All-distinct same P (x ∷ xs) all =
 
 -- ---- distinct items
 module _ {X : Type 0} (same : X → X → Bool) where
-  -- the distinct items of two lists, one behind the other: those of the first, and those of the second that are not the same as one of the first
-  pub distinct-append : (xs ys : List X) → distinct same (xs ++ ys) ≡ distinct same xs ++ filter (λ y. not (list_any (λ x. same x y) xs)) (distinct same ys)
+  -- the distinct items of two lists, one behind the other: of the second those that are not the same as one of the first
+  pub distinct-append : (xs ys : List X) → distinct same (xs ++ ys)
+      ≡ distinct same xs ++ filter (λ y. not (list_any (λ x. same x y) xs)) (distinct same ys)
   distinct-append [] ys = sym (all (distinct same ys))
     where
       all : (zs : List X) → filter (λ _. true) zs ≡ zs
@@ -63,7 +64,7 @@ module _ {X : Type 0} (same : X → X → Bool) where
       let behind : X → Bool = λ y. not (list_any (λ x. same x y) xs) in
       let new : X → Bool = λ y. not (same x y || list_any (λ x. same x y) xs) in
       let left : filter other (filter behind (distinct same ys)) ≡ filter new (distinct same ys) =
-      filter-filter other behind (distinct same ys)
+      filter-twice other behind (distinct same ys)
       ∙ filter_agree (λ y. behind y && other y) new (λ y. neither (same x y) (list_any (λ x. same x y) xs)) (distinct same ys) in
       let rest : filter other (distinct same (xs ++ ys)) ≡ filter other (distinct same xs) ++ filter new (distinct same ys) =
       ap (filter other) (distinct-append xs ys)
@@ -81,37 +82,29 @@ module _ {X : Type 0} (same : X → X → Bool) where
   pub length-distinct : (xs : List X) → length (distinct same xs) ≤ length xs
   length-distinct [] = omega arith
   length-distinct (x ∷ xs) =
-      omega (arith, length-filter (λ y. not (same x y)) (distinct same xs), count_by-le-length (λ y. not (same x y)) (distinct same xs), length-distinct xs)
+      omega (
+        arith,
+        length-filter (λ y. not (same x y)) (distinct same xs),
+        count_by-le-length (λ y. not (same x y)) (distinct same xs),
+        length-distinct xs,
+      )
 
   -- of what is made of items, the distinct ones are made of the distinct items, where the tests agree on items that have what all have
-  pub distinct-map : {Y : Type 0} (f : Y → X) (alike : Y → Y → Bool) (P : Y → Type 0) → ((a b : Y) → P a → P b → same (f a) (f b) ≡ alike a b)
+  pub distinct-map : {Y : Type 0} (f : Y → X) (alike : Y → Y → Bool) (P : Y → Type 0)
+      → ((a b : Y) → P a → P b → same (f a) (f b) ≡ alike a b)
       → (ys : List Y) → All P ys → distinct same (map f ys) ≡ map f (distinct alike ys)
   distinct-map f alike P told [] all = refl
   distinct-map f alike P told (y ∷ ys) all =
       let rest = All-tail P y ys all in
-      let agree = All-weaker P (λ z. not (same (f y) (f z)) ≡ not (alike y z)) (λ z has. ap not (told y z (All-head P y ys all) has)) (distinct alike ys) (All-distinct alike P ys rest) in
-      let behind : filter (λ x. not (same (f y) x)) (distinct same (map f ys)) ≡ map f (filter (λ z. not (alike y z)) (distinct alike ys)) =
+      let agree = All-weaker P (λ z. not (same (f y) (f z)) ≡ not (alike y z)) (λ z has. ap not (told y z (All-head P y ys all) has))
+      (distinct alike ys) (All-distinct alike P ys rest) in
+      let behind : filter (λ x. not (same (f y) x)) (distinct same (map f ys))
+      ≡ map f (filter (λ z. not (alike y z)) (distinct alike ys)) =
       ap (filter (λ x. not (same (f y) x))) (distinct-map f alike P told ys rest)
       ∙ filter-map_agree f (λ x. not (same (f y) x)) (λ z. not (alike y z)) (distinct alike ys) agree in
       ap (λ zs. f y ∷ zs) behind
 
   module _ (is : IsEquivalence same) where
-    -- an item that is the same as one that is not the same as x stays beside x
-    beside : (q x k : X) → same q x ≡ false → same q k ≡ true → not (same x k) ≡ true
-    beside q x k apart alike = ap not (is.symm x k ∙ sym (is.congr q k x alike) ∙ apart)
-
-    -- what is found behind x stays to be found, unless x itself is found
-    found_behind : (q x : X) (xs : List X) (b : Bool) → same q x ≡ b → list_any (same q) (distinct same xs) ≡ list_any (same q) xs
-        → (b || list_any (same q) (filter (λ z. not (same x z)) (distinct same xs))) ≡ (b || list_any (same q) xs)
-    found_behind q x xs true here rest = refl
-    found_behind q x xs false here rest =
-        any-filter_same (same q) (λ z. not (same x z)) true (λ k alike. beside q x k here alike) (distinct same xs) ∙ rest
-
-    -- an item is the same as one of the distinct items exactly where it is the same as one of all
-    pub any-distinct : (q : X) (xs : List X) → list_any (same q) (distinct same xs) ≡ list_any (same q) xs
-    any-distinct q [] = refl
-    any-distinct q (x ∷ xs) = found_behind q x xs (same q x) refl (any-distinct q xs)
-
     -- an item is the same as one of a list in either order
     pub any-turned : (q : X) (xs : List X) → list_any (λ x. same x q) xs ≡ list_any (same q) xs
     any-turned q [] = refl
@@ -121,27 +114,32 @@ module _ {X : Type 0} (same : X → X → Bool) where
     pub distinct-more : (xs : List X) (x : X) → distinct same (xs ++ x ∷ []) ≡ insert_key same (distinct same xs) x
     distinct-more xs x =
         distinct-append xs (x ∷ [])
-        ∙ (λ i. distinct same xs ++ cond (not ((any-turned x xs ∙ sym (any-distinct x xs)) i)) (x ∷ []) [])
-        ∙ (elim (list_any (same x) (distinct same xs)) as (λ b. distinct same xs ++ cond (not b) (x ∷ []) [] ≡ cond b (distinct same xs) (distinct same xs ++ x ∷ []))
+        ∙ (λ i. distinct same xs ++ cond (not ((any-turned x xs ∙ sym (any_distinct same is x xs)) i)) (x ∷ []) [])
+        ∙ (elim (list_any (same x) (distinct same xs)) as (λ b. distinct same xs ++ cond (not b) (x ∷ []) []
+        ≡ cond b (distinct same xs) (distinct same xs ++ x ∷ []))
         [ true ↦ append-nil (distinct same xs) | false ↦ refl ])
 
     -- the same for what is made of the items up to behind a place
     pub distinct-map_more : {Y : Type 0} (f : Y → X) (ys : List Y) (i : ℕ) (d : Y) → i < length ys
         → distinct same (map f (take (i + 1) ys)) ≡ insert_key same (distinct same (map f (take i ys))) (f (get_or ys i d))
-    distinct-map_more f ys i d within = ap (distinct same) (map_more f ys i d within) ∙ distinct-more (map f (take i ys)) (f (get_or ys i d))
+    distinct-map_more f ys i d within = ap (distinct same) (map_more f ys i d within)
+        ∙ distinct-more (map f (take i ys)) (f (get_or ys i d))
 
     -- the place at which an item is put stays its place among the distinct items, whatever comes behind it
-    pub position-distinct : (xs : List X) (x : X) (ys : List X) → position_or_len (same x) (distinct same (xs ++ x ∷ ys)) ≡ position_or_len (same x) (distinct same xs)
+    pub position-distinct : (xs : List X) (x : X) (ys : List X)
+        → position_or_len (same x) (distinct same (xs ++ x ∷ ys)) ≡ position_or_len (same x) (distinct same xs)
     position-distinct xs x ys =
         ap (position_or_len (same x)) (distinct-append xs (x ∷ ys)) ∙ by (list_any (same x) (distinct same xs)) refl
       where
         new : X → Bool
         new y = not (list_any (λ x. same x y) xs)
 
-        by : (b : Bool) → list_any (same x) (distinct same xs) ≡ b → position_or_len (same x) (distinct same xs ++ filter new (distinct same (x ∷ ys))) ≡ position_or_len (same x) (distinct same xs)
+        by : (b : Bool) → list_any (same x) (distinct same xs) ≡ b
+            → position_or_len (same x) (distinct same xs ++ filter new (distinct same (x ∷ ys)))
+            ≡ position_or_len (same x) (distinct same xs)
         by true found = position_or_len-append_found (same x) (distinct same xs) (filter new (distinct same (x ∷ ys))) found
         by false none =
-            let first : new x ≡ true = ap not (any-turned x xs ∙ sym (any-distinct x xs) ∙ none) in
+            let first : new x ≡ true = ap not (any-turned x xs ∙ sym (any_distinct same is x xs) ∙ none) in
             let rest : List X = filter new (filter (λ y. not (same x y)) (distinct same ys)) in
             (λ i. position_or_len (same x) (distinct same xs ++ cond (first i) (x ∷ rest) rest))
             ∙ position_or_len-append_none (same x) (distinct same xs) x rest none (is.refl x)

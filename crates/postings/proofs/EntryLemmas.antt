@@ -14,21 +14,29 @@ rows_of_entries before [] = refl
 rows_of_entries before (row ∷ rows) = ap (λ (rest : List Attribute). row ∷ rest) (rows_of_entries (before ++ row ∷ []) rows)
 
 -- they say which rows are the first with their pair in their concept
-pub firsts_of_entries : (before rows : List Attribute) → map (λ (entry : Entry). entry.is_first) (entries_after before rows) ≡ flags_after is_alike before rows
+pub firsts_of_entries : (before rows : List Attribute)
+    → map (λ (entry : Entry). entry.is_first) (entries_after before rows) ≡ flags_after is_alike before rows
 firsts_of_entries before [] = refl
-firsts_of_entries before (row ∷ rows) = ap (λ (rest : List Bool). not (list_any (is_alike row) before) ∷ rest) (firsts_of_entries (before ++ row ∷ []) rows)
+firsts_of_entries before (row ∷ rows) = ap (λ (rest : List Bool). not (list_any (is_alike row) before) ∷ rest)
+    (firsts_of_entries (before ++ row ∷ []) rows)
 
 -- and which are in their group
-pub firsts_in_group : (before rows : List Attribute) → map (λ (entry : Entry). entry.is_first_in_group) (entries_after before rows) ≡ flags_after is_alike_in_group before rows
+pub firsts_in_group : (before rows : List Attribute)
+    → map (λ (entry : Entry). entry.is_first_in_group) (entries_after before rows) ≡ flags_after is_alike_in_group before rows
 firsts_in_group before [] = refl
-firsts_in_group before (row ∷ rows) = ap (λ (rest : List Bool). not (list_any (is_alike_in_group row) before) ∷ rest) (firsts_in_group (before ++ row ∷ []) rows)
+firsts_in_group before (row ∷ rows) = ap (λ (rest : List Bool). not (list_any (is_alike_in_group row) before) ∷ rest)
+    (firsts_in_group (before ++ row ∷ []) rows)
 
 -- marks have the numbers of their rows
-pub numbers_of_marks : (same : CodedRow → CodedRow → Bool) (number : CodedRow → ℕ) (before rows : List CodedRow) → map (λ (mark : Mark). mark.number) (marks_after same number before rows) ≡ map number rows
+pub numbers_of_marks : (same : CodedRow → CodedRow → Bool) (number : CodedRow → ℕ) (before rows : List CodedRow)
+    → map (λ (mark : Mark). mark.number) (marks_after same number before rows) ≡ map number rows
 numbers_of_marks same number before [] = refl
-numbers_of_marks same number before (row ∷ rows) = ap (λ (rest : List ℕ). number row ∷ rest) (numbers_of_marks same number (before ++ row ∷ []) rows)
+numbers_of_marks same number before (row ∷ rows) =
+    ap (λ (rest : List ℕ). number row ∷ rest) (numbers_of_marks same number (before ++ row ∷ []) rows)
 
 -- and say which rows are the first of those that are the same
-pub firsts_of_marks : (same : CodedRow → CodedRow → Bool) (number : CodedRow → ℕ) (before rows : List CodedRow) → map (λ (mark : Mark). mark.is_first) (marks_after same number before rows) ≡ flags_after same before rows
+pub firsts_of_marks : (same : CodedRow → CodedRow → Bool) (number : CodedRow → ℕ) (before rows : List CodedRow)
+    → map (λ (mark : Mark). mark.is_first) (marks_after same number before rows) ≡ flags_after same before rows
 firsts_of_marks same number before [] = refl
-firsts_of_marks same number before (row ∷ rows) = ap (λ (rest : List Bool). not (list_any (same row) before) ∷ rest) (firsts_of_marks same number (before ++ row ∷ []) rows)
+firsts_of_marks same number before (row ∷ rows) =
+    ap (λ (rest : List Bool). not (list_any (same row) before) ∷ rest) (firsts_of_marks same number (before ++ row ∷ []) rows)

@@ -1,6 +1,7 @@
 -- The first of the items that are the same are the distinct items of a list, and of the rows that pass a test those that entries call
 -- first give the distinct pairs.
-use Rattle.std.proofs.Common.{◌≡◌, ◌&&◌, ◌||◌, ◌++◌, ◌∷◌, [], ◌∙◌, not, List, map, Bool, true, false, cond, refl, sym, ap, append-nil}
+use Rattle.std.proofs.Common.{◌≡◌, ◌&&◌, ◌||◌, ◌++◌, ◌∷◌, [], ◌∙◌, not, List, map, Bool, true, false, cond}
+use Rattle.std.proofs.Common.{refl, sym, ap, append-nil}
 use Rattle.std.specs.List.{filter, list_any}
 use Rattle.std.proofs.lemmas.List.{map-append}
 use Rattle.std.proofs.lemmas.List.Elements.{filter-append, filter_agree}
@@ -23,9 +24,11 @@ module _ {X : Type 0} (same : X → X → Bool) (flips : (x y : X) → same x y 
   firsts_kept : (before xs : List X) → firsts_after same before xs ≡ filter (λ x. not (list_any (same x) before)) (distinct same xs)
   firsts_kept before [] = refl
   firsts_kept before (x ∷ xs) =
-      let rest : firsts_after same (before ++ x ∷ []) xs ≡ filter (λ y. not (list_any (same y) before)) (filter (λ y. not (same x y)) (distinct same xs)) =
+      let rest : firsts_after same (before ++ x ∷ []) xs
+      ≡ filter (λ y. not (list_any (same y) before)) (filter (λ y. not (same x y)) (distinct same xs)) =
       firsts_kept (before ++ x ∷ []) xs
-      ∙ filter_agree (λ y. not (list_any (same y) (before ++ x ∷ []))) (λ y. not (same x y) && not (list_any (same y) before)) (λ y. test y) (distinct same xs)
+      ∙ filter_agree (λ y. not (list_any (same y) (before ++ x ∷ []))) (λ y. not (same x y) && not (list_any (same y) before))
+      (λ y. test y) (distinct same xs)
       ∙ sym (filter-twice (λ y. not (list_any (same y) before)) (λ y. not (same x y)) (distinct same xs)) in
       λ i. cond (not (list_any (same x) before)) (x ∷ rest i) (rest i)
     where
@@ -56,10 +59,17 @@ pair_eq-flips one other =
 module _ (pick : Attribute → Bool) (give : Attribute → Pair) (alike : Attribute → Attribute → Bool)
     (agree : (row other : Attribute) → pick row ≡ true → alike row other ≡ (pick other && pair_eq (give row) (give other)))
     (first : Entry → Bool)
-    (says : (row : Attribute) (before : List Attribute) → first (record { row = row; is_first = not (list_any (is_alike row) before); is_first_in_group = not (list_any (is_alike_in_group row) before) }) ≡ not (list_any (alike row) before)) where
+    (says : (row : Attribute) (before : List Attribute)
+    → first (record {
+      row = row;
+      is_first = not (list_any (is_alike row) before);
+      is_first_in_group =
+          not (list_any (is_alike_in_group row) before);
+    }) ≡ not (list_any (alike row) before)) where
   -- behind other rows the first of them have the pairs that are first behind the pairs of those
   firsts_behind : (before rows : List Attribute)
-      → map (λ (entry : Entry). give entry.row) (filter (λ (entry : Entry). pick entry.row && first entry) (entries_after before rows)) ≡ firsts_after pair_eq (map give (filter pick before)) (map give (filter pick rows))
+      → map (λ (entry : Entry). give entry.row) (filter (λ (entry : Entry). pick entry.row && first entry) (entries_after before rows))
+      ≡ firsts_after pair_eq (map give (filter pick before)) (map give (filter pick rows))
   firsts_behind before [] = refl
   firsts_behind before (row ∷ rows) = by (pick row) refl (firsts_behind (before ++ row ∷ []) rows)
     where
@@ -67,7 +77,12 @@ module _ (pick : Attribute → Bool) (give : Attribute → Pair) (alike : Attrib
       given entries = map (λ (entry : Entry). give entry.row) (filter (λ (entry : Entry). pick entry.row && first entry) entries)
 
       entry : Entry
-      entry = record { row = row; is_first = not (list_any (is_alike row) before); is_first_in_group = not (list_any (is_alike_in_group row) before) }
+      entry = record {
+        row = row;
+        is_first = not (list_any (is_alike row) before);
+        is_first_in_group =
+            not (list_any (is_alike_in_group row) before);
+      }
 
       later : List Pair
       later = map give (filter pick rows)
@@ -83,24 +98,30 @@ module _ (pick : Attribute → Bool) (give : Attribute → Pair) (alike : Attrib
       new : pick row ≡ true → first entry ≡ not (list_any (pair_eq (give row)) known)
       new is =
           says row before
-          ∙ ap not (any-agree before ∙ sym (any-map (pair_eq (give row)) give (filter pick before) ∙ any-filter (λ other. pair_eq (give row) (give other)) pick before))
+          ∙ ap not (any-agree before ∙ sym (any-map (pair_eq (give row)) give (filter pick before)
+          ∙ any-filter (λ other. pair_eq (give row) (give other)) pick before))
         where
-          any-agree : (others : List Attribute) → list_any (alike row) others ≡ list_any (λ other. pick other && pair_eq (give row) (give other)) others
+          any-agree : (others : List Attribute) → list_any (alike row) others
+              ≡ list_any (λ other. pick other && pair_eq (give row) (give other)) others
           any-agree [] = refl
           any-agree (other ∷ others) = λ i. agree row other is i || any-agree others i
 
-      by : (b : Bool) → pick row ≡ b → given (entries_after (before ++ row ∷ []) rows) ≡ firsts_after pair_eq (map give (filter pick (before ++ row ∷ []))) later
-          → given (entry ∷ entries_after (before ++ row ∷ []) rows) ≡ firsts_after pair_eq known (map give (filter pick (row ∷ rows)))
+      by : (b : Bool) → pick row ≡ b → given (entries_after (before ++ row ∷ []) rows)
+          ≡ firsts_after pair_eq (map give (filter pick (before ++ row ∷ []))) later
+          → given (entry ∷ entries_after (before ++ row ∷ []) rows)
+          ≡ firsts_after pair_eq known (map give (filter pick (row ∷ rows)))
       by true is rest =
           let found = filter (λ (entry : Entry). pick entry.row && first entry) (entries_after (before ++ row ∷ []) rows) in
           let new_one : Bool = not (list_any (pair_eq (give row)) known) in
-          let behind : map (λ (entry : Entry). give entry.row) found ≡ firsts_after pair_eq (known ++ give row ∷ []) later = rest ∙ ap (λ (all : List Pair). firsts_after pair_eq all later) (more true is) in
+          let behind : map (λ (entry : Entry). give entry.row) found ≡ firsts_after pair_eq (known ++ give row ∷ []) later = rest
+          ∙ ap (λ (all : List Pair). firsts_after pair_eq all later) (more true is) in
           (λ i. map (λ (entry : Entry). give entry.row) (cond (is i && new is i) (entry ∷ found) found))
           ∙ inside new_one found
           ∙ (λ i. cond new_one (give row ∷ behind i) (behind i))
           ∙ (λ i. firsts_after pair_eq known (map give (cond (sym is i) (row ∷ filter pick rows) (filter pick rows))))
         where
-          inside : (b : Bool) (found : List Entry) → map (λ (entry : Entry). give entry.row) (cond b (entry ∷ found) found) ≡ cond b (give row ∷ map (λ (entry : Entry). give entry.row) found) (map (λ (entry : Entry). give entry.row) found)
+          inside : (b : Bool) (found : List Entry) → map (λ (entry : Entry). give entry.row) (cond b (entry ∷ found) found)
+              ≡ cond b (give row ∷ map (λ (entry : Entry). give entry.row) found) (map (λ (entry : Entry). give entry.row) found)
           inside true found = refl
           inside false found = refl
       by false is rest =
@@ -111,5 +132,7 @@ module _ (pick : Attribute → Bool) (give : Attribute → Pair) (alike : Attrib
           ∙ (λ i. firsts_after pair_eq known (map give (cond (sym is i) (row ∷ filter pick rows) (filter pick rows))))
 
   -- the first of them have the distinct pairs
-  pub firsts_give_distinct : (rows : List Attribute) → map (λ (entry : Entry). give entry.row) (filter (λ (entry : Entry). pick entry.row && first entry) (entries_of rows)) ≡ distinct pair_eq (map give (filter pick rows))
+  pub firsts_give_distinct : (rows : List Attribute)
+      → map (λ (entry : Entry). give entry.row) (filter (λ (entry : Entry). pick entry.row && first entry) (entries_of rows))
+      ≡ distinct pair_eq (map give (filter pick rows))
   firsts_give_distinct rows = firsts_behind [] rows ∙ firsts_distinct pair_eq pair_eq-flips (map give (filter pick rows))

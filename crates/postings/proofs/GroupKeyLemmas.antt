@@ -1,5 +1,6 @@
 -- The groups of coded rows are the groups of the rows that they stand for: their keys, their numbers, and the rows that each has.
-use Rattle.std.proofs.Common.{ℕ, ◌+◌, ◌-◌, ◌==◌, ◌≡◌, ◌<◌, ◌++◌, ◌∙◌, not, List, length, get_or, map, Bool, true, false, cond, nat_eq, refl, sym, ap, arith, length-append}
+use Rattle.std.proofs.Common.{ℕ, ◌+◌, ◌-◌, ◌==◌, ◌≡◌, ◌<◌, ◌++◌, ◌∙◌, not, List, length, get_or, map}
+use Rattle.std.proofs.Common.{Bool, true, false, cond, nat_eq, refl, sym, ap, arith, length-append}
 use Rattle.std.specs.Prelude.{Contains}
 use Rattle.std.specs.List.{filter, list_any, position_or_len}
 use Rattle.std.proofs.lemmas.Bool.{and_from, and_parts, eq-eqb, eqb-true}
@@ -12,7 +13,7 @@ use Rattle.idset.specs.Sets.{has_item}
 use Rattle.idset.proofs.Normal.{numbers_where-agree}
 use Rattle.snapshot.specs.InForce.{rising}
 use Rattle.ancestor_index.proofs.ClosureLemmas.{both_ways, item_there, there_item}
-use Rattle.postings.specs.Coded.{code_eq, group_codes, loose_pairs, numbers_of_groups, pair_code, place_in_source, row_coded}
+use Rattle.postings.specs.Coded.{code_eq, group_codes, ungrouped_pairs, numbers_of_groups, pair_code, place_in_source, row_coded}
 use Rattle.postings.specs.Groups.{GroupKey, key_of, numbered, ungrouped}
 use Rattle.postings.specs.Indexed.{value_at}
 use Rattle.postings.specs.declared.rows.CodedRow.{CodedRow}
@@ -27,7 +28,8 @@ rising_distinct numbers =
     let bound = some_bound numbers in
     let low = All-distinct nat_eq (λ id. id < bound.0) numbers bound.1 in
     rising_is_listed bound.0 (distinct nat_eq numbers) low
-    ∙ numbers_where-agree bound.0 (has_item (distinct nat_eq numbers)) (has_item numbers) (λ number less. both_ways (has_item (distinct nat_eq numbers) number) (has_item numbers number)
+    ∙ numbers_where-agree bound.0 (has_item (distinct nat_eq numbers)) (has_item numbers)
+    (λ number less. both_ways (has_item (distinct nat_eq numbers) number) (has_item numbers number)
     (λ told. there_item numbers number (((keeps_each_number_once numbers).1 number).0 (item_there (distinct nat_eq numbers) number told)))
     (λ told. there_item (distinct nat_eq numbers) number (((keeps_each_number_once numbers).1 number).1 (item_there numbers number told))))
     ∙ sym (rising_is_listed bound.0 numbers bound.1)
@@ -50,25 +52,37 @@ number_place : (rows : List CodedRow) (row : CodedRow) → Contains rows row →
     × (get_or (numbers_of_groups rows) (position_or_len (λ group. row.group == group) (numbers_of_groups rows)) 0 ≡ row.group)
 number_place rows row there some =
     let numbers = filter (λ group. not (group == 0)) (map (λ (row : CodedRow). row.group) rows) in
-    let among : Contains numbers row.group = Contains-filter (λ group. not (group == 0)) (map (λ (row : CodedRow). row.group) rows) row.group (ap not some) (Contains-map (λ (row : CodedRow). row.group) rows row there) in
+    let among : Contains numbers row.group = Contains-filter (λ group. not (group == 0)) (map (λ (row : CodedRow). row.group) rows)
+    row.group (ap not some) (Contains-map (λ (row : CodedRow). row.group) rows row there) in
     let listed : has_item (numbers_of_groups rows) row.group ≡ true =
     has_item-rising numbers row.group ∙ there_item numbers row.group among in
     let found : list_any (λ group. row.group == group) (numbers_of_groups rows) ≡ true =
-    any-Contains (λ group. row.group == group) (numbers_of_groups rows) row.group (eq-eqb row.group row.group refl) (item_there (numbers_of_groups rows) row.group listed) in
-    let within = position-within (λ group. row.group == group) (numbers_of_groups rows) found in
-    (within, sym (eqb-true row.group (get_or (numbers_of_groups rows) (position_or_len (λ group. row.group == group) (numbers_of_groups rows)) 0) (passes_at_first (λ group. row.group == group) (numbers_of_groups rows) 0 within)))
+    any-Contains (λ group. row.group == group) (numbers_of_groups rows) row.group (eq-eqb row.group row.group refl)
+    (item_there (numbers_of_groups rows) row.group listed) in
+    let within = position-within (λ group. row.group == group) (numbers_of_groups rows) found in (
+      within,
+      sym (eqb-true row.group (get_or (numbers_of_groups rows)
+          (position_or_len (λ group. row.group == group) (numbers_of_groups rows)) 0)
+          (passes_at_first (λ group. row.group == group) (numbers_of_groups rows) 0 within)),
+    )
 
 -- and one without has its pair among those that have none
 pair_place : (rows : List CodedRow) (row : CodedRow) → Contains rows row → (row.group == 0) ≡ true
-    → (position_or_len (code_eq (pair_code row)) (loose_pairs rows) < length (loose_pairs rows))
-    × (get_or (loose_pairs rows) (position_or_len (code_eq (pair_code row)) (loose_pairs rows)) (0, 0) ≡ pair_code row)
+    → (position_or_len (code_eq (pair_code row)) (ungrouped_pairs rows) < length (ungrouped_pairs rows))
+    × (get_or (ungrouped_pairs rows) (position_or_len (code_eq (pair_code row)) (ungrouped_pairs rows)) (0, 0) ≡ pair_code row)
 pair_place rows row there none =
-    let loose = filter (λ (row : CodedRow). row.group == 0) rows in
-    let among : Contains (loose_pairs rows) (pair_code row) =
-    distinct-keeps code_eq same_code (map pair_code loose) (pair_code row) (Contains-map pair_code loose row (Contains-filter (λ (row : CodedRow). row.group == 0) rows row none there)) in
-    let found : list_any (code_eq (pair_code row)) (loose_pairs rows) ≡ true = any-Contains (code_eq (pair_code row)) (loose_pairs rows) (pair_code row) (code_itself (pair_code row)) among in
-    let within = position-within (code_eq (pair_code row)) (loose_pairs rows) found in
-    (within, sym (same_code (pair_code row) (get_or (loose_pairs rows) (position_or_len (code_eq (pair_code row)) (loose_pairs rows)) (0, 0)) (passes_at_first (code_eq (pair_code row)) (loose_pairs rows) (0, 0) within)))
+    let ungrouped_own = filter (λ (row : CodedRow). row.group == 0) rows in
+    let among : Contains (ungrouped_pairs rows) (pair_code row) =
+    distinct-keeps code_eq same_code (map pair_code ungrouped_own) (pair_code row)
+    (Contains-map pair_code ungrouped_own row (Contains-filter (λ (row : CodedRow). row.group == 0) rows row none there)) in
+    let found : list_any (code_eq (pair_code row)) (ungrouped_pairs rows) ≡ true =
+    any-Contains (code_eq (pair_code row)) (ungrouped_pairs rows) (pair_code row) (code_itself (pair_code row)) among in
+    let within = position-within (code_eq (pair_code row)) (ungrouped_pairs rows) found in (
+      within,
+      sym (same_code (pair_code row) (get_or (ungrouped_pairs rows)
+          (position_or_len (code_eq (pair_code row)) (ungrouped_pairs rows)) (0, 0))
+          (passes_at_first (code_eq (pair_code row)) (ungrouped_pairs rows) (0, 0) within)),
+    )
 
 -- ---- the keys that codes stand for
 module _ (types : List ℕ) (values : List Value) where
@@ -96,7 +110,8 @@ module _ (types : List ℕ) (values : List Value) where
       )
 
   -- and how many codes, which is as many
-  length-codes_with : (numbers : List ℕ) (pairs : List (ℕ × ℕ)) → length (codes_with numbers pairs) ≡ length numbers + length pairs
+  length-codes_with : (numbers : List ℕ) (pairs : List (ℕ × ℕ))
+      → length (codes_with numbers pairs) ≡ length numbers + length pairs
   length-codes_with numbers pairs =
       omega (
         arith,
@@ -107,24 +122,34 @@ module _ (types : List ℕ) (values : List Value) where
 
   -- a key stands at its place
   key_at : (concepts numbers : List ℕ) (pairs : List (ℕ × ℕ)) (row : CodedRow)
-      → ((row.group == 0) ≡ false → (position_or_len (λ group. row.group == group) numbers < length numbers) × (get_or numbers (position_or_len (λ group. row.group == group) numbers) 0 ≡ row.group))
-      → ((row.group == 0) ≡ true → (position_or_len (code_eq (pair_code row)) pairs < length pairs) × (get_or pairs (position_or_len (code_eq (pair_code row)) pairs) (0, 0) ≡ pair_code row))
-      → (cond (row.group == 0) (length numbers + position_or_len (code_eq (pair_code row)) pairs) (position_or_len (λ group. row.group == group) numbers) < length (keys_with numbers pairs))
-      × ((d : GroupKey) → get_or (keys_with numbers pairs) (cond (row.group == 0) (length numbers + position_or_len (code_eq (pair_code row)) pairs) (position_or_len (λ group. row.group == group) numbers)) d
+      → ((row.group == 0) ≡ false → (position_or_len (λ group. row.group == group) numbers < length numbers)
+      × (get_or numbers (position_or_len (λ group. row.group == group) numbers) 0 ≡ row.group))
+      → ((row.group == 0) ≡ true → (position_or_len (code_eq (pair_code row)) pairs < length pairs)
+      × (get_or pairs (position_or_len (code_eq (pair_code row)) pairs) (0, 0) ≡ pair_code row))
+      → (cond (row.group == 0) (length numbers + position_or_len (code_eq (pair_code row)) pairs)
+      (position_or_len (λ group. row.group == group) numbers) < length (keys_with numbers pairs))
+      × ((d : GroupKey) → get_or (keys_with numbers pairs)
+      (cond (row.group == 0) (length numbers + position_or_len (code_eq (pair_code row)) pairs)
+      (position_or_len (λ group. row.group == group) numbers)) d
       ≡ key_of (row_coded concepts types values row))
   key_at concepts numbers pairs row of_number of_pair = by (row.group == 0) refl
     where
       by : (b : Bool) → (row.group == 0) ≡ b
-          → (cond b (length numbers + position_or_len (code_eq (pair_code row)) pairs) (position_or_len (λ group. row.group == group) numbers) < length (keys_with numbers pairs))
-          × ((d : GroupKey) → get_or (keys_with numbers pairs) (cond b (length numbers + position_or_len (code_eq (pair_code row)) pairs) (position_or_len (λ group. row.group == group) numbers)) d
+          → (cond b (length numbers + position_or_len (code_eq (pair_code row)) pairs)
+          (position_or_len (λ group. row.group == group) numbers) < length (keys_with numbers pairs))
+          × ((d : GroupKey) → get_or (keys_with numbers pairs)
+          (cond b (length numbers + position_or_len (code_eq (pair_code row)) pairs)
+          (position_or_len (λ group. row.group == group) numbers)) d
           ≡ cond b (ungrouped (pair_of (row_coded concepts types values row))) (numbered row.group))
       by true none =
           let p = position_or_len (code_eq (pair_code row)) pairs in
           let found = of_pair none in (
             omega (arith, found.0, length-keys_with numbers pairs),
-            λ d. get_or-append_right (map numbered numbers) (map ungrouped (map pair_at pairs)) (length numbers) (length numbers + p) d (length-map {B = GroupKey} numbers numbered) (omega arith)
+            λ d. get_or-append_right (map numbered numbers) (map ungrouped (map pair_at pairs)) (length numbers) (length numbers + p) d
+                (length-map {B = GroupKey} numbers numbered) (omega arith)
                 ∙ ap (λ (n : ℕ). get_or (map ungrouped (map pair_at pairs)) n d) (past (length numbers) p)
-                ∙ get_or-map ungrouped (map pair_at pairs) p (pair_at (0, 0)) d (omega (arith, found.0, length-map {B = Pair} pairs pair_at))
+                ∙ get_or-map ungrouped (map pair_at pairs) p (pair_at (0, 0)) d
+                (omega (arith, found.0, length-map {B = Pair} pairs pair_at))
                 ∙ ap ungrouped (get_or-map pair_at pairs p (0, 0) (pair_at (0, 0)) found.0 ∙ ap pair_at found.1),
           )
         where
@@ -134,20 +159,24 @@ module _ (types : List ℕ) (values : List Value) where
           let q = position_or_len (λ group. row.group == group) numbers in
           let found = of_number some in (
             omega (arith, found.0, length-keys_with numbers pairs),
-            λ d. get_or_append_left (map numbered numbers) (map ungrouped (map pair_at pairs)) d q (omega (arith, found.0, length-map {B = GroupKey} numbers numbered))
+            λ d. get_or_append_left (map numbered numbers) (map ungrouped (map pair_at pairs)) d q
+                (omega (arith, found.0, length-map {B = GroupKey} numbers numbered))
                 ∙ get_or-map numbered numbers q 0 d found.0
                 ∙ ap numbered found.1,
           )
 
   -- the keys of the groups of one source
   abbrev pub keys_coded : List CodedRow → List GroupKey
-  keys_coded rows = keys_with (numbers_of_groups rows) (loose_pairs rows)
+  keys_coded rows = keys_with (numbers_of_groups rows) (ungrouped_pairs rows)
 
   -- there are as many as codes of the groups
   pub length-keys_coded : (rows : List CodedRow) → length (keys_coded rows) ≡ length (group_codes rows)
-  length-keys_coded rows = length-keys_with (numbers_of_groups rows) (loose_pairs rows) ∙ sym (length-codes_with (numbers_of_groups rows) (loose_pairs rows))
+  length-keys_coded rows = length-keys_with (numbers_of_groups rows) (ungrouped_pairs rows)
+      ∙ sym (length-codes_with (numbers_of_groups rows) (ungrouped_pairs rows))
 
   -- the group of a row stands at its place
   pub key_at_place : (concepts : List ℕ) (rows : List CodedRow) (row : CodedRow) → Contains rows row
-      → (place_in_source rows row < length (keys_coded rows)) × ((d : GroupKey) → get_or (keys_coded rows) (place_in_source rows row) d ≡ key_of (row_coded concepts types values row))
-  key_at_place concepts rows row there = key_at concepts (numbers_of_groups rows) (loose_pairs rows) row (number_place rows row there) (pair_place rows row there)
+      → (place_in_source rows row < length (keys_coded rows))
+      × ((d : GroupKey) → get_or (keys_coded rows) (place_in_source rows row) d ≡ key_of (row_coded concepts types values row))
+  key_at_place concepts rows row there = key_at concepts (numbers_of_groups rows) (ungrouped_pairs rows) row (number_place rows row there)
+      (pair_place rows row there)

@@ -1,5 +1,6 @@
 -- The groups of the rows of one source: how many there are, and the place of a row's group among them.
-use Rattle.std.proofs.Common.{ℕ, ◌+◌, ◌==◌, ◌≡◌, ◌≢◌, ◌≤◌, ◌^◌, ◌++◌, ◌∷◌, [], ◌∙◌, Bool, true, false, cond, eqb, ltb, not, List, length, get_or, map, refl, sym, ap, arith, length-append}
+use Rattle.std.proofs.Common.{ℕ, ◌+◌, ◌==◌, ◌≡◌, ◌≢◌, ◌≤◌, ◌^◌, ◌++◌, ◌∷◌, [], ◌∙◌, Bool}
+use Rattle.std.proofs.Common.{true, false, cond, eqb, ltb, not, List, length, get_or, map, refl, sym, ap, arith, length-append}
 use Rattle.std.specs.List.{filter, list_any, position_or_len}
 use Rattle.std.proofs.lemmas.Bool.{and_parts, eq-eqb, eqb-true, ne_eqb, or_left, or_right}
 use Rattle.std.proofs.lemmas.List.{append-nil, length-map, map-append}
@@ -13,7 +14,7 @@ use Rattle.rf2_rows.specs.Pairs.{distinct}
 use Rattle.idset.specs.Sets.{IsRising, has_item, place_of}
 use Rattle.idset.proofs.Places.{below_place, has_item-place, place_le}
 use Rattle.snapshot.proofs.FinishLemmas.{length-rising}
-use Rattle.postings.specs.Coded.{code_eq, group_codes, loose_pairs, numbers_of_groups, pair_code, place_in_source}
+use Rattle.postings.specs.Coded.{code_eq, group_codes, ungrouped_pairs, numbers_of_groups, pair_code, place_in_source}
 use Rattle.postings.specs.declared.rows.CodedRow.{CodedRow}
 use Rattle.postings.proofs.DistinctLemmas.{distinct-more, filter-map_agree, length-distinct, position-distinct}
 use Rattle.postings.proofs.MarkLemmas.{code_eq_equiv}
@@ -23,19 +24,21 @@ use Rattle.postings.proofs.RisingLemmas.{has_item-rising}
 abbrev groups_at : List CodedRow → List ℕ
 groups_at rows = map (λ (row : CodedRow). row.group) rows
 
-abbrev loose_rows : List CodedRow → List CodedRow
-loose_rows rows = filter (λ (row : CodedRow). row.group == 0) rows
+abbrev ungrouped_rows : List CodedRow → List CodedRow
+ungrouped_rows rows = filter (λ (row : CodedRow). row.group == 0) rows
 
 -- ---- how many groups there are
 
 -- as many as numbers and pairs without one
-pub length-group_codes : (rows : List CodedRow) → length (group_codes rows) ≡ length (numbers_of_groups rows) + length (loose_pairs rows)
+pub length-group_codes : (rows : List CodedRow)
+    → length (group_codes rows) ≡ length (numbers_of_groups rows) + length (ungrouped_pairs rows)
 length-group_codes rows =
     omega (
       arith,
-      length-append {A = ℕ × (ℕ × ℕ)} (map (λ (group : ℕ). (group, (0, 0))) (numbers_of_groups rows)) (map (λ (pair : ℕ × ℕ). (0, pair)) (loose_pairs rows)),
+      length-append {A = ℕ × (ℕ × ℕ)} (map (λ (group : ℕ). (group, (0, 0))) (numbers_of_groups rows))
+          (map (λ (pair : ℕ × ℕ). (0, pair)) (ungrouped_pairs rows)),
       length-map {B = ℕ × (ℕ × ℕ)} (numbers_of_groups rows) (λ (group : ℕ). (group, (0, 0))),
-      length-map {B = ℕ × (ℕ × ℕ)} (loose_pairs rows) (λ (pair : ℕ × ℕ). (0, pair)),
+      length-map {B = ℕ × (ℕ × ℕ)} (ungrouped_pairs rows) (λ (pair : ℕ × ℕ). (0, pair)),
     )
 
 -- there are no more groups than rows
@@ -43,98 +46,121 @@ pub length-group_codes-le : (rows : List CodedRow) → length (group_codes rows)
 length-group_codes-le rows =
     let numbered : List CodedRow = filter (λ (row : CodedRow). not (row.group == 0)) rows in
     let groups : filter (λ group. not (group == 0)) (groups_at rows) ≡ groups_at numbered =
-    filter-map_agree (λ (row : CodedRow). row.group) (λ group. not (group == 0)) (λ row. not (row.group == 0)) rows (λ k d within. refl) in
+    filter-map_agree (λ (row : CodedRow). row.group) (λ group. not (group == 0)) (λ row. not (row.group == 0)) rows
+    (λ k d within. refl) in
     omega (
       arith,
       length-group_codes rows,
       length-rising (filter (λ group. not (group == 0)) (groups_at rows)),
       ap (λ (numbers : List ℕ). length numbers) groups,
       length-map numbered (λ (row : CodedRow). row.group),
-      length-distinct code_eq (map pair_code (loose_rows rows)),
-      length-map (loose_rows rows) pair_code,
+      length-distinct code_eq (map pair_code (ungrouped_rows rows)),
+      length-map (ungrouped_rows rows) pair_code,
       length-filter_both (λ (row : CodedRow). row.group == 0) (λ (row : CodedRow). not (row.group == 0)) (λ row. refl) rows,
     )
 
 -- the place of the group of a row is no further than there are groups
 pub place_in_source-le : (rows : List CodedRow) (row : CodedRow) → place_in_source rows row ≤ length (group_codes rows)
 place_in_source-le rows row =
-    elim (row.group == 0) as (λ b. cond b (length (numbers_of_groups rows) + position_or_len (code_eq (pair_code row)) (loose_pairs rows)) (position_or_len (λ group. row.group == group) (numbers_of_groups rows)) ≤ length (group_codes rows)) [
-      | true ↦ omega (arith, length-group_codes rows, prefix_len-le-length (λ pair. not (code_eq (pair_code row) pair)) (loose_pairs rows))
+    elim (row.group == 0) as (λ b. cond b (length (numbers_of_groups rows)
+    + position_or_len (code_eq (pair_code row)) (ungrouped_pairs rows))
+    (position_or_len (λ group. row.group == group) (numbers_of_groups rows)) ≤ length (group_codes rows)) [
+      | true ↦ omega (
+        arith,
+        length-group_codes rows,
+        prefix_len-le-length (λ pair. not (code_eq (pair_code row) pair)) (ungrouped_pairs rows),
+      )
       | false ↦ omega (arith, length-group_codes rows, prefix_len-le-length (λ group. not (row.group == group)) (numbers_of_groups rows))
     ]
 
 -- ---- a row with the number of a group
 
 -- the number of a row's group is among those of the groups
-group_there : (before : List CodedRow) (row : CodedRow) (behind : List CodedRow) → row.group ≢ 0 → has_item (numbers_of_groups (before ++ row ∷ behind)) row.group ≡ true
+group_there : (before : List CodedRow) (row : CodedRow) (behind : List CodedRow) → row.group ≢ 0
+    → has_item (numbers_of_groups (before ++ row ∷ behind)) row.group ≡ true
 group_there before row behind numbered =
     let rows : List CodedRow = before ++ row ∷ behind in
     let is_own : ℕ → Bool = λ group. group == row.group in
     has_item-rising (filter (λ group. not (group == 0)) (groups_at rows)) row.group
-    ∙ any-filter_same is_own (λ group. not (group == 0)) true (λ group own. ap not (ne_eqb group 0 (λ none. numbered (sym (eqb-true group row.group own) ∙ none)))) (groups_at rows)
+    ∙ any-filter_same is_own (λ group. not (group == 0)) true
+    (λ group own. ap not (ne_eqb group 0 (λ none. numbered (sym (eqb-true group row.group own) ∙ none)))) (groups_at rows)
     ∙ ap (list_any is_own) (map-append (λ (row : CodedRow). row.group) before (row ∷ behind))
     ∙ list_any-append is_own (groups_at before) (groups_at (row ∷ behind))
-    ∙ or_right (list_any is_own (groups_at before)) (list_any is_own (groups_at (row ∷ behind))) (or_left (row.group == row.group) (list_any is_own (groups_at behind)) (eq-eqb row.group row.group refl))
+    ∙ or_right (list_any is_own (groups_at before)) (list_any is_own (groups_at (row ∷ behind)))
+    (or_left (row.group == row.group) (list_any is_own (groups_at behind)) (eq-eqb row.group row.group refl))
 
 -- the place of a number that is in a rising list is where it stands
-place_of-there : (numbers : List ℕ) (number : ℕ) → IsRising numbers → has_item numbers number ≡ true → place_of numbers number ≡ position_or_len (λ other. number == other) numbers
+place_of-there : (numbers : List ℕ) (number : ℕ) → IsRising numbers → has_item numbers number ≡ true
+    → place_of numbers number ≡ position_or_len (λ other. number == other) numbers
 place_of-there numbers number rises there =
     let place : ℕ = place_of numbers number in
-    let parts = and_parts (ltb place (length numbers)) (eqb (get_or numbers place 0) number) (sym (has_item-place (2 ^ 32) numbers number rises) ∙ there) in
+    let parts = and_parts (ltb place (length numbers)) (eqb (get_or numbers place 0) number)
+    (sym (has_item-place (2 ^ 32) numbers number rises) ∙ there) in
     sym (position_or_len_is (λ other. number == other) numbers place 0 (place_le numbers number)
     (λ k before. ne_eqb number (get_or numbers k 0) (λ same. omega (arith, below_place numbers number k before)))
     (λ within. eq-eqb number (get_or numbers place 0) (sym (eqb-true (get_or numbers place 0) number parts.1))))
 
 -- the two places that the group of a row can have
 place_by : Bool → List CodedRow → CodedRow → ℕ
-place_by is_loose rows row =
-    cond is_loose (length (numbers_of_groups rows) + position_or_len (code_eq (pair_code row)) (loose_pairs rows)) (position_or_len (λ group. row.group == group) (numbers_of_groups rows))
+place_by is_ungrouped rows row =
+    cond is_ungrouped (length (numbers_of_groups rows) + position_or_len (code_eq (pair_code row)) (ungrouped_pairs rows))
+    (position_or_len (λ group. row.group == group) (numbers_of_groups rows))
 
 -- the place of the number of a row's group is that of the group
-pub numbered_place : (before : List CodedRow) (row : CodedRow) (behind : List CodedRow) (numbers : List ℕ) → row.group ≢ 0 → IsRising numbers
-    → numbers ≡ numbers_of_groups (before ++ row ∷ behind) → place_of numbers row.group ≡ place_in_source (before ++ row ∷ behind) row
+pub numbered_place : (before : List CodedRow) (row : CodedRow) (behind : List CodedRow) (numbers : List ℕ) → row.group ≢ 0
+    → IsRising numbers
+    → numbers ≡ numbers_of_groups (before ++ row ∷ behind)
+    → place_of numbers row.group ≡ place_in_source (before ++ row ∷ behind) row
 unfolding place_by
 numbered_place before row behind numbers numbered rises are =
     let rows : List CodedRow = before ++ row ∷ behind in
-    place_of-there numbers row.group rises (ap (λ (numbers : List ℕ). has_item numbers row.group) are ∙ group_there before row behind numbered)
+    place_of-there numbers row.group rises (ap (λ (numbers : List ℕ). has_item numbers row.group) are
+    ∙ group_there before row behind numbered)
     ∙ ap (position_or_len (λ group. row.group == group)) are
-    ∙ ap (λ (is_loose : Bool). place_by is_loose rows row) (sym (ne_eqb row.group 0 numbered))
+    ∙ ap (λ (is_ungrouped : Bool). place_by is_ungrouped rows row) (sym (ne_eqb row.group 0 numbered))
 
 -- a row with the number of a group leaves the pairs without one
-pub loose_pairs-numbered : (before : List CodedRow) (row : CodedRow) → row.group ≢ 0 → loose_pairs (before ++ row ∷ []) ≡ loose_pairs before
-loose_pairs-numbered before row numbered =
-    let same : loose_rows (before ++ row ∷ []) ≡ loose_rows before =
+pub ungrouped_pairs-numbered : (before : List CodedRow) (row : CodedRow) → row.group ≢ 0
+    → ungrouped_pairs (before ++ row ∷ []) ≡ ungrouped_pairs before
+ungrouped_pairs-numbered before row numbered =
+    let same : ungrouped_rows (before ++ row ∷ []) ≡ ungrouped_rows before =
     filter-append (λ (row : CodedRow). row.group == 0) before (row ∷ [])
-    ∙ (λ j. loose_rows before ++ cond (ne_eqb row.group 0 numbered j) (row ∷ []) [])
-    ∙ append-nil (loose_rows before) in
+    ∙ (λ j. ungrouped_rows before ++ cond (ne_eqb row.group 0 numbered j) (row ∷ []) [])
+    ∙ append-nil (ungrouped_rows before) in
     ap (λ (own : List CodedRow). distinct code_eq (map pair_code own)) same
 
 -- ---- a row without one
 
 -- the pairs of the rows without a group, with that of a row, and of rows behind it
-loose_behind : (before : List CodedRow) (row : CodedRow) (behind : List CodedRow) → row.group ≡ 0
-    → loose_pairs (before ++ row ∷ behind) ≡ distinct code_eq (map pair_code (loose_rows before) ++ pair_code row ∷ map pair_code (loose_rows behind))
-loose_behind before row behind loose =
-    let more : loose_rows (before ++ row ∷ behind) ≡ loose_rows before ++ row ∷ loose_rows behind =
+ungrouped_behind : (before : List CodedRow) (row : CodedRow) (behind : List CodedRow) → row.group ≡ 0
+    → ungrouped_pairs (before ++ row ∷ behind) ≡ distinct code_eq
+    (map pair_code (ungrouped_rows before) ++ pair_code row ∷ map pair_code (ungrouped_rows behind))
+ungrouped_behind before row behind is_zero =
+    let more : ungrouped_rows (before ++ row ∷ behind) ≡ ungrouped_rows before ++ row ∷ ungrouped_rows behind =
     filter-append (λ (row : CodedRow). row.group == 0) before (row ∷ behind)
-    ∙ (λ j. loose_rows before ++ cond (eq-eqb row.group 0 loose j) (row ∷ loose_rows behind) (loose_rows behind)) in
+    ∙ (λ j. ungrouped_rows before ++ cond (eq-eqb row.group 0 is_zero j) (row ∷ ungrouped_rows behind) (ungrouped_rows behind)) in
     ap (λ (own : List CodedRow). distinct code_eq (map pair_code own)) more
-    ∙ ap (distinct code_eq) (map-append pair_code (loose_rows before) (row ∷ loose_rows behind))
+    ∙ ap (distinct code_eq) (map-append pair_code (ungrouped_rows before) (row ∷ ungrouped_rows behind))
 
 -- the pair of a row without a group is put at the end, unless it is there
-pub loose_pairs-more : (before : List CodedRow) (row : CodedRow) → row.group ≡ 0 → loose_pairs (before ++ row ∷ []) ≡ insert_key code_eq (loose_pairs before) (pair_code row)
-loose_pairs-more before row loose = loose_behind before row [] loose ∙ distinct-more code_eq code_eq_equiv (map pair_code (loose_rows before)) (pair_code row)
+pub ungrouped_pairs-more : (before : List CodedRow) (row : CodedRow) → row.group ≡ 0
+    → ungrouped_pairs (before ++ row ∷ []) ≡ insert_key code_eq (ungrouped_pairs before) (pair_code row)
+ungrouped_pairs-more before row is_zero = ungrouped_behind before row [] is_zero
+    ∙ distinct-more code_eq code_eq_equiv (map pair_code (ungrouped_rows before)) (pair_code row)
 
 -- the place of its pair among those so far is its place among all
-pub loose_place : (before : List CodedRow) (row : CodedRow) (behind : List CodedRow) (numbers : List ℕ) (pairs : List (ℕ × ℕ)) → row.group ≡ 0
-    → numbers ≡ numbers_of_groups (before ++ row ∷ behind) → pairs ≡ loose_pairs before
+pub ungrouped_place : (before : List CodedRow) (row : CodedRow) (behind : List CodedRow) (numbers : List ℕ) (pairs : List (ℕ × ℕ))
+    → row.group ≡ 0
+    → numbers ≡ numbers_of_groups (before ++ row ∷ behind) → pairs ≡ ungrouped_pairs before
     → length numbers + position_or_len (code_eq (pair_code row)) pairs ≡ place_in_source (before ++ row ∷ behind) row
 unfolding place_by
-loose_place before row behind numbers pairs loose are so_far =
+ungrouped_place before row behind numbers pairs is_zero are so_far =
     let rows : List CodedRow = before ++ row ∷ behind in
-    let stays : position_or_len (code_eq (pair_code row)) (loose_pairs rows) ≡ position_or_len (code_eq (pair_code row)) (loose_pairs before) =
-    ap (position_or_len (code_eq (pair_code row))) (loose_behind before row behind loose)
-    ∙ position-distinct code_eq code_eq_equiv (map pair_code (loose_rows before)) (pair_code row) (map pair_code (loose_rows behind)) in
+    let stays : position_or_len (code_eq (pair_code row)) (ungrouped_pairs rows)
+    ≡ position_or_len (code_eq (pair_code row)) (ungrouped_pairs before) =
+    ap (position_or_len (code_eq (pair_code row))) (ungrouped_behind before row behind is_zero)
+    ∙ position-distinct code_eq code_eq_equiv (map pair_code (ungrouped_rows before)) (pair_code row)
+    (map pair_code (ungrouped_rows behind)) in
     (λ j. length (are j) + position_or_len (code_eq (pair_code row)) (so_far j))
     ∙ ap (λ (place : ℕ). length (numbers_of_groups rows) + place) (sym stays)
-    ∙ ap (λ (is_loose : Bool). place_by is_loose rows row) (sym (eq-eqb row.group 0 loose))
+    ∙ ap (λ (is_ungrouped : Bool). place_by is_ungrouped rows row) (sym (eq-eqb row.group 0 is_zero))

@@ -1,5 +1,6 @@
 -- The groups of a release: none stands twice, each number is not 0, and a row is in the group that it belongs to alone.
-use Rattle.std.proofs.Common.{ℕ, ◌==◌, ◌≡◌, ◌≢◌, ◌<◌, ◌∙◌, not, List, length, get_or, map, Bool, true, false, cond, refl, sym, ap, subst, arith}
+use Rattle.std.proofs.Common.{ℕ, ◌==◌, ◌≡◌, ◌≢◌, ◌<◌, ◌∙◌, not, List, length, get_or, map, Bool, true, false}
+use Rattle.std.proofs.Common.{cond, refl, sym, ap, subst, arith}
 use Rattle.std.specs.Prelude.{All, Contains}
 use Rattle.std.specs.List.{filter}
 use Rattle.std.specs.List.Sorted.{IsStrictlyIncreasing}
@@ -15,7 +16,8 @@ use Rattle.rf2_rows.proofs.PairLemmas.{tells_same_pair}
 use Rattle.snapshot.specs.InForce.{rising}
 use Rattle.snapshot.proofs.PassedLemmas.{keeps_rising}
 use Rattle.snapshot.proofs.NumberingLemmas.{place_of, place_of-get_or}
-use Rattle.postings.specs.Groups.{ConceptGroup, GroupKey, all_groups, group_of, groups_among, has_key, is_in_group, key_of, keys_of, numbered, ungrouped}
+use Rattle.postings.specs.Groups.{ConceptGroup, GroupKey, all_groups, group_of, groups_among, has_key, is_in_group, key_of, keys_of}
+use Rattle.postings.specs.Groups.{numbered, ungrouped}
 use Rattle.postings.proofs.BlockLemmas.{All-flat_map, blocks_by_place}
 use Rattle.postings.proofs.OnceLemmas.{AllPairs-append, AllPairs-blocks, AllPairs-map, IsOnce}
 
@@ -38,7 +40,8 @@ is_numbered (ungrouped pair) = false
 all_numbered : (numbers : List ℕ) (key : GroupKey) → Contains (map numbered numbers) key → is_numbered key ≡ true
 unfolding is_numbered
 all_numbered numbers key there =
-    All-contains (λ key. is_numbered key ≡ true) (map numbered numbers) key (All-map (λ key. is_numbered key ≡ true) numbered numbers (λ k d below. refl)) there
+    All-contains (λ key. is_numbered key ≡ true) (map numbered numbers) key
+    (All-map (λ key. is_numbered key ≡ true) numbered numbers (λ k d below. refl)) there
 
 -- and a key of a pair is not
 none_numbered : (pairs : List Pair) → All (λ key. is_numbered key ≡ false) (map ungrouped pairs)
@@ -49,11 +52,15 @@ none_numbered pairs = All-map (λ key. is_numbered key ≡ false) ungrouped pair
 pub keys_once : (release : Release) (concept : ℕ) → IsOnce (keys_of release concept)
 keys_once release concept =
     AllPairs-append (λ x y. x ≢ y) (map numbered (rising (group_numbers release concept))) (map ungrouped (pairs_in release concept 0))
-    (AllPairs-map (λ x y. x < y) (λ x y. x ≢ y) numbered (λ x y less same. let is : x ≡ y = cc in absurd (omega arith)) (rising (group_numbers release concept))
+    (AllPairs-map (λ x y. x < y) (λ x y. x ≢ y) numbered (λ x y less same. let is : x ≡ y = cc in absurd (omega arith))
+    (rising (group_numbers release concept))
     (AllPairs-from_increasing (rising (group_numbers release concept)) (keeps_rising (group_numbers release concept)).0))
-    (AllPairs-map (λ x y. pair_eq x y ≡ false) (λ x y. x ≢ y) ungrouped (λ x y apart same. let is : x ≡ y = cc in absurd (cc (apart, (tells_same_pair x y).1 is))) (pairs_in release concept 0)
-    (λ i j d less below. apart_from_distinct pair_eq (pairs_in release concept 0) i j d (keeps_each_pair_once (map pair_of (filter (λ row. row.group == 0) (rows_of release concept)))).0 less below))
-    (λ x there. All-weaker (λ y. is_numbered y ≡ false) (λ y. x ≢ y) (λ y is same. absurd (cc (all_numbered (rising (group_numbers release concept)) x there, is, ap is_numbered same)))
+    (AllPairs-map (λ x y. pair_eq x y ≡ false) (λ x y. x ≢ y) ungrouped
+    (λ x y apart same. let is : x ≡ y = cc in absurd (cc (apart, (tells_same_pair x y).1 is))) (pairs_in release concept 0)
+    (λ i j d less below. apart_from_distinct pair_eq (pairs_in release concept 0) i j d
+    (keeps_each_pair_once (map pair_of (filter (λ row. row.group == 0) (rows_of release concept)))).0 less below))
+    (λ x there. All-weaker (λ y. is_numbered y ≡ false) (λ y. x ≢ y)
+    (λ y is same. absurd (cc (all_numbered (rising (group_numbers release concept)) x there, is, ap is_numbered same)))
     (map ungrouped (pairs_in release concept 0)) (none_numbered (pairs_in release concept 0)))
 
 -- and no group of a release
@@ -61,9 +68,11 @@ pub groups_once : (release : Release) → IsStrictlyIncreasing release.concepts 
 groups_once release increases =
     subst IsOnce (sym (blocks_by_place (groups_at release) release.concepts 0))
     (AllPairs-blocks (λ x y. x ≢ y) (λ k. groups_at release (id k)) 0 (length release.concepts)
-    (λ k below. AllPairs-map (λ x y. x ≢ y) (λ x y. x ≢ y) (group_with (id k)) (λ x y apart same. apart (ap (λ (group : ConceptGroup). group.key) same)) (keys_of release (id k)) (keys_once release (id k)))
+    (λ k below. AllPairs-map (λ x y. x ≢ y) (λ x y. x ≢ y) (group_with (id k))
+    (λ x y apart same. apart (ap (λ (group : ConceptGroup). group.key) same)) (keys_of release (id k)) (keys_once release (id k)))
     (λ k l less below x there. All-weaker (λ (y : ConceptGroup). y.concept ≡ id l) (λ y. x ≢ y)
-    (λ y is same. absurd (distinct_places k l less (omega arith) (sym (of_concept k x there) ∙ ap (λ (group : ConceptGroup). group.concept) same ∙ is)))
+    (λ y is same. absurd (distinct_places k l less (omega arith)
+    (sym (of_concept k x there) ∙ ap (λ (group : ConceptGroup). group.concept) same ∙ is)))
     (groups_at release (id l)) (all_of l)))
   where
     id : ℕ → ℕ
@@ -77,7 +86,8 @@ groups_once release increases =
 
     distinct_places : (k l : ℕ) → k < l → l < length release.concepts → id k ≢ id l
     distinct_places k l less below same =
-        let is : k ≡ l = sym (place_of-get_or release.concepts increases k (omega arith)) ∙ ap (place_of release.concepts) same ∙ place_of-get_or release.concepts increases l below in
+        let is : k ≡ l = sym (place_of-get_or release.concepts increases k (omega arith)) ∙ ap (place_of release.concepts) same
+        ∙ place_of-get_or release.concepts increases l below in
         omega arith
 
 -- ---- numbers that are not 0
@@ -90,7 +100,9 @@ IsTold (ungrouped pair) = Unit {0}
 pub keys_told : (release : Release) (concept : ℕ) → All IsTold (keys_of release concept)
 keys_told release concept =
     All-append IsTold (map numbered (rising (group_numbers release concept))) (map ungrouped (pairs_in release concept 0))
-    (All-map IsTold numbered (rising (group_numbers release concept)) (λ k d below. number (get_or (rising (group_numbers release concept)) k d) (Contains-get_or (rising (group_numbers release concept)) k d below)))
+    (All-map IsTold numbered (rising (group_numbers release concept))
+    (λ k d below. number (get_or (rising (group_numbers release concept)) k d)
+    (Contains-get_or (rising (group_numbers release concept)) k d below)))
     (All-map IsTold ungrouped (pairs_in release concept 0) (λ k d below. tt))
   where
     numbers : List ℕ
@@ -98,26 +110,32 @@ keys_told release concept =
 
     number : (n : ℕ) → Contains (rising (group_numbers release concept)) n → (n == 0) ≡ false
     number n there =
-        let among : Contains numbers n = ((keeps_each_number_once numbers).1 n).0 (((keeps_rising (group_numbers release concept)).1 n).0 there) in
-        not-true (n == 0) (All-contains (λ group. not (group == 0) ≡ true) numbers n (filter_passes (λ group. not (group == 0)) (map (λ (row : Attribute). row.group) (rows_of release concept))) among)
+        let among : Contains numbers n = ((keeps_each_number_once numbers).1 n).0
+        (((keeps_rising (group_numbers release concept)).1 n).0 there) in
+        not-true (n == 0) (All-contains (λ group. not (group == 0) ≡ true) numbers n
+        (filter_passes (λ group. not (group == 0)) (map (λ (row : Attribute). row.group) (rows_of release concept))) among)
 
 -- and so have the groups of all concepts
-pub groups_told_apart : (release : Release) (concepts : List ℕ) → All (λ (group : ConceptGroup). IsTold group.key) (groups_among release concepts)
+pub groups_told_apart : (release : Release) (concepts : List ℕ)
+    → All (λ (group : ConceptGroup). IsTold group.key) (groups_among release concepts)
 groups_told_apart release concepts =
     All-flat_map (λ (group : ConceptGroup). IsTold group.key) (groups_at release) concepts
-    (λ concept there. All-map (λ (group : ConceptGroup). IsTold group.key) (group_with concept) (keys_of release concept) (keys_told release concept))
+    (λ concept there. All-map (λ (group : ConceptGroup). IsTold group.key) (group_with concept) (keys_of release concept)
+    (keys_told release concept))
 
 -- ---- the rows of a group
 -- a row is in the group that it belongs to
 pub in_own_group : (row : Attribute) → is_in_group (group_of row) row ≡ true
-in_own_group row = and_from (row.source == row.source) (has_key (key_of row) row) (eq-eqb row.source row.source refl) (by (row.group == 0) refl)
+in_own_group row = and_from (row.source == row.source) (has_key (key_of row) row) (eq-eqb row.source row.source refl)
+    (by (row.group == 0) refl)
   where
     by : (b : Bool) → (row.group == 0) ≡ b → has_key (cond b (ungrouped (pair_of row)) (numbered row.group)) row ≡ true
     by true is = and_from (row.group == 0) (pair_eq (pair_of row) (pair_of row)) is ((tells_same_pair (pair_of row) (pair_of row)).1 refl)
     by false is = eq-eqb row.group row.group refl
 
 -- and in no other
-pub in_one_group : (group : ConceptGroup) (row : Attribute) → IsTold group.key → is_in_group group row ≡ true → group ≡ group_of row
+pub in_one_group : (group : ConceptGroup) (row : Attribute) → IsTold group.key → is_in_group group row ≡ true
+    → group ≡ group_of row
 in_one_group group row told passes =
     let parts = and_parts (row.source == group.concept) (has_key group.key row) passes in
     let concept : group.concept ≡ row.source = sym (eqb-true row.source group.concept parts.0) in

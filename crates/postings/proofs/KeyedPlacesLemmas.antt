@@ -1,5 +1,6 @@
 -- Places by their keys, one by one, and the lists that they make.
-use Rattle.std.proofs.Common.{ℕ, ◌+◌, ◌==◌, ◌≡◌, ◌≢◌, ◌<◌, ◌++◌, ◌∷◌, [], ◌∙◌, ⊎_elim, Bool, true, false, cond, List, length, get_or, map, take, nat_lt, refl, sym, ap, arith, length-take}
+use Rattle.std.proofs.Common.{ℕ, ◌+◌, ◌==◌, ◌≡◌, ◌≢◌, ◌<◌, ◌++◌, ◌∷◌, [], ◌∙◌, ⊎_elim, Bool}
+use Rattle.std.proofs.Common.{true, false, cond, List, length, get_or, map, take, nat_lt, refl, sym, ap, arith, length-take}
 use Rattle.std.specs.List.{filter}
 use Rattle.std.proofs.lemmas.Bool.{cases_eq, eq-eqb, lt-ltb, ltb-true, ne_eqb}
 use Rattle.std.proofs.lemmas.List.{take_more}
@@ -13,12 +14,16 @@ use Rattle.postings.specs.Places.{places_by, places_from}
 abbrev pub keyed_place : ℕ → ℕ → ℕ → List (ℕ × ℕ)
 keyed_place count place key = cond (nat_lt key count) ((key, place) ∷ []) []
 
-keyed_places-append : (count place : ℕ) (xs ys : List ℕ) → keyed_places count place (xs ++ ys) ≡ keyed_places count place xs ++ keyed_places count (place + length xs) ys
+keyed_places-append : (count place : ℕ) (xs ys : List ℕ)
+    → keyed_places count place (xs ++ ys) ≡ keyed_places count place xs ++ keyed_places count (place + length xs) ys
 keyed_places-append count place [] ys = ap (λ (at : ℕ). keyed_places count at ys) (omega arith)
 keyed_places-append count place (x ∷ xs) ys =
-    let rest = keyed_places-append count (place + 1) xs ys ∙ ap (λ (at : ℕ). keyed_places count (place + 1) xs ++ keyed_places count at ys) (omega arith) in
-    elim (nat_lt x count) as (λ b. cond b ((x, place) ∷ keyed_places count (place + 1) (xs ++ ys)) (keyed_places count (place + 1) (xs ++ ys))
-    ≡ cond b ((x, place) ∷ keyed_places count (place + 1) xs) (keyed_places count (place + 1) xs) ++ keyed_places count (place + length (x ∷ xs)) ys) [
+    let rest = keyed_places-append count (place + 1) xs ys
+    ∙ ap (λ (at : ℕ). keyed_places count (place + 1) xs ++ keyed_places count at ys) (omega arith) in
+    elim (nat_lt x count) as (λ b. cond b ((x, place) ∷ keyed_places count (place + 1) (xs ++ ys))
+    (keyed_places count (place + 1) (xs ++ ys))
+    ≡ cond b ((x, place) ∷ keyed_places count (place + 1) xs) (keyed_places count (place + 1) xs)
+    ++ keyed_places count (place + length (x ∷ xs)) ys) [
       | true ↦ ap (λ (pairs : List (ℕ × ℕ)). (x, place) ∷ pairs) rest
       | false ↦ rest
     ]
@@ -38,11 +43,13 @@ keyed_below count place (key ∷ keys) = by (nat_lt key count) refl (keyed_below
   where
     by : (b : Bool) → nat_lt key count ≡ b → AreKeysBelow count (keyed_places count (place + 1) keys)
         → AreKeysBelow count (cond b ((key, place) ∷ keyed_places count (place + 1) keys) (keyed_places count (place + 1) keys))
-    by true below rest = All-cons (λ (pair : ℕ × ℕ). pair.0 < count) (key, place) (keyed_places count (place + 1) keys) (ltb-true key count below) rest
+    by true below rest = All-cons (λ (pair : ℕ × ℕ). pair.0 < count) (key, place) (keyed_places count (place + 1) keys)
+        (ltb-true key count below) rest
     by false above rest = rest
 
 -- the items of a key are the places where it stands
-items_of-keyed : (count key : ℕ) → key < count → (place : ℕ) (keys : List ℕ) → items_of (keyed_places count place keys) key ≡ places_from place (λ other. other == key) keys
+items_of-keyed : (count key : ℕ) → key < count → (place : ℕ) (keys : List ℕ)
+    → items_of (keyed_places count place keys) key ≡ places_from place (λ other. other == key) keys
 items_of-keyed count key below place [] = refl
 items_of-keyed count key below place (first ∷ keys) =
     let rest = items_of-keyed count key below (place + 1) keys in
@@ -50,17 +57,23 @@ items_of-keyed count key below place (first ∷ keys) =
     ⊎_elim
     (λ (same : first ≡ key).
     (λ i. items_of (cond (lt-ltb first count (omega arith) i) ((first, place) ∷ others) others) key)
-    ∙ (λ i. map (λ (pair : ℕ × ℕ). pair.1) (cond (eq-eqb first key same i) ((first, place) ∷ filter (λ (pair : ℕ × ℕ). pair.0 == key) others) (filter (λ (pair : ℕ × ℕ). pair.0 == key) others)))
+    ∙ (λ i. map (λ (pair : ℕ × ℕ). pair.1) (cond (eq-eqb first key same i)
+    ((first, place) ∷ filter (λ (pair : ℕ × ℕ). pair.0 == key) others) (filter (λ (pair : ℕ × ℕ). pair.0 == key) others)))
     ∙ ap (λ (items : List ℕ). place ∷ items) rest
-    ∙ (λ i. cond (sym (eq-eqb first key same) i) (place ∷ places_from (place + 1) (λ other. other == key) keys) (places_from (place + 1) (λ other. other == key) keys)))
+    ∙ (λ i. cond (sym (eq-eqb first key same) i) (place ∷ places_from (place + 1) (λ other. other == key) keys)
+    (places_from (place + 1) (λ other. other == key) keys)))
     (λ (apart : first ≢ key).
     skipped (nat_lt first count) others (ne_eqb first key apart)
     ∙ rest
-    ∙ (λ i. cond (sym (ne_eqb first key apart) i) (place ∷ places_from (place + 1) (λ other. other == key) keys) (places_from (place + 1) (λ other. other == key) keys)))
+    ∙ (λ i. cond (sym (ne_eqb first key apart) i) (place ∷ places_from (place + 1) (λ other. other == key) keys)
+    (places_from (place + 1) (λ other. other == key) keys)))
     (cases_eq first key)
   where
-    skipped : (b : Bool) (others : List (ℕ × ℕ)) (other : (first == key) ≡ false) → items_of (cond b ((first, place) ∷ others) others) key ≡ items_of others key
-    skipped true others other = λ i. map (λ (pair : ℕ × ℕ). pair.1) (cond (other i) ((first, place) ∷ filter (λ (pair : ℕ × ℕ). pair.0 == key) others) (filter (λ (pair : ℕ × ℕ). pair.0 == key) others))
+    skipped : (b : Bool) (others : List (ℕ × ℕ)) (other : (first == key) ≡ false)
+        → items_of (cond b ((first, place) ∷ others) others) key ≡ items_of others key
+    skipped true others other = λ i. map (λ (pair : ℕ × ℕ). pair.1)
+        (cond (other i) ((first, place) ∷ filter (λ (pair : ℕ × ℕ). pair.0 == key) others)
+        (filter (λ (pair : ℕ × ℕ). pair.0 == key) others))
     skipped false others other = refl
 
 pub places_by_keyed : (count : ℕ) (keys : List ℕ) → lists_by count (keyed_places count 0 keys) ≡ places_by count keys

@@ -15,6 +15,7 @@ pub mod GroupsToldLemmas
 pub mod IndexLemmas
 pub mod KeyLemmas
 pub mod KeyedPlacesLemmas
+pub mod LookUpLemmas
 pub mod MarkLemmas
 pub mod NumberLemmas
 pub mod OnceLemmas

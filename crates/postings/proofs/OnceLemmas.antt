@@ -1,10 +1,12 @@
 -- Lists in which no item stands twice, and the distinct items of a list: under maps, joined, and block by block.
-use Rattle.std.proofs.Common.{ℕ, zero, suc, ◌+◌, ◌≡◌, ◌≢◌, ◌<◌, ◌++◌, ◌∷◌, [], ◌∙◌, ◌||◌, not, inl, inr, List, length, get_or, map, Bool, true, false, cond, refl, sym, ap, subst, arith}
+use Rattle.std.proofs.Common.{ℕ, zero, suc, ◌+◌, ◌≡◌, ◌≢◌, ◌<◌, ◌++◌, ◌∷◌, [], ◌∙◌, ◌||◌, not}
+use Rattle.std.proofs.Common.{inl, inr, List, length, get_or, map, Bool, true, false, cond, refl, sym, ap, subst, arith}
 use Rattle.std.specs.Prelude.{All, AllPairs, Contains}
 use Rattle.std.specs.List.{filter, flat_map, list_any, position_or_len, range_with_len}
 use Rattle.std.proofs.lemmas.Bool.{cases_order}
 use Rattle.std.proofs.lemmas.List.{get_or-map, length-map}
-use Rattle.std.proofs.lemmas.List.Elements.{All-append, All-cons, All-filter, All-get_or, All-head, All-nil, All-tail, Contains-append_right}
+use Rattle.std.proofs.lemmas.List.Elements.{All-append, All-cons, All-filter, All-get_or, All-head, All-nil, All-tail}
+use Rattle.std.proofs.lemmas.List.Elements.{Contains-append_right}
 use Rattle.std.proofs.lemmas.List.Kept.{AllPairs-cons}
 use Rattle.rf2_rows.specs.Pairs.{distinct}
 use Rattle.postings.proofs.BlockLemmas.{All-blocks, Contains-filter, filter-map, filter-within}
@@ -15,7 +17,8 @@ module _ {X : Type 0} where
   pub any-Contains : (p : X → Bool) (xs : List X) (x : X) → p x ≡ true → Contains xs x → list_any p xs ≡ true
   any-Contains p [] x passes there = absurd (omega (arith, there.1))
   any-Contains p (y ∷ xs) x passes (zero, within, is) = ap (λ (b : Bool). b || list_any p xs) (ap p is ∙ passes)
-  any-Contains p (y ∷ xs) x passes (suc k, within, is) = ap (λ (b : Bool). p y || b) (any-Contains p xs x passes (k, omega arith, is)) ∙ always (p y)
+  any-Contains p (y ∷ xs) x passes (suc k, within, is) = ap (λ (b : Bool). p y || b) (any-Contains p xs x passes (k, omega arith, is))
+      ∙ always (p y)
     where
       always : (b : Bool) → (b || true) ≡ true
       always true = refl
@@ -26,7 +29,8 @@ module _ {X : Type 0} where
   position-within p [] found = absurd (cc)
   position-within p (x ∷ xs) found = by (p x) refl found (position-within p xs)
     where
-      by : (b : Bool) → p x ≡ b → (b || list_any p xs) ≡ true → (list_any p xs ≡ true → position_or_len p xs < length xs) → cond (not b) (1 + position_or_len p xs) 0 < suc (length xs)
+      by : (b : Bool) → p x ≡ b → (b || list_any p xs) ≡ true → (list_any p xs ≡ true → position_or_len p xs < length xs)
+          → cond (not b) (1 + position_or_len p xs) 0 < suc (length xs)
       by true is found rest = omega arith
       by false is found rest = let later = rest found in omega arith
 
@@ -40,7 +44,8 @@ module _ {X : Type 0} where
       (All-filter (λ other. not (same x other)) P (distinct same xs) (All-distinct same P xs (All-tail P x xs all)))
 
   -- of what a function gives, where the tests agree
-  pub distinct-map : {Y : Type 0} (P : X → Type 0) (f : X → Y) (same : Y → Y → Bool) (other : X → X → Bool) → ((x y : X) → P x → P y → same (f x) (f y) ≡ other x y)
+  pub distinct-map : {Y : Type 0} (P : X → Type 0) (f : X → Y) (same : Y → Y → Bool) (other : X → X → Bool)
+      → ((x y : X) → P x → P y → same (f x) (f y) ≡ other x y)
       → (xs : List X) → All P xs → distinct same (map f xs) ≡ map f (distinct other xs)
   distinct-map P f same other agree [] all = refl
   distinct-map P f same other agree (x ∷ xs) all =
@@ -50,17 +55,20 @@ module _ {X : Type 0} where
       ∙ ap (λ rest. f x ∷ rest)
       (filter-map (λ y. not (same (f x) y)) f (distinct other xs)
       ∙ ap (map f) (filter-within (λ y. not (same (f x) (f y))) (λ y. not (other x y)) (distinct other xs)
-      (λ k d below. ap not (agree x (get_or (distinct other xs) k d) own (All-get_or P (distinct other xs) k d below (All-distinct other P xs later))))))
+      (λ k d below. ap not (agree x (get_or (distinct other xs) k d) own
+      (All-get_or P (distinct other xs) k d below (All-distinct other P xs later))))))
 
   -- where the test finds the same only what is, each item of the list is among them
-  pub distinct-keeps : (same : X → X → Bool) → ((x y : X) → same x y ≡ true → x ≡ y) → (xs : List X) (x : X) → Contains xs x → Contains (distinct same xs) x
+  pub distinct-keeps : (same : X → X → Bool) → ((x y : X) → same x y ≡ true → x ≡ y) → (xs : List X) (x : X)
+      → Contains xs x → Contains (distinct same xs) x
   distinct-keeps same exact [] x there = absurd (omega (arith, there.1))
   distinct-keeps same exact (y ∷ xs) x (zero, within, is) = (0, omega arith, is)
   distinct-keeps same exact (y ∷ xs) x (suc k, within, is) = by (same y x) refl (distinct-keeps same exact xs x (k, omega arith, is))
     where
       by : (b : Bool) → same y x ≡ b → Contains (distinct same xs) x → Contains (distinct same (y ∷ xs)) x
       by true alike there = (0, omega arith, exact y x alike)
-      by false apart there = Contains-append_right (y ∷ []) (filter (λ other. not (same y other)) (distinct same xs)) x (Contains-filter (λ other. not (same y other)) (distinct same xs) x (ap not apart) there)
+      by false apart there = Contains-append_right (y ∷ []) (filter (λ other. not (same y other)) (distinct same xs)) x
+          (Contains-filter (λ other. not (same y other)) (distinct same xs) x (ap not apart) there)
 
 -- ---- lists without repeats
 
@@ -70,7 +78,8 @@ IsOnce xs = AllPairs (λ x y. x ≢ y) xs
 
 module _ {X : Type 0} where
   -- so an item has one place
-  pub same_place : (xs : List X) → IsOnce xs → (i j : ℕ) (d : X) → i < length xs → j < length xs → get_or xs i d ≡ get_or xs j d → i ≡ j
+  pub same_place : (xs : List X) → IsOnce xs → (i j : ℕ) (d : X) → i < length xs → j < length xs
+      → get_or xs i d ≡ get_or xs j d → i ≡ j
   same_place xs once i j d near far same = elim (cases_order i j) [
     | inl is ↦ is
     | inr (inl less) ↦ absurd (once i j d less far same)
@@ -78,15 +87,18 @@ module _ {X : Type 0} where
   ]
 
   -- what holds of the pairs of two lists and across them holds of the pairs of both joined
-  pub AllPairs-append : (R : X → X → Type 0) (xs ys : List X) → AllPairs R xs → AllPairs R ys → ((x : X) → Contains xs x → All (R x) ys) → AllPairs R (xs ++ ys)
+  pub AllPairs-append : (R : X → X → Type 0) (xs ys : List X) → AllPairs R xs → AllPairs R ys
+      → ((x : X) → Contains xs x → All (R x) ys) → AllPairs R (xs ++ ys)
   AllPairs-append R [] ys left right across = right
   AllPairs-append R (x ∷ xs) ys left right across =
       AllPairs-cons R x (xs ++ ys)
       (All-append (R x) xs ys (λ k d below. left 0 (suc k) d (omega arith) (omega arith)) (across x (0, omega arith, refl)))
-      (AllPairs-append R xs ys (λ i j d less below. left (suc i) (suc j) d (omega arith) (omega arith)) right (λ y there. across y (Contains-append_right (x ∷ []) xs y there)))
+      (AllPairs-append R xs ys (λ i j d less below. left (suc i) (suc j) d (omega arith) (omega arith)) right
+      (λ y there. across y (Contains-append_right (x ∷ []) xs y there)))
 
   -- what holds of the pairs of a list, of what a function gives
-  pub AllPairs-map : {Y : Type 0} (R : X → X → Type 0) (S : Y → Y → Type 0) (f : X → Y) → ((x y : X) → R x y → S (f x) (f y)) → (xs : List X) → AllPairs R xs → AllPairs S (map f xs)
+  pub AllPairs-map : {Y : Type 0} (R : X → X → Type 0) (S : Y → Y → Type 0) (f : X → Y)
+      → ((x y : X) → R x y → S (f x) (f y)) → (xs : List X) → AllPairs R xs → AllPairs S (map f xs)
   AllPairs-map R S f keeps [] pairs i j e less below = absurd (omega arith)
   AllPairs-map R S f keeps (x ∷ xs) pairs i j e less below =
       let long = length-map (x ∷ xs) f in
@@ -97,8 +109,10 @@ module _ {X : Type 0} where
       (keeps (get_or (x ∷ xs) i x) (get_or (x ∷ xs) j x) (pairs i j x less far)))
 
   -- block by block
-  pub AllPairs-blocks : (R : X → X → Type 0) (block : ℕ → List X) (from n : ℕ) → ((k : ℕ) → k < from + n → AllPairs R (block k))
-      → ((k l : ℕ) → k < l → l < from + n → (x : X) → Contains (block k) x → All (R x) (block l)) → AllPairs R (flat_map block (range_with_len from n))
+  pub AllPairs-blocks : (R : X → X → Type 0) (block : ℕ → List X) (from n : ℕ)
+      → ((k : ℕ) → k < from + n → AllPairs R (block k))
+      → ((k l : ℕ) → k < l → l < from + n → (x : X) → Contains (block k) x → All (R x) (block l))
+      → AllPairs R (flat_map block (range_with_len from n))
   AllPairs-blocks R block from zero inside across = λ i j d less below. absurd (omega arith)
   AllPairs-blocks R block from (suc n) inside across =
       AllPairs-append R (block from) (flat_map block (range_with_len (from + 1) n)) (inside from (omega arith))

@@ -1,5 +1,6 @@
 -- Numbers brought in rising order, each once.
-use Rattle.std.proofs.Common.{ℕ, suc, ◌+◌, ◌==◌, ◌≡◌, ◌≤◌, ◌<◌, ◌||◌, ◌∷◌, [], ◌∙◌, inl, inr, true, List, refl, sym, arith}
+use Rattle.std.proofs.Common.{ℕ, suc, ◌+◌, ◌==◌, ◌≡◌, ◌≤◌, ◌<◌, ◌||◌, ◌∷◌, [], ◌∙◌, inl, inr}
+use Rattle.std.proofs.Common.{true, List, refl, sym, arith}
 use Rattle.std.specs.Prelude.{All}
 use Rattle.std.proofs.lemmas.Bool.{cases_eq, cases_order, eq-eqb, le-ltb, lt-ltb, ne_eqb}
 use Rattle.std.proofs.lemmas.List.Elements.{All-cons, All-head, All-nil, All-tail, All-weaker}
@@ -9,21 +10,25 @@ use Rattle.snapshot.specs.InForce.{has, put, rising}
 use Rattle.snapshot.proofs.SortLemmas.{has-rising}
 
 -- a number put into a rising list leaves one that rises within the same limits
-rises_within-put : (lowest bound id : ℕ) (xs : List ℕ) → lowest ≤ id → id < bound → rises_within lowest bound xs ≡ true → rises_within lowest bound (put id xs) ≡ true
+rises_within-put : (lowest bound id : ℕ) (xs : List ℕ) → lowest ≤ id → id < bound → rises_within lowest bound xs ≡ true
+    → rises_within lowest bound (put id xs) ≡ true
 rises_within-put lowest bound id [] above below rises = rises_from_on lowest bound id [] above below refl
 rises_within-put lowest bound id (x ∷ xs) above below rises =
     let on = rises_on lowest bound x xs rises in
     elim (cases_order id x) [
       | inl same ↦ rw (le-ltb id x (omega arith), eq-eqb id x same) rises
-      | inr (inl less) ↦ rw (lt-ltb id x less) (rises_from_on lowest bound id (x ∷ xs) above below (rises_from_on (suc id) bound x xs less on.below on.rest))
-      | inr (inr more) ↦ rw (le-ltb id x (omega arith), ne_eqb id x (λ same. omega arith)) (rises_from_on lowest bound x (put id xs) on.above on.below (rises_within-put (suc x) bound id xs more below on.rest))
+      | inr (inl less) ↦ rw (lt-ltb id x less) (rises_from_on lowest bound id (x ∷ xs) above below
+          (rises_from_on (suc id) bound x xs less on.below on.rest))
+      | inr (inr more) ↦ rw (le-ltb id x (omega arith), ne_eqb id x (λ same. omega arith))
+          (rises_from_on lowest bound x (put id xs) on.above on.below (rises_within-put (suc x) bound id xs more below on.rest))
     ]
 
 -- numbers below a bound rise below it when they are brought in order
 pub rising-rises : (bound : ℕ) (xs : List ℕ) → All (λ id. id < bound) xs → IsRisingBelow bound (rising xs)
 rising-rises bound [] below = refl
 rising-rises bound (x ∷ xs) below =
-    rises_within-put 0 bound x (rising xs) (omega arith) (All-head (λ id. id < bound) x xs below) (rising-rises bound xs (All-tail (λ id. id < bound) x xs below))
+    rises_within-put 0 bound x (rising xs) (omega arith) (All-head (λ id. id < bound) x xs below)
+    (rising-rises bound xs (All-tail (λ id. id < bound) x xs below))
 
 -- the two tests of being in a list are the same
 pub has_item-has : (xs : List ℕ) (n : ℕ) → has_item xs n ≡ has xs n
@@ -42,15 +47,20 @@ has_item-rising xs n = has_item-has (rising xs) n ∙ has-rising xs n ∙ sym (h
 
 -- the numbers below a bound that are in a list below it are its members in rising order
 pub rising_is_listed : (bound : ℕ) (xs : List ℕ) → All (λ id. id < bound) xs → rising xs ≡ listed_numbers bound xs
-rising_is_listed bound xs below = rising_is_where bound (rising xs) (has_item xs) (rising-rises bound xs below) (λ n _. has_item-rising xs n)
+rising_is_listed bound xs below = rising_is_where bound (rising xs) (has_item xs) (rising-rises bound xs below)
+    (λ n _. has_item-rising xs n)
 
 -- all numbers of a list are below some bound
 pub some_bound : (xs : List ℕ) → (bound : ℕ) × All (λ id. id < bound) xs
 some_bound [] = (0, All-nil (λ id. id < 0))
 some_bound (x ∷ xs) =
-    let rest = some_bound xs in
-    (suc x + rest.0, All-cons (λ id. id < suc x + rest.0) x xs (omega arith) (All-weaker (λ id. id < rest.0) (λ id. id < suc x + rest.0) (λ id below. omega (arith, below)) xs rest.1))
+    let rest = some_bound xs in (
+      suc x + rest.0,
+      All-cons (λ id. id < suc x + rest.0) x xs (omega arith)
+          (All-weaker (λ id. id < rest.0) (λ id. id < suc x + rest.0) (λ id below. omega (arith, below)) xs rest.1),
+    )
 
 -- what is the listed numbers of a list, whatever bound they are all below, is the list in rising order
-pub listed_is_rising : (xs ys : List ℕ) → ((bound : ℕ) → All (λ id. id < bound) xs → ys ≡ listed_numbers bound xs) → ys ≡ rising xs
+pub listed_is_rising : (xs ys : List ℕ) → ((bound : ℕ) → All (λ id. id < bound) xs → ys ≡ listed_numbers bound xs)
+    → ys ≡ rising xs
 listed_is_rising xs ys listed = let bound = some_bound xs in listed bound.0 bound.1 ∙ sym (rising_is_listed bound.0 xs bound.1)

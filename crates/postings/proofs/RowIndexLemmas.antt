@@ -1,22 +1,26 @@
 -- From the rows by numbers to the indexes of the rows.
-use Rattle.std.proofs.Common.{ℕ, ◌+◌, ◌-◌, ◌==◌, ◌≡◌, ◌≤◌, ◌<◌, ◌∷◌, [], ◌∙◌, Bool, List, All, length, get_or, map, nat_eq, replicate, take, refl, sym, ap, subst, arith}
+use Rattle.std.proofs.Common.{ℕ, ◌+◌, ◌-◌, ◌==◌, ◌≡◌, ◌≤◌, ◌<◌, ◌^◌, ◌∷◌, [], ◌∙◌, Bool, List}
+use Rattle.std.proofs.Common.{All, length, get_or, map, nat_eq, replicate, take, refl, sym, ap, subst, arith}
 use Rattle.std.specs.List.{IsDistinct, flat_map, range_with_len}
 use Rattle.std.specs.List.Sorted.{IsStrictlyIncreasing}
 use Rattle.std.proofs.lemmas.List.{length-map, take_all}
 use Rattle.rf2_rows.specs.Pairs.{value_eq}
-use Rattle.rf2_rows.specs.Release.{Attribute, Release, Value, concept_value}
+use Rattle.rf2_rows.specs.Release.{Attribute, Release, Value}
 use Rattle.rf2_rows.proofs.DistinctLemmas.{keeps_each_number_once}
 use Rattle.snapshot.specs.AttributesBySource.{attributes_by_source}
 use Rattle.snapshot.proofs.CutLemmas.{same_maps}
-use Rattle.postings.specs.Coded.{IsBySource, IsCoded, all_group_marks, all_source_marks, group_codes, groups_ahead, of_source, row_coded}
+use Rattle.postings.specs.Coded.{AreCodedRows, AreRowMarks, IsBySource, IsCoded, all_group_marks, all_source_marks, group_codes}
+use Rattle.postings.specs.Coded.{of_source, row_coded}
 use Rattle.postings.specs.Columns.{AreGroups, AreSources, Mark}
 use Rattle.postings.specs.Entries.{entries_of}
 use Rattle.postings.specs.Groups.{ConceptGroup, all_groups, groups_among, is_in_group, rows_alone}
-use Rattle.postings.specs.Indexed.{types_of, value_at}
-use Rattle.postings.specs.Places.{places_by, places_where}
-use Rattle.postings.specs.ValueTables.{AreTables, values_in}
+use Rattle.postings.specs.Indexed.{value_at}
+use Rattle.postings.specs.Places.{keys_from, places_by, places_where}
+use Rattle.postings.specs.RowIndexes.{has_source, has_type, has_value}
+use Rattle.postings.specs.ValueTables.{values_in}
+use Rattle.postings.specs.declared.groups.RowMarks.{RowMarks}
 use Rattle.postings.specs.declared.rows.CodedRow.{CodedRow}
-use Rattle.postings.specs.declared.values.Values.{Values}
+use Rattle.postings.specs.declared.rows.CodedRows.{CodedRows}
 use Rattle.postings.proofs.AgainLemmas.{by_source_again}
 use Rattle.postings.proofs.BlockLemmas.{blocks-same}
 use Rattle.postings.proofs.CodeLemmas.{same_type}
@@ -32,124 +36,165 @@ replicated : {X : Type 0} (n : ℕ) (xs : List X) → replicate (length xs) n �
 replicated n [] = refl
 replicated n (x ∷ xs) = ap (λ (rest : List ℕ). n ∷ rest) (replicated n xs)
 
-module _ (release : Release) (rises : IsStrictlyIncreasing release.concepts) (coded : List CodedRow) (types : List ℕ) (values : Values)
-    (are : map (row_coded release.concepts types (values_in release.concepts values)) coded ≡ attributes_by_source release)
-    (within : All (IsCoded release.concepts types (values_in release.concepts values)) coded)
-    (types_are : types ≡ types_of (attributes_by_source release)) (tables : AreTables values) where
+module _ (release : Release) (rises : IsStrictlyIncreasing release.concepts) (coded : CodedRows)
+    (are : AreCodedRows release.concepts (attributes_by_source release) coded) where
   abbrev pub rows : List Attribute
   rows = attributes_by_source release
 
+  abbrev pub codes : List CodedRow
+  codes = coded.rows.items
+
+  abbrev pub types : List ℕ
+  types = coded.types.numbers.keys
+
   abbrev pub all : List Value
-  all = values_in release.concepts values
+  all = values_in release.concepts coded.values
 
   once : IsDistinct nat_eq types
-  once = subst (λ (xs : List ℕ). IsDistinct nat_eq xs) (sym types_are) (keeps_each_number_once (map (λ (row : Attribute). row.type_id) rows)).0
+  once = subst (λ (xs : List ℕ). IsDistinct nat_eq xs) (sym are.types)
+      (keeps_each_number_once (map (λ (row : Attribute). row.type_id) rows)).0
 
   exact : (v w : ℕ) → v < length all → w < length all → value_eq (value_at all v) (value_at all w) ≡ (v == w)
-  exact = values_exact release.concepts values rises tables
+  exact = values_exact release.concepts coded.values rises are.tables
 
   -- the rows stand source by source
-  pub is_sorted : IsBySource (length release.concepts) coded
-  is_sorted = by_source_coded release.concepts types all rises once exact coded within rows (sym are) (by_source_again release rises rows refl)
+  pub is_sorted : IsBySource (length release.concepts) codes
+  is_sorted = by_source_coded release.concepts types all rises once exact codes are.within rows (sym are.stand_for)
+      (by_source_again release rises rows refl)
 
-  pub length-coded : length coded ≡ length rows
-  length-coded = sym (length-map coded (row_coded release.concepts types all)) ∙ ap (λ (xs : List Attribute). length xs) are
+  pub length-codes : length codes ≡ length rows
+  length-codes = sym (length-map codes (row_coded release.concepts types all)) ∙ ap (λ (xs : List Attribute). length xs) are.stand_for
+
+  pub few_codes : length codes < 2 ^ 31
+  few_codes = omega (arith, length-codes, are.few)
 
   -- there is a mark for each row
-  pub sources_are : AreSources release.concepts (entries_of rows) (all_source_marks coded (length release.concepts))
-  sources_are = sources_told release.concepts types all rises once exact coded within rows (sym are) is_sorted
+  pub sources_are : AreSources release.concepts (entries_of rows) (all_source_marks codes (length release.concepts))
+  sources_are = sources_told release.concepts types all rises once exact codes are.within rows (sym are.stand_for) is_sorted
 
-  pub groups_are : AreGroups (all_groups (rows_alone release.concepts rows)) (entries_of rows) (all_group_marks coded (length release.concepts))
-  groups_are = groups_told release.concepts types all rises once exact coded within rows (sym are) is_sorted
+  pub groups_are : AreGroups (all_groups (rows_alone release.concepts rows)) (entries_of rows)
+      (all_group_marks codes (length release.concepts))
+  groups_are = groups_told release.concepts types all rises once exact codes are.within rows (sym are.stand_for) is_sorted
 
-  pub length-source_marks : length (all_source_marks coded (length release.concepts)) ≡ length coded
-  length-source_marks = length-sources release.concepts rows (all_source_marks coded (length release.concepts)) sources_are ∙ sym length-coded
+  pub length-source_marks : length (all_source_marks codes (length release.concepts)) ≡ length codes
+  length-source_marks = length-sources release.concepts rows (all_source_marks codes (length release.concepts)) sources_are
+      ∙ sym length-codes
 
-  pub length-group_marks : length (all_group_marks coded (length release.concepts)) ≡ length coded
-  length-group_marks = length-groups (all_groups (rows_alone release.concepts rows)) rows (all_group_marks coded (length release.concepts)) groups_are ∙ sym length-coded
+  pub length-group_marks : length (all_group_marks codes (length release.concepts)) ≡ length codes
+  length-group_marks = length-groups (all_groups (rows_alone release.concepts rows)) rows (all_group_marks codes (length release.concepts))
+      groups_are ∙ sym length-codes
 
   -- the places by a key are those of the rows that pass a test, where it tells the key
   by_key : (key : CodedRow → ℕ) (count : ℕ) (test : ℕ → Attribute → Bool)
-      → ((k : ℕ) (row : CodedRow) → k < count → IsCoded release.concepts types all row → (key row == k) ≡ test k (row_coded release.concepts types all row))
-      → places_by count (map key coded) ≡ map (λ k. places_where (test k) rows) (range_with_len 0 count)
+      → ((k : ℕ) (row : CodedRow) → k < count → IsCoded release.concepts types all row
+      → (key row == k) ≡ test k (row_coded release.concepts types all row))
+      → places_by count (map key codes) ≡ map (λ k. places_where (test k) rows) (range_with_len 0 count)
   by_key key count test tells =
-      same_maps (λ k. places_where (λ other. other == k) (map key coded)) (λ k. places_where (test k) rows) 0 count
+      same_maps (λ k. places_where (λ other. other == k) (map key codes)) (λ k. places_where (test k) rows) 0 count
       (λ k from below.
-      places_where-map key (λ other. other == k) coded
-      ∙ places_where-agree (λ (row : CodedRow). key row == k) (λ (row : CodedRow). test k (row_coded release.concepts types all row)) coded (λ i d inside. tells k (get_or coded i d) (omega (arith, below)) (within i d inside))
-      ∙ sym (places_where-map (row_coded release.concepts types all) (test k) coded)
-      ∙ ap (places_where (test k)) are)
+      places_where-map key (λ other. other == k) codes
+      ∙ places_where-agree (λ (row : CodedRow). key row == k) (λ (row : CodedRow). test k (row_coded release.concepts types all row))
+      codes (λ i d inside. tells k (get_or codes i d) (omega (arith, below)) (are.within i d inside))
+      ∙ sym (places_where-map (row_coded release.concepts types all) (test k) codes)
+      ∙ ap (places_where (test k)) are.stand_for)
 
-  pub by_source_are : places_by (length release.concepts) (map (λ (row : CodedRow). row.source) coded)
-      ≡ map (λ concept. places_where (λ (row : Attribute). row.source == get_or release.concepts concept 0) rows) (range_with_len 0 (length release.concepts))
+  pub by_source_are : places_by (length release.concepts) (map (λ (row : CodedRow). row.source) codes)
+      ≡ map (λ concept. places_where (has_source release.concepts concept) rows) (range_with_len 0 (length release.concepts))
   by_source_are =
-      by_key (λ row. row.source) (length release.concepts) (λ concept row. row.source == get_or release.concepts concept 0)
+      by_key (λ row. row.source) (length release.concepts) (has_source release.concepts)
       (λ k row below is. sym (rising_apart release.concepts rises row.source k is.source below))
 
-  pub by_type_are : places_by (length types) (map (λ (row : CodedRow). row.kind) coded)
-      ≡ map (λ kind. places_where (λ (row : Attribute). row.type_id == get_or types kind 0) rows) (range_with_len 0 (length types))
+  pub by_type_are : places_by (length types) (map (λ (row : CodedRow). row.type_place) codes)
+      ≡ map (λ place. places_where (has_type types place) rows) (range_with_len 0 (length types))
   by_type_are =
-      by_key (λ row. row.kind) (length types) (λ kind row. row.type_id == get_or types kind 0)
-      (λ k row below is. sym (same_type types once row.kind k is.kind below))
+      by_key (λ row. row.type_place) (length types) (has_type types)
+      (λ k row below is. sym (same_type types once row.type_place k is.type_place below))
 
-  pub by_value_are : places_by (length release.concepts) (map (λ (row : CodedRow). row.value) coded)
-      ≡ map (λ concept. places_where (λ (row : Attribute). value_eq row.value (concept_value (get_or release.concepts concept 0))) rows) (range_with_len 0 (length release.concepts))
+  pub by_value_are : places_by (length release.concepts) (map (λ (row : CodedRow). row.value) codes)
+      ≡ map (λ concept. places_where (has_value release.concepts concept) rows) (range_with_len 0 (length release.concepts))
   by_value_are =
-      by_key (λ row. row.value) (length release.concepts) (λ concept row. value_eq row.value (concept_value (get_or release.concepts concept 0)))
-      (λ k row below is. sym (value_of_concept release.concepts values rises row.value k is.value below))
+      by_key (λ row. row.value) (length release.concepts) (has_value release.concepts)
+      (λ k row below is. sym (value_of_concept release.concepts coded.values rises row.value k is.value below))
 
   -- where the groups of each concept start
-  module _ (starts : List ℕ) (long : length starts ≡ length release.concepts + 1) (told : (source : ℕ) → source ≤ length release.concepts → get_or starts source 0 ≡ groups_ahead coded source) where
-    pub starts_are : (concept : ℕ) → concept ≤ length release.concepts → get_or starts concept 0 ≡ length (groups_among (rows_alone release.concepts rows) (take concept release.concepts))
-    starts_are concept near = told concept near ∙ sym (starts_told release.concepts types all rises once exact coded within rows (sym are) concept near)
+  module _ (marks : RowMarks) (marked : AreRowMarks (length release.concepts) codes marks) where
+    abbrev pub starts : List ℕ
+    starts = marks.starts.items
+
+    long : length starts ≡ length release.concepts + 1
+    long = omega (arith, marked.starts_len)
+
+    pub starts_are : (concept : ℕ) → concept ≤ length release.concepts
+        → get_or starts concept 0 ≡ length (groups_among (rows_alone release.concepts rows) (take concept release.concepts))
+    starts_are concept near = marked.starts concept near
+        ∙ sym (starts_told release.concepts types all rises once exact codes are.within rows (sym are.stand_for) concept near)
 
     pub starts_rise : (concept : ℕ) → concept + 1 < length starts → get_or starts concept 0 ≤ get_or starts (concept + 1) 0
     starts_rise concept near =
-        omega (arith, told concept (omega (arith, near, long)), told (concept + 1) (omega (arith, near, long)), groups_ahead-more coded concept)
+        omega (
+          arith,
+          marked.starts concept (omega (arith, near, long)),
+          marked.starts (concept + 1) (omega (arith, near, long)),
+          groups_ahead-more codes concept,
+        )
 
     pub starts_last : get_or starts (length starts - 1) 0 ≡ length (all_groups (rows_alone release.concepts rows))
     starts_last =
         let last : length starts - 1 ≡ length release.concepts = omega (arith, long) in
         ap (λ (n : ℕ). get_or starts n 0) last
         ∙ starts_are (length release.concepts) (omega arith)
-        ∙ ap (λ (xs : List ℕ). length (groups_among (rows_alone release.concepts rows) xs)) (take_all (length release.concepts) release.concepts (omega arith))
+        ∙ ap (λ (xs : List ℕ). length (groups_among (rows_alone release.concepts rows) xs))
+        (take_all (length release.concepts) release.concepts (omega arith))
 
     -- there are no more groups than rows
-    pub few_groups : length (all_groups (rows_alone release.concepts rows)) ≤ length coded
+    pub few_groups : length (all_groups (rows_alone release.concepts rows)) ≤ length codes
     few_groups =
         omega (
           arith,
           starts_last,
           ap (λ (n : ℕ). get_or starts n 0) (last),
-          told (length release.concepts) (omega arith),
-          groups_ahead-le coded (length release.concepts) (length release.concepts) is_sorted (omega arith),
+          marked.starts (length release.concepts) (omega arith),
+          groups_ahead-le codes (length release.concepts) (length release.concepts) is_sorted (omega arith),
         )
       where
         last : length starts - 1 ≡ length release.concepts
         last = omega (arith, long)
 
     -- the concepts by the starts are those of the groups
-    listed : flat_map (λ concept. replicate (get_or starts (concept + 1) 0 - get_or starts concept 0) concept) (range_with_len 0 (length starts - 1))
-        ≡ flat_map (λ s. map (λ (code : ℕ × (ℕ × ℕ)). s) (group_codes (of_source coded s))) (range_with_len 0 (length release.concepts))
+    listed : keys_from starts (length starts - 1)
+        ≡ flat_map (λ s. map (λ (code : ℕ × (ℕ × ℕ)). s) (group_codes (of_source codes s)))
+        (range_with_len 0 (length release.concepts))
     listed =
         let last : length starts - 1 ≡ length release.concepts = omega (arith, long) in
-        ap (λ (n : ℕ). flat_map (λ concept. replicate (get_or starts (concept + 1) 0 - get_or starts concept 0) concept) (range_with_len 0 n)) last
-        ∙ blocks-same (λ concept. replicate (get_or starts (concept + 1) 0 - get_or starts concept 0) concept) (λ s. map (λ (code : ℕ × (ℕ × ℕ)). s) (group_codes (of_source coded s))) 0 (length release.concepts)
-        (λ s below. ap (λ (n : ℕ). replicate n s) (gap s (omega (arith, below))) ∙ replicated s (group_codes (of_source coded s)))
+        ap (keys_from starts) last
+        ∙ blocks-same (λ concept. replicate (get_or starts (concept + 1) 0 - get_or starts concept 0) concept)
+        (λ s. map (λ (code : ℕ × (ℕ × ℕ)). s) (group_codes (of_source codes s))) 0 (length release.concepts)
+        (λ s below. ap (λ (n : ℕ). replicate n s) (gap s (omega (arith, below))) ∙ replicated s (group_codes (of_source codes s)))
       where
-        gap : (s : ℕ) → s < length release.concepts → get_or starts (s + 1) 0 - get_or starts s 0 ≡ length (group_codes (of_source coded s))
-        gap s below = omega (arith, told s (omega (arith, below)), told (s + 1) (omega (arith, below)), groups_ahead-more coded s)
+        gap : (s : ℕ) → s < length release.concepts → get_or starts (s + 1) 0 - get_or starts s 0
+            ≡ length (group_codes (of_source codes s))
+        gap s below = omega (
+          arith,
+          marked.starts s (omega (arith, below)),
+          marked.starts (s + 1) (omega (arith, below)),
+          groups_ahead-more codes s,
+        )
 
-    pub concepts_are : (kept : List ℕ) → kept ≡ flat_map (λ concept. replicate (get_or starts (concept + 1) 0 - get_or starts concept 0) concept) (range_with_len 0 (length starts - 1))
-        → All (λ concept. concept < length release.concepts) kept × (map (λ n. get_or release.concepts n 0) kept ≡ map (λ (group : ConceptGroup). group.concept) (all_groups (rows_alone release.concepts rows)))
+    pub concepts_are : (kept : List ℕ) → kept ≡ keys_from starts (length starts - 1)
+        → All (λ concept. concept < length release.concepts) kept
+        × (map (λ n. get_or release.concepts n 0) kept
+        ≡ map (λ (group : ConceptGroup). group.concept) (all_groups (rows_alone release.concepts rows)))
     concepts_are kept is = (
-      subst (λ (xs : List ℕ). All (λ concept. concept < length release.concepts) xs) (sym (is ∙ listed)) (group_concepts_below coded (length release.concepts)),
-      ap (map (λ n. get_or release.concepts n 0)) (is ∙ listed) ∙ group_concepts_told release.concepts types all rises once exact coded within rows (sym are),
+      subst (λ (xs : List ℕ). All (λ concept. concept < length release.concepts) xs) (sym (is ∙ listed))
+          (group_concepts_below codes (length release.concepts)),
+      ap (map (λ n. get_or release.concepts n 0)) (is ∙ listed)
+          ∙ group_concepts_told release.concepts types all rises once exact codes are.within rows (sym are.stand_for),
     )
 
     -- the rows of each group
-    pub group_rows_are : places_by (get_or starts (length starts - 1) 0) (map (λ (mark : Mark). mark.number) (all_group_marks coded (length release.concepts)))
+    pub group_rows_are : places_by (get_or starts (length starts - 1) 0)
+        (map (λ (mark : Mark). mark.number) (all_group_marks codes (length release.concepts)))
         ≡ map (λ (group : ConceptGroup). places_where (is_in_group group) rows) (all_groups (rows_alone release.concepts rows))
     group_rows_are =
-        ap (λ (n : ℕ). places_by n (map (λ (mark : Mark). mark.number) (all_group_marks coded (length release.concepts)))) starts_last
-        ∙ group_rows_told release.concepts types all rises once exact coded within rows (sym are) is_sorted
+        ap (λ (n : ℕ). places_by n (map (λ (mark : Mark). mark.number) (all_group_marks codes (length release.concepts)))) starts_last
+        ∙ group_rows_told release.concepts types all rises once exact codes are.within rows (sym are.stand_for) is_sorted

@@ -1,158 +1,186 @@
 -- The lists of rows by type and by value, with their columns.
-use Rattle.std.proofs.Common.{ℕ, ◌+◌, ◌-◌, ◌==◌, ◌≡◌, ◌≤◌, ◌<◌, ◌^◌, ◌∙◌, [], Bool, true, List, All, length, get_or, map, replicate, refl, sym, ap, subst, arith}
-use Rattle.std.specs.List.{concat, flat_map, range_with_len}
+use Rattle.std.proofs.Common.{ℕ, ◌-◌, ◌≡◌, ◌≤◌, ◌<◌, ◌^◌, ◌∙◌, [], Bool, true, List, length, get_or}
+use Rattle.std.proofs.Common.{map, refl, sym, ap, subst, arith}
+use Rattle.std.specs.List.{concat, range_with_len}
 use Rattle.std.specs.List.Sorted.{IsStrictlyIncreasing}
+use Rattle.std.proofs.lemmas.List.{length-map}
 use Rattle.std.proofs.lemmas.List.Elements.{All-map, All-weaker}
 use Rattle.std.proofs.lemmas.Simd.{map-map}
-use Rattle.rf2_rows.specs.Pairs.{value_eq}
-use Rattle.rf2_rows.specs.Release.{Attribute, Release, Value, concept_value}
+use Rattle.rf2_rows.specs.Release.{Attribute, Release, Value}
 use Rattle.snapshot.specs.AttributesBySource.{attributes_by_source}
 use Rattle.snapshot.specs.KeyedLists.{list_of}
-use Rattle.postings.specs.Coded.{IsCoded, all_group_marks, all_source_marks, groups_ahead, row_coded}
+use Rattle.postings.specs.Coded.{AreCodedRows, AreRowMarks, IsCoded, row_coded}
+use Rattle.postings.specs.Cells.{AreOfOneLength, AreRowLists, IsColumn, cells_of}
 use Rattle.postings.specs.Columns.{AreGroups, AreSources, AreTypes, AreValues, Mark}
-use Rattle.postings.specs.Entries.{Entry, entries_of}
+use Rattle.postings.specs.Entries.{Entry, entries_of, entries_where}
 use Rattle.postings.specs.Groups.{ConceptGroup, all_groups, rows_alone}
 use Rattle.postings.specs.Indexed.{types_of, value_at}
-use Rattle.postings.specs.Places.{places_by, places_where}
-use Rattle.postings.specs.RowIndexes.{AreByType, AreByValue, AreGroupLists}
-use Rattle.postings.specs.ValueTables.{AreTables, values_in}
+use Rattle.postings.specs.Places.{keys_from, places_by, places_where}
+use Rattle.postings.specs.RowIndexes.{AreByType, AreByValue, AreGroupLists, AreListsBy, has_type, has_value}
+use Rattle.postings.specs.ValueTables.{values_in}
 use Rattle.postings.specs.declared.columns.RowLists.{RowLists}
+use Rattle.postings.specs.declared.groups.RowMarks.{RowMarks}
 use Rattle.postings.specs.declared.row_indexes.GroupLists.{GroupLists}
 use Rattle.postings.specs.declared.rows.CodedRow.{CodedRow}
-use Rattle.postings.specs.declared.values.Values.{Values}
+use Rattle.postings.specs.declared.rows.CodedRows.{CodedRows}
 use Rattle.postings.proofs.CellLemmas.{groups_at, long_cells, sources_at, types_at, values_at}
 use Rattle.postings.proofs.IndexLemmas.{list_at, rows_of_entries}
-use Rattle.postings.proofs.RowIndexLemmas.{by_type_are, by_value_are, concepts_are, few_groups, group_rows_are, groups_are, sources_are, starts_are}
+use Rattle.postings.proofs.RowIndexLemmas.{by_type_are, by_value_are, concepts_are, few_codes, few_groups, group_rows_are, groups_are}
+use Rattle.postings.proofs.RowIndexLemmas.{length-group_marks, length-source_marks, sources_are, starts_are}
 
-module _ (release : Release) (rises : IsStrictlyIncreasing release.concepts) (coded : List CodedRow) (types : List ℕ) (values : Values)
-    (are : map (row_coded release.concepts types (values_in release.concepts values)) coded ≡ attributes_by_source release)
-    (within : All (IsCoded release.concepts types (values_in release.concepts values)) coded)
-    (types_are : types ≡ types_of (attributes_by_source release)) (tables : AreTables values) where
+module _ (release : Release) (rises : IsStrictlyIncreasing release.concepts) (coded : CodedRows)
+    (are : AreCodedRows release.concepts (attributes_by_source release) coded) where
   abbrev rows : List Attribute
   rows = attributes_by_source release
 
+  abbrev codes : List CodedRow
+  codes = coded.rows.items
+
+  abbrev types : List ℕ
+  types = coded.types.numbers.keys
+
   abbrev all : List Value
-  all = values_in release.concepts values
+  all = values_in release.concepts coded.values
 
   abbrev groups : List ConceptGroup
   groups = all_groups (rows_alone release.concepts rows)
 
   -- a field of the rows by the numbers that they have
-  field_of : {X : Type 0} (f : CodedRow → X) (g : Attribute → X) → ((row : CodedRow) → f row ≡ g (row_coded release.concepts types all row))
-      → map f coded ≡ map (λ (entry : Entry). g entry.row) (entries_of rows)
+  field_of : {X : Type 0} (f : CodedRow → X) (g : Attribute → X)
+      → ((row : CodedRow) → f row ≡ g (row_coded release.concepts types all row))
+      → map f codes ≡ map (λ (entry : Entry). g entry.row) (entries_of rows)
   field_of f g tells =
-      (λ i. map (λ row. tells row i) coded)
-      ∙ sym (map-map g (row_coded release.concepts types all) coded)
-      ∙ ap (map g) (are ∙ sym (rows_of_entries [] rows))
+      (λ i. map (λ row. tells row i) codes)
+      ∙ sym (map-map g (row_coded release.concepts types all) codes)
+      ∙ ap (map g) (are.stand_for ∙ sym (rows_of_entries [] rows))
       ∙ map-map g (λ (entry : Entry). entry.row) (entries_of rows)
 
-  values_told : AreValues all (entries_of rows) (map (λ (row : CodedRow). row.value) coded)
+  values_told : AreValues all (entries_of rows) (map (λ (row : CodedRow). row.value) codes)
   values_told = record {
-    within = All-map (λ number. number < length all) (λ (row : CodedRow). row.value) coded (All-weaker (IsCoded release.concepts types all) (λ (row : CodedRow). row.value < length all) (λ row is. is.value) coded within);
-    values = map-map (value_at all) (λ (row : CodedRow). row.value) coded ∙ field_of (λ row. value_at all row.value) (λ row. row.value) (λ row. refl);
+    within = All-map (λ number. number < length all) (λ (row : CodedRow). row.value) codes
+        (All-weaker (IsCoded release.concepts types all) (λ (row : CodedRow). row.value < length all) (λ row is. is.value) codes
+        are.within);
+    values = map-map (value_at all) (λ (row : CodedRow). row.value) codes
+        ∙ field_of (λ row. value_at all row.value) (λ row. row.value) (λ row. refl);
   }
 
-  types_told : AreTypes (types_of rows) (entries_of rows) (map (λ (row : CodedRow). row.kind) coded)
-  types_told = subst (λ (xs : List ℕ). AreTypes xs (entries_of rows) (map (λ (row : CodedRow). row.kind) coded)) types_are (record {
-    within = All-map (λ place. place < length types) (λ (row : CodedRow). row.kind) coded (All-weaker (IsCoded release.concepts types all) (λ (row : CodedRow). row.kind < length types) (λ row is. is.kind) coded within);
-    types = map-map (λ place. get_or types place 0) (λ (row : CodedRow). row.kind) coded ∙ field_of (λ row. get_or types row.kind 0) (λ row. row.type_id) (λ row. refl);
-  })
+  types_told : AreTypes (types_of rows) (entries_of rows) (map (λ (row : CodedRow). row.type_place) codes)
+  types_told = subst (λ (xs : List ℕ). AreTypes xs (entries_of rows) (map (λ (row : CodedRow). row.type_place) codes)) are.types
+      (record {
+        within = All-map (λ place. place < length types) (λ (row : CodedRow). row.type_place) codes
+            (All-weaker (IsCoded release.concepts types all) (λ (row : CodedRow). row.type_place < length types) (λ row is. is.type_place)
+            codes are.within);
+        types = map-map (λ place. get_or types place 0) (λ (row : CodedRow). row.type_place) codes
+            ∙ field_of (λ row. get_or types row.type_place 0) (λ row. row.type_id) (λ row. refl);
+      })
 
-  module _ (lists : RowLists) (count : ℕ) (keys others : List ℕ) (sources marks : List Mark)
-      (sources_is : sources ≡ all_source_marks coded (length release.concepts)) (marks_is : marks ≡ all_group_marks coded (length release.concepts))
-      (rows_is : lists.rows ≡ places_by count keys)
-      (source_cells : (d : Mark) → lists.sources.items ≡ map (λ place. get_or sources place d) (concat (places_by count keys)))
-      (other_cells : (d : ℕ) → lists.others.items ≡ map (λ place. get_or others place d) (concat (places_by count keys)))
-      (group_cells : (d : Mark) → lists.groups.items ≡ map (λ place. get_or marks place d) (concat (places_by count keys))) where
-    cells_with : {X : Type 0} (cells column : List X) → ((d : X) → column ≡ map (λ place. get_or cells place d) (concat (places_by count keys))) → (d : X) → column ≡ map (λ place. get_or cells place d) (concat lists.rows)
-    cells_with cells column told d = told d ∙ ap (λ (all : List (List ℕ)). map (λ place. get_or cells place d) (concat all)) (sym rows_is)
+  module _ (marks : RowMarks) (marked : AreRowMarks (length release.concepts) codes marks) where
+    marks_told : AreSources release.concepts (entries_of rows) marks.sources.items
+    marks_told = subst (AreSources release.concepts (entries_of rows)) (sym marked.sources) (sources_are release rises coded are)
 
-    marks_told : AreSources release.concepts (entries_of rows) sources
-    marks_told = subst (AreSources release.concepts (entries_of rows)) (sym sources_is) (sources_are release rises coded types values are within types_are tables)
+    groups_told : AreGroups groups (entries_of rows) marks.groups.items
+    groups_told = subst (AreGroups groups (entries_of rows)) (sym marked.groups) (groups_are release rises coded are)
 
-    groups_told : AreGroups groups (entries_of rows) marks
-    groups_told = subst (AreGroups groups (entries_of rows)) (sym marks_is) (groups_are release rises coded types values are within types_are tables)
-
-    mark : Mark
-    mark = record { number = 0; is_first = true }
-
-    -- the lists by type
-    pub by_type_told : count ≡ length types → keys ≡ map (λ (row : CodedRow). row.kind) coded → others ≡ map (λ (row : CodedRow). row.value) coded → AreByType release.concepts all rows lists
-    by_type_told count_is keys_are others_are = record {
-      long = record {
-        sources = long_cells lists.rows sources lists.sources.items (cells_with sources lists.sources.items source_cells) mark;
-        others = long_cells lists.rows others lists.others.items (cells_with others lists.others.items other_cells) 0;
-        groups = long_cells lists.rows marks lists.groups.items (cells_with marks lists.groups.items group_cells) mark;
-      };
-      each = each;
-      sources = λ kind less.
-          sources_at rows (test kind) lists.rows kind (at kind less).0 (at kind less).1 release.concepts sources lists.sources.items marks_told (cells_with sources lists.sources.items source_cells);
-      others = λ kind less.
-          values_at rows (test kind) lists.rows kind (at kind less).0 (at kind less).1 all others lists.others.items
-          (subst (AreValues all (entries_of rows)) (sym others_are) values_told) (cells_with others lists.others.items other_cells);
-      groups = λ kind less.
-          groups_at rows (test kind) lists.rows kind (at kind less).0 (at kind less).1 groups marks lists.groups.items groups_told (cells_with marks lists.groups.items group_cells);
-    }
-      where
-        test : ℕ → Attribute → Bool
-        test kind row = row.type_id == get_or (types_of rows) kind 0
-
-        each : lists.rows ≡ map (λ kind. places_where (λ (row : Attribute). row.type_id == get_or (types_of rows) kind 0) rows) (range_with_len 0 (length (types_of rows)))
-        each =
-            rows_is ∙ (λ i. places_by (count_is i) (keys_are i))
-            ∙ by_type_are release rises coded types values are within types_are tables
-            ∙ ap (λ (xs : List ℕ). map (λ kind. places_where (λ (row : Attribute). row.type_id == get_or xs kind 0) rows) (range_with_len 0 (length xs))) types_are
-
-        at : (kind : ℕ) → kind < length (types_of rows) → (kind < length lists.rows) × (list_of lists.rows kind ≡ places_where (λ (row : Attribute). row.type_id == get_or (types_of rows) kind 0) rows)
-        at kind less = list_at lists.rows (λ kind. places_where (λ (row : Attribute). row.type_id == get_or (types_of rows) kind 0) rows) (length (types_of rows)) kind each less
-
-    -- the lists by value
-    pub by_value_told : count ≡ length release.concepts → keys ≡ map (λ (row : CodedRow). row.value) coded → others ≡ map (λ (row : CodedRow). row.kind) coded → AreByValue release.concepts rows lists
-    by_value_told count_is keys_are others_are = record {
-      long = record {
-        sources = long_cells lists.rows sources lists.sources.items (cells_with sources lists.sources.items source_cells) mark;
-        others = long_cells lists.rows others lists.others.items (cells_with others lists.others.items other_cells) 0;
-        groups = long_cells lists.rows marks lists.groups.items (cells_with marks lists.groups.items group_cells) mark;
-      };
-      each = each;
-      sources = λ concept less.
-          sources_at rows (test concept) lists.rows concept (at concept less).0 (at concept less).1 release.concepts sources lists.sources.items marks_told (cells_with sources lists.sources.items source_cells);
-      others = λ concept less.
-          types_at rows (test concept) lists.rows concept (at concept less).0 (at concept less).1 (types_of rows) others lists.others.items
-          (subst (AreTypes (types_of rows) (entries_of rows)) (sym others_are) types_told) (cells_with others lists.others.items other_cells);
-      groups = λ concept less.
-          groups_at rows (test concept) lists.rows concept (at concept less).0 (at concept less).1 groups marks lists.groups.items groups_told (cells_with marks lists.groups.items group_cells);
-    }
-      where
-        test : ℕ → Attribute → Bool
-        test concept row = value_eq row.value (concept_value (get_or release.concepts concept 0))
-
-        each : lists.rows ≡ map (λ concept. places_where (λ (row : Attribute). value_eq row.value (concept_value (get_or release.concepts concept 0))) rows) (range_with_len 0 (length release.concepts))
-        each = rows_is ∙ (λ i. places_by (count_is i) (keys_are i)) ∙ by_value_are release rises coded types values are within types_are tables
-
-        at : (concept : ℕ) → concept < length release.concepts → (concept < length lists.rows) × (list_of lists.rows concept ≡ places_where (λ (row : Attribute). value_eq row.value (concept_value (get_or release.concepts concept 0))) rows)
-        at concept less = list_at lists.rows (λ concept. places_where (λ (row : Attribute). value_eq row.value (concept_value (get_or release.concepts concept 0))) rows) (length release.concepts) concept each less
-
-  -- the groups of the rows
-  module _ (lists : GroupLists) (starts : List ℕ) (marks : List Mark) (long : length starts ≡ length release.concepts + 1)
-      (told : (source : ℕ) → source ≤ length release.concepts → get_or starts source 0 ≡ groups_ahead coded source)
-      (marks_is : marks ≡ all_group_marks coded (length release.concepts)) (of_rows_is : lists.of_rows.items ≡ marks) (starts_is : lists.starts.items ≡ starts)
-      (concepts_is : lists.concepts.items ≡ flat_map (λ concept. replicate (get_or starts (concept + 1) 0 - get_or starts concept 0) concept) (range_with_len 0 (length starts - 1)))
-      (rows_is : lists.rows ≡ places_by (get_or starts (length starts - 1) 0) (map (λ (mark : Mark). mark.number) marks)) (few : length coded < 2 ^ 31) where
-    pub group_lists_told : AreGroupLists release.concepts rows lists
-    group_lists_told =
-        let kept = concepts_are release rises coded types values are within types_are tables starts long told lists.concepts.items concepts_is in
-        let fewer = few_groups release rises coded types values are within types_are tables starts long told in
+    -- each row has a key, another cell and its marks
+    pub of_one_length : (keys cells : List ℕ) (key cell : CodedRow → ℕ) → keys ≡ map key codes → cells ≡ map cell codes
+        → AreOfOneLength keys cells marks
+    of_one_length keys cells key cell keys_are cells_are =
+        let long : length keys ≡ length codes = ap (λ (xs : List ℕ). length xs) keys_are ∙ length-map codes key in
         record {
-          few = smaller (length (all_groups (rows_alone release.concepts rows))) (length coded) fewer few;
-          of_rows = subst (AreGroups groups (entries_of rows)) (sym (of_rows_is ∙ marks_is)) (groups_are release rises coded types values are within types_are tables);
-          starts_len = ap (λ (xs : List ℕ). length xs) starts_is ∙ long;
-          starts = λ concept near. ap (λ (xs : List ℕ). get_or xs concept 0) starts_is ∙ starts_are release rises coded types values are within types_are tables starts long told concept near;
-          within = kept.0;
-          sources = kept.1;
-          each = rows_is ∙ ap (λ (xs : List Mark). places_by (get_or starts (length starts - 1) 0) (map (λ (mark : Mark). mark.number) xs)) marks_is
-              ∙ group_rows_are release rises coded types values are within types_are tables starts long told;
+          few = omega (arith, long, few_codes release rises coded are);
+          others = ap (λ (xs : List ℕ). length xs) cells_are ∙ length-map codes cell ∙ sym long;
+          sources = omega (arith, long, ap (λ (xs : List Mark). length xs) marked.sources, length-source_marks release rises coded are);
+          groups = omega (arith, long, ap (λ (xs : List Mark). length xs) marked.groups, length-group_marks release rises coded are);
         }
-      where
-        smaller : (a b : ℕ) → a ≤ b → b < 2 ^ 31 → a < 2 ^ 31
-        smaller a b le less = omega arith
+
+    module _ (lists : RowLists) (count : ℕ) (keys others : List ℕ) (made : AreRowLists count keys others marks lists) where
+      cells_with : {X : Type 0} (cells column : List X) → IsColumn cells (concat (places_by count keys)) column
+          → IsColumn cells (concat lists.rows) column
+      cells_with cells column told d =
+          told d ∙ ap (λ (all : List (List ℕ)). map (λ place. get_or cells place d) (concat all)) (sym made.rows)
+
+      source_cells : IsColumn marks.sources.items (concat lists.rows) lists.sources.items
+      source_cells = cells_with marks.sources.items lists.sources.items made.sources
+
+      other_cells : IsColumn others (concat lists.rows) lists.others.items
+      other_cells = cells_with others lists.others.items made.others
+
+      group_cells : IsColumn marks.groups.items (concat lists.rows) lists.groups.items
+      group_cells = cells_with marks.groups.items lists.groups.items made.groups
+
+      mark : Mark
+      mark = record { number = 0; is_first = true }
+
+      -- the lists of the rows that pass a test
+      lists_told : (n : ℕ) (test : ℕ → Attribute → Bool) (AreOthers : List Entry → List ℕ → Type 0)
+          → lists.rows ≡ map (λ key. places_where (test key) rows) (range_with_len 0 n)
+          → ((key : ℕ) → key < length lists.rows → list_of lists.rows key ≡ places_where (test key) rows
+          → AreOthers (entries_where (test key) rows) (cells_of lists.rows lists.others.items key))
+          → AreListsBy release.concepts rows n test AreOthers lists
+      lists_told n test AreOthers each others_are = record {
+        long = record {
+          sources = long_cells lists.rows marks.sources.items lists.sources.items source_cells mark;
+          others = long_cells lists.rows others lists.others.items other_cells 0;
+          groups = long_cells lists.rows marks.groups.items lists.groups.items group_cells mark;
+        };
+        each = each;
+        sources = λ key less.
+            let here = at key less in
+            sources_at rows (test key) lists.rows key here.0 here.1 release.concepts marks.sources.items lists.sources.items
+            marks_told source_cells;
+        others = λ key less. others_are key (at key less).0 (at key less).1;
+        groups = λ key less.
+            let here = at key less in
+            groups_at rows (test key) lists.rows key here.0 here.1 groups marks.groups.items lists.groups.items groups_told group_cells;
+      }
+        where
+          at : (key : ℕ) → key < n → (key < length lists.rows) × (list_of lists.rows key ≡ places_where (test key) rows)
+          at key less = list_at lists.rows (λ key. places_where (test key) rows) n key each less
+
+      -- the lists by type
+      pub by_type_told : count ≡ length types → keys ≡ map (λ (row : CodedRow). row.type_place) codes
+          → others ≡ map (λ (row : CodedRow). row.value) codes → AreByType release.concepts all rows lists
+      by_type_told count_is keys_are others_are =
+          lists_told (length (types_of rows)) (has_type (types_of rows)) (AreValues all)
+          (made.rows ∙ (λ i. places_by (count_is i) (keys_are i))
+          ∙ by_type_are release rises coded are
+          ∙ ap (λ (xs : List ℕ). map (λ place. places_where (has_type xs place) rows) (range_with_len 0 (length xs))) are.types)
+          (λ key within here.
+          values_at rows (has_type (types_of rows) key) lists.rows key within here all others lists.others.items
+          (subst (AreValues all (entries_of rows)) (sym others_are) values_told) other_cells)
+
+      -- the lists by value
+      pub by_value_told : count ≡ length release.concepts → keys ≡ map (λ (row : CodedRow). row.value) codes
+          → others ≡ map (λ (row : CodedRow). row.type_place) codes → AreByValue release.concepts rows lists
+      by_value_told count_is keys_are others_are =
+          lists_told (length release.concepts) (has_value release.concepts) (AreTypes (types_of rows))
+          (made.rows ∙ (λ i. places_by (count_is i) (keys_are i)) ∙ by_value_are release rises coded are)
+          (λ key within here.
+          types_at rows (has_value release.concepts key) lists.rows key within here (types_of rows) others lists.others.items
+          (subst (AreTypes (types_of rows) (entries_of rows)) (sym others_are) types_told) other_cells)
+
+    -- the groups of the rows
+    module _ (lists : GroupLists) (of_rows_is : lists.of_rows.items ≡ marks.groups.items)
+        (starts_is : lists.starts.items ≡ marks.starts.items)
+        (concepts_is : lists.concepts.items ≡ keys_from marks.starts.items (length marks.starts.items - 1))
+        (rows_is : lists.rows ≡ places_by (get_or marks.starts.items (length marks.starts.items - 1) 0)
+        (map (λ (mark : Mark). mark.number) marks.groups.items)) where
+      pub group_lists_told : AreGroupLists release.concepts rows lists
+      group_lists_told =
+          let kept = concepts_are release rises coded are marks marked lists.concepts.items concepts_is in
+          record {
+            few = smaller (length groups) (length codes) (few_groups release rises coded are marks marked)
+                (few_codes release rises coded are);
+            of_rows = subst (AreGroups groups (entries_of rows)) (sym of_rows_is) groups_told;
+            starts_len = ap (λ (xs : List ℕ). length xs) starts_is ∙ omega (arith, marked.starts_len);
+            starts = λ concept near.
+                ap (λ (xs : List ℕ). get_or xs concept 0) starts_is ∙ starts_are release rises coded are marks marked concept near;
+            within = kept.0;
+            sources = kept.1;
+            each = rows_is ∙ ap (λ (xs : List Mark). places_by (get_or marks.starts.items (length marks.starts.items - 1) 0)
+                (map (λ (mark : Mark). mark.number) xs)) marked.groups
+                ∙ group_rows_are release rises coded are marks marked;
+          }
+        where
+          smaller : (a b : ℕ) → a ≤ b → b < 2 ^ 31 → a < 2 ^ 31
+          smaller a b le less = omega arith

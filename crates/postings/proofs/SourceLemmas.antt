@@ -1,5 +1,6 @@
 -- The rows and the groups of the sources, one source after another.
-use Rattle.std.proofs.Common.{ℕ, zero, suc, ◌+◌, ◌==◌, ◌≡◌, ◌≤◌, ◌<◌, ◌++◌, ◌∷◌, [], ◌∙◌, inl, inr, List, length, get_or, sym, ap, arith, length-append}
+use Rattle.std.proofs.Common.{ℕ, zero, suc, ◌+◌, ◌==◌, ◌≡◌, ◌≤◌, ◌<◌, ◌++◌, ◌∷◌, [], ◌∙◌, inl}
+use Rattle.std.proofs.Common.{inr, List, length, get_or, sym, ap, arith, length-append}
 use Rattle.std.specs.Prelude.{All}
 use Rattle.std.specs.List.{flat_map, range_with_len}
 use Rattle.std.proofs.lemmas.Bool.{cases_eq, eqb-true}
@@ -11,7 +12,8 @@ use Rattle.postings.specs.declared.rows.CodedRow.{CodedRow}
 use Rattle.postings.proofs.GroupLemmas.{length-group_codes-le}
 
 -- the lists of more numbers are no shorter
-length-flat_map-range : {X : Type 0} (f : ℕ → List X) (from n more : ℕ) → n ≤ more → length (flat_map f (range_with_len from n)) ≤ length (flat_map f (range_with_len from more))
+length-flat_map-range : {X : Type 0} (f : ℕ → List X) (from n more : ℕ) → n ≤ more
+    → length (flat_map f (range_with_len from n)) ≤ length (flat_map f (range_with_len from more))
 length-flat_map-range f from zero more le = omega arith
 length-flat_map-range f from (suc n) zero le = absurd (omega arith)
 length-flat_map-range f from (suc n) (suc more) le =
@@ -23,7 +25,8 @@ length-flat_map-range f from (suc n) (suc more) le =
     )
 
 -- lists that are each no longer than another are together no longer
-length-flat_map-le : {X Y : Type 0} (f : ℕ → List X) (g : ℕ → List Y) → ((k : ℕ) → length (f k) ≤ length (g k)) → (from n : ℕ) → length (flat_map f (range_with_len from n)) ≤ length (flat_map g (range_with_len from n))
+length-flat_map-le : {X Y : Type 0} (f : ℕ → List X) (g : ℕ → List Y) → ((k : ℕ) → length (f k) ≤ length (g k))
+    → (from n : ℕ) → length (flat_map f (range_with_len from n)) ≤ length (flat_map g (range_with_len from n))
 length-flat_map-le f g le from zero = omega arith
 length-flat_map-le f g le from (suc n) =
     omega (
@@ -35,27 +38,33 @@ length-flat_map-le f g le from (suc n) =
     )
 
 -- one source more has its groups behind
-pub groups_ahead-more : (rows : List CodedRow) (source : ℕ) → groups_ahead rows (source + 1) ≡ groups_ahead rows source + length (group_codes (of_source rows source))
+pub groups_ahead-more : (rows : List CodedRow) (source : ℕ)
+    → groups_ahead rows (source + 1) ≡ groups_ahead rows source + length (group_codes (of_source rows source))
 groups_ahead-more rows source =
     let codes : ℕ → List (ℕ × (ℕ × ℕ)) = λ other. group_codes (of_source rows other) in
-    ap (λ (all : List (ℕ × (ℕ × ℕ))). length all) (flat_map-more codes source) ∙ length-append {A = ℕ × (ℕ × ℕ)} (flat_map codes (range_with_len 0 source)) (codes source)
+    ap (λ (all : List (ℕ × (ℕ × ℕ))). length all) (flat_map-more codes source)
+    ∙ length-append {A = ℕ × (ℕ × ℕ)} (flat_map codes (range_with_len 0 source)) (codes source)
 
 -- the sources before one have no more groups than rows
-pub groups_ahead-le : (rows : List CodedRow) (count source : ℕ) → IsBySource count rows → source ≤ count → groups_ahead rows source ≤ length rows
+pub groups_ahead-le : (rows : List CodedRow) (count source : ℕ) → IsBySource count rows → source ≤ count
+    → groups_ahead rows source ≤ length rows
 groups_ahead-le rows count source sorted le =
     omega (
       arith,
-      length-flat_map-le (λ other. group_codes (of_source rows other)) (of_source rows) (λ other. length-group_codes-le (of_source rows other)) 0 source,
+      length-flat_map-le (λ other. group_codes (of_source rows other)) (of_source rows)
+          (λ other. length-group_codes-le (of_source rows other)) 0 source,
       length-flat_map-range (of_source rows) 0 source count le,
       ap (λ (own : List CodedRow). length own) sorted,
     )
 
 -- the groups before those of a source and its rows are no more than all rows
-pub rows_left : (rows : List CodedRow) (count source : ℕ) → IsBySource count rows → source < count → groups_ahead rows source + length (of_source rows source) ≤ length rows
+pub rows_left : (rows : List CodedRow) (count source : ℕ) → IsBySource count rows → source < count
+    → groups_ahead rows source + length (of_source rows source) ≤ length rows
 rows_left rows count source sorted below =
     omega (
       arith,
-      length-flat_map-le (λ other. group_codes (of_source rows other)) (of_source rows) (λ other. length-group_codes-le (of_source rows other)) 0 source,
+      length-flat_map-le (λ other. group_codes (of_source rows other)) (of_source rows)
+          (λ other. length-group_codes-le (of_source rows other)) 0 source,
       ap (λ (own : List CodedRow). length own) (flat_map-more (of_source rows) source),
       length-append (flat_map (of_source rows) (range_with_len 0 source)) (of_source rows source),
       length-flat_map-range (of_source rows) 0 (source + 1) count (omega arith),

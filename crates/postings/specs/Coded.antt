@@ -1,18 +1,23 @@
 -- Attribute rows by numbers: of the source, of the place of the type among all types, of the group, and of the value.
-use Rattle.std.specs.Prelude.{ℕ, ◌+◌, ◌==◌, ◌≡◌, ◌<◌, ◌&&◌, ◌++◌, Bool, not, if◌then◌else◌, List, [], ◌∷◌, filter, length, map, slice_index}
+use Rattle.std.specs.Prelude.{ℕ, ◌+◌, ◌==◌, ◌≡◌, ◌≤◌, ◌<◌, ◌^◌, ◌&&◌, ◌++◌, Bool, not}
+use Rattle.std.specs.Prelude.{if◌then◌else◌, List, [], ◌∷◌}
+use Rattle.std.specs.Prelude.{All, filter, length, map, slice_index, vec_len}
 use Rattle.std.specs.List.{flat_map, list_any, position_or_len, range_with_len}
 use Rattle.rf2_rows.specs.Pairs.{distinct}
 use Rattle.rf2_rows.specs.Release.{Attribute, Value}
 use Rattle.snapshot.specs.InForce.{rising}
 use Rattle.postings.specs.Columns.{Mark}
-use Rattle.postings.specs.Indexed.{value_at}
+use Rattle.postings.specs.Indexed.{types_of, value_at}
+use Rattle.postings.specs.ValueTables.{AreTables, values_in}
+use Rattle.postings.specs.declared.groups.RowMarks.{RowMarks}
 use Rattle.postings.specs.declared.rows.CodedRow.{CodedRow}
+use Rattle.postings.specs.declared.rows.CodedRows.{CodedRows}
 
 -- the row that numbers stand for
 abbrev pub row_coded : List ℕ → List ℕ → List Value → CodedRow → Attribute
 row_coded concepts types values row = record {
   source = slice_index concepts row.source;
-  type_id = slice_index types row.kind;
+  type_id = slice_index types row.type_place;
   group = row.group;
   value = value_at values row.value;
 }
@@ -20,8 +25,23 @@ row_coded concepts types values row = record {
 -- the numbers are within their tables
 pub record IsCoded (concepts types : List ℕ) (values : List Value) (row : CodedRow) : Type 0 where
   pub source : row.source < length concepts
-  pub kind : row.kind < length types
+  pub type_place : row.type_place < length types
   pub value : row.value < length values
+
+-- the rows that numbers and their tables stand for
+abbrev pub rows_coded : List ℕ → CodedRows → List Attribute
+rows_coded concepts coded =
+    map (row_coded concepts coded.types.numbers.keys (values_in concepts coded.values)) coded.rows.items
+
+-- the numbers and their tables are those of some attribute rows of some concepts
+pub record AreCodedRows (concepts : List ℕ) (rows : List Attribute) (coded : CodedRows) : Type 0 where
+  pub stand_for : rows_coded concepts coded ≡ rows
+  pub within : All (IsCoded concepts coded.types.numbers.keys (values_in concepts coded.values)) coded.rows.items
+  pub types : coded.types.numbers.keys ≡ types_of rows
+  pub ids : coded.types.ids.items ≡ coded.types.numbers.keys
+  pub tables : AreTables coded.values
+  pub few : length rows < 2 ^ 31
+  pub few_values : length (values_in concepts coded.values) < 2 ^ 32
 
 -- the rows of a source
 abbrev pub of_source : List CodedRow → ℕ → List CodedRow
@@ -33,7 +53,7 @@ IsBySource count rows = rows ≡ flat_map (of_source rows) (range_with_len 0 cou
 
 -- the pair of a row, and whether two rows have one pair, and one group besides
 abbrev pub pair_code : CodedRow → ℕ × ℕ
-pair_code row = (row.kind, row.value)
+pair_code row = (row.type_place, row.value)
 
 abbrev pub code_eq : ℕ × ℕ → ℕ × ℕ → Bool
 code_eq one other = (one.0 == other.0) && (one.1 == other.1)
@@ -54,16 +74,17 @@ marks_after same number before (row ∷ rows) =
 abbrev pub numbers_of_groups : List CodedRow → List ℕ
 numbers_of_groups rows = rising (filter (λ group. not (group == 0)) (map (λ (row : CodedRow). row.group) rows))
 
-abbrev pub loose_pairs : List CodedRow → List (ℕ × ℕ)
-loose_pairs rows = distinct code_eq (map pair_code (filter (λ (row : CodedRow). row.group == 0) rows))
+abbrev pub ungrouped_pairs : List CodedRow → List (ℕ × ℕ)
+ungrouped_pairs rows = distinct code_eq (map pair_code (filter (λ (row : CodedRow). row.group == 0) rows))
 
 -- the groups of one source, those with a number and those of a pair, and the place among them of the group of a row
 abbrev pub group_codes : List CodedRow → List (ℕ × (ℕ × ℕ))
-group_codes rows = map (λ group. (group, (0, 0))) (numbers_of_groups rows) ++ map (λ (pair : ℕ × ℕ). (0, pair)) (loose_pairs rows)
+group_codes rows = map (λ group. (group, (0, 0))) (numbers_of_groups rows)
+    ++ map (λ (pair : ℕ × ℕ). (0, pair)) (ungrouped_pairs rows)
 
 abbrev pub place_in_source : List CodedRow → CodedRow → ℕ
 place_in_source rows row =
-    if row.group == 0 then length (numbers_of_groups rows) + position_or_len (code_eq (pair_code row)) (loose_pairs rows)
+    if row.group == 0 then length (numbers_of_groups rows) + position_or_len (code_eq (pair_code row)) (ungrouped_pairs rows)
     else position_or_len (λ group. row.group == group) (numbers_of_groups rows)
 
 -- how many groups the sources before one have
@@ -84,3 +105,10 @@ all_source_marks rows count = flat_map (λ source. source_marks (of_source rows 
 
 abbrev pub all_group_marks : List CodedRow → ℕ → List Mark
 all_group_marks rows count = flat_map (λ source. group_marks (groups_ahead rows source) (of_source rows source)) (range_with_len 0 count)
+
+-- the marks are those of the rows of so many sources, with how many groups the sources before each have
+pub record AreRowMarks (count : ℕ) (rows : List CodedRow) (marks : RowMarks) : Type 0 where
+  pub sources : marks.sources.items ≡ all_source_marks rows count
+  pub groups : marks.groups.items ≡ all_group_marks rows count
+  pub starts_len : vec_len marks.starts ≡ count + 1
+  pub starts : (source : ℕ) → source ≤ count → slice_index marks.starts.items source ≡ groups_ahead rows source

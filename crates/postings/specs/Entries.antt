@@ -27,7 +27,10 @@ entries_after before (row ∷ rows) =
 abbrev pub entries_of : List Attribute → List Entry
 entries_of rows = entries_after [] rows
 
--- of the entries those of a type, and those of a value that is a concept
+-- of the entries those whose rows pass a test, those of a type, and those of a value that is a concept
+abbrev pub entries_where : (Attribute → Bool) → List Attribute → List Entry
+entries_where test rows = filter (λ (entry : Entry). test entry.row) (entries_of rows)
+
 abbrev pub entries_with_type : List Attribute → ℕ → List Entry
 entries_with_type rows id = filter (λ (entry : Entry). entry.row.type_id == id) (entries_of rows)
 

@@ -1,19 +1,17 @@
 -- What the fields of the indexes say, and what they keep.
-use Rattle.std.specs.Prelude.{◌≡◌, ◌<◌, ◌^◌, length, map}
+use Rattle.std.specs.Prelude.{◌≡◌, ◌<◌, ◌^◌, length}
 use Rattle.std.specs.List.Sorted.{IsStrictlyIncreasing}
-use Rattle.postings.specs.Coded.{row_coded}
+use Rattle.postings.specs.Coded.{rows_coded}
 use Rattle.postings.specs.Indexed.{Indexed}
 use Rattle.postings.specs.RowIndexes.{AreRowIndexes}
-use Rattle.postings.specs.ValueTables.{texts_in, values_in}
+use Rattle.postings.specs.ValueTables.{texts_in}
 use Rattle.postings.specs.declared.index.Indexes.TheInside.{Inside}
 
 abbrev pub indexed_in : Inside → Indexed
 indexed_in inside = record {
   concepts = inside.concepts.items;
   hierarchy = inside.hierarchy;
-  rows =
-      map (row_coded inside.concepts.items inside.rows.coded.types.numbers.keys (values_in inside.concepts.items inside.rows.coded.values))
-      inside.rows.coded.rows.items;
+  rows = rows_coded inside.concepts.items inside.rows.coded;
   members = inside.members;
   decimals = inside.rows.coded.values.decimals.keys;
   texts = texts_in inside.rows.coded.values;

@@ -14,7 +14,8 @@ abbrev pub AreFirstOfConcept : Type 0
 AreFirstOfConcept =
     (release : Release) → IsStrictlyIncreasing release.concepts → (concept : ℕ) → Contains release.concepts concept
     → out_pairs release concept
-    ≡ map (λ (entry : Entry). pair_of entry.row) (filter (λ (entry : Entry). (entry.row.source == concept) && entry.is_first) (entries_of (attributes_by_source release)))
+    ≡ map (λ (entry : Entry). pair_of entry.row)
+    (filter (λ (entry : Entry). (entry.row.source == concept) && entry.is_first) (entries_of (attributes_by_source release)))
 
 -- the distinct pairs of a group are those of its rows that are the first with their pair in it
 abbrev pub AreFirstOfGroup : Type 0
@@ -22,7 +23,8 @@ AreFirstOfGroup =
     (release : Release) → IsStrictlyIncreasing release.concepts → (group : ConceptGroup)
     → Contains (all_groups (rows_alone release.concepts (attributes_by_source release))) group
     → pairs_of_group release group
-    ≡ map (λ (entry : Entry). pair_of entry.row) (filter (λ (entry : Entry). is_in_group group entry.row && entry.is_first_in_group) (entries_of (attributes_by_source release)))
+    ≡ map (λ (entry : Entry). pair_of entry.row)
+    (filter (λ (entry : Entry). is_in_group group entry.row && entry.is_first_in_group) (entries_of (attributes_by_source release)))
 
 -- read backwards, as many distinct pairs of a value pass a test as of its rows that are the first with their pair in their concept
 abbrev pub CountsFirstBack : Type 0
@@ -31,7 +33,8 @@ CountsFirstBack =
     → (test : Pair → Bool) (concept : ℕ)
     → count_by test (in_pairs release concept)
     ≡ count_by test (map (λ (entry : Entry). reverse_pair_of entry.row)
-    (filter (λ (entry : Entry). value_eq entry.row.value (concept_value concept) && entry.is_first) (entries_of (attributes_by_source release))))
+    (filter (λ (entry : Entry). value_eq entry.row.value (concept_value concept) && entry.is_first)
+    (entries_of (attributes_by_source release))))
 
 -- the groups of a concept, in the order in which they are numbered, are its groups
 abbrev pub CountsGroups : Type 0

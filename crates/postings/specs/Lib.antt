@@ -9,5 +9,6 @@ pub mod KeyedPlaces
 pub mod Laws
 pub mod Packed
 pub mod Places
+pub mod RowColumns
 pub mod RowIndexes
 pub mod ValueTables

@@ -1,9 +1,7 @@
 //! The rows of each type and of each value, with columns of what a query tests of them.
-ghost use Rattle.std.specs.Prelude.{ℕ, ◌≡◌, ◌<◌, ◌^◌, All, IfOk, length, map, slice_index_or, vec_len};
+ghost use Rattle.std.specs.Prelude.{◌≡◌, ◌<◌, IfOk, length};
 ghost use Rattle.std.specs.List.{concat};
-ghost use Rattle.postings.specs.Cells.{AreColumns, cells_of};
-ghost use Rattle.postings.specs.Columns.{Mark as Marked};
-ghost use Rattle.postings.specs.Places.{places_by};
+ghost use Rattle.postings.specs.Cells.{AreColumns, AreOfOneLength, AreRowLists, cells_of};
 
 use crate::groups::RowMarks;
 use crate::lists::{column, places_by_key};
@@ -33,6 +31,15 @@ pub struct ValueColumns<'a> {
     pub groups: &'a [Mark],
 }
 
+/// The columns of the rows of a key.
+#[derive(Clone, Copy, Debug)]
+pub struct KeyColumns<'a> {
+    pub sources: &'a [Mark],
+    /// By type the numbers of the values, by value the places of the types.
+    pub others: &'a [u32],
+    pub groups: &'a [Mark],
+}
+
 /// The rows of each key, with columns in the order of these lists.
 #[derive(Drop, Debug)]
 pub struct RowLists {
@@ -43,7 +50,7 @@ pub struct RowLists {
     pub groups: Vec<Mark>,
 }
 
-/// The rows of each of so many keys, by the keys of all rows, with the columns that the marks of all rows and some other cells of theirs make.
+/// The rows of each of so many keys, by the keys of all rows, with the columns of their marks and their other cells.
 pub fn row_lists(
     alloc: Global,
     count: u32,
@@ -51,14 +58,8 @@ pub fn row_lists(
     others: &[u32],
     marks: &RowMarks,
 ) -> Result<RowLists, AllocError>
-    requires few { length keys.now < 2 ^ 32 }
-    requires others { length others.now ≡ length keys.now }
-    requires sources { vec_len marks.now.sources ≡ length keys.now }
-    requires groups { vec_len marks.now.groups ≡ length keys.now }
-    ensures rows { IfOk result (λ lists. lists.rows ≡ places_by count keys.now) }
-    ensures sources { IfOk result (λ lists. (default : Marked) → lists.sources.items ≡ map (λ place. slice_index_or marks.now.sources.items place default) (concat (places_by count keys.now))) }
-    ensures others { IfOk result (λ lists. (default : ℕ) → lists.others.items ≡ map (λ place. slice_index_or others.now place default) (concat (places_by count keys.now))) }
-    ensures groups { IfOk result (λ lists. (default : Marked) → lists.groups.items ≡ map (λ place. slice_index_or marks.now.groups.items place default) (concat (places_by count keys.now))) }
+    requires { AreOfOneLength keys.now others.now marks.now }
+    ensures { IfOk result (AreRowLists count keys.now others.now marks.now) }
 {
     let rows = places_by_key(alloc, count, keys)?;
     let sources = column(alloc, marks.sources.as_slice(), rows.flat())?;
@@ -73,32 +74,17 @@ pub fn row_lists(
 }
 
 impl RowLists {
-    /// The columns of the rows of a key, where the other cells are the values.
-    pub fn type_columns(&self, key: u32) -> TypeColumns<'_>
+    /// The columns of the rows of a key.
+    pub fn columns(&self, key: u32) -> KeyColumns<'_>
         requires key { key < length self.now.rows }
         requires long { AreColumns self.now }
         ensures sources { result.sources.now ≡ cells_of self.now.rows self.now.sources.items key }
-        ensures values { result.values.now ≡ cells_of self.now.rows self.now.others.items key }
+        ensures others { result.others.now ≡ cells_of self.now.rows self.now.others.items key }
         ensures groups { result.groups.now ≡ cells_of self.now.rows self.now.groups.items key }
     {
-        TypeColumns {
+        KeyColumns {
             sources: cells(&self.rows, self.sources.as_slice(), key),
-            values: cells(&self.rows, self.others.as_slice(), key),
-            groups: cells(&self.rows, self.groups.as_slice(), key),
-        }
-    }
-
-    /// The columns of the rows of a key, where the other cells are the places of the types.
-    pub fn value_columns(&self, key: u32) -> ValueColumns<'_>
-        requires key { key < length self.now.rows }
-        requires long { AreColumns self.now }
-        ensures sources { result.sources.now ≡ cells_of self.now.rows self.now.sources.items key }
-        ensures types { result.types.now ≡ cells_of self.now.rows self.now.others.items key }
-        ensures groups { result.groups.now ≡ cells_of self.now.rows self.now.groups.items key }
-    {
-        ValueColumns {
-            sources: cells(&self.rows, self.sources.as_slice(), key),
-            types: cells(&self.rows, self.others.as_slice(), key),
+            others: cells(&self.rows, self.others.as_slice(), key),
             groups: cells(&self.rows, self.groups.as_slice(), key),
         }
     }

@@ -1,7 +1,9 @@
 //! The groups of attribute rows, numbered over all concepts, and which rows are the first with their pair.
-ghost use Rattle.std.specs.Prelude.{ℕ, ◌≡◌, ◌+◌, ◌≤◌, ◌<◌, ◌^◌, ◌++◌, ◌∷◌, [], List, All, IfOk, OnOk, length, map, nat_lt, slice_index, slice_index_or, vec_len};
+ghost use Rattle.std.specs.Prelude.{◌≡◌, ◌+◌, ◌≤◌, ◌<◌, ◌^◌, ◌++◌, ◌∷◌, [], List, All, IfOk, OnOk};
+ghost use Rattle.std.specs.Prelude.{length, map, nat_lt, slice_index_or};
 ghost use Rattle.idset.specs.Sets.{IsRising, place_of};
-ghost use Rattle.postings.specs.Coded.{IsBySource, all_group_marks, all_source_marks, group_codes, group_marks, groups_ahead, loose_pairs, numbers_of_groups, place_in_source, source_marks};
+ghost use Rattle.postings.specs.Coded.{AreRowMarks, IsBySource, group_codes, group_marks, numbers_of_groups};
+ghost use Rattle.postings.specs.Coded.{place_in_source, source_marks, ungrouped_pairs};
 ghost use Rattle.postings.specs.Places.{places_by};
 
 use crate::mark::Mark;
@@ -33,10 +35,7 @@ pub fn row_marks(
     requires few_sources { length by_source.now < 2 ^ 31 }
     requires lists { by_source.now ≡ places_by (length by_source.now) (map (λ (row : CodedRow). row.source) rows.now) }
     requires sorted { IsBySource (length by_source.now) rows.now }
-    ensures sources { IfOk result (λ marks. marks.sources.items ≡ all_source_marks rows.now (length by_source.now)) }
-    ensures groups { IfOk result (λ marks. marks.groups.items ≡ all_group_marks rows.now (length by_source.now)) }
-    ensures starts_len { IfOk result (λ marks. vec_len marks.starts ≡ length by_source.now + 1) }
-    ensures starts { IfOk result (λ marks. (source : ℕ) → source ≤ length by_source.now → slice_index marks.starts.items source ≡ groups_ahead rows.now source) }
+    ensures { IfOk result (AreRowMarks (length by_source.now) rows.now) }
 {
     let mut marks = RowMarks {
         sources: Vec::with_capacity(alloc, rows.len())?,
@@ -74,7 +73,7 @@ fn push_sources(alloc: Global, rows: &[CodedRow], sources: &mut Vec<Mark>) -> Re
 {
     let mut seen = IndexSet::new(alloc);
     for row in rows {
-        let is_first = seen.insert((row.kind, row.value))?;
+        let is_first = seen.insert((row.type_place, row.value))?;
         sources.push(Mark::new(row.source, is_first))?;
     }
     Ok(())
@@ -93,33 +92,35 @@ fn push_groups(
     ensures few { IfOk result (λ count. count ≤ length rows.now) }
 {
     let numbers = group_numbers(alloc, rows)?;
-    let mut loose = IndexSet::new(alloc);
+    let mut ungrouped = IndexSet::new(alloc);
     let mut seen = IndexSet::new(alloc);
     for row in rows {
-        let is_first = seen.insert((row.group, row.kind, row.value))?;
-        let place = group_place(numbers.as_slice(), &mut loose, row)?;
+        let is_first = seen.insert((row.group, row.type_place, row.value))?;
+        let place = group_place(numbers.as_slice(), &mut ungrouped, row)?;
         groups.push(Mark::new(ahead + place as u32, is_first))?;
     }
-    Ok((numbers.len() + loose.len()) as u32)
+    Ok((numbers.len() + ungrouped.len()) as u32)
 }
 
-// The place of a row's group among those of its source. `numbers` has the numbers of these groups, and `loose` the
+// The place of a row's group among those of its source. `numbers` has the numbers of these groups, and `ungrouped` the
 // pairs of the rows before it that have no group; its own pair is added if it has none.
 fn group_place(
     numbers: &[u32],
-    loose: &mut IndexSet<(u32, u32)>,
+    ungrouped: &mut IndexSet<(u32, u32)>,
     row: &CodedRow,
 ) -> Result<usize, AllocError>
     requires rising { IsRising numbers.now }
-    requires few { length loose.old.keys < 2 ^ 32 }
-    ensures place { IfOk result (λ place. (before behind : List CodedRow) → numbers.now ≡ numbers_of_groups (before ++ row.now ∷ behind)
-        → loose.old.keys ≡ loose_pairs before → place ≡ place_in_source (before ++ row.now ∷ behind) row.now) }
-    ensures loose { OnOk result ((before : List CodedRow) → loose.old.keys ≡ loose_pairs before → loose.new.keys ≡ loose_pairs (before ++ row.now ∷ [])) }
+    requires few { length ungrouped.old.keys < 2 ^ 32 }
+    ensures place { IfOk result (λ place. (before behind : List CodedRow)
+        → numbers.now ≡ numbers_of_groups (before ++ row.now ∷ behind)
+        → ungrouped.old.keys ≡ ungrouped_pairs before → place ≡ place_in_source (before ++ row.now ∷ behind) row.now) }
+    ensures ungrouped { OnOk result ((before : List CodedRow) → ungrouped.old.keys ≡ ungrouped_pairs before
+        → ungrouped.new.keys ≡ ungrouped_pairs (before ++ row.now ∷ [])) }
 {
     if row.group != 0 {
         return Ok(place_of(numbers, row.group));
     }
-    let (place, _) = loose.insert_full((row.kind, row.value))?;
+    let (place, _) = ungrouped.insert_full((row.type_place, row.value))?;
     Ok(numbers.len() + place)
 }
 

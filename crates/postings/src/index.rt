@@ -6,10 +6,9 @@ ghost use Rattle.rf2_rows.specs.Rows.{value_lent};
 ghost use Rattle.snapshot.specs.AttributesBySource.{attribute_of, with_source};
 ghost use Rattle.snapshot.specs.KeyedLists.{list_of};
 ghost use Rattle.snapshot.specs.Numbering.{number_of};
-ghost use Rattle.postings.specs.Columns.{AreGroups, AreSources, AreTypes, AreValues};
-ghost use Rattle.postings.specs.Entries.{entries_with_type, entries_with_value};
 ghost use Rattle.postings.specs.Groups.{group_of, groups_before, groups_in, rows_of_group};
 ghost use Rattle.postings.specs.Indexed.{IsIndexOf, rows_by_source, rows_by_type, rows_by_value, types_of, value_at, values_of};
+ghost use Rattle.postings.specs.RowColumns.{AreTypeColumns, AreValueColumns};
 
 use crate::columns::{TypeColumns, ValueColumns};
 use crate::row_indexes::{RowIndexes, row_indexes};
@@ -121,7 +120,7 @@ impl Indexes {
         let row = self.rows.coded.rows[n as usize];
         AttributeRow {
             source: row.source,
-            type_id: self.rows.coded.types.ids[row.kind as usize],
+            type_id: self.rows.coded.types.ids[row.type_place as usize],
             group: row.group,
             value: self.value(row.value),
         }
@@ -132,19 +131,24 @@ impl Indexes {
         ensures { result.now ≡ rows_by_type self.now id }
     {
         match self.rows.coded.types.numbers.get_index_of(&id) {
-            Some(kind) => self.rows.by_type.rows.of(kind as u32),
+            Some(type_place) => self.rows.by_type.rows.of(type_place as u32),
             None => &[],
         }
     }
 
     /// The columns of the rows of a type, in the order of `by_type`.
     pub fn type_columns(&self, id: u64) -> TypeColumns<'_>
-        ensures sources { AreSources self.now.concepts (entries_with_type self.now.rows id) result.sources.now }
-        ensures values { AreValues (values_of self.now) (entries_with_type self.now.rows id) result.values.now }
-        ensures groups { AreGroups (groups_in self.now) (entries_with_type self.now.rows id) result.groups.now }
+        ensures { AreTypeColumns self.now id result }
     {
         match self.rows.coded.types.numbers.get_index_of(&id) {
-            Some(kind) => self.rows.by_type.type_columns(kind as u32),
+            Some(type_place) => {
+                let columns = self.rows.by_type.columns(type_place as u32);
+                TypeColumns {
+                    sources: columns.sources,
+                    values: columns.others,
+                    groups: columns.groups,
+                }
+            }
             None => TypeColumns {
                 sources: &[],
                 values: &[],
@@ -165,11 +169,14 @@ impl Indexes {
     /// of concepts.
     pub fn value_columns(&self, concept: u32) -> ValueColumns<'_>
         requires { concept < length self.now.concepts }
-        ensures sources { AreSources self.now.concepts (entries_with_value self.now.rows (slice_index self.now.concepts concept)) result.sources.now }
-        ensures types { AreTypes (types_of self.now.rows) (entries_with_value self.now.rows (slice_index self.now.concepts concept)) result.types.now }
-        ensures groups { AreGroups (groups_in self.now) (entries_with_value self.now.rows (slice_index self.now.concepts concept)) result.groups.now }
+        ensures { AreValueColumns self.now concept result }
     {
-        self.rows.by_value.value_columns(concept)
+        let columns = self.rows.by_value.columns(concept);
+        ValueColumns {
+            sources: columns.sources,
+            types: columns.others,
+            groups: columns.groups,
+        }
     }
 
     /// The numbers of the rows of a source, rising. `concept` is below the number of concepts.

@@ -1,5 +1,6 @@
 //! Lists of rows by a key, and columns beside them.
-ghost use Rattle.std.specs.Prelude.{ℕ, ◌≡◌, ◌<◌, ◌^◌, All, IfOk, length, map, slice_index_or};
+ghost use Rattle.std.specs.Prelude.{◌≡◌, ◌<◌, ◌^◌, All, IfOk, length};
+ghost use Rattle.postings.specs.Cells.{IsColumn};
 ghost use Rattle.postings.specs.KeyedPlaces.{keyed_places};
 ghost use Rattle.postings.specs.Places.{places_by};
 
@@ -32,7 +33,7 @@ fn key_places(alloc: Global, count: u32, keys: &[u32]) -> Result<Vec<(u32, u32)>
 /// The cells of a column at the places of some rows.
 pub fn column<T: Copy>(alloc: Global, cells: &[T], places: &[u32]) -> Result<Vec<T>, AllocError>
     requires { All (λ place. place < length cells.now) places.now }
-    ensures { IfOk result (λ column. (default : T) → column.items ≡ map (λ place. slice_index_or cells.now place default) places.now) }
+    ensures { IfOk result (λ column. IsColumn cells.now places.now column.items) }
 {
     let mut column = Vec::with_capacity(alloc, places.len())?;
     for place in places {

@@ -1,9 +1,8 @@
 //! The indexes of attribute rows.
-ghost use Rattle.std.specs.Prelude.{ℕ, ◌≡◌, ◌+◌, ◌-◌, ◌≤◌, ◌<◌, ◌^◌, IfOk, length, map, replicate, slice_index, vec_len};
-ghost use Rattle.std.specs.List.{flat_map, range_with_len};
+ghost use Rattle.std.specs.Prelude.{ℕ, ◌≡◌, ◌+◌, ◌-◌, ◌≤◌, ◌<◌, ◌^◌, IfOk, length, map, slice_index, vec_len};
 ghost use Rattle.snapshot.specs.AttributesBySource.{attributes_by_source};
 ghost use Rattle.postings.specs.Columns.{Mark as Marked};
-ghost use Rattle.postings.specs.Places.{places_by};
+ghost use Rattle.postings.specs.Places.{keys_from, places_by};
 ghost use Rattle.postings.specs.RowIndexes.{AreRowIndexes};
 
 use crate::columns::{RowLists, row_lists};
@@ -46,13 +45,25 @@ pub fn row_indexes(alloc: Global, snapshot: &Snapshot) -> Result<RowIndexes, All
     let coded = coded_rows(alloc, snapshot)?;
     let count = snapshot.concept_count();
     let sources = sources_of(alloc, coded.rows.as_slice())?;
-    let kinds = kinds_of(alloc, coded.rows.as_slice())?;
+    let type_places = type_places_of(alloc, coded.rows.as_slice())?;
     let values = values_of(alloc, coded.rows.as_slice())?;
     let by_source = places_by_key(alloc, count, sources.as_slice())?;
     let marks = row_marks(alloc, coded.rows.as_slice(), &by_source)?;
     let types = coded.types.ids.len() as u32;
-    let by_type = row_lists(alloc, types, kinds.as_slice(), values.as_slice(), &marks)?;
-    let by_value = row_lists(alloc, count, values.as_slice(), kinds.as_slice(), &marks)?;
+    let by_type = row_lists(
+        alloc,
+        types,
+        type_places.as_slice(),
+        values.as_slice(),
+        &marks,
+    )?;
+    let by_value = row_lists(
+        alloc,
+        count,
+        values.as_slice(),
+        type_places.as_slice(),
+        &marks,
+    )?;
     let groups = group_lists(alloc, marks)?;
     Ok(RowIndexes {
         coded,
@@ -70,10 +81,10 @@ fn sources_of(alloc: Global, rows: &[CodedRow]) -> Result<Vec<u32>, AllocError>
     rows.iter().map(|row| row.source).collect(alloc)
 }
 
-fn kinds_of(alloc: Global, rows: &[CodedRow]) -> Result<Vec<u32>, AllocError>
-    ensures { IfOk result (λ keys. keys.items ≡ map (λ (row : CodedRow). row.kind) rows.now) }
+fn type_places_of(alloc: Global, rows: &[CodedRow]) -> Result<Vec<u32>, AllocError>
+    ensures { IfOk result (λ keys. keys.items ≡ map (λ (row : CodedRow). row.type_place) rows.now) }
 {
-    rows.iter().map(|row| row.kind).collect(alloc)
+    rows.iter().map(|row| row.type_place).collect(alloc)
 }
 
 fn values_of(alloc: Global, rows: &[CodedRow]) -> Result<Vec<u32>, AllocError>
@@ -87,11 +98,14 @@ fn group_lists(alloc: Global, marks: RowMarks) -> Result<GroupLists, AllocError>
     requires few { vec_len marks.groups < 2 ^ 32 }
     requires some { (0 < vec_len marks.starts) × (vec_len marks.starts ≤ 2 ^ 31) }
     requires first { slice_index marks.starts.items 0 ≡ 0 }
-    requires rise { (concept : ℕ) → concept + 1 < vec_len marks.starts → slice_index marks.starts.items concept ≤ slice_index marks.starts.items (concept + 1) }
+    requires rise { (concept : ℕ) → concept + 1 < vec_len marks.starts
+        → slice_index marks.starts.items concept ≤ slice_index marks.starts.items (concept + 1) }
     ensures of_rows { IfOk result (λ lists. lists.of_rows.items ≡ marks.groups.items) }
     ensures starts { IfOk result (λ lists. lists.starts.items ≡ marks.starts.items) }
-    ensures concepts { IfOk result (λ lists. lists.concepts.items ≡ flat_map (λ concept. replicate (slice_index marks.starts.items (concept + 1) - slice_index marks.starts.items concept) concept) (range_with_len 0 (vec_len marks.starts - 1))) }
-    ensures rows { IfOk result (λ lists. lists.rows ≡ places_by (slice_index marks.starts.items (vec_len marks.starts - 1)) (map (λ (mark : Marked). mark.number) marks.groups.items)) }
+    ensures concepts { IfOk result (λ lists. lists.concepts.items ≡ keys_from marks.starts.items (vec_len marks.starts - 1)) }
+    ensures rows { IfOk result (λ lists.
+        lists.rows ≡ places_by (slice_index marks.starts.items (vec_len marks.starts - 1))
+        (map (λ (mark : Marked). mark.number) marks.groups.items)) }
 {
     let RowMarks {
         sources: _,
@@ -121,8 +135,9 @@ fn numbers_of(alloc: Global, marks: &[Mark]) -> Result<Vec<u32>, AllocError>
 fn concepts_by_starts(alloc: Global, starts: &[u32]) -> Result<Vec<u32>, AllocError>
     requires some { (0 < length starts.now) × (length starts.now ≤ 2 ^ 31) }
     requires first { slice_index starts.now 0 ≡ 0 }
-    requires rise { (concept : ℕ) → concept + 1 < length starts.now → slice_index starts.now concept ≤ slice_index starts.now (concept + 1) }
-    ensures { IfOk result (λ concepts. concepts.items ≡ flat_map (λ concept. replicate (slice_index starts.now (concept + 1) - slice_index starts.now concept) concept) (range_with_len 0 (length starts.now - 1))) }
+    requires rise { (concept : ℕ) → concept + 1 < length starts.now
+        → slice_index starts.now concept ≤ slice_index starts.now (concept + 1) }
+    ensures { IfOk result (λ concepts. concepts.items ≡ keys_from starts.now (length starts.now - 1)) }
 {
     let mut concepts = Vec::with_capacity(alloc, starts[starts.len() - 1] as usize)?;
     for concept in 0..starts.len() - 1 {

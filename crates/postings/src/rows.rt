@@ -1,10 +1,8 @@
 //! Attribute rows by numbers.
-ghost use Rattle.std.specs.Prelude.{◌≡◌, ◌-◌, ◌<◌, ◌^◌, All, IfOk, OnOk, Some, length, map, nat_eq, slice_get};
+ghost use Rattle.std.specs.Prelude.{◌≡◌, ◌-◌, ◌<◌, ◌^◌, IfOk, OnOk, Some, length, nat_eq, slice_get};
 ghost use Rattle.snapshot.specs.AttributesBySource.{attributes_by_source};
 ghost use Rattle.indexmap.specs.IndexSet.{insert_key};
-ghost use Rattle.postings.specs.Coded.{IsCoded, row_coded};
-ghost use Rattle.postings.specs.Indexed.{types_of};
-ghost use Rattle.postings.specs.ValueTables.{AreTables, values_in};
+ghost use Rattle.postings.specs.Coded.{AreCodedRows};
 
 use crate::values::{Values, row_values};
 use indexmap::IndexSet;
@@ -16,7 +14,7 @@ use std::alloc::{AllocError, Global};
 #[derive(Clone, Copy, Debug)]
 pub struct CodedRow {
     pub source: u32,
-    pub kind: u32,
+    pub type_place: u32,
     pub group: u32,
     pub value: u32,
 }
@@ -38,13 +36,7 @@ pub struct Types {
 
 /// The attribute rows of a release by numbers.
 pub fn coded_rows(alloc: Global, snapshot: &Snapshot) -> Result<CodedRows, AllocError>
-    ensures rows { IfOk result (λ coded. map (row_coded snapshot.now.release.concepts coded.types.numbers.keys (values_in snapshot.now.release.concepts coded.values)) coded.rows.items ≡ attributes_by_source snapshot.now.release) }
-    ensures within { IfOk result (λ coded. All (IsCoded snapshot.now.release.concepts coded.types.numbers.keys (values_in snapshot.now.release.concepts coded.values)) coded.rows.items) }
-    ensures types { IfOk result (λ coded. coded.types.numbers.keys ≡ types_of (attributes_by_source snapshot.now.release)) }
-    ensures ids { IfOk result (λ coded. coded.types.ids.items ≡ coded.types.numbers.keys) }
-    ensures tables { IfOk result (λ coded. AreTables coded.values) }
-    ensures few { IfOk result (λ coded. length (values_in snapshot.now.release.concepts coded.values) < 2 ^ 32) }
-    ensures few_rows { IfOk result (λ coded. length coded.rows.items < 2 ^ 31) }
+    ensures { IfOk result (AreCodedRows snapshot.now.release.concepts (attributes_by_source snapshot.now.release)) }
 {
     let values = row_values(alloc, snapshot)?;
     let mut types = Types {
@@ -54,11 +46,11 @@ pub fn coded_rows(alloc: Global, snapshot: &Snapshot) -> Result<CodedRows, Alloc
     let mut rows = Vec::with_capacity(alloc, snapshot.attribute_count() as usize)?;
     for n in 0..snapshot.attribute_count() {
         let row = snapshot.attribute_row(n);
-        let kind = types.place_of(row.type_id)?;
+        let type_place = types.place_of(row.type_id)?;
         let value = values.number(snapshot, &row.value);
         rows.push(CodedRow {
             source: row.source,
-            kind,
+            type_place,
             group: row.group,
             value,
         })?;

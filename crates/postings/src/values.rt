@@ -1,5 +1,6 @@
 //! The values of attribute rows by numbers.
-ghost use Rattle.std.specs.Prelude.{ℕ, ◌≡◌, ◌≤◌, ◌+◌, ◌++◌, ◌<◌, ◌^◌, All, Contains, IfOk, OnOk, Some, true, List, bytes_eq, length, map, slice_get};
+ghost use Rattle.std.specs.Prelude.{ℕ, ◌≡◌, ◌≤◌, ◌+◌, ◌++◌, ◌<◌, ◌^◌, All, Contains, IfOk, OnOk, List};
+ghost use Rattle.std.specs.Prelude.{Some, true, bytes_eq, length, map, slice_get};
 ghost use Rattle.std.specs.List.{IsDistinct};
 ghost use Rattle.rf2_rows.specs.Release.{Attribute, Value as RowValue, number_value, text_value};
 ghost use Rattle.rf2_rows.specs.Rows.{value_lent};
@@ -24,7 +25,9 @@ pub struct Values {
 
 /// The values of the attribute rows of a release.
 pub fn row_values(alloc: Global, snapshot: &Snapshot) -> Result<Values, AllocError>
-    ensures all { IfOk result (λ values. All (λ (row : Attribute). Contains (values_in snapshot.now.release.concepts values) row.value) (attributes_by_source snapshot.now.release)) }
+    ensures all { IfOk result (λ values.
+        All (λ (row : Attribute). Contains (values_in snapshot.now.release.concepts values) row.value)
+        (attributes_by_source snapshot.now.release)) }
     ensures tables { IfOk result AreTables }
     ensures few { IfOk result (λ values. length (values_in snapshot.now.release.concepts values) < 2 ^ 32) }
 {
@@ -45,10 +48,13 @@ pub fn row_values(alloc: Global, snapshot: &Snapshot) -> Result<Values, AllocErr
 impl Values {
     // Adds a value that is no concept, unless it is there.
     fn add(&mut self, alloc: Global, value: &Value<'_>) -> Result<(), AllocError>
-        ensures added { OnOk result ((concepts : List ℕ) → is_value_among concepts (value_lent value.now) ≡ true → Contains (values_in concepts self.new) (value_lent value.now)) }
-        ensures kept { OnOk result ((concepts : List ℕ) (other : RowValue) → Contains (values_in concepts self.old) other → Contains (values_in concepts self.new) other) }
+        ensures added { OnOk result ((concepts : List ℕ) → is_value_among concepts (value_lent value.now) ≡ true
+            → Contains (values_in concepts self.new) (value_lent value.now)) }
+        ensures kept { OnOk result ((concepts : List ℕ) (other : RowValue) → Contains (values_in concepts self.old) other
+            → Contains (values_in concepts self.new) other) }
         ensures texts { OnOk result (IsDistinct bytes_eq (texts_in self.old) → IsDistinct bytes_eq (texts_in self.new)) }
-        ensures few { OnOk result (length self.new.decimals.keys + length self.new.texts.keys ≤ length self.old.decimals.keys + length self.old.texts.keys + 1) }
+        ensures few { OnOk result (length self.new.decimals.keys + length self.new.texts.keys
+            ≤ length self.old.decimals.keys + length self.old.texts.keys + 1) }
     {
         match value {
             Value::Concept(_) => Ok(()),

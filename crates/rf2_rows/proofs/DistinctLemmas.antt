@@ -49,7 +49,8 @@ module _ {X : Type 0} (same : X → X → Bool) where
     found_behind q x xs false here rest =
         any-filter_same (same q) (λ z. not (same x z)) true (λ k alike. beside q x k here alike) (distinct same xs) ∙ rest
 
-    any_distinct : (q : X) (xs : List X) → list_any (same q) (distinct same xs) ≡ list_any (same q) xs
+    -- an item is the same as one of the distinct items exactly where it is the same as one of all
+    pub any_distinct : (q : X) (xs : List X) → list_any (same q) (distinct same xs) ≡ list_any (same q) xs
     any_distinct q [] = refl
     any_distinct q (x ∷ xs) = found_behind q x xs (same q x) refl (any_distinct q xs)
 

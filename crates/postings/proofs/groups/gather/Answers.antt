@@ -9,8 +9,10 @@ loop-place-preserved c = λ default.
     let at = c.loop-place.place-index in
     let within = c.requires at 0 c.loop-place-test.true in
     c.in_ok-push.ensures.items
-    ∙ (λ i. c.loop-place.invariant default i ++ get_or_default rows (get_or places at 0) (record { source = 0; kind = 0; group = 0; value = 0 }) default within i ∷ [])
+    ∙ (λ i. c.loop-place.invariant default i ++ get_or_default rows (get_or places at 0)
+    (record { source = 0; type_place = 0; group = 0; value = 0 }) default within i ∷ [])
     ∙ sym (map_more (λ place. get_or rows place default) places at 0 c.loop-place-test.true)
 
 pub returns : goal.returns
-returns c = λ default. c.loop-place.invariant default ∙ ap (map (λ place. get_or c.args.rows.now place default)) (take_all c.loop-place.place-index c.args.places.now (omega arith))
+returns c = λ default. c.loop-place.invariant default
+    ∙ ap (map (λ place. get_or c.args.rows.now place default)) (take_all c.loop-place.place-index c.args.places.now (omega arith))

@@ -3,4 +3,5 @@ use Rattle.postings.specs.declared.rows.CodedRow.{CodedRow}
 use Rattle.postings.proofs.groups.gather.Given as goal
 
 abbrev pub invariant-loop-place : goal.invariant-loop-place
-invariant-loop-place l = (default : CodedRow) → l.own.items ≡ map (λ place. slice_index_or l.rows place default) (take l.place-index l.places)
+invariant-loop-place l = (default : CodedRow)
+    → l.own.items ≡ map (λ place. slice_index_or l.rows place default) (take l.place-index l.places)

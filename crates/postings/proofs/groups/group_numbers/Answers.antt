@@ -13,5 +13,6 @@ returns c =
       numbers = kept
           ∙ ap rising c.loop-row.invariant.numbers
           ∙ ap numbers_of_groups (take_all c.loop-row.row-index c.args.rows.now c.loop-row-test.false);
-      rising = subst (λ (numbers : List ℕ). IsRising numbers) (sym kept) (rising-rises (2 ^ 32) c.loop-row.numbers.items c.loop-row.invariant.small);
+      rising = subst (λ (numbers : List ℕ). IsRising numbers) (sym kept)
+          (rising-rises (2 ^ 32) c.loop-row.numbers.items c.loop-row.invariant.small);
     }

@@ -22,7 +22,8 @@ returns c =
     let numbers = c.args.numbers.now in
     let number = c.args.number in
     let parted = IsPartitionedBy-ltb (λ n. n) numbers number (not_falling numbers c.requires) in
-    let point = IsPartitionPoint-from_clause (λ n. ltb n number) _ _ c.partition_point.ensures.partitioned parted (λ a r q k. search rules) in
+    let point = IsPartitionPoint-from_clause (λ n. ltb n number) _ _ c.partition_point.ensures.partitioned parted
+    (λ a r q k. search rules) in
     sym (prefix_len_is (λ n. ltb n number) numbers c.partition_point.result 0 c.partition_point.ensures.bound
     (λ k before. point.0 k 0 (omega arith) before)
     (λ within. point.1 c.partition_point.result 0 (omega arith) within))

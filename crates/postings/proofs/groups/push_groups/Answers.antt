@@ -1,9 +1,10 @@
-use Rattle.std.proofs.Common.{ℕ, ◌+◌, ◌≡◌, ◌≤◌, ◌++◌, ◌∷◌, [], ◌∙◌, List, ap, append_assoc, arith, drop, get_or, length, length-take, not, sym, take}
+use Rattle.std.proofs.Common.{ℕ, ◌+◌, ◌≡◌, ◌≤◌, ◌++◌, ◌∷◌, [], ◌∙◌, List, ap, append_assoc, arith, drop}
+use Rattle.std.proofs.Common.{get_or, length, length-take, not, sym, take}
 use Rattle.std.specs.List.{list_any}
 use Rattle.std.proofs.lemmas.List.{take_all, take_more}
 use Rattle.indexmap.specs.IndexSet.{insert_key}
 use Rattle.snapshot.proofs.KeyedLemmas.{split_at}
-use Rattle.postings.specs.Coded.{group_codes, has_same_in_group, loose_pairs, marks_after, numbers_of_groups, place_in_source}
+use Rattle.postings.specs.Coded.{group_codes, has_same_in_group, ungrouped_pairs, marks_after, numbers_of_groups, place_in_source}
 use Rattle.postings.specs.declared.rows.CodedRow.{CodedRow}
 use Rattle.postings.proofs.DistinctLemmas.{distinct-map_more}
 use Rattle.postings.proofs.GroupLemmas.{length-group_codes, length-group_codes-le, place_in_source-le}
@@ -13,7 +14,7 @@ use Rattle.postings.proofs.groups.push_groups.Goals.{After-len-2, In_ok-place}
 
 -- a row that stands for none
 none : CodedRow
-none = record { source = 0; kind = 0; group = 0; value = 0 }
+none = record { source = 0; type_place = 0; group = 0; value = 0 }
 
 -- the place that was found is that of the row's group
 placed : (c : In_ok-place) → c.in_ok-place.place ≡ place_in_source c.args.rows.now (get_or c.args.rows.now c.loop-row.row-index none)
@@ -23,7 +24,8 @@ placed c =
     let at : ℕ = c.loop-row.row-index in
     let row : CodedRow = get_or rows at none in
     let split : rows ≡ take at rows ++ row ∷ drop (at + 1) rows = split_at rows at none c.loop-row-test.true in
-    c.in_ok-place.ensures.place (take at rows) (drop (at + 1) rows) (c.as_slice.ensures.value ∙ c.in_ok-numbers.ensures.numbers ∙ ap numbers_of_groups split) c.loop-row.invariant.loose
+    c.in_ok-place.ensures.place (take at rows) (drop (at + 1) rows)
+    (c.as_slice.ensures.value ∙ c.in_ok-numbers.ensures.numbers ∙ ap numbers_of_groups split) c.loop-row.invariant.ungrouped
     ∙ ap (λ (rows : List CodedRow). place_in_source rows row) (sym split)
 
 -- it is no further than there are rows
@@ -35,7 +37,14 @@ near c =
 pub group_place-requires-clause-few : goal.group_place-requires-clause-few
 group_place-requires-clause-few c =
     let before : List CodedRow = take c.loop-row.row-index c.args.rows.now in
-    omega (arith, c.requires, ap (λ (keys : List (ℕ × ℕ)). length keys) c.loop-row.invariant.loose, length-group_codes before, length-group_codes-le before, length-take c.loop-row.row-index c.args.rows.now)
+    omega (
+      arith,
+      c.requires,
+      ap (λ (keys : List (ℕ × ℕ)). length keys) c.loop-row.invariant.ungrouped,
+      length-group_codes before,
+      length-group_codes-le before,
+      length-take c.loop-row.row-index c.args.rows.now,
+    )
 
 pub overflow_cast-place : goal.overflow_cast-place
 overflow_cast-place c = omega (arith, c.requires, near (goal.at.overflow_cast-place c).In_ok-place)
@@ -55,7 +64,8 @@ loop-row-preserved c =
     let within = c.loop-row-test.true in
     let number : CodedRow → ℕ = λ row. c.args.ahead + place_in_source rows row in
     record {
-      loose = c.in_ok-place.ensures.loose (take at rows) c.loop-row.invariant.loose ∙ ap loose_pairs (sym (take_more rows at none within));
+      ungrouped = c.in_ok-place.ensures.ungrouped (take at rows) c.loop-row.invariant.ungrouped
+          ∙ ap ungrouped_pairs (sym (take_more rows at none within));
       seen = c.in_ok-is_first.ensures.keys
           ∙ ap (λ keys. insert_key grouped_eq keys (grouped_code row)) c.loop-row.invariant.seen
           ∙ sym (distinct-map_more grouped_eq grouped_eq_equiv grouped_code rows at none within);
@@ -78,7 +88,8 @@ counted c =
       c.len.ensures,
       c.len-2.ensures.len,
       ap (λ (numbers : List ℕ). length numbers) c.in_ok-numbers.ensures.numbers,
-      ap (λ (keys : List (ℕ × ℕ)). length keys) (c.loop-row.invariant.loose ∙ ap loose_pairs (take_all c.loop-row.row-index rows c.loop-row-test.false)),
+      ap (λ (keys : List (ℕ × ℕ)). length keys) (c.loop-row.invariant.ungrouped
+          ∙ ap ungrouped_pairs (take_all c.loop-row.row-index rows c.loop-row-test.false)),
       length-group_codes rows,
     )
 
@@ -90,7 +101,8 @@ returns-clause-groups c =
     let rows : List CodedRow = c.args.rows.now in
     let number : CodedRow → ℕ = λ row. c.args.ahead + place_in_source rows row in
     c.loop-row.invariant.marks
-    ∙ ap (λ (own : List CodedRow). c.args.groups.now.items ++ marks_after has_same_in_group number [] own) (take_all c.loop-row.row-index rows c.loop-row-test.false)
+    ∙ ap (λ (own : List CodedRow). c.args.groups.now.items ++ marks_after has_same_in_group number [] own)
+    (take_all c.loop-row.row-index rows c.loop-row-test.false)
 
 pub returns-clause-count : goal.returns-clause-count
 returns-clause-count c = counted (goal.at.returns-clause-count c).After-len-2

@@ -14,7 +14,7 @@ loop-row-preserved c =
     let rows : List CodedRow = c.args.rows.now in
     let at : ℕ = c.loop-row.row-index in
     let within = c.loop-row-test.true in
-    let none : CodedRow = record { source = 0; kind = 0; group = 0; value = 0 } in
+    let none : CodedRow = record { source = 0; type_place = 0; group = 0; value = 0 } in
     let row : CodedRow = get_or rows at none in
     let before : List Mark = c.args.sources.now.items in
     let mark : Mark = c.new.result in
@@ -35,4 +35,5 @@ loop-row-preserved c =
 pub returns : goal.returns
 returns c =
     c.loop-row.invariant.marks
-    ∙ ap (λ (rows : List CodedRow). c.args.sources.now.items ++ source_marks rows) (take_all c.loop-row.row-index c.args.rows.now c.loop-row-test.false)
+    ∙ ap (λ (rows : List CodedRow). c.args.sources.now.items ++ source_marks rows)
+    (take_all c.loop-row.row-index c.args.rows.now c.loop-row-test.false)

@@ -1,4 +1,5 @@
-use Rattle.std.proofs.Common.{ℕ, ◌+◌, ◌≡◌, ◌<◌, ◌++◌, ◌∙◌, List, ap, arith, get_or, length, map, subst, sym}
+use Rattle.std.proofs.Common.{ℕ, ◌+◌, ◌≡◌, ◌<◌, ◌++◌, ◌≤◌, ◌∙◌, List, ap, arith, get_or, length, map, subst}
+use Rattle.std.proofs.Common.{sym}
 use Rattle.std.specs.Prelude.{All}
 use Rattle.std.proofs.lemmas.List.{length-map}
 use Rattle.snapshot.specs.KeyedLists.{list_of}
@@ -18,25 +19,32 @@ gather-requires c =
     let count : ℕ = length c.args.by_source.now in
     let are = c.of.ensures ∙ ap (λ (lists : List (List ℕ)). list_of lists source) c.requires.lists in
     let below : source < count = omega (arith, c.len-source-end.ensures.count) in
-    let places = subst (λ (places : List ℕ). All (λ place. place < length keys) places) (sym are) (list_of-places_by-within count keys source below) in
+    let places = subst (λ (places : List ℕ). All (λ place. place < length keys) places) (sym are)
+    (list_of-places_by-within count keys source below) in
     λ k d inside. omega (arith, places k d inside, length-map c.args.rows.now (λ (row : CodedRow). row.source))
 
 -- the rows that are gathered are those of the source
 record Gathered (rows found : List CodedRow) (count source : ℕ) : Type 0 where
   below : source < count
   own : found ≡ of_source rows source
+  left : groups_ahead rows source + length found ≤ length rows
 
 gathered : (c : In_ok-gather) → Gathered c.args.rows.now c.gather.new.own.items (length c.args.by_source.now) c.loop-source.source
 gathered c =
-    let none : CodedRow = record { source = 0; kind = 0; group = 0; value = 0 } in
+    let none : CodedRow = record { source = 0; type_place = 0; group = 0; value = 0 } in
     let rows : List CodedRow = c.args.rows.now in
     let source : ℕ = c.loop-source.source in
     let count : ℕ = length c.args.by_source.now in
-    let below : source < count = omega (arith, c.len-source-end.ensures.count) in record {
+    let below : source < count = omega (arith, c.len-source-end.ensures.count) in
+    let own : c.gather.new.own.items ≡ of_source rows source =
+    c.in_ok-gather.ensures none
+    ∙ ap (map (λ (place : ℕ). get_or rows place none))
+    (c.of.ensures ∙ ap (λ (lists : List (List ℕ)). list_of lists source) c.requires.lists)
+    ∙ rows_of_source rows count source none below in
+    record {
       below = below;
-      own = c.in_ok-gather.ensures none
-          ∙ ap (map (λ (place : ℕ). get_or rows place none)) (c.of.ensures ∙ ap (λ (lists : List (List ℕ)). list_of lists source) c.requires.lists)
-          ∙ rows_of_source rows count source none below;
+      own = own;
+      left = omega (arith, rows_left rows count source c.requires.sorted below, ap (λ (own : List CodedRow). length own) own);
     }
 
 pub push_sources-requires : goal.push_sources-requires
@@ -44,7 +52,8 @@ push_sources-requires c =
     let rows : List CodedRow = c.args.rows.now in
     let source : ℕ = c.loop-source.source in
     let turn = gathered (goal.at.push_sources-requires c).In_ok-gather in
-    let own = subst (λ (own : List CodedRow). All (λ (row : CodedRow). row.source ≡ source) own) (sym (c.as_slice.ensures.value ∙ turn.own)) (of_source-own rows source) in
+    let own = subst (λ (own : List CodedRow). All (λ (row : CodedRow). row.source ≡ source) own)
+    (sym (c.as_slice.ensures.value ∙ turn.own)) (of_source-own rows source) in
     λ k d inside. omega (arith, own k d inside, turn.below, c.requires.few_sources)
 
 pub push_groups-requires : goal.push_groups-requires
@@ -54,8 +63,8 @@ push_groups-requires c =
       arith,
       c.requires.few,
       c.loop-source.invariant.ahead,
-      rows_left c.args.rows.now (length c.args.by_source.now) c.loop-source.source c.requires.sorted turn.below,
-      ap (λ (own : List CodedRow). length own) (c.as_slice-in-loop-source.ensures.value ∙ turn.own),
+      turn.left,
+      ap (λ (own : List CodedRow). length own) c.as_slice-in-loop-source.ensures.value,
     )
 
 pub overflow_add-ahead : goal.overflow_add-ahead
@@ -66,8 +75,8 @@ overflow_add-ahead c =
       c.requires.few,
       c.loop-source.invariant.ahead,
       c.in_ok-ahead.ensures.few,
-      rows_left c.args.rows.now (length c.args.by_source.now) c.loop-source.source c.requires.sorted turn.below,
-      ap (λ (own : List CodedRow). length own) (c.as_slice-in-loop-source.ensures.value ∙ turn.own),
+      turn.left,
+      ap (λ (own : List CodedRow). length own) c.as_slice-in-loop-source.ensures.value,
     )
 
 pub loop-source-preserved : goal.loop-source-preserved
@@ -79,17 +88,21 @@ loop-source-preserved c =
     let first = c.as_slice.ensures.value ∙ turn.own in
     let own = c.as_slice-in-loop-source.ensures.value ∙ turn.own in
     let ahead : c.loop-source.ahead + c.in_ok-ahead.field-0 ≡ groups_ahead rows (source + 1) =
-    (λ i. so_far.ahead i + (c.in_ok-ahead.ensures.count ∙ ap (λ (own : List CodedRow). length (group_codes own)) own) i) ∙ sym (groups_ahead-more rows source) in
+    (λ i. so_far.ahead i + (c.in_ok-ahead.ensures.count ∙ ap (λ (own : List CodedRow). length (group_codes own)) own) i)
+    ∙ sym (groups_ahead-more rows source) in
     record {
-      sources = c.in_ok-push_sources.ensures
-          ∙ (λ i. so_far.sources i ++ source_marks (first i))
-          ∙ sym (flat_map-more (λ source. source_marks (of_source rows source)) source);
-      groups = c.in_ok-ahead.ensures.groups
-          ∙ (λ i. so_far.groups i ++ group_marks (so_far.ahead i) (own i))
-          ∙ sym (flat_map-more (λ source. group_marks (groups_ahead rows source) (of_source rows source)) source);
+      marks = record {
+        sources = c.in_ok-push_sources.ensures
+            ∙ (λ i. so_far.marks.sources i ++ source_marks (first i))
+            ∙ sym (flat_map-more (λ source. source_marks (of_source rows source)) source);
+        groups = c.in_ok-ahead.ensures.groups
+            ∙ (λ i. so_far.marks.groups i ++ group_marks (so_far.ahead i) (own i))
+            ∙ sym (flat_map-more (λ source. group_marks (groups_ahead rows source) (of_source rows source)) source);
+        starts_len = omega (arith, c.in_ok-push-2.ensures.len, so_far.marks.starts_len);
+        starts = λ k le.
+            ap (λ (starts : List ℕ). get_or starts k 0) c.in_ok-push-2.ensures.items
+            ∙ starts_more rows c.loop-source.marks.starts.items source (c.loop-source.ahead + c.in_ok-ahead.field-0)
+            (omega (arith, so_far.marks.starts_len)) so_far.marks.starts ahead k le;
+      };
       ahead = ahead;
-      starts_len = omega (arith, c.in_ok-push-2.ensures.len, so_far.starts_len);
-      starts = λ k le.
-          ap (λ (starts : List ℕ). get_or starts k 0) c.in_ok-push-2.ensures.items
-          ∙ starts_more rows c.loop-source.marks.starts.items source (c.loop-source.ahead + c.in_ok-ahead.field-0) (omega (arith, so_far.starts_len)) so_far.starts ahead k le;
     }

@@ -10,7 +10,9 @@ loop-concept-preserved c =
     let concepts = c.args.snapshot.now.release.concepts in
     c.in_ok-push.ensures.items
     ∙ (λ i. c.loop-concept.invariant i ++ c.id_at.ensures i ∷ [])
-    ∙ sym (take_more concepts c.loop-concept.concept 0 (omega (arith, c.loop-concept-test.true, c.concept_count-concept-end.ensures.count)))
+    ∙ sym (take_more concepts c.loop-concept.concept 0
+    (omega (arith, c.loop-concept-test.true, c.concept_count-concept-end.ensures.count)))
 
 pub returns : goal.returns
-returns c = c.loop-concept.invariant ∙ take_all c.loop-concept.concept c.args.snapshot.now.release.concepts (omega (arith, c.loop-concept-test.false, c.concept_count-concept-end.ensures.count))
+returns c = c.loop-concept.invariant ∙ take_all c.loop-concept.concept c.args.snapshot.now.release.concepts
+    (omega (arith, c.loop-concept-test.false, c.concept_count-concept-end.ensures.count))

@@ -10,9 +10,11 @@ loop-place-preserved g c = λ default.
     let places = c.args.places.now in
     let i = c.loop-place.place-index in
     c.in_ok-push.ensures.items
-    ∙ (λ j. c.loop-place.invariant default j ++ (c.index-cells-place.is ∙ get_or_default c.args.cells.now (get_or places i 0) _ default (c.requires i 0 c.loop-place-test.true)) j ∷ [])
+    ∙ (λ j. c.loop-place.invariant default j ++ (c.index-cells-place.is
+    ∙ get_or_default c.args.cells.now (get_or places i 0) _ default (c.requires i 0 c.loop-place-test.true)) j ∷ [])
     ∙ sym (ap (map (λ place. get_or c.args.cells.now place default)) (take_more places i 0 c.loop-place-test.true)
     ∙ map-append (λ place. get_or c.args.cells.now place default) (take i places) (get_or places i 0 ∷ []))
 
 pub returns : goal.returns
-returns g c = λ default. c.loop-place.invariant default ∙ ap (map (λ place. get_or c.args.cells.now place default)) (take_all c.loop-place.place-index c.args.places.now (omega arith))
+returns g c = λ default. c.loop-place.invariant default
+    ∙ ap (map (λ place. get_or c.args.cells.now place default)) (take_all c.loop-place.place-index c.args.places.now (omega arith))

@@ -3,4 +3,5 @@ use Rattle.std.proofs.Common.{◌≡◌, map, slice_index_or, take}
 use Rattle.postings.proofs.lists.column.Given as goal
 
 abbrev pub invariant-loop-place : goal.invariant-loop-place
-invariant-loop-place g l = (default : g.row.T.Denot) → l.column.items ≡ map (λ place. slice_index_or l.cells place default) (take l.place-index l.places)
+invariant-loop-place g l = (default : g.row.T.Denot)
+    → l.column.items ≡ map (λ place. slice_index_or l.cells place default) (take l.place-index l.places)

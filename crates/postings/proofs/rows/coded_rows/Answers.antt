@@ -1,7 +1,8 @@
-use Rattle.std.proofs.Common.{ℕ, ◌≡◌, ◌∙◌, [], ◌++◌, ◌∷◌, List, Some, length, length-take, get_or, map, nat_eq, sym, ap, subst, arith}
+use Rattle.std.proofs.Common.{ℕ, ◌≡◌, ◌∙◌, [], ◌++◌, ◌∷◌, List, Some, length, get_or, map, nat_eq, sym, ap, subst}
+use Rattle.std.proofs.Common.{arith}
 use Rattle.std.specs.Prelude.{All, Contains}
 use Rattle.std.specs.List.{slice_get}
-use Rattle.std.proofs.lemmas.List.{length-map, take_all}
+use Rattle.std.proofs.lemmas.List.{take_all}
 use Rattle.std.proofs.lemmas.Option.{get_or_from_slice_get, slice_get_within}
 use Rattle.indexmap.specs.IndexSet.{insert_key}
 use Rattle.rf2_rows.specs.Release.{Attribute, text_value}
@@ -20,7 +21,8 @@ loop-n-init c =
     let values = values_in concepts c.in_ok-values.values in
     record {
       rows = ap (map (row_coded concepts c.new.result.keys values)) c.in_ok-rows.ensures.items;
-      within = subst (All (IsCoded concepts c.new.result.keys values)) (sym c.in_ok-rows.ensures.items) (λ k d below. absurd (omega arith));
+      within = subst (All (IsCoded concepts c.new.result.keys values)) (sym c.in_ok-rows.ensures.items)
+          (λ k d below. absurd (omega arith));
       types = c.new.ensures.empty;
       ids = c.new-2.ensures.items ∙ sym c.new.ensures.empty;
       few = omega (arith, c.new.ensures.len);
@@ -47,48 +49,54 @@ loop-n-preserved c =
     let here : slice_get rows n ≡ Some row = c.attribute_row-row.ensures.row in
     let types = c.loop-n.types.numbers.keys in
     let more = insert_key nat_eq types read.type_id in
-    let grown : c.place_of.new.self.numbers.keys ≡ more = c.in_ok-kind.ensures.numbers in
-    let placed : slice_get more c.in_ok-kind.kind ≡ Some read.type_id = ap (λ (keys : List ℕ). slice_get keys c.in_ok-kind.kind) (sym grown) ∙ c.in_ok-kind.ensures.place in
-    let coded : CodedRow = record { source = read.source; kind = c.in_ok-kind.kind; group = read.group; value = c.number-value.result } in
-    let same_type : get_or more coded.kind 0 ≡ read.type_id = get_or_from_slice_get more coded.kind read.type_id 0 placed in
-    let same_value : value_at values coded.value ≡ value_lent read.value = get_or_from_slice_get values coded.value (value_lent read.value) (text_value []) c.number-value.ensures in
+    let grown : c.place_of.new.self.numbers.keys ≡ more = c.in_ok-type_place.ensures.numbers in
+    let placed : slice_get more c.in_ok-type_place.type_place ≡ Some read.type_id =
+    ap (λ (keys : List ℕ). slice_get keys c.in_ok-type_place.type_place) (sym grown) ∙ c.in_ok-type_place.ensures.place in
+    let coded : CodedRow = record {
+      source = read.source;
+      type_place = c.in_ok-type_place.type_place;
+      group = read.group;
+      value =
+          c.number-value.result;
+    } in
+    let same_type : get_or more coded.type_place 0 ≡ read.type_id = get_or_from_slice_get more coded.type_place read.type_id 0 placed in
+    let same_value : value_at values coded.value ≡ value_lent read.value =
+    get_or_from_slice_get values coded.value (value_lent read.value) (text_value []) c.number-value.ensures in
     let stands : row ≡ row_coded concepts more values coded = λ i. record row { type_id = sym same_type i; value = sym same_value i } in
     let is_coded : IsCoded concepts more values coded =
-    record { source = c.attribute_row-row.ensures.source; kind = slice_get_within more coded.kind read.type_id placed; value = slice_get_within values coded.value (value_lent read.value) c.number-value.ensures } in
+    record {
+      source = c.attribute_row-row.ensures.source;
+      type_place = slice_get_within more coded.type_place read.type_id placed;
+      value =
+          slice_get_within values coded.value (value_lent read.value) c.number-value.ensures;
+    } in
     let pushed : c.push.new.self.items ≡ c.loop-n.rows.items ++ coded ∷ [] = c.in_ok-push.ensures.items in
     let invariant = c.loop-n.invariant in
     record {
       rows = (λ i. map (row_coded concepts (grown i) values) (pushed i))
-          ∙ rows_push types read.type_id concepts values c.loop-n.rows.items coded rows n invariant.within invariant.rows (here ∙ ap (λ (row : Attribute). Some row) stands);
+          ∙ rows_push types read.type_id concepts values c.loop-n.rows.items coded rows n invariant.within invariant.rows
+          (here ∙ ap (λ (row : Attribute). Some row) stands);
       within = subst (λ (keys : List ℕ). All (IsCoded concepts keys values) c.push.new.self.items) (sym grown)
-          (subst (All (IsCoded concepts more values)) (sym pushed) (coded_push types read.type_id concepts values c.loop-n.rows.items coded invariant.within is_coded));
+          (subst (All (IsCoded concepts more values)) (sym pushed)
+          (coded_push types read.type_id concepts values c.loop-n.rows.items coded invariant.within is_coded));
       types = grown
           ∙ (λ i. insert_key nat_eq (invariant.types i) (sym (get_or_from_slice_get rows n row row here) i).type_id)
           ∙ sym (types_more rows n row (slice_get_within rows n row here));
-      ids = c.in_ok-kind.ensures.ids;
+      ids = c.in_ok-type_place.ensures.ids;
       few = omega (arith, ap length grown, (length-more types read.type_id).1, invariant.few);
     }
 
-pub returns-clause-rows : goal.returns-clause-rows
-returns-clause-rows c =
+pub returns : goal.returns
+returns c =
     let rows = attributes_by_source c.args.snapshot.now.release in
-    c.loop-n.invariant.rows
-    ∙ take_all c.loop-n.n rows (omega (arith, c.loop-n-test.false, c.attribute_count-n-end.ensures.by_source, c.attribute_count-n-end.ensures.count))
-
-pub returns-clause-types : goal.returns-clause-types
-returns-clause-types c =
-    let rows = attributes_by_source c.args.snapshot.now.release in
-    c.loop-n.invariant.types
-    ∙ ap types_of (take_all c.loop-n.n rows (omega (arith, c.loop-n-test.false, c.attribute_count-n-end.ensures.by_source, c.attribute_count-n-end.ensures.count)))
-
-pub returns-clause-few_rows : goal.returns-clause-few_rows
-returns-clause-few_rows c =
-    let rows = attributes_by_source c.args.snapshot.now.release in
-    omega (
-      arith,
-      c.attribute_count-n-end.ensures.by_source,
-      c.attribute_count-n-end.ensures.few,
-      length-map c.loop-n.rows.items (row_coded c.args.snapshot.now.release.concepts c.loop-n.types.numbers.keys (values_in c.args.snapshot.now.release.concepts c.in_ok-values.values)),
-      ap (λ (xs : List Attribute). length xs) c.loop-n.invariant.rows,
-      length-take c.loop-n.n rows,
-    )
+    let all = take_all c.loop-n.n rows
+    (omega (arith, c.loop-n-test.false, c.attribute_count-n-end.ensures.by_source, c.attribute_count-n-end.ensures.count)) in
+    record {
+      stand_for = c.loop-n.invariant.rows ∙ all;
+      within = c.loop-n.invariant.within;
+      types = c.loop-n.invariant.types ∙ ap types_of all;
+      ids = c.loop-n.invariant.ids;
+      tables = c.in_ok-values.ensures.tables;
+      few = omega (arith, c.attribute_count-n-end.ensures.by_source, c.attribute_count-n-end.ensures.few);
+      few_values = c.in_ok-values.ensures.few;
+    }

@@ -27,8 +27,10 @@ loop-n-preserved c =
     let has : Attribute → Type 0 = λ row. Contains (values_in release.concepts c.add.new.self) row.value in
     record {
       all = All-more has rows n row (slice_get_within rows n row c.attribute_row-row.ensures.row)
-          (All-weaker had has (λ row there. c.in_ok-add.ensures.kept release.concepts row.value there) (take n rows) c.loop-n.invariant.all)
-          (subst has (sym (get_or_from_slice_get rows n row row c.attribute_row-row.ensures.row)) (c.in_ok-add.ensures.added release.concepts c.attribute_row-row.ensures.value));
+          (All-weaker had has (λ row there. c.in_ok-add.ensures.kept release.concepts row.value there) (take n rows)
+          c.loop-n.invariant.all)
+          (subst has (sym (get_or_from_slice_get rows n row row c.attribute_row-row.ensures.row))
+          (c.in_ok-add.ensures.added release.concepts c.attribute_row-row.ensures.value));
       texts = c.in_ok-add.ensures.texts c.loop-n.invariant.texts;
       few = omega (arith, c.in_ok-add.ensures.few, c.loop-n.invariant.few);
     }
@@ -40,9 +42,13 @@ returns-clause-all c =
     let values = c.loop-n.values in
     let texts = texts_in values in
     let had : Attribute → Type 0 = λ row. Contains (values_in release.concepts values) row.value in
-    let has : Attribute → Type 0 = λ row. Contains (values_in release.concepts (record values { decimals = c.sort.new.self })) row.value in
+    let has : Attribute → Type 0 = λ row. Contains (values_in release.concepts (record values { decimals = c.sort.new.self }))
+    row.value in
     All-weaker had has
     (λ row there. values_stay release.concepts values.decimals.keys c.sort.new.self.keys texts texts
-    (λ decimal known. Contains-permutation values.decimals.keys c.sort.new.self.keys decimal c.in_ok-sort.ensures.reordered.0 known) (λ text known. known) row.value there)
+    (λ decimal known. Contains-permutation values.decimals.keys c.sort.new.self.keys decimal c.in_ok-sort.ensures.reordered.0 known)
+    (λ text known. known) row.value there)
     rows
-    (subst (All had) (take_all c.loop-n.n rows (omega (arith, c.loop-n-test.false, c.attribute_count-n-end.ensures.by_source, c.attribute_count-n-end.ensures.count))) c.loop-n.invariant.all)
+    (subst (All had) (take_all c.loop-n.n rows (omega
+    (arith, c.loop-n-test.false, c.attribute_count-n-end.ensures.by_source, c.attribute_count-n-end.ensures.count)))
+    c.loop-n.invariant.all)

@@ -12,7 +12,8 @@ invariant_of-result c =
       rising = subst (λ (ids : List ℕ). IsStrictlyIncreasing ids) (sym same) c.concept_count.ensures.rising;
       few = subst (λ (ids : List ℕ). length ids < 2 ^ 31) (sym same) c.concept_count.ensures.few;
       rows = indexes_of_own release.concepts all (attributes_by_source release) c.in_ok-rows.rows same c.in_ok-rows.ensures;
-      members = length-members release.concepts all c.concept_count.result c.member_rows.result.now c.in_ok-members.members same c.concept_count.ensures.count c.in_ok-members.ensures;
+      members = length-members release.concepts all c.concept_count.result c.member_rows.result.now c.in_ok-members.members same
+          c.concept_count.ensures.count c.in_ok-members.ensures;
     }
 
 pub returns : goal.returns
@@ -23,5 +24,7 @@ returns c =
       concepts = same;
       hierarchy = c.in_ok-hierarchy.ensures.hierarchy;
       rows = rows_told release.concepts all (attributes_by_source release) c.in_ok-rows.rows same c.in_ok-rows.ensures;
-      members = members_told release.concepts c.concept_count.result c.member_rows.result.now release.members c.in_ok-members.members c.concept_count.ensures.rising c.concept_count.ensures.count c.member_rows.ensures.within c.member_rows.ensures.rows c.in_ok-members.ensures;
+      members = members_told release.concepts c.concept_count.result c.member_rows.result.now release.members c.in_ok-members.members
+          c.concept_count.ensures.rising c.concept_count.ensures.count c.member_rows.ensures.within c.member_rows.ensures.rows
+          c.in_ok-members.ensures;
     }

@@ -9,7 +9,9 @@ use Rattle.postings.proofs.index.Indexes.index_of.Goals as goal
 pub returns-in-Ok : goal.returns-in-Ok
 returns-in-Ok c =
     let rises = subst (λ (ids : List ℕ). IsStrictlyIncreasing ids) (sym c.deref.ensures.value) c.self.invariant.rising in
-    let found = searched c.deref.result.now c.args.id (Ok c.in-Ok.number) (c.in-Ok.ensures.position (λ id. id) (answers_always _ _ _ (λ f a r q called. search rules))) (rises_on c.deref.result.now rises) in
+    let found = searched c.deref.result.now c.args.id (Ok c.in-Ok.number)
+    (c.in-Ok.ensures.position (λ id. id) (answers_always _ _ _ (λ f a r q called. search rules)))
+    (rises_on c.deref.result.now rises) in
     number_there c.deref.result.now rises c.args.id c.in-Ok.number found.0 found.1
     ∙ ap (λ (ids : List ℕ). number_of ids c.args.id) c.deref.ensures.value
     ∙ ap (λ (indexed : Indexed). number_of indexed.concepts c.args.id) c.self.view_is
@@ -17,7 +19,9 @@ returns-in-Ok c =
 pub returns-in-Err : goal.returns-in-Err
 returns-in-Err c =
     let rises = subst (λ (ids : List ℕ). IsStrictlyIncreasing ids) (sym c.deref.ensures.value) c.self.invariant.rising in
-    let found = searched c.deref.result.now c.args.id (Err c.in-Err.field-0) (c.in-Err.ensures.position (λ id. id) (answers_always _ _ _ (λ f a r q called. search rules))) (rises_on c.deref.result.now rises) in
+    let found = searched c.deref.result.now c.args.id (Err c.in-Err.field-0)
+    (c.in-Err.ensures.position (λ id. id) (answers_always _ _ _ (λ f a r q called. search rules)))
+    (rises_on c.deref.result.now rises) in
     number_missing c.deref.result.now c.args.id c.in-Err.field-0 found.1 found.2
     ∙ ap (λ (ids : List ℕ). number_of ids c.args.id) c.deref.ensures.value
     ∙ ap (λ (indexed : Indexed). number_of indexed.concepts c.args.id) c.self.view_is

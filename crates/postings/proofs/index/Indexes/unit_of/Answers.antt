@@ -13,7 +13,13 @@ pub index-requires : goal.index-requires
 index-requires c =
     let rows = (indexed_in c.self.inside).rows in
     let same : length rows ≡ length c.args.self.now.rows = ap (λ (indexed : Indexed). length indexed.rows) c.self.view_is in
-    omega (arith, c.requires, same, length-groups (groups_in (indexed_in c.self.inside)) rows c.self.inside.rows.groups.of_rows.items c.self.invariant.rows.groups.of_rows)
+    omega (
+      arith,
+      c.requires,
+      same,
+      length-groups (groups_in (indexed_in c.self.inside)) rows c.self.inside.rows.groups.of_rows.items
+          c.self.invariant.rows.groups.of_rows,
+    )
 
 pub returns : goal.returns
 returns c =
@@ -21,7 +27,9 @@ returns c =
     let groups = groups_in (indexed_in c.self.inside) in
     let same : length rows ≡ length c.args.self.now.rows = ap (λ (indexed : Indexed). length indexed.rows) c.self.view_is in
     let below : c.args.n < length rows = omega (arith, c.requires, same) in
-    subst (λ (indexed : Indexed). IfSome (slice_get indexed.rows c.args.n) (λ row. slice_get (groups_in indexed) c.number.result ≡ Some (group_of row))) c.self.view_is
+    subst (λ (indexed : Indexed). IfSome (slice_get indexed.rows c.args.n)
+    (λ row. slice_get (groups_in indexed) c.number.result ≡ Some (group_of row))) c.self.view_is
     (if_there rows c.args.n below (λ (row : Attribute). slice_get groups c.number.result ≡ Some (group_of row)) (λ row.
     ap (slice_get groups) (c.number.ensures.number ∙ ap (λ (mark : Marked). mark.number) c.index.ensures)
-    ∙ group_at groups rows c.self.inside.rows.groups.of_rows.items c.self.invariant.rows.groups.of_rows c.args.n row c.index.result.now below))
+    ∙ group_at groups rows c.self.inside.rows.groups.of_rows.items c.self.invariant.rows.groups.of_rows c.args.n row c.index.result.now
+    below))

@@ -43,7 +43,8 @@ returns-in-Decimal c =
     let concepts = c.args.snapshot.now.release.concepts in
     let tables = c.args.self.now in
     ap (λ (count : ℕ). slice_get (values_in concepts tables) (count + c.unwrap-in-Decimal.result)) c.concept_count-concepts.ensures.count
-    ∙ decimal_placed concepts tables.decimals.keys (texts_in tables) c.in-Decimal.decimal.0 c.unwrap-in-Decimal.result (sym c.get_index_of.ensures.index ∙ c.unwrap-in-Decimal.ensures)
+    ∙ decimal_placed concepts tables.decimals.keys (texts_in tables) c.in-Decimal.decimal.0 c.unwrap-in-Decimal.result
+    (sym c.get_index_of.ensures.index ∙ c.unwrap-in-Decimal.ensures)
     ∙ ap (λ (value : LentValue). Some (value_lent value)) (sym c.in-Decimal.is)
 
 pub returns-in-Other : goal.returns-in-Other
@@ -52,5 +53,6 @@ returns-in-Other c =
     let tables = c.args.self.now in
     let there = subst (λ (value : LentValue). Contains (values_in concepts tables) (value_lent value)) c.in-Other.is c.requires.there in
     (λ i. slice_get (values_in concepts tables) (c.concept_count-concepts.ensures.count i + (c.len.ensures.len i + c.unwrap-place.result)))
-    ∙ text_placed concepts tables.decimals.keys tables.texts.keys c.in-Other.text.now c.unwrap-place.result there (sym c.get_index_of-in-Other.ensures.index ∙ c.unwrap-place.ensures)
+    ∙ text_placed concepts tables.decimals.keys tables.texts.keys c.in-Other.text.now c.unwrap-place.result there
+    (sym c.get_index_of-in-Other.ensures.index ∙ c.unwrap-place.ensures)
     ∙ ap (λ (value : LentValue). Some (value_lent value)) (sym c.in-Other.is)
