@@ -1,7 +1,11 @@
+pub mod HitLemmas
 pub mod JoinedLemmas
+pub mod LeafLemmas
 pub mod ListLemmas
 pub mod MemberLemmas
 pub mod NodeLemmas
 pub mod Normal
+pub mod PassingLemmas
 pub mod StepLemmas
 pub mod TimesLemmas
+pub mod UnitLemmas

@@ -20,7 +20,7 @@ use Rattle.executor.specs.Numbers.{numbers_in}
 use Rattle.executor.proofs.Normal.{in_force_kept, numbers_in-agree, same_by_number}
 
 -- where tests agree on the items of a list, so they do on whether some item passes
-any_agree : {X : Type 0} (xs : List X) (p q : X → Bool) (d : X) → ((k : ℕ) → k < length xs → p (get_or xs k d) ≡ q (get_or xs k d)) → list_any p xs ≡ list_any q xs
+pub any_agree : {X : Type 0} (xs : List X) (p q : X → Bool) (d : X) → ((k : ℕ) → k < length xs → p (get_or xs k d) ≡ q (get_or xs k d)) → list_any p xs ≡ list_any q xs
 any_agree [] p q d agree = refl
 any_agree (x ∷ xs) p q d agree = λ i. agree 0 (omega arith) i || any_agree xs p q d (λ k within. agree (suc k) (omega (arith, within))) i
 

@@ -88,13 +88,13 @@ same_by_number xs rising i j i_within j_within =
     (λ told. eq-eqb (get_or xs i 0) (get_or xs j 0) (ap (λ (k : ℕ). get_or xs k 0) (eqb-true i j told)))
 
 -- the number of a concept is its place
-number_of-Some : (xs : List ℕ) (id place : ℕ) → number_of xs id ≡ Some place → (place < length xs) × (get_or xs place 0 ≡ id)
+pub number_of-Some : (xs : List ℕ) (id place : ℕ) → number_of xs id ≡ Some place → (place < length xs) × (get_or xs place 0 ≡ id)
 number_of-Some xs id place at =
     let found = position-Some (λ other. id == other) xs place 0 at in
     (found.0, sym (eqb-true id (get_or xs place 0) found.1))
 
 -- and where it has none it is at no place
-number_of-None : (xs : List ℕ) (id : ℕ) → number_of xs id ≡ None → (i : ℕ) → i < length xs → get_or xs i 0 ≡ id → ⊥
+pub number_of-None : (xs : List ℕ) (id : ℕ) → number_of xs id ≡ None → (i : ℕ) → i < length xs → get_or xs i 0 ≡ id → ⊥
 number_of-None xs id at i within same = elim (cases_Bool (ltb (place_of xs id) (length xs))) [
   | inl there ↦ let found : Some (place_of xs id) ≡ None = rw there at at in absurd cc
   | inr past ↦

@@ -11,7 +11,7 @@ use Rattle.constraint_tree.specs.Passing.{is_up_to, lies_in}
 use Rattle.executor.specs.Counted.{times}
 
 -- ---- by recursion on the list
-times-cons : (number x : ℕ) (xs : List ℕ) → times number (x ∷ xs) ≡ cond (x == number) (1 + times number xs) (times number xs)
+pub times-cons : (number x : ℕ) (xs : List ℕ) → times number (x ∷ xs) ≡ cond (x == number) (1 + times number xs) (times number xs)
 times-cons number x xs =
     sym (length-filter (λ y. y == number) (x ∷ xs))
     ∙ elim (x == number) as (λ b. length (cond b (x ∷ filter (λ y. y == number) xs) (filter (λ y. y == number) xs))

@@ -1,6 +1,9 @@
 pub mod Attributes
 pub mod Counted
+pub mod Groups
+pub mod Hits
 pub mod Joined
 pub mod Members
 pub mod Numbers
 pub mod Steps
+pub mod Tested

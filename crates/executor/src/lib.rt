@@ -6,9 +6,14 @@
 
 mod counts;
 mod family;
+mod hits;
+mod leaves;
 mod nodes;
+mod passing;
 mod plans;
 mod reference_sets;
+mod types;
+mod units;
 mod walks;
 
 pub use crate::plans::execute;

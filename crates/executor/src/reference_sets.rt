@@ -24,8 +24,8 @@ pub fn members<S: ConceptSet>(
     S::from_numbers(alloc, numbers.as_slice(), snapshot.concept_count())
 }
 
-// A bit for each number, which is set where the set has the number.
-fn marks_in<S: ConceptSet>(alloc: Global, set: &S) -> Result<Vec<u64>, AllocError>
+/// A bit for each number, which is set where the set has the number.
+pub fn marks_in<S: ConceptSet>(alloc: Global, set: &S) -> Result<Vec<u64>, AllocError>
     ensures { IfOk result (λ marks. (number : ℕ) → is_set marks.items number ≡ has_item (S.items_of set.now) number) }
 {
     let items = set.items(alloc)?;

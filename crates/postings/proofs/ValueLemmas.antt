@@ -86,7 +86,7 @@ module _ (concepts : List ℕ) (decimals : List ℤ) (texts : List (List ℕ)) w
   )
 
   -- a value behind the concepts at its place
-  value_behind : (k : ℕ) (d : Value) → get_or values (length concepts + k) d ≡ get_or behind k d
+  pub value_behind : (k : ℕ) (d : Value) → get_or values (length concepts + k) d ≡ get_or behind k d
   value_behind k d =
       ap (λ (n : ℕ). get_or values (n + k) d) (sym (length-map concepts concept_value))
       ∙ get_or-append-add (map concept_value concepts) behind k d

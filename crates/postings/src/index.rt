@@ -199,6 +199,7 @@ impl Indexes {
     pub fn decimals(&self) -> &[i128]
         ensures decimals { result.now ≡ self.now.decimals }
         ensures rising { IsSorted int_cmp self.now.decimals }
+        ensures few { length self.now.concepts + length self.now.decimals < 2 ^ 32 }
     {
         self.rows.coded.values.decimals.as_slice()
     }

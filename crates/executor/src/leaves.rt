@@ -1,0 +1,85 @@
+//! The concepts and the groups with so many pairs of a type and a value.
+ghost use Rattle.std.specs.Prelude.{◌≡◌, Bool, IfOk, length};
+ghost use Rattle.rf2_rows.specs.Pairs.{in_pairs, out_pairs};
+ghost use Rattle.rf2_rows.specs.Release.{Value};
+ghost use Rattle.postings.specs.Groups.{groups_in};
+ghost use Rattle.postings.specs.Indexed.{IsIndexOf};
+ghost use Rattle.set_algebra.specs.Meaning.{has_pairs};
+ghost use Rattle.executor.specs.Groups.{groups_where};
+ghost use Rattle.executor.specs.Hits.{TellsPassing};
+ghost use Rattle.executor.specs.Numbers.{numbers_in};
+ghost use Rattle.executor.specs.Tested.{is_one_of};
+
+use crate::counts::as_often;
+use crate::hits::{concept_hits, group_hits, value_hits};
+use crate::types::types_in;
+use constraint_tree::Cardinality;
+use idset::ConceptSet;
+use postings::Indexes;
+use snapshot::Snapshot;
+use std::alloc::{AllocError, Global};
+
+/// The concepts so many of whose distinct pairs have a type in a set and a value that passes (Expression Constraint
+/// Language, "Refinements" and "Cardinality").
+pub fn with_pairs<S: ConceptSet>(
+    alloc: Global,
+    snapshot: &Snapshot,
+    indexes: &Indexes,
+    count: Cardinality,
+    types: &S,
+    passing: &[u64],
+) -> Result<S, AllocError>
+    requires index { IsIndexOf indexes.now snapshot.now.release }
+    requires bound { S.bound_of types.now ≡ length indexes.now.concepts }
+    ensures items { IfOk result (λ found. (passes : Value → Bool) → TellsPassing indexes.now passes passing.now
+        → S.items_of found ≡ numbers_in snapshot.now.release (λ concept. has_pairs count (is_one_of indexes.now.concepts (S.items_of types.now)) passes (out_pairs snapshot.now.release concept))) }
+    ensures bound { IfOk result (λ found. S.bound_of found ≡ length snapshot.now.release.concepts) }
+{
+    let ids = types_in(alloc, indexes, types)?;
+    let hits = concept_hits(alloc, indexes, ids.as_slice(), passing)?;
+    as_often(alloc, hits.as_slice(), snapshot.concept_count(), count)
+}
+
+/// The concepts so many of whose distinct pairs of a type and a source, read backwards from the rows whose value they
+/// are, have a type in a set and a source that passes (Expression Constraint Language, "Reverse attributes").
+pub fn with_pairs_back<S: ConceptSet>(
+    alloc: Global,
+    snapshot: &Snapshot,
+    indexes: &Indexes,
+    count: Cardinality,
+    types: &S,
+    passing: &[u64],
+) -> Result<S, AllocError>
+    requires index { IsIndexOf indexes.now snapshot.now.release }
+    requires bound { S.bound_of types.now ≡ length indexes.now.concepts }
+    ensures items { IfOk result (λ found. (passes : Value → Bool) → TellsPassing indexes.now passes passing.now
+        → S.items_of found ≡ numbers_in snapshot.now.release (λ concept. has_pairs count (is_one_of indexes.now.concepts (S.items_of types.now)) passes (in_pairs snapshot.now.release concept))) }
+    ensures bound { IfOk result (λ found. S.bound_of found ≡ length snapshot.now.release.concepts) }
+{
+    let _ = snapshot.attribute_count();
+    let ids = types_in(alloc, indexes, types)?;
+    let hits = value_hits(alloc, indexes, ids.as_slice(), passing)?;
+    as_often(alloc, hits.as_slice(), snapshot.concept_count(), count)
+}
+
+/// The groups so many of whose distinct pairs have a type in a set and a value that passes (Expression Constraint
+/// Language, "Attribute groups" and "Cardinality").
+pub fn groups_with_pairs<S: ConceptSet>(
+    alloc: Global,
+    snapshot: &Snapshot,
+    indexes: &Indexes,
+    count: Cardinality,
+    types: &S,
+    passing: &[u64],
+) -> Result<S, AllocError>
+    requires index { IsIndexOf indexes.now snapshot.now.release }
+    requires bound { S.bound_of types.now ≡ length indexes.now.concepts }
+    ensures items { IfOk result (λ found. (passes : Value → Bool) → TellsPassing indexes.now passes passing.now
+        → S.items_of found ≡ groups_where snapshot.now.release (has_pairs count (is_one_of indexes.now.concepts (S.items_of types.now)) passes)) }
+    ensures bound { IfOk result (λ found. S.bound_of found ≡ length (groups_in indexes.now)) }
+{
+    let _ = snapshot.concept_count();
+    let ids = types_in(alloc, indexes, types)?;
+    let hits = group_hits(alloc, indexes, ids.as_slice(), passing)?;
+    as_often(alloc, hits.as_slice(), indexes.group_count(), count)
+}
