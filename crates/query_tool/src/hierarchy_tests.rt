@@ -102,8 +102,8 @@ fn assert_parents_first(rt: &impl Abort, snapshot: &Snapshot) {
     }
 }
 
-// The sample's files, in one of which the first `from` is replaced.
-fn sample_with(
+/// The sample's files, with other bytes for the one at a place.
+pub fn sample_with(
     alloc: Global,
     place: usize,
     changed: &[u8],

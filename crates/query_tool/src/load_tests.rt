@@ -10,9 +10,10 @@ use std::alloc::{AllocError, Global};
 use std::process::Abort;
 use std::test::Fail;
 
-// The places of the sample's files in the list.
-const MEMBERS: usize = 0;
+/// The place of the members in the list of the sample's files.
+pub const MEMBERS: usize = 0;
 
+// The places of the other files.
 const CONCEPTS: usize = 1;
 
 const DESCRIPTIONS: usize = 2;

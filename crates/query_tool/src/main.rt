@@ -14,6 +14,8 @@ mod load_tests;
 #[cfg(test)]
 mod many_rows_tests;
 #[cfg(test)]
+mod posting_tests;
+#[cfg(test)]
 mod reader_tests;
 mod run;
 #[cfg(test)]
