@@ -1,8 +1,8 @@
 -- What the rows that count for a concept or a group are among its pairs.
-use Rattle.std.proofs.Common.{ℕ, zero, suc, ◌≡◌, ◌≢◌, ◌<◌, ◌≤◌, ◌+◌, ◌∙◌, ◌∷◌, ◌++◌, [], inl, inr, arith}
-use Rattle.std.proofs.Common.{Bool, true, false, not, ◌&&◌, ◌||◌, ◌==◌, cond, List, length, get_or, map, refl, sym, ap, subst}
+use Rattle.std.proofs.Common.{ℕ, ◌≡◌, ◌<◌, ◌+◌, ◌∙◌, ◌∷◌, [], inl, inr, arith}
+use Rattle.std.proofs.Common.{Bool, true, false, ◌&&◌, ◌||◌, ◌==◌, cond, List, length, get_or, map, refl, sym, ap, subst}
 use Rattle.std.specs.Prelude.{All, Contains, None, Option, Some, count_by, filter, nat_eq, slice_get}
-use Rattle.std.specs.List.{AllByRecursion, IsDistinct, flat_map, list_any}
+use Rattle.std.specs.List.{AllByRecursion, IsDistinct, flat_map}
 use Rattle.std.specs.List.Sorted.{IsStrictlyIncreasing}
 use Rattle.std.proofs.lemmas.Bool.{and_parts, cases_eq, eq-eqb, eqb-true, false≢true, ne_eqb}
 use Rattle.std.proofs.lemmas.List.Elements.{All-cons, All-nil, All-weaker, Contains-append_right, Contains-get_or}
@@ -312,8 +312,11 @@ count_full test (x ∷ xs) full = by_case (test x) refl (count_full test xs)
         All-cons (λ y. test y ≡ true) x xs passes
         (rest (omega (arith, sym full ∙ count-cons test x xs ∙ (λ i. cond (passes i) (1 + count_by test xs) (count_by test xs)))))
     by_case false fails rest =
-        absurd (omega (arith, sym full ∙ count-cons test x xs ∙ (λ i. cond (fails i) (1 + count_by test xs) (count_by test xs)),
-        count_by-le-length test xs))
+        absurd (omega (
+          arith,
+          sym full ∙ count-cons test x xs ∙ (λ i. cond (fails i) (1 + count_by test xs) (count_by test xs)),
+          count_by-le-length test xs,
+        ))
 
 -- the concepts differ
 pub concepts_apart : (concepts : List ℕ) → IsStrictlyIncreasing concepts → IsDistinct nat_eq concepts

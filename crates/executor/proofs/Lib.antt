@@ -1,3 +1,4 @@
+pub mod GroupNodeLemmas
 pub mod HitLemmas
 pub mod JoinedLemmas
 pub mod LeafLemmas
@@ -9,3 +10,4 @@ pub mod PassingLemmas
 pub mod StepLemmas
 pub mod TimesLemmas
 pub mod UnitLemmas
+pub mod ValueStepLemmas

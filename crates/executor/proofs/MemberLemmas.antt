@@ -17,6 +17,7 @@ use Rattle.snapshot.specs.Search.{IsWithin}
 use Rattle.ancestor_index.proofs.ClosureLemmas.{both_ways, there_where, where_there}
 use Rattle.executor.specs.Members.{components_of}
 use Rattle.executor.specs.Numbers.{numbers_in}
+use Rattle.executor.specs.Tested.{is_one_of}
 use Rattle.executor.proofs.Normal.{in_force_kept, numbers_in-agree, same_by_number}
 
 -- where tests agree on the items of a list, so they do on whether some item passes
@@ -24,7 +25,7 @@ pub any_agree : {X : Type 0} (xs : List X) (p q : X → Bool) (d : X) → ((k : 
 any_agree [] p q d agree = refl
 any_agree (x ∷ xs) p q d agree = λ i. agree 0 (omega arith) i || any_agree xs p q d (λ k within. agree (suc k) (omega (arith, within))) i
 
-any_map : {X Y : Type 0} (f : X → Y) (test : Y → Bool) (xs : List X) → list_any test (map f xs) ≡ list_any (λ x. test (f x)) xs
+pub any_map : {X Y : Type 0} (f : X → Y) (test : Y → Bool) (xs : List X) → list_any test (map f xs) ≡ list_any (λ x. test (f x)) xs
 any_map f test [] = refl
 any_map f test (x ∷ xs) = ap (λ (b : Bool). test (f x) || b) (any_map f test xs)
 
@@ -94,6 +95,26 @@ listed_components release rows items rising are within below =
     by_refset k there = any_agree items _ _ 0
         (λ j at. same_by_number release.concepts rising (get_or items j 0) (get_or rows k (0, 0)).0 (below j 0 at) (within k (0, 0) there).0)
 
+-- a concept is one of those in a set where it is in it
+pub one_of_set : (release : Release) (set : ℕ → Bool) (items : List ℕ) → items ≡ numbers_in release set → ((concept : ℕ) → set concept ≡ true → is_in_force release concept ≡ true)
+    → (id : ℕ) → is_one_of release.concepts items id ≡ set id
+one_of_set release set items is forced id = both_ways (is_one_of release.concepts items id) (set id) there back
+  where
+    there : is_one_of release.concepts items id ≡ true → set id ≡ true
+    there told =
+        let found = passing_item (λ number. get_or release.concepts number 0 == id) items told in
+        let at = there_where (length release.concepts) (λ m. set (get_or release.concepts m 0)) found.0 (subst (λ (xs : List ℕ). Contains xs found.0) is found.1) in
+        ap set (sym (eqb-true (get_or release.concepts found.0 0) id found.2)) ∙ at.1
+
+    back : set id ≡ true → is_one_of release.concepts items id ≡ true
+    back holds =
+        let there = (tells_in_force release id).0 (forced id holds) in
+        let k : ℕ = there.0 in
+        let at : get_or release.concepts k 0 ≡ id = get_or_default release.concepts k 0 id there.1 ∙ there.2 in
+        some_item_passes (λ number. get_or release.concepts number 0 == id) items k
+        (subst (λ (xs : List ℕ). Contains xs k) (sym is) (where_there (length release.concepts) (λ m. set (get_or release.concepts m 0)) k there.1 (ap set at ∙ holds)))
+        (eq-eqb (get_or release.concepts k 0) id at)
+
 -- and these are the components of the reference sets in the set
 pub components_in : (release : Release) (set : ℕ → Bool) (items : List ℕ) → items ≡ numbers_in release set → ((concept : ℕ) → set concept ≡ true → is_in_force release concept ≡ true)
     → components_of release items ≡ numbers_in release (is_component release set)
@@ -101,26 +122,8 @@ components_in release set items is forced =
     numbers_in-agree release
     (λ concept. list_any (λ (row : ℕ × ℕ). list_any (λ refset. get_or release.concepts refset 0 == row.0) items && (row.1 == concept)) release.members)
     (λ concept. list_any (λ (row : ℕ × ℕ). set row.0 && (row.1 == concept)) release.members)
-    (λ n within. any_agree release.members _ _ (0, 0) (λ k there i. both_ways _ _ (refset_there (get_or release.members k (0, 0)).0) (refset_back (get_or release.members k (0, 0)).0) i && ((get_or release.members k (0, 0)).1 == get_or release.concepts n 0)))
+    (λ n within. any_agree release.members _ _ (0, 0) (λ k there i. one_of_set release set items is forced (get_or release.members k (0, 0)).0 i && ((get_or release.members k (0, 0)).1 == get_or release.concepts n 0)))
     ∙ in_force_kept release (λ concept. list_any (λ (row : ℕ × ℕ). set row.0 && (row.1 == concept)) release.members)
-  where
-    count : ℕ
-    count = length release.concepts
-
-    refset_there : (id : ℕ) → list_any (λ refset. get_or release.concepts refset 0 == id) items ≡ true → set id ≡ true
-    refset_there id told =
-        let found = passing_item (λ refset. get_or release.concepts refset 0 == id) items told in
-        let at = there_where count (λ m. set (get_or release.concepts m 0)) found.0 (subst (λ (xs : List ℕ). Contains xs found.0) is found.1) in
-        ap set (sym (eqb-true (get_or release.concepts found.0 0) id found.2)) ∙ at.1
-
-    refset_back : (id : ℕ) → set id ≡ true → list_any (λ refset. get_or release.concepts refset 0 == id) items ≡ true
-    refset_back id holds =
-        let there = (tells_in_force release id).0 (forced id holds) in
-        let k : ℕ = there.0 in
-        let at : get_or release.concepts k 0 ≡ id = get_or_default release.concepts k 0 id there.1 ∙ there.2 in
-        some_item_passes (λ refset. get_or release.concepts refset 0 == id) items k
-        (subst (λ (xs : List ℕ). Contains xs k) (sym is) (where_there count (λ m. set (get_or release.concepts m 0)) k there.1 (ap set at ∙ holds)))
-        (eq-eqb (get_or release.concepts k 0) id at)
 
 -- the components are numbers of concepts
 pub components_below : (count : ℕ) (test : ℕ → Bool) (rows : List (ℕ × ℕ)) → IsWithin count rows

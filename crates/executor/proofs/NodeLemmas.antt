@@ -1,22 +1,27 @@
 -- What each kind of plan means, from what its parts mean.
-use Rattle.std.proofs.Common.{ℕ, zero, suc, ◌≡◌, ◌<◌, arith, ◌∙◌, ◌∷◌, [], Bool, true, false, ◌==◌, ◌&&◌, ◌||◌, List, length, get_or, take, ◌+◌, refl, sym, ap}
-use Rattle.std.proofs.lemmas.Bool.{false≢true}
+use Rattle.std.proofs.Common.{ℕ, zero, suc, ◌≡◌, ◌<◌, arith, ◌∙◌, ◌∷◌, [], Bool, true, ◌==◌, ◌&&◌, ◌||◌, List, length, get_or, take, ◌+◌, refl, sym, ap}
+use Rattle.std.proofs.lemmas.Bool.{and_parts}
 use Rattle.std.specs.List.{list_all, list_any, range_with_len}
 use Rattle.rf2_rows.specs.Release.{Release}
 use Rattle.constraint_tree.specs.declared.operator.Operator.{Operator}
+use Rattle.constraint_tree.specs.Denotation.{is_value}
+use Rattle.constraint_tree.specs.Passing.{is_outside, is_within}
 use Rattle.constraint_tree.specs.Walks.{is_in_force, walks}
+use Rattle.constraint_tree.specs.declared.operator.Cardinality.{Cardinality}
 use Rattle.idset.specs.Sets.{all_items, common_items, other_items}
 use Rattle.ancestor_index.specs.HierarchyLists.{Hierarchy, hierarchy_of}
 use Rattle.set_algebra.specs.declared.plan.ConceptPlan.{ConceptPlan}
-use Rattle.set_algebra.specs.Meaning.{all_mean, means, some_means}
-use Rattle.set_algebra.specs.Plan.{Plan, all_plan, and_plan, empty_plan, members_plan, minus_plan, one_plan, or_plan, plan_of, plans_of, walk_plan}
+use Rattle.set_algebra.specs.Meaning.{all_mean, group_means, has_groups, has_pairs, leads, means, pairs_of, some_means, value_passes}
+use Rattle.set_algebra.specs.Plan.{GroupPlan, Plan, Plans, TestPlan, all_plan, and_plan, empty_plan, members_plan, minus_plan, no_plans, one_plan, or_plan, outside_plan, pairs_plan, plan_of, plan_then, plans_of, units_plan, values_plan, walk_plan, within_plan}
 use Rattle.set_algebra.proofs.MeaningLemmas.{in_force_if_meant}
-use Rattle.executor.specs.Attributes.{reads_attributes, some_read}
+use Rattle.postings.specs.Indexed.{Indexed, value_at, values_of}
+use Rattle.executor.specs.Hits.{TellsPassing}
 use Rattle.executor.specs.Members.{components_of}
 use Rattle.executor.specs.Numbers.{numbers_in}
 use Rattle.executor.specs.Steps.{led_to}
+use Rattle.executor.specs.Tested.{is_one_of}
 use Rattle.executor.proofs.ListLemmas.{all_more, some_more}
-use Rattle.executor.proofs.MemberLemmas.{components_in}
+use Rattle.executor.proofs.MemberLemmas.{components_in, one_of_set}
 use Rattle.executor.proofs.Normal.{each_in_force, in_force_kept, none_in, numbers_in-agree, without_in}
 use Rattle.executor.proofs.StepLemmas.{led_is}
 
@@ -76,17 +81,89 @@ module _ (release : Release) (plan : Plan) (found : List ℕ) where
   minus_node first second left right is left_is right_is found_is =
       found_is ∙ without_in release left right (means release first) (means release second) left_is right_is ∙ meant release plan (minus_plan first second) is
 
--- a plan that reads no attributes has parts that read none
-pub neither_reads : (one other : Bool) → (one || other) ≡ false → (one ≡ false) × (other ≡ false)
-neither_reads true other told = absurd (false≢true (sym told))
-neither_reads false other told = (refl, told)
+-- whether a concept is one of those that a plan means
+pub one_meant : (release : Release) (plan : Plan) (concepts items : List ℕ) → concepts ≡ release.concepts → items ≡ numbers_in release (means release plan)
+    → is_one_of concepts items ≡ means release plan
+one_meant release plan concepts items are is =
+    ap (λ (ids : List ℕ). is_one_of ids items) are
+    ∙ (λ i id. one_of_set release (means release plan) items is (in_force_if_meant release plan) id i)
 
-pub parts_plain : (parts : List ConceptPlan) → some_read (plans_of parts) ≡ false → (k : ℕ) (part : ConceptPlan) → k < length parts → part ≡ get_or parts k part → reads_attributes (plan_of part) ≡ false
-parts_plain [] plain k part within is = absurd (omega (arith, within))
-parts_plain (first ∷ parts) plain zero part within is =
-    ap (λ (p : ConceptPlan). reads_attributes (plan_of p)) is ∙ (neither_reads (reads_attributes (plan_of first)) (some_read (plans_of parts)) plain).0
-parts_plain (first ∷ parts) plain (suc k) part within is =
-    parts_plain parts (neither_reads (reads_attributes (plan_of first)) (some_read (plans_of parts)) plain).1 k part (omega (arith, within)) is
+module _ (release : Release) (plan : Plan) (found : List ℕ) where
+  pub values_node : (start : Plan) (names : List ConceptPlan) → plan ≡ values_plan start (plans_of names)
+      → found ≡ numbers_in release (leads release (means release start) (plans_of names)) → found ≡ numbers_in release (means release plan)
+  values_node start names is found_is = found_is ∙ meant release plan (values_plan start (plans_of names)) is
+
+  pub pairs_node : (back : Bool) (count : Cardinality) (types : Plan) (test : TestPlan) (concepts items : List ℕ)
+      → plan ≡ pairs_plan back count types test → concepts ≡ release.concepts → items ≡ numbers_in release (means release types)
+      → found ≡ numbers_in release (λ concept. has_pairs count (is_one_of concepts items) (value_passes release test) (pairs_of release back concept))
+      → found ≡ numbers_in release (means release plan)
+  pairs_node back count types test concepts items is are items_are found_is =
+      found_is
+      ∙ ap (λ (set : ℕ → Bool). numbers_in release (λ concept. has_pairs count set (value_passes release test) (pairs_of release back concept)))
+      (one_meant release types concepts items are items_are)
+      ∙ in_force_kept release (λ concept. has_pairs count (means release types) (value_passes release test) (pairs_of release back concept))
+      ∙ meant release plan (pairs_plan back count types test) is
+
+  pub units_node : (count : Cardinality) (units : GroupPlan) → plan ≡ units_plan count units
+      → found ≡ numbers_in release (has_groups release count (group_means release units)) → found ≡ numbers_in release (means release plan)
+  units_node count units is found_is =
+      found_is ∙ in_force_kept release (has_groups release count (group_means release units)) ∙ meant release plan (units_plan count units) is
+
+-- one name more leads from where those before it lead to the values of attributes with a type that it means
+leads_further : (release : Release) (names : List ConceptPlan) (k : ℕ) (d : ConceptPlan) → k < length names → (set : ℕ → Bool)
+    → leads release set (plans_of (take (suc k) names))
+    ≡ is_value release (leads release set (plans_of (take k names))) (means release (plan_of (get_or names k d)))
+leads_further release [] k d within set = absurd (omega (arith, within))
+leads_further release (name ∷ names) zero d within set = refl
+leads_further release (name ∷ names) (suc k) d within set =
+    leads_further release names k d (omega (arith, within)) (is_value release set (means release (plan_of name)))
+
+-- the concepts that the names so far lead to are in force
+led_in_force : (release : Release) (names : Plans) (set : ℕ → Bool) → ((concept : ℕ) → set concept ≡ true → is_in_force release concept ≡ true)
+    → (concept : ℕ) → leads release set names concept ≡ true → is_in_force release concept ≡ true
+led_in_force release no_plans set forced concept led = forced concept led
+led_in_force release (plan_then name names) set forced concept led =
+    led_in_force release names (is_value release set (means release name))
+    (λ value holds. (and_parts (is_in_force release value) _ holds).0) concept led
+
+pub name_step : (release : Release) (plan : Plan) (names : List ConceptPlan) (k : ℕ) (name : ConceptPlan) → k < length names → name ≡ get_or names k name
+    → (concepts found types led : List ℕ) → concepts ≡ release.concepts
+    → types ≡ numbers_in release (means release (plan_of name))
+    → led ≡ numbers_in release (is_value release (is_one_of concepts found) (is_one_of concepts types))
+    → found ≡ numbers_in release (leads release (means release plan) (plans_of (take k names)))
+    → led ≡ numbers_in release (leads release (means release plan) (plans_of (take (k + 1) names)))
+name_step release plan names k name within is concepts found types led are types_are led_is found_is =
+    led_is
+    ∙ (λ i. numbers_in release (is_value release (sources i) (one_meant release (plan_of name) concepts types are types_are i)))
+    ∙ (λ i. numbers_in release (is_value release (leads release (means release plan) (plans_of (take k names))) (means release (plan_of (is i)))))
+    ∙ ap (numbers_in release) (sym (leads_further release names k name within (means release plan)))
+    ∙ ap (λ (m : ℕ). numbers_in release (leads release (means release plan) (plans_of (take m names)))) next_place
+  where
+    next_place : suc k ≡ k + 1
+    next_place = omega arith
+
+    sources : is_one_of concepts found ≡ leads release (means release plan) (plans_of (take k names))
+    sources =
+        ap (λ (ids : List ℕ). is_one_of ids found) are
+        ∙ (λ i id. one_of_set release (leads release (means release plan) (plans_of (take k names))) found found_is
+        (led_in_force release (plans_of (take k names)) (means release plan) (in_force_if_meant release plan)) id i)
+
+-- what passes a test by the concepts of a set passes it by the plan that means them
+pub within_told : (indexed : Indexed) (release : Release) (plan : Plan) (items words : List ℕ) (test : TestPlan) → test ≡ within_plan plan
+    → indexed.concepts ≡ release.concepts → items ≡ numbers_in release (means release plan)
+    → TellsPassing indexed (is_within (is_one_of indexed.concepts items)) words → TellsPassing indexed (value_passes release test) words
+within_told indexed release plan items words test is are items_are tells number =
+    tells number
+    ∙ ap (λ (set : ℕ → Bool). is_within set (value_at (values_of indexed) number)) (one_meant release plan indexed.concepts items are items_are)
+    ∙ ap (λ (t : TestPlan). value_passes release t (value_at (values_of indexed) number)) (sym is)
+
+pub outside_told : (indexed : Indexed) (release : Release) (plan : Plan) (items words : List ℕ) (test : TestPlan) → test ≡ outside_plan plan
+    → indexed.concepts ≡ release.concepts → items ≡ numbers_in release (means release plan)
+    → TellsPassing indexed (is_outside (is_one_of indexed.concepts items)) words → TellsPassing indexed (value_passes release test) words
+outside_told indexed release plan items words test is are items_are tells number =
+    tells number
+    ∙ ap (λ (set : ℕ → Bool). is_outside set (value_at (values_of indexed) number)) (one_meant release plan indexed.concepts items are items_are)
+    ∙ ap (λ (t : TestPlan). value_passes release t (value_at (values_of indexed) number)) (sym is)
 
 -- one more part of those that all, or some of which, are joined
 pub all_step : (release : Release) (parts : List ConceptPlan) (k : ℕ) (part : ConceptPlan) → k < length parts → part ≡ get_or parts k part → (found next joined : List ℕ)
@@ -94,7 +171,8 @@ pub all_step : (release : Release) (parts : List ConceptPlan) (k : ℕ) (part : 
     → found ≡ numbers_in release (λ concept. set concept && list_all (λ p. means release (plan_of p) concept) (take k parts))
     → joined ≡ numbers_in release (λ concept. set concept && list_all (λ p. means release (plan_of p) concept) (take (k + 1) parts))
 all_step release parts k part within is found next joined next_is joined_is set found_is =
-    joined_is ∙ all_more release (λ (p : ConceptPlan). means release (plan_of p)) parts k part within found next
+    joined_is ∙ all_more (length release.concepts) (λ set n. set (get_or release.concepts n 0)) (λ p q n _. refl) (λ p q n _. refl)
+    (λ (p : ConceptPlan). means release (plan_of p)) parts k part within found next
     (next_is ∙ ap (λ (p : ConceptPlan). numbers_in release (means release (plan_of p))) is) set found_is
 
 pub some_step : (release : Release) (parts : List ConceptPlan) (k : ℕ) (part : ConceptPlan) → k < length parts → part ≡ get_or parts k part → (bound : ℕ) (found next joined : List ℕ)
@@ -102,5 +180,6 @@ pub some_step : (release : Release) (parts : List ConceptPlan) (k : ℕ) (part :
     → found ≡ numbers_in release (λ concept. list_any (λ p. means release (plan_of p) concept) (take k parts))
     → joined ≡ numbers_in release (λ concept. list_any (λ p. means release (plan_of p) concept) (take (k + 1) parts))
 some_step release parts k part within is bound found next joined counted next_is joined_is found_is =
-    joined_is ∙ some_more release (λ (p : ConceptPlan). means release (plan_of p)) parts k part within found next
+    joined_is ∙ some_more (length release.concepts) (λ set n. set (get_or release.concepts n 0)) (λ p q n _. refl) (λ p q n _. refl)
+    (λ (p : ConceptPlan). means release (plan_of p)) parts k part within found next
     (next_is ∙ ap (λ (p : ConceptPlan). numbers_in release (means release (plan_of p))) is) bound counted found_is

@@ -1,16 +1,14 @@
 -- Which values pass a test, by their numbers.
-use Rattle.std.proofs.Common.{ℕ, ℤ, zero, suc, ◌≡◌, ◌≢◌, ◌<◌, ◌≤◌, ◌+◌, ◌-◌, ◌==◌, ◌∙◌, ◌∷◌, ◌++◌, [], inl, inr, arith, Option, None}
-use Rattle.std.proofs.Common.{Bool, true, false, not, ◌&&◌, ◌||◌, cond, List, length, get_or, map, take, refl, sym, ap, subst}
-use Rattle.std.specs.Prelude.{All, filter, slice_index}
-use Rattle.std.specs.List.{list_any}
+use Rattle.std.proofs.Common.{ℕ, ℤ, zero, suc, ◌≡◌, ◌<◌, ◌≤◌, ◌+◌, ◌-◌, ◌==◌, ◌∙◌, ◌∷◌, ◌++◌, [], inl, inr, arith, None}
+use Rattle.std.proofs.Common.{Bool, true, false, not, ◌||◌, cond, List, length, get_or, map, take, refl, sym, ap}
+use Rattle.std.specs.Prelude.{All, slice_index}
 use Rattle.std.specs.List.Sorted.{IsStrictlyIncreasing}
-use Rattle.std.proofs.lemmas.Bool.{cases_lt, cases_eq, eq-eqb, ne_eqb}
+use Rattle.std.proofs.lemmas.Bool.{cases_lt, eq-eqb, ne_eqb}
 use Rattle.std.proofs.lemmas.List.{length-take-le, take_more}
 use Rattle.std.proofs.lemmas.List.Elements.{All-append, All-map, All-tail}
 use Rattle.idset.specs.Sets.{has_item, missing_numbers}
 use Rattle.idset.proofs.Normal.{has_item-numbers_where, has_item-numbers_where_past}
-use Rattle.constraint_tree.specs.Passing.{compares, is_number_that, is_outside, is_within}
-use Rattle.constraint_tree.specs.declared.operator.Compare.{Compare}
+use Rattle.constraint_tree.specs.Passing.{is_outside, is_within}
 use Rattle.rf2_rows.specs.Release.{Value, concept_value, number_value, text_value}
 use Rattle.snapshot.specs.Numbering.{number_of}
 use Rattle.postings.specs.Indexed.{Indexed, value_at, values_among, values_of}

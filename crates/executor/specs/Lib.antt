@@ -1,4 +1,3 @@
-pub mod Attributes
 pub mod Counted
 pub mod Groups
 pub mod Hits

@@ -3,9 +3,12 @@ ghost use Rattle.std.specs.Prelude.{◌≡◌, ◌==◌, ◌&&◌, [], IfOk, len
 ghost use Rattle.std.specs.List.{range_with_len};
 ghost use Rattle.idset.specs.Sets.{all_items, common_items, other_items};
 ghost use Rattle.constraint_tree.specs.Walks.{is_in_force};
+ghost use Rattle.postings.specs.Groups.{all_groups};
+ghost use Rattle.postings.specs.Indexed.{IsIndexOf};
 ghost use Rattle.executor.specs.Numbers.{numbers_in};
 
 use idset::ConceptSet;
+use postings::Indexes;
 use snapshot::Snapshot;
 use std::alloc::{AllocError, Global};
 
@@ -23,6 +26,42 @@ pub fn each_concept<S: ConceptSet>(alloc: Global, snapshot: &Snapshot) -> Result
     ensures bound { IfOk result (λ found. S.bound_of found ≡ length snapshot.now.release.concepts) }
 {
     S::every(alloc, snapshot.concept_count())
+}
+
+/// No group.
+pub fn no_group<S: ConceptSet>(
+    alloc: Global,
+    snapshot: &Snapshot,
+    indexes: &Indexes,
+) -> Result<S, AllocError>
+    requires { IsIndexOf indexes.now snapshot.now.release }
+    ensures items { IfOk result (λ found. S.items_of found ≡ []) }
+    ensures bound { IfOk result (λ found. S.bound_of found ≡ length (all_groups snapshot.now.release)) }
+{
+    S::from_items(alloc, &[], group_count(snapshot, indexes))
+}
+
+/// Each group.
+pub fn each_group<S: ConceptSet>(
+    alloc: Global,
+    snapshot: &Snapshot,
+    indexes: &Indexes,
+) -> Result<S, AllocError>
+    requires { IsIndexOf indexes.now snapshot.now.release }
+    ensures items { IfOk result (λ found. S.items_of found ≡ range_with_len 0 (length (all_groups snapshot.now.release))) }
+    ensures bound { IfOk result (λ found. S.bound_of found ≡ length (all_groups snapshot.now.release)) }
+{
+    S::every(alloc, group_count(snapshot, indexes))
+}
+
+/// How many groups all concepts have.
+pub fn group_count(snapshot: &Snapshot, indexes: &Indexes) -> u32
+    requires { IsIndexOf indexes.now snapshot.now.release }
+    ensures { result ≡ length (all_groups snapshot.now.release) }
+{
+    // the concepts rise, so that each has its groups once
+    snapshot.concept_count();
+    indexes.group_count()
 }
 
 /// The concept in force with an identifier, if there is one.

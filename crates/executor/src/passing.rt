@@ -21,7 +21,8 @@ pub fn within<S: ConceptSet>(
     requires bound { S.bound_of set.now ≡ length indexes.now.concepts }
     ensures { IfOk result (λ words. TellsPassing indexes.now (is_within (is_one_of indexes.now.concepts (S.items_of set.now))) words.items) }
 {
-    let _ = indexes.concept_count();
+    // the concepts rise, so that none has two numbers
+    indexes.concept_count();
     marks_in(alloc, set)
 }
 
@@ -34,7 +35,8 @@ pub fn outside<S: ConceptSet>(
     requires bound { S.bound_of set.now ≡ length indexes.now.concepts }
     ensures { IfOk result (λ words. TellsPassing indexes.now (is_outside (is_one_of indexes.now.concepts (S.items_of set.now))) words.items) }
 {
-    let _ = indexes.concept_count();
+    // the concepts rise, so that none has two numbers
+    indexes.concept_count();
     let others = set.others(alloc)?;
     marks_in(alloc, &others)
 }

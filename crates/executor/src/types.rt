@@ -31,7 +31,8 @@ fn is_in<S: ConceptSet>(indexes: &Indexes, id: u64, set: &S) -> bool
     requires { S.bound_of set.now ≡ length indexes.now.concepts }
     ensures { result ≡ is_one_of indexes.now.concepts (S.items_of set.now) id }
 {
-    let _ = indexes.concept_count();
+    // the concepts rise, so that none has two numbers
+    indexes.concept_count();
     match indexes.index_of(id) {
         Some(concept) => set.has(concept),
         None => false,

@@ -1,7 +1,7 @@
 //! The concepts with so many groups.
 ghost use Rattle.std.specs.Prelude.{◌≡◌, ◌<◌, All, Bool, IfOk, List, length, map, slice_get, slice_index};
 ghost use Rattle.rf2_rows.specs.Pairs.{Pair};
-ghost use Rattle.postings.specs.Groups.{groups_in};
+ghost use Rattle.postings.specs.Groups.{all_groups, groups_in};
 ghost use Rattle.postings.specs.Indexed.{IsIndexOf};
 ghost use Rattle.set_algebra.specs.Meaning.{has_groups};
 ghost use Rattle.executor.specs.Groups.{concept_in, groups_where};
@@ -24,14 +24,16 @@ pub fn with_groups<S: ConceptSet>(
     groups: &S,
 ) -> Result<S, AllocError>
     requires index { IsIndexOf indexes.now snapshot.now.release }
-    requires bound { S.bound_of groups.now ≡ length (groups_in indexes.now) }
+    requires bound { S.bound_of groups.now ≡ length (all_groups snapshot.now.release) }
     ensures items { IfOk result (λ found. (set : List Pair → Bool) → S.items_of groups.now ≡ groups_where snapshot.now.release set
         → S.items_of found ≡ numbers_in snapshot.now.release (has_groups snapshot.now.release count set)) }
     ensures bound { IfOk result (λ found. S.bound_of found ≡ length snapshot.now.release.concepts) }
 {
+    // the concepts rise, so that each has its groups once
+    let concept_count = snapshot.concept_count();
     let numbers = groups.items(alloc)?;
     let concepts = concepts_of(alloc, indexes, numbers.as_slice())?;
-    as_often(alloc, concepts.as_slice(), snapshot.concept_count(), count)
+    as_often(alloc, concepts.as_slice(), concept_count, count)
 }
 
 // The concept of each of some groups.

@@ -2,7 +2,7 @@ use Rattle.std.proofs.Common.{ℕ, ◌<◌, All, List, [], length, sym, subst, a
 use Rattle.std.proofs.lemmas.List.{take_all}
 use Rattle.postings.specs.Groups.{groups_in}
 use Rattle.executor.specs.Hits.{AreHits, counts_for_group, entries_with_types}
-use Rattle.executor.proofs.HitLemmas.{cells_below, group_marks_below, marks_below, pushed_below, grouped_hits, hits_pushed, no_hits}
+use Rattle.executor.proofs.HitLemmas.{group_marks_below, marks_below, pushed_below, grouped_hits, hits_pushed, no_hits}
 use Rattle.executor.proofs.hits.group_hits.Goals as goal
 
 pub loop-id-init : goal.loop-id-init
@@ -18,7 +18,7 @@ pub loop-id-preserved : goal.loop-id-preserved
 loop-id-preserved c = record {
   within = pushed_below (length (groups_in c.args.indexes.now)) c.loop-id.hits.items c.push_marked.new.hits.items _ c.in_ok-push_marked.ensures c.loop-id.invariant.within
       (marks_below _ (length (groups_in c.args.indexes.now)) c.type_columns-columns.result.groups.now c.type_columns-columns.result.values.now
-    (group_marks_below (groups_in c.args.indexes.now) _ c.type_columns-columns.result.groups.now c.type_columns-columns.ensures.groups));
+      (group_marks_below (groups_in c.args.indexes.now) _ c.type_columns-columns.result.groups.now c.type_columns-columns.ensures.groups));
   hits = λ passes tells.
       let indexed = c.args.indexes.now in
       let columns = c.type_columns-columns in

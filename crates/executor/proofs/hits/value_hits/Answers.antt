@@ -1,7 +1,7 @@
 use Rattle.std.proofs.Common.{ℕ, ◌<◌, All, List, [], length, sym, subst, arith}
 use Rattle.std.proofs.lemmas.List.{take_all}
 use Rattle.executor.specs.Hits.{AreHits, counts_for_value, entries_with_types}
-use Rattle.executor.proofs.HitLemmas.{cells_below, group_marks_below, marks_below, pushed_below, backward_hits, hits_pushed, no_hits}
+use Rattle.executor.proofs.HitLemmas.{cells_below, pushed_below, backward_hits, hits_pushed, no_hits}
 use Rattle.executor.proofs.hits.value_hits.Goals as goal
 
 pub loop-id-init : goal.loop-id-init

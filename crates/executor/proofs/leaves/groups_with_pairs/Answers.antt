@@ -1,12 +1,12 @@
-use Rattle.std.proofs.Common.{ℕ, List, Bool, ◌≡◌, ◌<◌, ◌∙◌, length, sym, ap, subst, arith}
+use Rattle.std.proofs.Common.{ℕ, List, Bool, ◌≡◌, ◌∙◌, length, ap, arith}
 use Rattle.std.specs.Prelude.{count_by, filter}
 use Rattle.std.proofs.lemmas.Result.{IfOk-weaker}
 use Rattle.postings.specs.Indexed.{types_of}
-use Rattle.postings.specs.Groups.{groups_in}
+use Rattle.postings.specs.Groups.{ConceptGroup, groups_in}
 use Rattle.executor.specs.Counted.{times}
 use Rattle.executor.specs.Hits.{counts_for_group, entries_with_types}
 use Rattle.executor.specs.Tested.{is_one_of}
-use Rattle.executor.proofs.LeafLemmas.{groups_found}
+use Rattle.executor.proofs.LeafLemmas.{groups_are, groups_found}
 use Rattle.executor.proofs.leaves.groups_with_pairs.Goals as goal
 
 pub returns-clause-items : goal.returns-clause-items
@@ -26,3 +26,11 @@ returns-clause-items g c =
     ∙ ap (λ (ids : List ℕ). count_by (counts_for_group (groups_in indexed) passes n) (entries_with_types indexed.rows ids)) ids_are)
     found_is)
     c.as_often.ensures.items
+
+pub returns-clause-bound : goal.returns-clause-bound
+returns-clause-bound g c =
+    IfOk-weaker c.as_often.result _ _
+    (λ found bound.
+    bound ∙ c.group_count.ensures.count
+    ∙ ap (λ (groups : List ConceptGroup). length groups) (groups_are c.args.indexes.now c.args.snapshot.now.release c.requires.index c.concept_count.ensures.rising))
+    c.as_often.ensures.bound

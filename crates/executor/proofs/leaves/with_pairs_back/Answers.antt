@@ -1,4 +1,4 @@
-use Rattle.std.proofs.Common.{ℕ, List, Bool, ◌≡◌, ◌<◌, ◌∙◌, length, sym, ap, subst, arith}
+use Rattle.std.proofs.Common.{ℕ, List, Bool, ◌≡◌, ◌∙◌, length, ap, arith}
 use Rattle.std.specs.Prelude.{count_by, filter}
 use Rattle.std.proofs.lemmas.Result.{IfOk-weaker}
 use Rattle.postings.specs.Indexed.{types_of}

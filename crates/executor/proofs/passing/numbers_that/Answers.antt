@@ -1,4 +1,4 @@
-use Rattle.std.proofs.Common.{rules, FitsSigned, ℕ, ℤ, pos, Vec, List, Bool, ◌≡◌, ◌<◌, ◌+◌, ◌∙◌, ◌∷◌, ◌++◌, [], cond, get_or, length, take, append-nil, sym, ap, subst, arith}
+use Rattle.std.proofs.Common.{rules, FitsSigned, ℕ, ℤ, pos, Vec, Bool, ◌≡◌, ◌<◌, ◌+◌, ◌∙◌, ◌∷◌, ◌++◌, [], cond, get_or, length, take, append-nil, sym, ap, subst, arith}
 use Rattle.std.specs.Int.{w128}
 use Rattle.std.specs.Prelude.{All}
 use Rattle.std.proofs.lemmas.Int.{to_z-of_z}

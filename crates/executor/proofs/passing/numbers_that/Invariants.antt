@@ -1,4 +1,4 @@
-use Rattle.std.proofs.Common.{ℕ, ℤ, ◌≡◌, ◌<◌, ◌+◌, length, take}
+use Rattle.std.proofs.Common.{ℤ, ◌≡◌, ◌<◌, ◌+◌, length, take}
 use Rattle.std.specs.Prelude.{All}
 use Rattle.constraint_tree.specs.Passing.{compares}
 use Rattle.postings.specs.Places.{places_from}

@@ -1,4 +1,4 @@
-use Rattle.std.proofs.Common.{ℕ, List, Vec, Bool, ◌≡◌, ◌∙◌, ◌∷◌, ◌++◌, [], cond, get_or, take, append-nil, sym, ap, arith}
+use Rattle.std.proofs.Common.{ℕ, Vec, Bool, ◌≡◌, ◌∙◌, ◌∷◌, ◌++◌, [], cond, get_or, take, append-nil, sym, ap, arith}
 use Rattle.std.specs.Prelude.{filter}
 use Rattle.std.proofs.lemmas.List.{get_or_default, take_all}
 use Rattle.std.proofs.lemmas.List.Elements.{filter_more}
