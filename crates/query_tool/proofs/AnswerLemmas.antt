@@ -1,61 +1,16 @@
 -- What answers a line.
-use Rattle.std.proofs.Common.{ℕ, ◌≡◌, ◌∙◌, ◌||◌, ◌⊎◌, inl, inr, Bool, true, false, List, [], ◌∷◌, zero, suc, ◌+◌, ◌<◌, length, drop, get_or, map, refl, sym, ap, arith}
-use Rattle.std.proofs.lemmas.Bool.{false≢true}
+use Rattle.std.proofs.Common.{ℕ, ◌≡◌, ◌∙◌, inl, inr, List, get_or, map, sym, ap}
 use Rattle.ecl_lexer.specs.declared.fault.QueryFault.{QueryFault}
 use Rattle.constraint_tree.specs.Refusal.{IsConstraint, IsRefusalOf}
-use Rattle.constraint_tree.specs.declared.tree.Constraint.{Constraint}
-use Rattle.constraint_tree.specs.Tree.{tree_of, trees_of, Tree, concept_tree, any_tree, walk_tree, member_tree, and_tree, or_tree, minus_tree, dotted_tree, refined_tree, Trees, no_trees, tree_then}
+use Rattle.constraint_tree.specs.Tree.{Tree}
 use Rattle.rf2_rows.specs.Release.{Release}
 use Rattle.constraint_tree.specs.Denotation.{denotation, denotes}
-use Rattle.snapshot.specs.Contents.{Contents}
 use Rattle.answer_printer.specs.AnswerText.{refusal_text}
-use Rattle.set_algebra.specs.Lowering.{lowered, lowered_trees}
 use Rattle.set_algebra.specs.Meaning.{means}
 use Rattle.set_algebra.specs.Plan.{Plan}
-use Rattle.executor.specs.Attributes.{reads_attributes, some_read}
 use Rattle.executor.specs.Numbers.{numbers_in}
 use Rattle.executor.proofs.Normal.{concepts_of, numbers_in-agree}
-use Rattle.query_tool.specs.Answer.{constraint_answer, has_attributes, some_have, HasOneAnswer, IsAnswer}
-
-neither : (a b : Bool) → (a || b) ≡ false → (a ≡ false) × (b ≡ false)
-neither true b told = absurd (false≢true (sym told))
-neither false b told = (refl, told)
-
--- the plan of a constraint without attributes reads none
-mutual
-  pub lowered_plain : (tree : Tree) → has_attributes tree ≡ false → reads_attributes (lowered tree) ≡ false
-  lowered_plain (concept_tree number) plain = refl
-  lowered_plain any_tree plain = refl
-  lowered_plain (walk_tree operator operand) plain = lowered_plain operand plain
-  lowered_plain (member_tree operand) plain = lowered_plain operand plain
-  lowered_plain (and_tree parts) plain = all_plain parts plain
-  lowered_plain (or_tree parts) plain = all_plain parts plain
-  lowered_plain (minus_tree first second) plain =
-      let parts = neither (has_attributes first) (has_attributes second) plain in
-      λ i. lowered_plain first parts.0 i || lowered_plain second parts.1 i
-  lowered_plain (dotted_tree start names) plain = absurd (false≢true (sym plain))
-  lowered_plain (refined_tree focus refinement) plain = absurd (false≢true (sym plain))
-
-  all_plain : (trees : Trees) → some_have trees ≡ false → some_read (lowered_trees trees) ≡ false
-  all_plain no_trees plain = refl
-  all_plain (tree_then first rest) plain =
-      let parts = neither (has_attributes first) (some_have rest) plain in
-      λ i. lowered_plain first parts.0 i || all_plain rest parts.1 i
-
--- whether some constraint from a place on has attributes
-pub some_from : (parts : List Constraint) (i : ℕ) (part : Constraint) → i < length parts → part ≡ get_or parts i part
-    → some_have (trees_of (drop i parts)) ≡ (has_attributes (tree_of part) || some_have (trees_of (drop (i + 1) parts)))
-some_from parts i part within is =
-    from parts i within is ∙ ap (λ (k : ℕ). has_attributes (tree_of part) || some_have (trees_of (drop k parts))) next
-  where
-    next : suc i ≡ i + 1
-    next = omega arith
-
-    from : (some : List Constraint) (k : ℕ) → k < length some → part ≡ get_or some k part
-        → some_have (trees_of (drop k some)) ≡ (has_attributes (tree_of part) || some_have (trees_of (drop (suc k) some)))
-    from [] k inside same = absurd (omega (arith, inside))
-    from (first ∷ some) zero inside same = ap (λ (constraint : Constraint). has_attributes (tree_of constraint) || some_have (trees_of some)) (sym same)
-    from (first ∷ some) (suc k) inside same = from some k (omega (arith, inside)) same
+use Rattle.query_tool.specs.Answer.{constraint_answer, HasOneAnswer}
 
 -- what the plan of a constraint means is what the constraint denotes
 pub concepts_answered : (release : Release) (tree : Tree) (plan : Plan) (found : List ℕ) → ((released : Release) (concept : ℕ) → means released plan concept ≡ denotes released tree concept)

@@ -1,14 +1,13 @@
 -- What the fields of an engine say, and what they keep.
-use Rattle.std.specs.Prelude.{◌≡◌}
 use Rattle.std.specs.List.Sorted.{IsStrictlyIncreasing}
 use Rattle.snapshot.specs.Contents.{Contents}
-use Rattle.ancestor_index.specs.HierarchyLists.{hierarchy_of}
+use Rattle.postings.specs.Indexed.{IsIndexOf}
 use Rattle.query_tool.specs.declared.engine.Engine.TheInside.{Inside}
 
 abbrev pub contents_in : Inside → Contents
 contents_in inside = inside.snapshot
 
--- the concepts of the release rise, and the index is that of the release
+-- the concepts of the release rise, and the indexes are those of the release
 abbrev pub IsReady : Inside → Type 0
 IsReady inside =
-    IsStrictlyIncreasing inside.snapshot.release.concepts × (inside.index ≡ hierarchy_of inside.snapshot.release)
+    IsStrictlyIncreasing inside.snapshot.release.concepts × IsIndexOf inside.indexes inside.snapshot.release

@@ -1,21 +1,20 @@
 //! The engine: a release that answers queries.
 ghost use Rattle.std.specs.Prelude.{ℕ, ◌≡◌, ◌++◌, List, IfErr, IfOk, Ok, OnErr, OnOk, map};
 ghost use Rattle.std.specs.List.Sorted.{IsStrictlyIncreasing};
-ghost use Rattle.ancestor_index.specs.HierarchyLists.{hierarchy_of};
 ghost use Rattle.constraint_tree.specs.Denotation.{denotation};
 ghost use Rattle.constraint_tree.specs.Tree.{Tree, tree_of};
+ghost use Rattle.postings.specs.Indexed.{IsIndexOf};
 ghost use Rattle.snapshot.specs.Contents.{IsFaultOf, load_of};
 ghost use Rattle.snapshot.specs.Files.{file_text};
 ghost use Rattle.query_tool.specs.Answer.{constraint_answer, IsAnswer};
 
-use crate::attributes::has_attributes;
-use ancestor_index::AncestorIndex;
 use answer_printer::{print_answer, print_fault};
 use constraint_tree::Constraint;
 use ecl_lexer::QueryFault;
 use ecl_parser::parse;
 use executor::execute;
 use idset::MixedSet;
+use postings::Indexes;
 use release_files::NamedBytes;
 use set_algebra::lower;
 use snapshot::{Limits, LoadFault, Snapshot};
@@ -26,7 +25,7 @@ use std::marker::Model;
 #[derive(Drop)]
 pub struct Engine {
     snapshot: Snapshot,
-    index: AncestorIndex,
+    indexes: Indexes,
 }
 
 impl Model for Engine {
@@ -55,8 +54,10 @@ impl Engine {
     {
         match Snapshot::load(alloc, files, lang, limits) {
             Ok(snapshot) => {
-                let index = AncestorIndex::build(alloc, &snapshot)?;
-                Ok(Engine { snapshot, index })
+                // its contract says that the concepts rise
+                let _ = snapshot.concept_count();
+                let indexes = Indexes::build(alloc, &snapshot)?;
+                Ok(Engine { snapshot, indexes })
             }
             Err(fault) => Err(fault),
         }
@@ -65,15 +66,14 @@ impl Engine {
     /// Appends the answer to a query line: `OK` and the number of concepts that it denotes, then
     /// each of them in rising order on a line of its own, its identifier and its name between bars
     /// if it has one. A line that is no constraint is answered by `ERR` and its first refusal, as
-    /// `ecl_parser::parse` gives it, with the offset in bytes where it has one. Until attributes are
-    /// answered a constraint with a refinement or a dotted attribute is refused as `ERR syntax`. Where
-    /// memory is refused `output` is unchanged.
+    /// `ecl_parser::parse` gives it, with the offset in bytes where it has one. Where memory is
+    /// refused `output` is unchanged.
     pub fn answer(&self, alloc: Global, line: &[u8], output: &mut Vec<u8>) -> Result<(), AllocError>
         ensures ok { OnOk result ((text : List ℕ) × IsAnswer self.now line.now text × (output.new.items ≡ output.old.items ++ text)) }
         ensures err { OnErr result (output.new.items ≡ output.old.items) }
         ensures rising { (tree : Tree) → IsStrictlyIncreasing (denotation self.now.release tree) }
     {
-        answer_line(alloc, &self.snapshot, &self.index, line, output)
+        answer_line(alloc, &self.snapshot, &self.indexes, line, output)
     }
 }
 
@@ -81,16 +81,16 @@ impl Engine {
 fn answer_line(
     alloc: Global,
     snapshot: &Snapshot,
-    index: &AncestorIndex,
+    indexes: &Indexes,
     line: &[u8],
     output: &mut Vec<u8>,
 ) -> Result<(), AllocError>
-    requires { index.now ≡ hierarchy_of snapshot.now.release }
+    requires { IsIndexOf indexes.now snapshot.now.release }
     ensures ok { OnOk result ((text : List ℕ) × IsAnswer snapshot.now line.now text × (output.new.items ≡ output.old.items ++ text)) }
     ensures err { OnErr result (output.new.items ≡ output.old.items) }
 {
     match parse(alloc, line) {
-        Ok(constraint) => answer_constraint(alloc, snapshot, index, &constraint, output),
+        Ok(constraint) => answer_constraint(alloc, snapshot, indexes, &constraint, output),
         Err(QueryFault::Memory) => Err(AllocError),
         Err(fault) => print_fault(alloc, fault, output),
     }
@@ -100,18 +100,15 @@ fn answer_line(
 fn answer_constraint(
     alloc: Global,
     snapshot: &Snapshot,
-    index: &AncestorIndex,
+    indexes: &Indexes,
     constraint: &Constraint,
     output: &mut Vec<u8>,
 ) -> Result<(), AllocError>
-    requires { index.now ≡ hierarchy_of snapshot.now.release }
+    requires { IsIndexOf indexes.now snapshot.now.release }
     ensures ok { OnOk result (output.new.items ≡ output.old.items ++ constraint_answer snapshot.now (tree_of constraint.now)) }
     ensures err { OnErr result (output.new.items ≡ output.old.items) }
 {
-    if has_attributes(constraint) {
-        return print_fault(alloc, QueryFault::Syntax, output);
-    }
     let plan = lower(alloc, constraint)?;
-    let found: MixedSet = execute(alloc, &plan, snapshot, index)?;
+    let found: MixedSet = execute(alloc, &plan, snapshot, indexes)?;
     print_answer(alloc, snapshot, &found, output)
 }

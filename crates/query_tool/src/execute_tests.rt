@@ -2,15 +2,13 @@
 //!
 //! Where an allocation failed a test is run once more, so that it holds with every allocation failing in
 //! its turn.
-ghost use Rattle.std.specs.Prelude.{◌≡◌};
-ghost use Rattle.ancestor_index.specs.HierarchyLists.{hierarchy_of};
+ghost use Rattle.postings.specs.Indexed.{IsIndexOf};
 
-use crate::attributes::has_attributes;
 use crate::load_tests::{chain_of, files_of, sample};
-use ancestor_index::AncestorIndex;
 use ecl_parser::parse;
 use executor::execute;
 use idset::{ConceptSet, MixedSet, SortedSet, WordSet};
+use postings::Indexes;
 use release_files::NamedBytes;
 use set_algebra::lower;
 use snapshot::{Limits, LoadFault, Snapshot};
@@ -22,7 +20,7 @@ use std::test::Fail;
 // and Root 9.
 type Row = (&'static [u8], &'static [u32]);
 
-const ROWS: [Row; 22] = [
+const ROWS: [Row; 29] = [
     (b"*", &[0, 1, 2, 3, 4, 5, 6, 7, 8, 9]),
     (b"103007", &[3]),
     (b"999999", &[]),
@@ -45,28 +43,32 @@ const ROWS: [Row; 22] = [
     (b"^108003", &[1, 3]),
     (b"<^108003", &[3]),
     (b"^*", &[1, 3]),
+    (b"<100005:104001=106004", &[1, 2]),
+    (b"<(<100005.104001)", &[7]),
+    (b"<100005.104001", &[6, 7]),
+    (b"<100005:{104001=<<106004,105000=*}", &[1]),
+    (b"<100005:[2..*]{104001=* OR 105000=*}", &[2, 3]),
+    (b"<<106004:[3..3] R 105000=<100005", &[7]),
+    (b"*:105000>#2", &[2, 3]),
 ];
 
 // How many concepts are in the chain.
 const CHAIN: u32 = 300;
 
-// The numbers of the concepts that answer a line, or nothing where it is no constraint without attributes.
+// The numbers of the concepts that answer a line, or nothing where it is no constraint.
 fn executed<S: ConceptSet>(
     alloc: Global,
     snapshot: &Snapshot,
-    index: &AncestorIndex,
+    indexes: &Indexes,
     line: &[u8],
 ) -> Result<Option<Vec<u32>>, AllocError>
-    requires { index.now ≡ hierarchy_of snapshot.now.release }
+    requires { IsIndexOf indexes.now snapshot.now.release }
 {
     let Ok(constraint) = parse(alloc, line) else {
         return Ok(None);
     };
-    if has_attributes(&constraint) {
-        return Ok(None);
-    }
     let plan = lower(alloc, &constraint)?;
-    let found: S = execute(alloc, &plan, snapshot, index)?;
+    let found: S = execute(alloc, &plan, snapshot, indexes)?;
     Ok(Some(found.items(alloc)?))
 }
 
@@ -74,16 +76,16 @@ fn assert_executed(
     rt: &impl Abort,
     alloc: Global,
     snapshot: &Snapshot,
-    index: &AncestorIndex,
+    indexes: &Indexes,
     line: &[u8],
     want: &[u32],
 ) -> Result<(), AllocError>
-    requires { index.now ≡ hierarchy_of snapshot.now.release }
+    requires { IsIndexOf indexes.now snapshot.now.release }
 {
     let found = [
-        executed::<SortedSet>(alloc, snapshot, index, line)?,
-        executed::<WordSet>(alloc, snapshot, index, line)?,
-        executed::<MixedSet>(alloc, snapshot, index, line)?,
+        executed::<SortedSet>(alloc, snapshot, indexes, line)?,
+        executed::<WordSet>(alloc, snapshot, indexes, line)?,
+        executed::<MixedSet>(alloc, snapshot, indexes, line)?,
     ];
     for numbers in &found {
         match numbers {
@@ -109,9 +111,9 @@ fn assert_all_executed(
             return Err(AllocError);
         }
     };
-    let index = AncestorIndex::build(alloc, &snapshot)?;
+    let indexes = Indexes::build(alloc, &snapshot)?;
     for (line, want) in rows {
-        assert_executed(rt, alloc, &snapshot, &index, line, want)?;
+        assert_executed(rt, alloc, &snapshot, &indexes, line, want)?;
     }
     Ok(())
 }

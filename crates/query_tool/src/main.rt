@@ -1,7 +1,6 @@
 //! Answers queries over a SNOMED CT release, one to a line of standard input.
 #![tactic(auto)]
 
-mod attributes;
 mod engine;
 #[cfg(test)]
 mod execute_tests;

@@ -85,8 +85,41 @@ const SETS: [Row; 22] = [
     (b">^108003 AND < 138875005", &[A, B, C]),
 ];
 
+// Refinements and dotted attributes.
+const ATTRIBUTES: [Row; 29] = [
+    (b"<100005:104001=106004", &[B, C]),
+    (b"<(<100005.104001)", &[Y]),
+    (b"<100005:{104001=<<106004,105000=*}", &[B]),
+    (b"<100005:104001=<<106004,105000=*", &[B, C, D]),
+    (b"<100005:[2..*]105000=*", &[]),
+    (b"<100005:[2..*]{104001=* OR 105000=*}", &[C, D]),
+    (b"<100005:[1..1]{105000=*}", &[B, C]),
+    (b"<100005:[2..*]{105000=*}", &[D]),
+    (b"<100005:{[0..0]105000=*}", &[C, D]),
+    (b"<<100005:[0..0]105000=*", &[A]),
+    (b"<<100005:[0..0]{105000=*}", &[A]),
+    (b"<<106004:[3..3] R 105000=<100005", &[Y]),
+    (b"<100005.104001", &[X, Y]),
+    (b"<100005 . 104001 . 105000", &[]),
+    (b"<100005:104001!=106004", &[D]),
+    (b"<100005:105000!=#3", &[C]),
+    (b"<100005:105000=#3", &[D]),
+    (b"<<100005:104001=*", &[B, C, D]),
+    (b"<<100005:105000=*", &[B, C, D]),
+    (b"*:105000>#2", &[C, D]),
+    (b"*:105000=#2.50", &[C]),
+    (b"*:105000<#+2.6", &[C]),
+    (b"*:105000<=#2.5", &[C]),
+    (b"*:105000<#2.5", &[]),
+    (b"*:105000>=#2.6", &[D]),
+    (b"<100005:105000=#3 OR 104001=106004", &[B, C, D]),
+    (b"<100005:105000=#3 OR 105000=#2", &[D]),
+    (b"<100005:[3..1]105000=*", &[]),
+    (b"<100005:[0..*]105000=*", &[B, C, D]),
+];
+
 // Lines that are no constraint, and why. A place counts the bytes before it.
-const REFUSALS: [(&[u8], &[u8]); 35] = [
+const REFUSALS: [(&[u8], &[u8]); 33] = [
     (b"", b"ERR syntax\n"),
     (b"99", b"ERR syntax\n"),
     (b"0", b"ERR syntax\n"),
@@ -122,9 +155,6 @@ const REFUSALS: [(&[u8], &[u8]); 35] = [
     (b"LOINC#1-8", b"ERR unsupported 0 identifier\n"),
     (b"*:105000=\"x\"", b"ERR unsupported 9 string\n"),
     (b"*:105000=true", b"ERR unsupported 9 boolean\n"),
-    // attributes are not answered yet
-    (b"<100005:104001=106004", b"ERR syntax\n"),
-    (b"<(<100005.104001)", b"ERR syntax\n"),
 ];
 
 // A concept file whose rows are not in the order of their identifiers.
@@ -192,6 +222,15 @@ fn answers_queries_of_sets(rt: HostRuntime) -> Result<(), Fail> {
     match assert_answers(&rt, rt.alloc(), &SETS) {
         Ok(()) => {}
         Err(AllocError) => assert_answers(&rt, rt.alloc(), &SETS)?,
+    }
+    Ok(())
+}
+
+#[test]
+fn answers_queries_of_attributes(rt: HostRuntime) -> Result<(), Fail> {
+    match assert_answers(&rt, rt.alloc(), &ATTRIBUTES) {
+        Ok(()) => {}
+        Err(AllocError) => assert_answers(&rt, rt.alloc(), &ATTRIBUTES)?,
     }
     Ok(())
 }

@@ -159,7 +159,7 @@ execute_groups-returns-in_ok-found-in-Or-clause-items g t c =
 
 pub execute_groups-returns-in_ok-groups-in-Minus-clause-items : goal.execute_groups-returns-in_ok-groups-in-Minus-clause-items
 execute_groups-returns-in_ok-groups-in-Minus-clause-items g t c =
-    groups.minus_node c.args.snapshot.now.release (group_plan_of c.args.plan.now) (g.S.ConceptSet.items_of c.in_ok-groups-in-Minus.found)
+    groups.minus_node c.args.snapshot.now.release (group_plan_of c.args.plan.now) (g.S.ConceptSet.items_of c.in_ok-groups-in-Minus.groups)
     (group_plan_of c.deref-in-Minus.result.now) (group_plan_of c.deref-in-Minus-2.result.now)
     (g.S.ConceptSet.items_of c.in_ok-left-in-Minus.left) (g.S.ConceptSet.items_of c.in_ok-right-in-Minus.right)
     (ap group_plan_of c.in-Minus.is ∙ (λ i. minus_group (group_plan_of (sym c.deref-in-Minus.ensures i)) (group_plan_of (sym c.deref-in-Minus-2.ensures i))))
@@ -181,7 +181,7 @@ pub groups_in_all-loop-part-preserved : goal.groups_in_all-loop-part-preserved
 groups_in_all-loop-part-preserved g t c = record {
   items = λ set first.
       groups.all_step c.args.snapshot.now.release c.in-Some.rest.now c.loop-part.part-index c.part-item.result c.loop-part-test.true c.part-item.is
-      (g.S.ConceptSet.items_of c.loop-part.groups) (g.S.ConceptSet.items_of c.in_ok-next-in-Some.next) (g.S.ConceptSet.items_of c.in_ok-groups-in-Some-2.found)
+      (g.S.ConceptSet.items_of c.loop-part.groups) (g.S.ConceptSet.items_of c.in_ok-next-in-Some.next) (g.S.ConceptSet.items_of c.in_ok-groups-in-Some-2.groups)
       c.in_ok-next-in-Some.ensures.items c.in_ok-groups-in-Some-2.ensures.items set (c.loop-part.invariant.items set first);
   bound = c.in_ok-groups-in-Some-2.ensures.bound ∙ c.loop-part.invariant.bound;
 }
@@ -213,7 +213,7 @@ groups_in_some-loop-part-preserved g t c =
     let release = c.args.snapshot.now.release in
     record {
       items = groups.some_step release c.args.parts.now c.loop-part.part-index c.part-item.result c.loop-part-test.true c.part-item.is
-          (g.S.ConceptSet.bound_of c.loop-part.groups) (g.S.ConceptSet.items_of c.loop-part.groups) (g.S.ConceptSet.items_of c.in_ok-next.next) (g.S.ConceptSet.items_of c.in_ok-groups-2.found)
+          (g.S.ConceptSet.bound_of c.loop-part.groups) (g.S.ConceptSet.items_of c.loop-part.groups) (g.S.ConceptSet.items_of c.in_ok-next.next) (g.S.ConceptSet.items_of c.in_ok-groups-2.groups)
           c.loop-part.invariant.bound
           c.in_ok-next.ensures.items c.in_ok-groups-2.ensures.items c.loop-part.invariant.items;
       bound = c.in_ok-groups-2.ensures.bound ∙ c.loop-part.invariant.bound;
