@@ -4,6 +4,7 @@ pub mod CutLemmas
 pub mod FinishLemmas
 pub mod FirstRowLemmas
 pub mod KeptNameLemmas
+pub mod KeyedBlockLemmas
 pub mod KeyedLemmas
 pub mod LawLemmas
 pub mod LineLemmas

@@ -8,6 +8,7 @@ pub mod FirstRows
 pub mod InForce
 pub mod Kept
 pub mod KeptNames
+pub mod KeyedBlocks
 pub mod KeyedLists
 pub mod KeyedListsInside
 pub mod Limits
