@@ -1,7 +1,7 @@
 -- Numbers that stand in a list once for each attribute row that counts for them.
 use Rattle.std.proofs.Common.{ℕ, ℤ, zero, suc, ◌≡◌, ◌<◌, ◌≤◌, ◌+◌, ◌-◌, ◌∙◌, ◌∷◌, ◌++◌, [], inl, inr, ⊎_elim, ltb, arith, append-nil}
 use Rattle.std.proofs.Common.{Bool, true, false, ◌&&◌, ◌==◌, cond, List, length, get_or, map, take, Some, Option, refl, sym, ap, subst}
-use Rattle.std.specs.Prelude.{All, count_by, filter, slice_get}
+use Rattle.std.specs.Prelude.{All, count_by, filter, slice_get, slice_index}
 use Rattle.std.specs.List.{flat_map}
 use Rattle.std.specs.List.Sorted.{IsStrictlyIncreasing}
 use Rattle.std.proofs.lemmas.Bool.{and_parts, cases_Bool, cases_eq, cases_lt, eq-eqb, le-ltb, lt-ltb, ltb-true, ne_eqb}
@@ -13,16 +13,16 @@ use Rattle.std.proofs.lemmas.Option.{get_or_from_slice_get, slice_get-get_or, sl
 use Rattle.rf2_rows.specs.Pairs.{value_eq}
 use Rattle.rf2_rows.specs.Release.{Attribute, Value, concept_value, number_value, text_value}
 use Rattle.idset.specs.Words.{is_set}
-use Rattle.postings.specs.Columns.{AreGroups, AreSources, AreValues, Mark}
-use Rattle.postings.specs.Entries.{Entry, entries_with_type}
+use Rattle.postings.specs.Columns.{AreGroups, AreSources, AreTypes, AreValues, Mark}
+use Rattle.postings.specs.Entries.{Entry}
 use Rattle.postings.specs.Groups.{ConceptGroup, group_of, groups_in, is_in_group, rows_alone}
-use Rattle.postings.specs.Indexed.{Indexed, value_at, values_of}
+use Rattle.postings.specs.Indexed.{Indexed, types_of, value_at, values_of}
 use Rattle.postings.proofs.KeyLemmas.{IsTold, groups_once, groups_told_apart, in_one_group, in_own_group}
 use Rattle.postings.proofs.OnceLemmas.{IsOnce, same_place}
 use Rattle.postings.proofs.ValueLemmas.{concept_at}
 use Rattle.executor.specs.Counted.{times}
-use Rattle.executor.specs.Hits.{AreHits, TellsPassing, counts_for_group, counts_for_source, counts_for_value}
-use Rattle.executor.specs.Hits.{entries_with_types, is_in_some, picked}
+use Rattle.executor.specs.Hits.{AreHits, TellsPassing, TellsTypes, counts_for_group, counts_for_source, counts_for_value}
+use Rattle.executor.specs.Hits.{is_in_some, picked}
 use Rattle.executor.proofs.Normal.{same_by_number}
 use Rattle.executor.proofs.TimesLemmas.{times-append, times-cons}
 
@@ -152,7 +152,7 @@ module _ (kept : Mark → ℕ → Bool) (number : Mark → ℕ → ℕ) (d : Mar
     times = λ n inside. times_picked n (counts n) e marks cells entries marks_long cells_long (agree n inside);
   }
 
--- ---- the numbers of some types after those of others
+-- ---- the numbers of the rows of one key after those of others
 pub no_hits : (bound : ℕ) (counts : ℕ → Entry → Bool) → AreHits bound counts [] []
 no_hits bound counts = record { within = All-nil (λ n. n < bound); times = λ n inside. refl }
 
@@ -166,27 +166,26 @@ more_hits bound counts entries more hits next so_far added = record {
       ∙ sym (count-append (counts n) entries more);
 }
 
-pub types_more : (rows : List Attribute) (ids : List ℕ) (k : ℕ) → k < length ids
-    → entries_with_types rows (take k ids) ++ entries_with_type rows (get_or ids k 0) ≡ entries_with_types rows (take (k + 1) ids)
-types_more rows ids k within =
-    ap (λ (more : List Entry). entries_with_types rows (take k ids) ++ more) (sym (append-nil (entries_with_type rows (get_or ids k 0))))
-    ∙ sym (flat_map-append (entries_with_type rows) (take k ids) (get_or ids k 0 ∷ []))
-    ∙ ap (flat_map (entries_with_type rows)) (sym (take_more ids k 0 within))
+module _ (entries : ℕ → List Entry) (keys : List ℕ) (k : ℕ) (within : k < length keys) where
+  one_key_more : flat_map entries (take k keys) ++ entries (get_or keys k 0) ≡ flat_map entries (take (k + 1) keys)
+  one_key_more =
+      ap (λ (more : List Entry). flat_map entries (take k keys) ++ more) (sym (append-nil (entries (get_or keys k 0))))
+      ∙ sym (flat_map-append entries (take k keys) (get_or keys k 0 ∷ []))
+      ∙ ap (flat_map entries) (sym (take_more keys k 0 within))
 
-pub hits_pushed : (bound : ℕ) (counts : ℕ → Entry → Bool) (rows : List Attribute) (ids : List ℕ) (k : ℕ) (hits next more : List ℕ)
-    → k < length ids → next ≡ hits ++ more → AreHits bound counts (entries_with_types rows (take k ids)) hits
-    → AreHits bound counts (entries_with_type rows (get_or ids k 0)) more
-    → AreHits bound counts (entries_with_types rows (take (k + 1) ids)) next
-hits_pushed bound counts rows ids k hits next more within is so_far added =
-    let all = more_hits bound counts (entries_with_types rows (take k ids)) (entries_with_type rows (get_or ids k 0)) hits more so_far added in
-    subst (AreHits bound counts (entries_with_types rows (take (k + 1) ids))) (sym is)
-    (subst (λ (entries : List Entry). AreHits bound counts entries (hits ++ more)) (types_more rows ids k within) all)
+  pub hits_pushed : (bound : ℕ) (counts : ℕ → Entry → Bool) (hits next more : List ℕ) → next ≡ hits ++ more
+      → AreHits bound counts (flat_map entries (take k keys)) hits → AreHits bound counts (entries (get_or keys k 0)) more
+      → AreHits bound counts (flat_map entries (take (k + 1) keys)) next
+  hits_pushed bound counts hits next more is so_far added =
+      subst (AreHits bound counts (flat_map entries (take (k + 1) keys))) (sym is)
+      (subst (λ (all : List Entry). AreHits bound counts all (hits ++ more)) one_key_more
+      (more_hits bound counts (flat_map entries (take k keys)) (entries (get_or keys k 0)) hits more so_far added))
 
--- ---- by source, by value and by group
+-- ---- a mark and a row
 a_mark : Mark
 a_mark = record { number = 0; is_first = false }
 
-an_entry : Entry
+abbrev pub an_entry : Entry
 an_entry = record {
   row = record { source = 0; type_id = 0; group = 0; value = text_value [] };
   is_first = false;
@@ -242,9 +241,102 @@ group_tells groups once told m n inside row is =
       ]
     ]
 
+-- ---- what the words of bits say of the cells
+module _ (indexed : Indexed) (entries : List Entry) (cells : List ℕ) where
+  module _ (values : AreValues (values_of indexed) entries cells) where
+    pub values_long : length cells ≡ length entries
+    values_long = same_length (value_at (values_of indexed)) (λ (entry : Entry). entry.row.value) cells entries values.values
+
+    pub value_there : (k : ℕ) → k < length entries → value_at (values_of indexed) (get_or cells k 0) ≡ (get_or entries k an_entry).row.value
+    value_there k within =
+        same_at (value_at (values_of indexed)) (λ (entry : Entry). entry.row.value) cells entries values.values k 0 an_entry within
+
+    pub values_told : (passes : Value → Bool) (words : List ℕ) → TellsPassing indexed passes words
+        → (k : ℕ) → k < length entries → is_set words (get_or cells k 0) ≡ passes (get_or entries k an_entry).row.value
+    values_told passes words tells k within = tells (get_or cells k 0) ∙ ap passes (value_there k within)
+
+  module _ (types : AreTypes (types_of indexed.rows) entries cells) where
+    pub types_long : length cells ≡ length entries
+    types_long = same_length (slice_index (types_of indexed.rows)) (λ (entry : Entry). entry.row.type_id) cells entries types.types
+
+    pub types_told : (one : ℕ → Bool) (words : List ℕ) → TellsTypes indexed.rows one words
+        → (k : ℕ) → k < length entries → is_set words (get_or cells k 0) ≡ one (get_or entries k an_entry).row.type_id
+    types_told one words tells k within =
+        tells (get_or cells k 0) (types.within k 0 (omega (arith, within, types_long)))
+        ∙ ap one (same_at (slice_index (types_of indexed.rows)) (λ (entry : Entry). entry.row.type_id) cells entries types.types
+        k 0 an_entry within)
+
+-- ---- by source, by value and by group
+module _ (concepts : List ℕ) (entries : List Entry) (marks : List Mark) (sources : AreSources concepts entries marks) where
+  pub sources_long : length marks ≡ length entries
+  sources_long = same_length (λ (mark : Mark). mark.is_first) (λ (entry : Entry). entry.is_first) marks entries sources.firsts
+
+  source_below : (k : ℕ) → k < length entries → (get_or marks k a_mark).number < length concepts
+  source_below k within = sources.within k a_mark (omega (arith, within, sources_long))
+
+  source_first : (k : ℕ) → k < length entries → (get_or marks k a_mark).is_first ≡ (get_or entries k an_entry).is_first
+  source_first k within =
+      same_at (λ (mark : Mark). mark.is_first) (λ (entry : Entry). entry.is_first) marks entries sources.firsts k a_mark an_entry within
+
+  source_there : (k : ℕ) → k < length entries → get_or concepts (get_or marks k a_mark).number 0 ≡ (get_or entries k an_entry).row.source
+  source_there k within =
+      same_at (λ (mark : Mark). get_or concepts mark.number 0) (λ (entry : Entry). entry.row.source) marks entries
+      sources.sources k a_mark an_entry within
+
+-- where the words say of the cell of each row whether it is kept
+module _ (kept : Attribute → Bool) (words : List ℕ) (entries : List Entry) (marks : List Mark) (cells : List ℕ)
+    (cells_long : length cells ≡ length entries)
+    (told : (k : ℕ) → k < length entries → is_set words (get_or cells k 0) ≡ kept (get_or entries k an_entry).row) where
+  pub source_hits : (concepts : List ℕ) → IsStrictlyIncreasing concepts → AreSources concepts entries marks
+      → AreHits (length concepts) (counts_for_source concepts kept) entries
+      (picked (λ mark cell. mark.is_first && is_set words cell) (λ mark cell. mark.number) marks cells)
+  source_hits concepts rising sources =
+      picked_hits (λ mark cell. mark.is_first && is_set words cell) (λ mark cell. mark.number) a_mark
+      (length concepts) (counts_for_source concepts kept) an_entry marks cells entries (sources_long concepts entries marks sources) cells_long
+      (λ k within keeps. source_below concepts entries marks sources k within)
+      (λ n inside k within.
+      and_turned ((get_or marks k a_mark).is_first && is_set words (get_or cells k 0)) ((get_or marks k a_mark).number == n)
+      ∙ (λ i. by_source n inside k within i && (source_first concepts entries marks sources k within i && told k within i)))
+    where
+      by_source : (n : ℕ) → n < length concepts → (k : ℕ) → k < length entries
+          → ((get_or marks k a_mark).number == n) ≡ ((get_or entries k an_entry).row.source == get_or concepts n 0)
+      by_source n inside k within =
+          sym (same_by_number concepts rising (get_or marks k a_mark).number n (source_below concepts entries marks sources k within) inside)
+          ∙ ap (λ (source : ℕ). source == get_or concepts n 0) (source_there concepts entries marks sources k within)
+
+  pub grouped_hits : (indexed : Indexed) → IsStrictlyIncreasing indexed.concepts → AreGroups (groups_in indexed) entries marks
+      → AreHits (length (groups_in indexed)) (counts_for_group (groups_in indexed) kept) entries
+      (picked (λ mark cell. mark.is_first && is_set words cell) (λ mark cell. mark.number) marks cells)
+  grouped_hits indexed rising groups =
+      picked_hits (λ mark cell. mark.is_first && is_set words cell) (λ mark cell. mark.number) a_mark
+      (length (groups_in indexed)) (counts_for_group (groups_in indexed) kept) an_entry marks cells entries
+      (same_length (λ (mark : Mark). mark.is_first) (λ (entry : Entry). entry.is_first_in_group) marks entries groups.firsts) cells_long
+      (λ k within keeps. slice_get_within (groups_in indexed) (get_or marks k a_mark).number (group_of (get_or entries k an_entry).row) (own k within))
+      (λ n inside k within.
+      and_turned ((get_or marks k a_mark).is_first && is_set words (get_or cells k 0)) ((get_or marks k a_mark).number == n)
+      ∙ (λ i. group_tells (groups_in indexed) once all_told (get_or marks k a_mark).number n inside (get_or entries k an_entry).row (own k within) i
+      && (first_there k within i && told k within i)))
+    where
+      once : IsOnce (groups_in indexed)
+      once = groups_once (rows_alone indexed.concepts indexed.rows) rising
+
+      all_told : All (λ (group : ConceptGroup). IsTold group.key) (groups_in indexed)
+      all_told = groups_told_apart (rows_alone indexed.concepts indexed.rows) indexed.concepts
+
+      own : (k : ℕ) → k < length entries → slice_get (groups_in indexed) (get_or marks k a_mark).number ≡ Some (group_of (get_or entries k an_entry).row)
+      own k within =
+          same_at (λ (mark : Mark). slice_get (groups_in indexed) mark.number) (λ (entry : Entry). Some (group_of entry.row)) marks
+          entries groups.groups k a_mark an_entry within
+
+      first_there : (k : ℕ) → k < length entries → (get_or marks k a_mark).is_first ≡ (get_or entries k an_entry).is_first_in_group
+      first_there k within =
+          same_at (λ (mark : Mark). mark.is_first) (λ (entry : Entry). entry.is_first_in_group) marks entries groups.firsts
+          k a_mark an_entry within
+
+-- read backwards
 module _ (indexed : Indexed) (passes : Value → Bool) (words : List ℕ) (tells : TellsPassing indexed passes words)
     (rising : IsStrictlyIncreasing indexed.concepts) (entries : List Entry) (marks : List Mark) (cells : List ℕ)
-    (values : AreValues (values_of indexed) entries cells) where
+    (values : AreValues (values_of indexed) entries cells) (sources : AreSources indexed.concepts entries marks) where
   -- what stands at a place
   abbrev mark : ℕ → Mark
   mark k = get_or marks k a_mark
@@ -255,111 +347,42 @@ module _ (indexed : Indexed) (passes : Value → Bool) (words : List ℕ) (tells
   abbrev entry : ℕ → Entry
   entry k = get_or entries k an_entry
 
-  cells_long : length cells ≡ length entries
-  cells_long = same_length (value_at (values_of indexed)) (λ (entry : Entry). entry.row.value) cells entries values.values
-
-  value_there : (k : ℕ) → k < length entries → value_at (values_of indexed) (cell k) ≡ (entry k).row.value
-  value_there k within =
-      same_at (value_at (values_of indexed)) (λ (entry : Entry). entry.row.value) cells entries values.values k 0 an_entry within
-
-  passing : (k : ℕ) → k < length entries → is_set words (cell k) ≡ passes (entry k).row.value
-  passing k within = tells (cell k) ∙ ap passes (value_there k within)
-
-  module _ (sources : AreSources indexed.concepts entries marks) where
-    marks_long : length marks ≡ length entries
-    marks_long = same_length (λ (mark : Mark). mark.is_first) (λ (entry : Entry). entry.is_first) marks entries sources.firsts
-
-    below : (k : ℕ) → k < length entries → (mark k).number < length indexed.concepts
-    below k within = sources.within k a_mark (omega (arith, within, marks_long))
-
-    first : (k : ℕ) → k < length entries → (mark k).is_first ≡ (entry k).is_first
-    first k within =
-        same_at (λ (mark : Mark). mark.is_first) (λ (entry : Entry). entry.is_first) marks entries sources.firsts k a_mark an_entry within
-
-    source_there : (k : ℕ) → k < length entries → get_or indexed.concepts (mark k).number 0 ≡ (entry k).row.source
-    source_there k within =
-        same_at (λ (mark : Mark). get_or indexed.concepts mark.number 0) (λ (entry : Entry). entry.row.source) marks entries
-        sources.sources k a_mark an_entry within
-
-    pub source_hits : AreHits (length indexed.concepts) (counts_for_source indexed.concepts passes) entries
-        (picked (λ mark cell. mark.is_first && is_set words cell) (λ mark cell. mark.number) marks cells)
-    source_hits =
-        picked_hits (λ mark cell. mark.is_first && is_set words cell) (λ mark cell. mark.number) a_mark
-        (length indexed.concepts) (counts_for_source indexed.concepts passes) an_entry marks cells entries marks_long cells_long
-        (λ k within keeps. below k within)
-        (λ n inside k within.
-        and_turned ((mark k).is_first && is_set words (cell k)) ((mark k).number == n)
-        ∙ (λ i. by_source n inside k within i && (first k within i && passing k within i)))
-      where
-        by_source : (n : ℕ) → n < length indexed.concepts → (k : ℕ) → k < length entries
-            → ((mark k).number == n) ≡ ((entry k).row.source == get_or indexed.concepts n 0)
-        by_source n inside k within =
-            sym (same_by_number indexed.concepts rising (mark k).number n (below k within) inside)
-            ∙ ap (λ (source : ℕ). source == get_or indexed.concepts n 0) (source_there k within)
-
-    pub backward_hits : (bound : ℕ) → bound ≡ length indexed.concepts
-        → AreHits (length indexed.concepts) (counts_for_value indexed.concepts passes) entries
-        (picked (λ mark cell. ltb cell bound && (mark.is_first && is_set words mark.number)) (λ mark cell. cell) marks cells)
-    backward_hits bound is =
-        picked_hits (λ mark cell. ltb cell bound && (mark.is_first && is_set words mark.number)) (λ mark cell. cell) a_mark
-        (length indexed.concepts) (counts_for_value indexed.concepts passes) an_entry marks cells entries marks_long cells_long
-        (λ k within keeps. subst (λ n. cell k < n) is (ltb-true (cell k) bound (and_parts _ _ keeps).0))
-        (λ n inside k within.
-        and_apart (ltb (cell k) bound) ((mark k).is_first && is_set words (mark k).number) (cell k == n)
-        ∙ (λ i. by_value n inside k within i && (first k within i && source_passes k within i)))
-      where
-        concept_there : (k : ℕ) → k < length indexed.concepts
-            → value_at (values_of indexed) k ≡ concept_value (get_or indexed.concepts k 0)
-        concept_there k within = concept_at indexed.concepts indexed.decimals indexed.texts k (text_value []) within
-
-        source_passes : (k : ℕ) → k < length entries → is_set words (mark k).number ≡ passes (concept_value (entry k).row.source)
-        source_passes k within =
-            tells (mark k).number
-            ∙ ap passes (concept_there (mark k).number (below k within) ∙ ap concept_value (source_there k within))
-
-        by_value : (n : ℕ) → n < length indexed.concepts → (k : ℕ) → k < length entries
-            → (ltb (cell k) bound && (cell k == n)) ≡ value_eq (entry k).row.value (concept_value (get_or indexed.concepts n 0))
-        by_value n inside k within =
-            let is_it : Value → Bool = λ value. value_eq value (concept_value (get_or indexed.concepts n 0)) in
-            ⊎_elim
-            (λ (there : cell k < bound).
-            (λ i. lt-ltb (cell k) bound there i && (cell k == n))
-            ∙ sym (same_by_number indexed.concepts rising (cell k) n (omega (arith, there, is)) inside)
-            ∙ ap is_it (sym (concept_there (cell k) (omega (arith, there, is)))))
-            (λ (past : bound ≤ cell k).
-            (λ i. le-ltb (cell k) bound past i && (cell k == n))
-            ∙ sym (past_concepts indexed (cell k) (get_or indexed.concepts n 0) (omega (arith, past, is))))
-            (cases_lt (cell k) bound)
-            ∙ ap is_it (value_there k within)
-
-  pub grouped_hits : AreGroups (groups_in indexed) entries marks
-      → AreHits (length (groups_in indexed)) (counts_for_group (groups_in indexed) passes) entries
-      (picked (λ mark cell. mark.is_first && is_set words cell) (λ mark cell. mark.number) marks cells)
-  grouped_hits groups =
-      picked_hits (λ mark cell. mark.is_first && is_set words cell) (λ mark cell. mark.number) a_mark
-      (length (groups_in indexed)) (counts_for_group (groups_in indexed) passes) an_entry marks cells entries
-      (same_length (λ (mark : Mark). mark.is_first) (λ (entry : Entry). entry.is_first_in_group) marks entries groups.firsts) cells_long
-      (λ k within keeps. slice_get_within (groups_in indexed) (mark k).number (group_of (entry k).row) (own k within))
+  pub backward_hits : (bound : ℕ) → bound ≡ length indexed.concepts
+      → AreHits (length indexed.concepts) (counts_for_value indexed.concepts passes) entries
+      (picked (λ mark cell. ltb cell bound && (mark.is_first && is_set words mark.number)) (λ mark cell. cell) marks cells)
+  backward_hits bound is =
+      picked_hits (λ mark cell. ltb cell bound && (mark.is_first && is_set words mark.number)) (λ mark cell. cell) a_mark
+      (length indexed.concepts) (counts_for_value indexed.concepts passes) an_entry marks cells entries
+      (sources_long indexed.concepts entries marks sources) (values_long indexed entries cells values)
+      (λ k within keeps. subst (λ n. cell k < n) is (ltb-true (cell k) bound (and_parts _ _ keeps).0))
       (λ n inside k within.
-      and_turned ((mark k).is_first && is_set words (cell k)) ((mark k).number == n)
-      ∙ (λ i. group_tells (groups_in indexed) once told (mark k).number n inside (entry k).row (own k within) i
-      && (first_there k within i && passing k within i)))
+      and_apart (ltb (cell k) bound) ((mark k).is_first && is_set words (mark k).number) (cell k == n)
+      ∙ (λ i. by_value n inside k within i && (source_first indexed.concepts entries marks sources k within i && source_passes k within i)))
     where
-      once : IsOnce (groups_in indexed)
-      once = groups_once (rows_alone indexed.concepts indexed.rows) rising
+      concept_there : (k : ℕ) → k < length indexed.concepts
+          → value_at (values_of indexed) k ≡ concept_value (get_or indexed.concepts k 0)
+      concept_there k within = concept_at indexed.concepts indexed.decimals indexed.texts k (text_value []) within
 
-      told : All (λ (group : ConceptGroup). IsTold group.key) (groups_in indexed)
-      told = groups_told_apart (rows_alone indexed.concepts indexed.rows) indexed.concepts
+      source_passes : (k : ℕ) → k < length entries → is_set words (mark k).number ≡ passes (concept_value (entry k).row.source)
+      source_passes k within =
+          tells (mark k).number
+          ∙ ap passes (concept_there (mark k).number (source_below indexed.concepts entries marks sources k within)
+          ∙ ap concept_value (source_there indexed.concepts entries marks sources k within))
 
-      own : (k : ℕ) → k < length entries → slice_get (groups_in indexed) (mark k).number ≡ Some (group_of (entry k).row)
-      own k within =
-          same_at (λ (mark : Mark). slice_get (groups_in indexed) mark.number) (λ (entry : Entry). Some (group_of entry.row)) marks
-          entries groups.groups k a_mark an_entry within
-
-      first_there : (k : ℕ) → k < length entries → (mark k).is_first ≡ (entry k).is_first_in_group
-      first_there k within =
-          same_at (λ (mark : Mark). mark.is_first) (λ (entry : Entry). entry.is_first_in_group) marks entries groups.firsts
-          k a_mark an_entry within
+      by_value : (n : ℕ) → n < length indexed.concepts → (k : ℕ) → k < length entries
+          → (ltb (cell k) bound && (cell k == n)) ≡ value_eq (entry k).row.value (concept_value (get_or indexed.concepts n 0))
+      by_value n inside k within =
+          let is_it : Value → Bool = λ value. value_eq value (concept_value (get_or indexed.concepts n 0)) in
+          ⊎_elim
+          (λ (there : cell k < bound).
+          (λ i. lt-ltb (cell k) bound there i && (cell k == n))
+          ∙ sym (same_by_number indexed.concepts rising (cell k) n (omega (arith, there, is)) inside)
+          ∙ ap is_it (sym (concept_there (cell k) (omega (arith, there, is)))))
+          (λ (past : bound ≤ cell k).
+          (λ i. le-ltb (cell k) bound past i && (cell k == n))
+          ∙ sym (past_concepts indexed (cell k) (get_or indexed.concepts n 0) (omega (arith, past, is))))
+          (cases_lt (cell k) bound)
+          ∙ ap is_it (value_there indexed entries cells values k within)
 
 -- ---- whatever passes, the numbers are below the bound
 pub marks_below : (kept : Mark → ℕ → Bool) (bound : ℕ) (marks : List Mark) (cells : List ℕ) → All (λ (mark : Mark). mark.number < bound) marks

@@ -30,7 +30,7 @@ use Rattle.postings.proofs.BlockLemmas.{filter-all}
 use Rattle.postings.proofs.CountLemmas.{all_groups_again, back_count, first_entries, first_entries_of_group}
 use Rattle.postings.proofs.EntryLemmas.{rows_of_entries}
 use Rattle.executor.specs.Counted.{times}
-use Rattle.executor.specs.Hits.{counts_for_group, counts_for_source, counts_for_value, entries_with_types, is_in_some}
+use Rattle.executor.specs.Hits.{counts_for_group, counts_for_source, counts_for_value, entries_with_types, has_pair_in, is_in_some}
 use Rattle.executor.specs.Groups.{groups_where, some_group_in}
 use Rattle.executor.specs.Numbers.{numbers_in}
 use Rattle.ancestor_index.proofs.ClosureLemmas.{both_ways, item_there, there_item}
@@ -38,7 +38,7 @@ use Rattle.executor.proofs.HitLemmas.{count-append, count-cons}
 
 -- ---- how many items pass, by a key
 module _ {X : Type 0} where
-  count_none : (p : X → Bool) (xs : List X) → ((x : X) → p x ≡ false) → count_by p xs ≡ 0
+  pub count_none : (p : X → Bool) (xs : List X) → ((x : X) → p x ≡ false) → count_by p xs ≡ 0
   count_none p [] none = refl
   count_none p (x ∷ xs) none = count-cons p x xs ∙ (λ i. cond (none x i) (1 + count_by p xs) (count_by p xs)) ∙ count_none p xs none
 
@@ -63,7 +63,7 @@ module _ {X : Type 0} where
       ∙ sym (count-cons q x xs)
 
   -- the items of either test, of which none passes both
-  count_either : (p q r : X → Bool) (xs : List X) → ((x : X) → (p x && q x) ≡ false) → ((x : X) → r x ≡ (p x || q x))
+  pub count_either : (p q r : X → Bool) (xs : List X) → ((x : X) → (p x && q x) ≡ false) → ((x : X) → r x ≡ (p x || q x))
       → count_by p xs + count_by q xs ≡ count_by r xs
   count_either p q r [] apart either = refl
   count_either p q r (x ∷ xs) apart either =
@@ -157,20 +157,25 @@ count_map test f (x ∷ xs) =
     ∙ (λ i. cond (test (f x)) (1 + count_map test f xs i) (count_map test f xs i))
     ∙ sym (count-cons (λ y. test (f y)) x xs)
 
-shuffled : (a b c d : Bool) → (a && (b && (c && d))) ≡ ((b && c) && (a && d))
-shuffled true b c d = by_case b
+one_inside : (a b c d : Bool) → (a && (b && (c && d))) ≡ (b && (c && (a && d)))
+one_inside true b c d = refl
+one_inside false b c d = sym (by_case b c)
   where
-    by_case : (b : Bool) → (b && (c && d)) ≡ ((b && c) && d)
-    by_case true = refl
-    by_case false = refl
-shuffled false b c d = sym (never (b && c))
+    by_case : (b c : Bool) → (b && (c && false)) ≡ false
+    by_case true c = never c
+    by_case false c = refl
 
+together : (a b c : Bool) → (a && (b && c)) ≡ ((a && b) && c)
+together true b c = refl
+together false b c = refl
+
+-- the rows of some types, type by type, are the rows whose type is one of them
 module _ (rows : List Attribute) (one : ℕ → Bool) where
   -- the types of rows that are kept
   abbrev pub kept_types : List ℕ
   kept_types = filter one (types_of rows)
 
-  type_there : (entry : Entry) → Contains (entries_of rows) entry → has_item (types_of rows) entry.row.type_id ≡ true
+  pub type_there : (entry : Entry) → Contains (entries_of rows) entry → has_item (types_of rows) entry.row.type_id ≡ true
   type_there entry there =
       there_item (types_of rows) entry.row.type_id
       (((keeps_each_number_once (map (λ (row : Attribute). row.type_id) rows)).1 entry.row.type_id).1
@@ -178,23 +183,29 @@ module _ (rows : List Attribute) (one : ℕ → Bool) where
       (subst (λ (all : List Attribute). Contains all entry.row) (rows_of_entries [] rows)
       (contains_map (λ (e : Entry). e.row) (entries_of rows) entry there))))
 
-  pub pairs_counted : (belongs first passes : Entry → Bool) (pair : Attribute → Pair) (test : Pair → Bool) (pairs : List Pair)
-      → ((entry : Entry) → test (pair entry.row) ≡ (one entry.row.type_id && passes entry))
-      → count_by test pairs ≡ count_by test (map (λ (entry : Entry). pair entry.row) (filter (λ entry. belongs entry && first entry) (entries_of rows)))
-      → count_by (λ entry. belongs entry && (first entry && passes entry)) (entries_with_types rows kept_types) ≡ count_by test pairs
-  pairs_counted belongs first passes pair test pairs tested told =
+  pub types_counted : (belongs first passes : Entry → Bool)
+      → count_by (λ entry. belongs entry && (first entry && passes entry)) (entries_with_types rows kept_types)
+      ≡ count_by (λ entry. belongs entry && (first entry && (one entry.row.type_id && passes entry))) (entries_of rows)
+  types_counted belongs first passes =
       count_by_keys (λ (entry : Entry). entry.row.type_id) one (λ entry. belongs entry && (first entry && passes entry)) (entries_of rows) (types_of rows)
       (keeps_each_number_once (map (λ (row : Attribute). row.type_id) rows)).0
       ∙ count_agree
       (λ (entry : Entry). (has_item (types_of rows) entry.row.type_id && one entry.row.type_id) && (belongs entry && (first entry && passes entry)))
-      (λ (entry : Entry). (belongs entry && first entry) && test (pair entry.row)) (entries_of rows)
+      (λ (entry : Entry). belongs entry && (first entry && (one entry.row.type_id && passes entry))) (entries_of rows)
       (λ entry there.
       (λ i. (type_there entry there i && one entry.row.type_id) && (belongs entry && (first entry && passes entry)))
-      ∙ shuffled (one entry.row.type_id) (belongs entry) (first entry) (passes entry)
-      ∙ (λ i. (belongs entry && first entry) && sym (tested entry) i))
-      ∙ sym (count_kept (λ entry. belongs entry && first entry) (λ entry. test (pair entry.row)) (entries_of rows))
-      ∙ sym (count_map test (λ (entry : Entry). pair entry.row) (filter (λ entry. belongs entry && first entry) (entries_of rows)))
-      ∙ sym told
+      ∙ one_inside (one entry.row.type_id) (belongs entry) (first entry) (passes entry))
+
+-- those that are the first with their pairs are the pairs
+pub pairs_counted : (rows : List Attribute) (belongs first kept : Entry → Bool) (pair : Attribute → Pair) (test : Pair → Bool) (pairs : List Pair)
+    → ((entry : Entry) → test (pair entry.row) ≡ kept entry)
+    → count_by test pairs ≡ count_by test (map (λ (entry : Entry). pair entry.row) (filter (λ entry. belongs entry && first entry) (entries_of rows)))
+    → count_by (λ entry. belongs entry && (first entry && kept entry)) (entries_of rows) ≡ count_by test pairs
+pairs_counted rows belongs first kept pair test pairs tested told =
+    (λ i. count_by (λ (entry : Entry). together (belongs entry) (first entry) (sym (tested entry) i) i) (entries_of rows))
+    ∙ sym (count_kept (λ entry. belongs entry && first entry) (λ entry. test (pair entry.row)) (entries_of rows))
+    ∙ sym (count_map test (λ (entry : Entry). pair entry.row) (filter (λ entry. belongs entry && first entry) (entries_of rows)))
+    ∙ sym told
 
 -- ---- of a concept
 module _ (indexed : Indexed) (release : Release) (is : IsIndexOf indexed release) (rising : IsStrictlyIncreasing release.concepts)
@@ -210,11 +221,11 @@ module _ (indexed : Indexed) (release : Release) (is : IsIndexOf indexed release
   here n within = Contains-get_or release.concepts n 0 within
 
   pub sources_counted : (n : ℕ) → n < length release.concepts
-      → count_by (counts_for_source indexed.concepts passes n) kept_entries
+      → count_by (counts_for_source indexed.concepts (has_pair_in one passes) n) (entries_of indexed.rows)
       ≡ count_by passing_pair (out_pairs release (get_or release.concepts n 0))
   sources_counted n within =
-      pairs_counted indexed.rows one (λ entry. entry.row.source == get_or indexed.concepts n 0) (λ entry. entry.is_first)
-      (λ entry. passes entry.row.value) pair_of passing_pair (out_pairs release (get_or release.concepts n 0)) (λ entry. refl)
+      pairs_counted indexed.rows (λ entry. entry.row.source == get_or indexed.concepts n 0) (λ entry. entry.is_first)
+      (λ entry. has_pair_in one passes entry.row) pair_of passing_pair (out_pairs release (get_or release.concepts n 0)) (λ entry. refl)
       (ap (count_by passing_pair) (first_entries release rising (get_or release.concepts n 0) (here n within))
       ∙ (λ i. count_by passing_pair (map (λ (entry : Entry). pair_of entry.row)
       (filter (λ (entry : Entry). (entry.row.source == get_or (sym is.concepts i) n 0) && entry.is_first) (entries_of (sym is.rows i))))))
@@ -223,15 +234,17 @@ module _ (indexed : Indexed) (release : Release) (is : IsIndexOf indexed release
       → count_by (counts_for_value indexed.concepts passes n) kept_entries
       ≡ count_by passing_pair (in_pairs release (get_or release.concepts n 0))
   values_counted known n =
-      pairs_counted indexed.rows one (λ entry. value_eq entry.row.value (concept_value (get_or indexed.concepts n 0))) (λ entry. entry.is_first)
-      (λ entry. passes (concept_value entry.row.source)) reverse_pair_of passing_pair (in_pairs release (get_or release.concepts n 0)) (λ entry. refl)
+      types_counted indexed.rows one (λ entry. value_eq entry.row.value (concept_value (get_or indexed.concepts n 0))) (λ entry. entry.is_first)
+      (λ entry. passes (concept_value entry.row.source))
+      ∙ pairs_counted indexed.rows (λ entry. value_eq entry.row.value (concept_value (get_or indexed.concepts n 0))) (λ entry. entry.is_first)
+      (λ entry. one entry.row.type_id && passes (concept_value entry.row.source)) reverse_pair_of passing_pair (in_pairs release (get_or release.concepts n 0)) (λ entry. refl)
       (back_count release known passing_pair (get_or release.concepts n 0)
       ∙ (λ i. count_by passing_pair (map (λ (entry : Entry). reverse_pair_of entry.row)
       (filter (λ (entry : Entry). value_eq entry.row.value (concept_value (get_or (sym is.concepts i) n 0)) && entry.is_first) (entries_of (sym is.rows i))))))
 
   -- so the numbers that stand among those of the rows as often as is asked are the concepts with so many pairs
   pub sources_found : (count : Cardinality) (bound : ℕ) → bound ≡ length release.concepts → (hits found : List ℕ)
-      → ((n : ℕ) → n < bound → times n hits ≡ count_by (counts_for_source indexed.concepts passes n) kept_entries)
+      → ((n : ℕ) → n < bound → times n hits ≡ count_by (counts_for_source indexed.concepts (has_pair_in one passes) n) (entries_of indexed.rows))
       → found ≡ numbers_where bound (λ n. lies_in count (times n hits))
       → found ≡ numbers_in release (λ concept. has_pairs count one passes (out_pairs release concept))
   sources_found count bound counted hits found often found_is =
@@ -266,13 +279,13 @@ none_within (x ∷ xs) k within at = let is : Some (get_or (x ∷ xs) k x) ≡ N
 module _ (indexed : Indexed) (release : Release) (is : IsIndexOf indexed release) (rising : IsStrictlyIncreasing release.concepts)
     (one : ℕ → Bool) (passes : Value → Bool) where
   pub group_counted : (n : ℕ) (group : ConceptGroup) → slice_get (groups_in indexed) n ≡ Some group
-      → count_by (counts_for_group (groups_in indexed) passes n) (kept_entries indexed release is rising one passes)
+      → count_by (counts_for_group (groups_in indexed) (has_pair_in one passes) n) (entries_of indexed.rows)
       ≡ count_by (passing_pair indexed release is rising one passes) (pairs_of_group release group)
   group_counted n group at =
-      (λ i. count_by (λ (entry : Entry). is_in_some (at i) entry.row && (entry.is_first_in_group && passes entry.row.value))
-      (kept_entries indexed release is rising one passes))
-      ∙ pairs_counted indexed.rows one (λ entry. is_in_group group entry.row) (λ entry. entry.is_first_in_group)
-      (λ entry. passes entry.row.value) pair_of (passing_pair indexed release is rising one passes) (pairs_of_group release group) (λ entry. refl)
+      (λ i. count_by (λ (entry : Entry). is_in_some (at i) entry.row && (entry.is_first_in_group && has_pair_in one passes entry.row))
+      (entries_of indexed.rows))
+      ∙ pairs_counted indexed.rows (λ entry. is_in_group group entry.row) (λ entry. entry.is_first_in_group)
+      (λ entry. has_pair_in one passes entry.row) pair_of (passing_pair indexed release is rising one passes) (pairs_of_group release group) (λ entry. refl)
       (ap (count_by (passing_pair indexed release is rising one passes)) (first_entries_of_group release rising group there)
       ∙ (λ i. count_by (passing_pair indexed release is rising one passes) (map (λ (entry : Entry). pair_of entry.row)
       (filter (λ (entry : Entry). is_in_group group entry.row && entry.is_first_in_group) (entries_of (sym is.rows i))))))
@@ -284,7 +297,7 @@ module _ (indexed : Indexed) (release : Release) (is : IsIndexOf indexed release
           (n, slice_get_within (groups_in indexed) n group at, found)
 
   pub groups_found : (count : Cardinality) (bound : ℕ) → bound ≡ length (groups_in indexed) → (hits found : List ℕ)
-      → ((n : ℕ) → n < bound → times n hits ≡ count_by (counts_for_group (groups_in indexed) passes n) (kept_entries indexed release is rising one passes))
+      → ((n : ℕ) → n < bound → times n hits ≡ count_by (counts_for_group (groups_in indexed) (has_pair_in one passes) n) (entries_of indexed.rows))
       → found ≡ numbers_where bound (λ n. lies_in count (times n hits))
       → found ≡ groups_where release (has_pairs count one passes)
   groups_found count bound counted hits found often found_is =
@@ -296,7 +309,7 @@ module _ (indexed : Indexed) (release : Release) (is : IsIndexOf indexed release
       (groups_are indexed release is rising)
     where
       in_group : (n : ℕ) → n < bound → (at : Option ConceptGroup) → slice_get (groups_in indexed) n ≡ at
-          → lies_in count (count_by (counts_for_group (groups_in indexed) passes n) (kept_entries indexed release is rising one passes))
+          → lies_in count (count_by (counts_for_group (groups_in indexed) (has_pair_in one passes) n) (entries_of indexed.rows))
           ≡ some_group_in release (has_pairs count one passes) (slice_get (groups_in indexed) n)
       in_group n within None at = absurd (none_within (groups_in indexed) n (omega (arith, within, counted)) at)
       in_group n within (Some group) at =

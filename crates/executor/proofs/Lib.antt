@@ -1,3 +1,4 @@
+pub mod ChoiceLemmas
 pub mod GroupNodeLemmas
 pub mod HitLemmas
 pub mod JoinedLemmas

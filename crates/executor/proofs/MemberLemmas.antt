@@ -1,24 +1,25 @@
 -- The components of reference sets, by the numbers of concepts and by the member rows.
-use Rattle.std.proofs.Common.{ℕ, ◌≡◌, ◌<◌, ◌+◌, ◌∙◌, ◌∷◌, [], ◌++◌, ◌==◌, ◌&&◌, ◌||◌, Bool, true, false, cond, List, length, get_or, map, take, zero, suc, refl, sym, ap, subst, append-nil, arith}
-use Rattle.std.specs.Prelude.{All, Contains, filter}
-use Rattle.std.specs.List.{list_any}
-use Rattle.std.specs.List.Sorted.{IsStrictlyIncreasing}
+use Rattle.std.proofs.Common.{ℕ, ◌≡◌, ◌<◌, ◌∙◌, ◌∷◌, [], ◌==◌, ◌&&◌, ◌||◌, Bool, true, false, List, length, get_or, map, suc, refl, sym, ap, subst, arith}
+use Rattle.std.specs.Prelude.{All, Contains}
+use Rattle.std.specs.List.{flat_map, list_any}
 use Rattle.std.proofs.lemmas.Bool.{eq-eqb, eqb-true}
 use Rattle.std.proofs.lemmas.List.{get_or_default}
-use Rattle.std.proofs.lemmas.List.Elements.{All-filter, All-map}
+use Rattle.std.proofs.lemmas.List.Elements.{All-append, All-nil, All-tail}
 use Rattle.rf2_rows.specs.Release.{Release}
 use Rattle.constraint_tree.specs.Denotation.{is_component}
 use Rattle.constraint_tree.specs.Walks.{is_in_force}
 use Rattle.constraint_tree.proofs.WalkLemmas.{passing_item, some_item_passes, tells_in_force}
-use Rattle.idset.specs.Sets.{has_item, listed_numbers}
-use Rattle.idset.proofs.Normal.{numbers_where-agree}
-use Rattle.snapshot.specs.Numbering.{row_of_numbers}
-use Rattle.snapshot.specs.Search.{IsWithin}
-use Rattle.ancestor_index.proofs.ClosureLemmas.{both_ways, there_where, where_there}
+use Rattle.idset.specs.Sets.{has_item, listed_numbers, numbers_where}
+use Rattle.idset.proofs.Normal.{has_item-numbers_where, numbers_where-agree}
+use Rattle.snapshot.specs.KeyedLists.{list_of}
+use Rattle.ancestor_index.specs.HierarchyLists.{is_child}
+use Rattle.ancestor_index.proofs.ClosureLemmas.{both_ways, list_of-where, there_where, where_there}
+use Rattle.postings.specs.Indexed.{members_of}
 use Rattle.executor.specs.Members.{components_of}
 use Rattle.executor.specs.Numbers.{numbers_in}
 use Rattle.executor.specs.Tested.{is_one_of}
-use Rattle.executor.proofs.Normal.{in_force_kept, numbers_in-agree, same_by_number}
+use Rattle.executor.proofs.JoinedLemmas.{any_append}
+use Rattle.executor.proofs.Normal.{in_force_kept, numbers_in-agree}
 
 -- where tests agree on the items of a list, so they do on whether some item passes
 pub any_agree : {X : Type 0} (xs : List X) (p q : X → Bool) (d : X) → ((k : ℕ) → k < length xs → p (get_or xs k d) ≡ q (get_or xs k d)) → list_any p xs ≡ list_any q xs
@@ -29,71 +30,83 @@ pub any_map : {X Y : Type 0} (f : X → Y) (test : Y → Bool) (xs : List X) →
 any_map f test [] = refl
 any_map f test (x ∷ xs) = ap (λ (b : Bool). test (f x) || b) (any_map f test xs)
 
--- a number among the components of the rows that pass
-kept_component : (test : ℕ → Bool) (rows : List (ℕ × ℕ)) (n : ℕ)
-    → has_item (map (λ (row : ℕ × ℕ). row.1) (filter (λ (row : ℕ × ℕ). test row.0) rows)) n ≡ list_any (λ (row : ℕ × ℕ). test row.0 && (row.1 == n)) rows
-kept_component test [] n = refl
-kept_component test (row ∷ rows) n = by_case (test row.0) ∙ ap (λ (b : Bool). (test row.0 && (row.1 == n)) || b) (kept_component test rows n)
+-- ---- the components of some reference sets, and those of the member rows
+any_or : {X : Type 0} (f g : X → Bool) (xs : List X) → list_any (λ x. f x || g x) xs ≡ (list_any f xs || list_any g xs)
+any_or f g [] = refl
+any_or f g (x ∷ xs) = ap (λ (b : Bool). (f x || g x) || b) (any_or f g xs) ∙ shuffled (f x) (g x) (list_any f xs) (list_any g xs)
   where
-    kept : List (ℕ × ℕ)
-    kept = filter (λ (other : ℕ × ℕ). test other.0) rows
+    behind : (b c d : Bool) → (b || (c || d)) ≡ (c || (b || d))
+    behind true true d = refl
+    behind true false d = refl
+    behind false c d = refl
 
-    by_case : (b : Bool) → has_item (map (λ (other : ℕ × ℕ). other.1) (cond b (row ∷ kept) kept)) n ≡ ((b && (row.1 == n)) || has_item (map (λ (other : ℕ × ℕ). other.1) kept) n)
-    by_case true = refl
-    by_case false = refl
+    shuffled : (a b c d : Bool) → ((a || b) || (c || d)) ≡ ((a || c) || (b || d))
+    shuffled true b c d = refl
+    shuffled false b c d = behind b c d
 
--- one row more
-component_here : (test : ℕ → Bool) (rows : List (ℕ × ℕ)) (k : ℕ) → k < length rows
-    → map (λ (row : ℕ × ℕ). row.1) (filter (λ (row : ℕ × ℕ). test row.0) (take (suc k) rows))
-    ≡ map (λ (row : ℕ × ℕ). row.1) (filter (λ (row : ℕ × ℕ). test row.0) (take k rows)) ++ cond (test (get_or rows k (0, 0)).0) ((get_or rows k (0, 0)).1 ∷ []) []
-component_here test [] k within = absurd (omega (arith, within))
-component_here test (row ∷ rows) zero within =
-    elim (test row.0) as (λ b. map (λ (other : ℕ × ℕ). other.1) (cond b (row ∷ []) []) ≡ cond b (row.1 ∷ []) []) [ true ↦ refl | false ↦ refl ]
-component_here test (row ∷ rows) (suc k) within =
-    let kept : List (ℕ × ℕ) → List (ℕ × ℕ) = filter (λ (other : ℕ × ℕ). test other.0) in
-    let second : List (ℕ × ℕ) → List ℕ = map (λ (other : ℕ × ℕ). other.1) in
-    let rest : second (kept (take (suc k) rows)) ≡ second (kept (take k rows)) ++ cond (test (get_or rows k (0, 0)).0) ((get_or rows k (0, 0)).1 ∷ []) [] = component_here test rows k (omega (arith, within)) in
-    elim (test row.0) as (λ b. second (cond b (row ∷ kept (take (suc k) rows)) (kept (take (suc k) rows))) ≡ second (cond b (row ∷ kept (take k rows)) (kept (take k rows))) ++ cond (test (get_or rows k (0, 0)).0) ((get_or rows k (0, 0)).1 ∷ []) []) [
-      | true ↦ ap (λ (xs : List ℕ). row.1 ∷ xs) rest
-      | false ↦ rest
-    ]
+any_none : {X : Type 0} (xs : List X) → list_any (λ x. false) xs ≡ false
+any_none [] = refl
+any_none (x ∷ xs) = any_none xs
 
-next_place : (k : ℕ) → suc k ≡ k + 1
-next_place k = omega arith
+-- some row leads from some reference set exactly where some reference set has such a row
+any_exchanged : (id : ℕ → ℕ) (refsets : List ℕ) (rows : List (ℕ × ℕ)) (x : ℕ)
+    → list_any (λ refset. is_child rows (id refset) x) refsets ≡ list_any (λ row. list_any (λ refset. id refset == row.0) refsets && (row.1 == x)) rows
+any_exchanged id [] rows x = sym (any_none rows)
+any_exchanged id (refset ∷ refsets) rows x =
+    ap (λ (b : Bool). is_child rows (id refset) x || b) (any_exchanged id refsets rows x)
+    ∙ sym (any_or (λ row. (row.0 == id refset) && (row.1 == x)) (λ row. list_any (λ other. id other == row.0) refsets && (row.1 == x)) rows)
+    ∙ any_agree rows _ _ (0, 0) (λ k there. both (get_or rows k (0, 0)).0 (id refset) (list_any (λ other. id other == (get_or rows k (0, 0)).0) refsets) ((get_or rows k (0, 0)).1 == x))
+  where
+    turned : (a b : ℕ) → (a == b) ≡ (b == a)
+    turned a b = both_ways (a == b) (b == a) (λ told. eq-eqb b a (sym (eqb-true a b told))) (λ told. eq-eqb a b (sym (eqb-true b a told)))
 
-pub component_more : (test : ℕ → Bool) (rows : List (ℕ × ℕ)) (k : ℕ) → k < length rows → test (get_or rows k (0, 0)).0 ≡ true
-    → map (λ (row : ℕ × ℕ). row.1) (filter (λ (row : ℕ × ℕ). test row.0) (take k rows)) ++ (get_or rows k (0, 0)).1 ∷ []
-    ≡ map (λ (row : ℕ × ℕ). row.1) (filter (λ (row : ℕ × ℕ). test row.0) (take (k + 1) rows))
-component_more test rows k within passes =
-    (λ i. map (λ (row : ℕ × ℕ). row.1) (filter (λ (row : ℕ × ℕ). test row.0) (take k rows)) ++ cond (sym passes i) ((get_or rows k (0, 0)).1 ∷ []) [])
-    ∙ sym (component_here test rows k within)
-    ∙ ap (λ (m : ℕ). map (λ (row : ℕ × ℕ). row.1) (filter (λ (row : ℕ × ℕ). test row.0) (take m rows))) (next_place k)
+    shared : (a b c : Bool) → ((a && c) || (b && c)) ≡ ((a || b) && c)
+    shared true true true = refl
+    shared true true false = refl
+    shared true false true = refl
+    shared true false false = refl
+    shared false b c = refl
 
-pub component_same : (test : ℕ → Bool) (rows : List (ℕ × ℕ)) (k : ℕ) → k < length rows → test (get_or rows k (0, 0)).0 ≡ false
-    → map (λ (row : ℕ × ℕ). row.1) (filter (λ (row : ℕ × ℕ). test row.0) (take k rows))
-    ≡ map (λ (row : ℕ × ℕ). row.1) (filter (λ (row : ℕ × ℕ). test row.0) (take (k + 1) rows))
-component_same test rows k within fails =
-    sym (append-nil (map (λ (row : ℕ × ℕ). row.1) (filter (λ (row : ℕ × ℕ). test row.0) (take k rows))))
-    ∙ (λ i. map (λ (row : ℕ × ℕ). row.1) (filter (λ (row : ℕ × ℕ). test row.0) (take k rows)) ++ cond (sym fails i) ((get_or rows k (0, 0)).1 ∷ []) [])
-    ∙ sym (component_here test rows k within)
-    ∙ ap (λ (m : ℕ). map (λ (row : ℕ × ℕ). row.1) (filter (λ (row : ℕ × ℕ). test row.0) (take m rows))) (next_place k)
+    both : (from to : ℕ) (some here : Bool) → (((from == to) && here) || (some && here)) ≡ (((to == from) || some) && here)
+    both from to some here = shared (from == to) some here ∙ ap (λ (b : Bool). (b || some) && here) (turned from to)
 
--- the numbers of the components are those of the release's member rows
-pub listed_components : (release : Release) (rows : List (ℕ × ℕ)) (items : List ℕ) → IsStrictlyIncreasing release.concepts
-    → map (row_of_numbers release.concepts) rows ≡ release.members → IsWithin (length release.concepts) rows → All (λ item. item < length release.concepts) items
-    → listed_numbers (length release.concepts) (map (λ (row : ℕ × ℕ). row.1) (filter (λ (row : ℕ × ℕ). has_item items row.0) rows)) ≡ components_of release items
-listed_components release rows items rising are within below =
+item_joined : (lists : List (List ℕ)) (concepts : List ℕ) (n : ℕ)
+    → has_item (flat_map (list_of lists) concepts) n ≡ list_any (λ concept. has_item (list_of lists concept) n) concepts
+item_joined lists [] n = refl
+item_joined lists (concept ∷ concepts) n =
+    any_append (λ item. item == n) (list_of lists concept) (flat_map (list_of lists) concepts)
+    ∙ ap (λ (b : Bool). has_item (list_of lists concept) n || b) (item_joined lists concepts n)
+
+-- whether a concept has a member row to another, by their numbers
+abbrev is_member : Release → ℕ → ℕ → Bool
+is_member release refset component = is_child release.members (get_or release.concepts refset 0) (get_or release.concepts component 0)
+
+member_told : (release : Release) (refset n : ℕ) → refset < length release.concepts → n < length release.concepts
+    → has_item (list_of (members_of release) refset) n ≡ is_member release refset n
+member_told release refset n below inside =
+    ap (λ (xs : List ℕ). has_item xs n) (list_of-where (length release.concepts) (is_member release) refset below)
+    ∙ has_item-numbers_where (length release.concepts) (is_member release refset) n inside
+
+pub members_listed : (release : Release) (items : List ℕ) → All (λ item. item < length release.concepts) items
+    → listed_numbers (length release.concepts) (flat_map (list_of (members_of release)) items) ≡ components_of release items
+members_listed release items below =
     numbers_where-agree (length release.concepts) _ _
     (λ n inside.
-    kept_component (has_item items) rows n
-    ∙ any_agree rows _ _ (0, 0) (λ k there i. sym (by_refset k there) i && sym (same_by_number release.concepts rising (get_or rows k (0, 0)).1 n (within k (0, 0) there).1 inside) i)
-    ∙ sym (any_map (row_of_numbers release.concepts) (λ row. list_any (λ refset. get_or release.concepts refset 0 == row.0) items && (row.1 == get_or release.concepts n 0)) rows)
-    ∙ ap (list_any (λ (row : ℕ × ℕ). list_any (λ refset. get_or release.concepts refset 0 == row.0) items && (row.1 == get_or release.concepts n 0))) are)
-  where
-    by_refset : (k : ℕ) → k < length rows
-        → list_any (λ refset. get_or release.concepts refset 0 == get_or release.concepts (get_or rows k (0, 0)).0 0) items ≡ has_item items (get_or rows k (0, 0)).0
-    by_refset k there = any_agree items _ _ 0
-        (λ j at. same_by_number release.concepts rising (get_or items j 0) (get_or rows k (0, 0)).0 (below j 0 at) (within k (0, 0) there).0)
+    item_joined (members_of release) items n
+    ∙ any_agree items _ _ 0 (λ k there. member_told release (get_or items k 0) n (below k 0 there) inside)
+    ∙ any_exchanged (λ refset. get_or release.concepts refset 0) items release.members (get_or release.concepts n 0))
+
+-- and they are numbers of concepts
+pub members_below : (release : Release) (items : List ℕ) → All (λ item. item < length release.concepts) items
+    → All (λ number. number < length release.concepts) (flat_map (list_of (members_of release)) items)
+members_below release [] below = All-nil (λ number. number < length release.concepts)
+members_below release (item ∷ items) below =
+    All-append (λ number. number < length release.concepts) (list_of (members_of release) item) (flat_map (list_of (members_of release)) items)
+    (subst (All (λ number. number < length release.concepts)) (sym (list_of-where (length release.concepts) (is_member release) item (below 0 0 (omega arith))))
+    (λ k d within.
+    let list : List ℕ = numbers_where (length release.concepts) (is_member release item) in
+    (there_where (length release.concepts) (is_member release item) (get_or list k d) (k, within, get_or_default list k (get_or list k d) d within)).0))
+    (members_below release items (All-tail (λ item. item < length release.concepts) item items below))
 
 -- a concept is one of those in a set where it is in it
 pub one_of_set : (release : Release) (set : ℕ → Bool) (items : List ℕ) → items ≡ numbers_in release set → ((concept : ℕ) → set concept ≡ true → is_in_force release concept ≡ true)
@@ -124,10 +137,3 @@ components_in release set items is forced =
     (λ concept. list_any (λ (row : ℕ × ℕ). set row.0 && (row.1 == concept)) release.members)
     (λ n within. any_agree release.members _ _ (0, 0) (λ k there i. one_of_set release set items is forced (get_or release.members k (0, 0)).0 i && ((get_or release.members k (0, 0)).1 == get_or release.concepts n 0)))
     ∙ in_force_kept release (λ concept. list_any (λ (row : ℕ × ℕ). set row.0 && (row.1 == concept)) release.members)
-
--- the components are numbers of concepts
-pub components_below : (count : ℕ) (test : ℕ → Bool) (rows : List (ℕ × ℕ)) → IsWithin count rows
-    → All (λ number. number < count) (map (λ (row : ℕ × ℕ). row.1) (filter (λ (row : ℕ × ℕ). test row.0) rows))
-components_below count test rows within =
-    All-map (λ number. number < count) (λ (row : ℕ × ℕ). row.1) (filter (λ (row : ℕ × ℕ). test row.0) rows)
-    (All-filter (λ (row : ℕ × ℕ). test row.0) (λ (row : ℕ × ℕ). row.1 < count) rows (λ k d there. (within k d there).1))

@@ -37,8 +37,8 @@ pub fn with_pairs<S: ConceptSet>(
         → S.items_of found ≡ numbers_in snapshot.now.release (λ concept. has_pairs count (is_one_of indexes.now.concepts (S.items_of types.now)) passes (out_pairs snapshot.now.release concept))) }
     ensures bound { IfOk result (λ found. S.bound_of found ≡ length snapshot.now.release.concepts) }
 {
-    let ids = types_in(alloc, indexes, types)?;
-    let hits = concept_hits(alloc, indexes, ids.as_slice(), passing)?;
+    let types = types_in(alloc, indexes, types)?;
+    let hits = concept_hits(alloc, indexes, &types, passing)?;
     as_often(alloc, hits.as_slice(), snapshot.concept_count(), count)
 }
 
@@ -60,8 +60,8 @@ pub fn with_pairs_back<S: ConceptSet>(
 {
     // all attribute rows are by source, so their sources are in force
     snapshot.attribute_count();
-    let ids = types_in(alloc, indexes, types)?;
-    let hits = value_hits(alloc, indexes, ids.as_slice(), passing)?;
+    let types = types_in(alloc, indexes, types)?;
+    let hits = value_hits(alloc, indexes, types.ids.as_slice(), passing)?;
     as_often(alloc, hits.as_slice(), snapshot.concept_count(), count)
 }
 
@@ -126,7 +126,7 @@ pub fn groups_with_pairs<S: ConceptSet>(
     ensures bound { IfOk result (λ found. S.bound_of found ≡ length (all_groups snapshot.now.release)) }
 {
     snapshot.concept_count();
-    let ids = types_in(alloc, indexes, types)?;
-    let hits = group_hits(alloc, indexes, ids.as_slice(), passing)?;
+    let types = types_in(alloc, indexes, types)?;
+    let hits = group_hits(alloc, indexes, &types, passing)?;
     as_often(alloc, hits.as_slice(), indexes.group_count(), count)
 }

@@ -4,6 +4,7 @@
 //! function for each kind of node, over the sets of the node's parts and the lists of the index.
 #![tactic(auto)]
 
+mod choice;
 mod counts;
 mod family;
 mod hits;

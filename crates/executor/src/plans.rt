@@ -57,7 +57,7 @@ pub fn execute<S: ConceptSet>(
         }
         ConceptPlan::Members(operand) => {
             let from: S = execute(alloc, operand, snapshot, indexes)?;
-            let found = members(alloc, snapshot, &from)?;
+            let found = members(alloc, snapshot, indexes, &from)?;
             Ok(found)
         }
         ConceptPlan::And(parts) => {

@@ -1,10 +1,14 @@
 //! The components of reference sets.
-ghost use Rattle.std.specs.Prelude.{ℕ, ◌≡◌, IfOk, List, filter, length, map};
+ghost use Rattle.std.specs.Prelude.{ℕ, ◌≡◌, ◌<◌, All, IfOk, length};
+ghost use Rattle.std.specs.List.{flat_map};
 ghost use Rattle.idset.specs.Sets.{has_item};
 ghost use Rattle.idset.specs.Words.{is_set};
+ghost use Rattle.snapshot.specs.KeyedLists.{list_of};
+ghost use Rattle.postings.specs.Indexed.{IsIndexOf};
 ghost use Rattle.executor.specs.Members.{components_of};
 
-use idset::{ConceptSet, is_marked, marks_of};
+use idset::{ConceptSet, marks_of};
+use postings::Indexes;
 use snapshot::Snapshot;
 use std::alloc::{AllocError, Global};
 
@@ -13,15 +17,17 @@ use std::alloc::{AllocError, Global};
 pub fn members<S: ConceptSet>(
     alloc: Global,
     snapshot: &Snapshot,
+    indexes: &Indexes,
     refsets: &S,
 ) -> Result<S, AllocError>
+    requires index { IsIndexOf indexes.now snapshot.now.release }
     requires bound { S.bound_of refsets.now ≡ length snapshot.now.release.concepts }
     ensures items { IfOk result (λ found. S.items_of found ≡ components_of snapshot.now.release (S.items_of refsets.now)) }
     ensures bound { IfOk result (λ found. S.bound_of found ≡ length snapshot.now.release.concepts) }
 {
-    let marks = marks_in(alloc, refsets)?;
-    let numbers = components(alloc, snapshot.member_rows(), marks.as_slice())?;
-    S::from_numbers(alloc, numbers.as_slice(), snapshot.concept_count())
+    let numbers = refsets.items(alloc)?;
+    let found = components(alloc, indexes, numbers.as_slice())?;
+    S::from_numbers(alloc, found.as_slice(), snapshot.concept_count())
 }
 
 /// A bit for each number, which is set where the set has the number.
@@ -32,16 +38,14 @@ pub fn marks_in<S: ConceptSet>(alloc: Global, set: &S) -> Result<Vec<u64>, Alloc
     marks_of(alloc, items.as_slice(), set.bound())
 }
 
-// The components of the rows whose reference set is marked.
-fn components(alloc: Global, rows: &[(u32, u32)], marks: &[u64]) -> Result<Vec<u32>, AllocError>
-    ensures { IfOk result (λ found. (refsets : List ℕ) → ((number : ℕ) → is_set marks.now number ≡ has_item refsets number)
-        → found.items ≡ map (λ row. row.1) (filter (λ row. has_item refsets row.0) rows.now)) }
+// The components of some reference sets, one set behind the other.
+fn components(alloc: Global, indexes: &Indexes, refsets: &[u32]) -> Result<Vec<u32>, AllocError>
+    requires { All (λ refset. refset < length indexes.now.concepts) refsets.now }
+    ensures { IfOk result (λ found. found.items ≡ flat_map (list_of indexes.now.members) refsets.now) }
 {
     let mut found = Vec::new(alloc);
-    for (refset, component) in rows {
-        if is_marked(marks, *refset) {
-            found.push(*component)?;
-        }
+    for refset in refsets {
+        found.extend_from_slice(indexes.members(*refset))?;
     }
     Ok(found)
 }

@@ -1,29 +1,44 @@
 //! The types of attribute rows that are in a set.
-ghost use Rattle.std.specs.Prelude.{◌≡◌, IfOk, filter, length};
-ghost use Rattle.postings.specs.Indexed.{types_of};
+ghost use Rattle.std.specs.Prelude.{◌≡◌, IfOk, length};
+ghost use Rattle.executor.specs.Hits.{AreTypesIn};
 ghost use Rattle.executor.specs.Tested.{is_one_of};
 
-use idset::ConceptSet;
+use idset::{ConceptSet, marks_of};
 use postings::Indexes;
 use std::alloc::{AllocError, Global};
 
-/// The types of rows that are in a set, each once.
+/// The types of rows that are in a set.
+#[derive(Drop, Debug)]
+pub struct TypesIn {
+    /// Their identifiers, each once.
+    pub ids: Vec<u64>,
+    /// Words of bits: of each type of a row, by its place among the types of all rows, whether it is in the set.
+    pub places: Vec<u64>,
+}
+
+/// The types of rows that are in a set.
 pub fn types_in<S: ConceptSet>(
     alloc: Global,
     indexes: &Indexes,
     set: &S,
-) -> Result<Vec<u64>, AllocError>
+) -> Result<TypesIn, AllocError>
     requires { S.bound_of set.now ≡ length indexes.now.concepts }
-    ensures { IfOk result (λ ids. ids.items ≡ filter (is_one_of indexes.now.concepts (S.items_of set.now)) (types_of indexes.now.rows)) }
+    ensures { IfOk result (AreTypesIn indexes.now.rows (is_one_of indexes.now.concepts (S.items_of set.now))) }
 {
+    // there are no more types than rows, so 32 bits hold the place of each
+    indexes.row_count();
     let types = indexes.types();
     let mut ids = Vec::new(alloc);
-    for id in types {
-        if is_in(indexes, id.number(), set) {
-            ids.push(id.number())?;
+    let mut places = Vec::new(alloc);
+    for place in 0..types.len() {
+        let id = types[place].number();
+        if is_in(indexes, id, set) {
+            ids.push(id)?;
+            places.push(place as u32)?;
         }
     }
-    Ok(ids)
+    let places = marks_of(alloc, places.as_slice(), types.len() as u32)?;
+    Ok(TypesIn { ids, places })
 }
 
 // Whether a concept is in a set.

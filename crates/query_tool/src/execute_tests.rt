@@ -97,6 +97,20 @@ fn assert_executed(
     Ok(())
 }
 
+// Queries over a loaded release, each by its numbers of concepts.
+fn assert_rows(
+    rt: &impl Abort,
+    alloc: Global,
+    snapshot: &Snapshot,
+    rows: &[(&[u8], &[u32])],
+) -> Result<(), AllocError> {
+    let indexes = Indexes::build(alloc, snapshot)?;
+    for (line, want) in rows {
+        assert_executed(rt, alloc, snapshot, &indexes, line, want)?;
+    }
+    Ok(())
+}
+
 // Queries over a release, each by its numbers of concepts.
 fn assert_all_executed(
     rt: &impl Abort,
@@ -104,18 +118,13 @@ fn assert_all_executed(
     files: &[NamedBytes<'_>],
     rows: &[(&[u8], &[u32])],
 ) -> Result<(), AllocError> {
-    let snapshot = match Snapshot::load(alloc, files, "en", Limits::standard()) {
-        Ok(snapshot) => snapshot,
+    match Snapshot::load(alloc, files, "en", Limits::standard()) {
+        Ok(snapshot) => assert_rows(rt, alloc, &snapshot, rows),
         Err(fault) => {
             assert!(rt; fault == LoadFault::Memory, "the release loads");
-            return Err(AllocError);
+            Err(AllocError)
         }
-    };
-    let indexes = Indexes::build(alloc, &snapshot)?;
-    for (line, want) in rows {
-        assert_executed(rt, alloc, &snapshot, &indexes, line, want)?;
     }
-    Ok(())
 }
 
 fn assert_sample(rt: &impl Abort, alloc: Global) -> Result<(), AllocError> {

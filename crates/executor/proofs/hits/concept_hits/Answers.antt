@@ -1,36 +1,40 @@
-use Rattle.std.proofs.Common.{ℕ, ◌<◌, All, List, [], length, sym, subst, arith}
-use Rattle.std.proofs.lemmas.List.{take_all}
-use Rattle.executor.specs.Hits.{AreHits, counts_for_source, entries_with_types}
-use Rattle.executor.proofs.HitLemmas.{marks_below, pushed_below, hits_pushed, no_hits, source_hits}
+use Rattle.std.proofs.Common.{ℕ, ◌<◌, ◌==◌, All, List, length, IfSome, Option, Vec, subst, sym, get_or}
+use Rattle.std.proofs.lemmas.Result.{IfOk-weaker}
+use Rattle.postings.specs.Entries.{Entry}
+use Rattle.executor.specs.Hits.{AreAllThatPass, AreHits, TellsTypes, HaveNumberedValues, counts_for_source, entries_with_types, entries_with_values}
+use Rattle.executor.proofs.ChoiceLemmas.{hits_by_type, hits_by_value}
+use Rattle.executor.proofs.JoinedLemmas.{all_below}
 use Rattle.executor.proofs.hits.concept_hits.Goals as goal
 
-pub loop-id-init : goal.loop-id-init
-loop-id-init c = record {
-  within = subst (All (λ number. number < length c.args.indexes.now.concepts)) (sym c.new-hits.ensures.items) (λ k d within. absurd (omega (arith, within)));
-  hits = λ passes tells.
-      subst (AreHits (length c.args.indexes.now.concepts) (counts_for_source c.args.indexes.now.concepts passes) [])
-      (sym c.new-hits.ensures.items)
-      (no_hits (length c.args.indexes.now.concepts) (counts_for_source c.args.indexes.now.concepts passes));
-}
+pub sources_by_value-requires : goal.sources_by_value-requires
+sources_by_value-requires c =
+    subst (All (λ number. number < length c.args.indexes.now.concepts)) (sym c.as_slice-in-Some.ensures.value)
+    (all_below (length c.args.indexes.now.concepts) c.in-Some.values.items (subst (λ (few : Option (Vec ℕ _)). IfSome few (λ values. AreAllThatPass c.args.indexes.now c.args.passing.now values.items)) c.in-Some.is c.in_ok-few.ensures).rising)
 
-pub loop-id-preserved : goal.loop-id-preserved
-loop-id-preserved c = record {
-  within = pushed_below (length c.args.indexes.now.concepts) c.loop-id.hits.items c.push_marked.new.hits.items _ c.in_ok-push_marked.ensures c.loop-id.invariant.within
-      (marks_below _ (length c.args.indexes.now.concepts) c.type_columns-columns.result.sources.now c.type_columns-columns.result.values.now c.type_columns-columns.ensures.sources.within);
-  hits = λ passes tells.
-      let indexed = c.args.indexes.now in
-      let columns = c.type_columns-columns in
-      hits_pushed (length indexed.concepts) (counts_for_source indexed.concepts passes) indexed.rows c.args.ids.now c.loop-id.id-index
-      c.loop-id.hits.items c.push_marked.new.hits.items _ c.loop-id-test.true c.in_ok-push_marked.ensures (c.loop-id.invariant.hits passes tells)
-      (source_hits indexed passes c.args.passing.now tells c.concept_count.ensures.rising _ columns.result.sources.now
-      columns.result.values.now columns.ensures.values columns.ensures.sources);
-}
+pub returns-in-Some-clause-hits : goal.returns-in-Some-clause-hits
+returns-in-Some-clause-hits c =
+    let indexed = c.args.indexes.now in
+    IfOk-weaker c.sources_by_value.result _ _
+    (λ hits are one passes types tells.
+    hits_by_value (length indexed.concepts) (λ number (entry : Entry). entry.row.source == get_or indexed.concepts number 0) (λ (entry : Entry). entry.is_first)
+    indexed one passes c.args.types.now.ids.items types.ids hits.items
+    c.args.passing.now c.in-Some.values.items tells
+    (subst (λ (few : Option (Vec ℕ _)). IfSome few (λ values. AreAllThatPass c.args.indexes.now c.args.passing.now values.items)) c.in-Some.is c.in_ok-few.ensures)
+    (subst (HaveNumberedValues indexed) c.as_slice.ensures.value c.rows_of_types-rows.ensures)
+    c.concept_count.ensures.rising
+    (subst (λ (values : List ℕ). AreHits (length indexed.concepts) (counts_for_source indexed.concepts (λ row. one row.type_id)) (entries_with_values indexed values) hits.items)
+    c.as_slice-in-Some.ensures.value
+    (are one (subst (TellsTypes indexed.rows one) (sym c.as_slice-in-Some-2.ensures.value) types.places))))
+    c.sources_by_value.ensures.hits
 
-pub returns-clause-within : goal.returns-clause-within
-returns-clause-within c = c.loop-id.invariant.within
-
-pub returns-clause-hits : goal.returns-clause-hits
-returns-clause-hits c = λ passes tells.
-    subst (λ (ids : List ℕ). AreHits (length c.args.indexes.now.concepts) (counts_for_source c.args.indexes.now.concepts passes)
-    (entries_with_types c.args.indexes.now.rows ids) c.loop-id.hits.items)
-    (take_all c.loop-id.id-index c.args.ids.now (omega arith)) (c.loop-id.invariant.hits passes tells)
+pub returns-in-None-clause-hits : goal.returns-in-None-clause-hits
+returns-in-None-clause-hits c =
+    let indexed = c.args.indexes.now in
+    IfOk-weaker c.sources_by_type.result _ _
+    (λ hits are one passes types tells.
+    hits_by_type (length indexed.concepts) (λ number (entry : Entry). entry.row.source == get_or indexed.concepts number 0) (λ (entry : Entry). entry.is_first)
+    indexed one passes c.args.types.now.ids.items types.ids hits.items
+    (subst (λ (ids : List ℕ). AreHits (length indexed.concepts) (counts_for_source indexed.concepts (λ row. passes row.value)) (entries_with_types indexed.rows ids) hits.items)
+    c.as_slice-in-None.ensures.value
+    (are passes tells)))
+    c.sources_by_type.ensures.hits

@@ -1,5 +1,6 @@
 use Rattle.std.proofs.Common.{ℕ, ◌<◌, All, List, [], length, sym, subst, arith}
 use Rattle.std.proofs.lemmas.List.{take_all}
+use Rattle.postings.specs.Entries.{entries_with_type}
 use Rattle.executor.specs.Hits.{AreHits, counts_for_value, entries_with_types}
 use Rattle.executor.proofs.HitLemmas.{cells_below, pushed_below, backward_hits, hits_pushed, no_hits}
 use Rattle.executor.proofs.hits.value_hits.Goals as goal
@@ -22,8 +23,9 @@ loop-id-preserved c = record {
   hits = λ passes tells.
       let indexed = c.args.indexes.now in
       let columns = c.type_columns-columns in
-      hits_pushed (length indexed.concepts) (counts_for_value indexed.concepts passes) indexed.rows c.args.ids.now c.loop-id.id-index
-      c.loop-id.hits.items c.push_cells.new.hits.items _ c.loop-id-test.true c.in_ok-push_cells.ensures (c.loop-id.invariant.hits passes tells)
+      hits_pushed (entries_with_type indexed.rows) c.args.ids.now c.loop-id.id-index c.loop-id-test.true
+      (length indexed.concepts) (counts_for_value indexed.concepts passes)
+      c.loop-id.hits.items c.push_cells.new.hits.items _ c.in_ok-push_cells.ensures (c.loop-id.invariant.hits passes tells)
       (backward_hits indexed passes c.args.passing.now tells c.concept_count-bound.ensures.rising _ columns.result.sources.now
       columns.result.values.now columns.ensures.values columns.ensures.sources c.concept_count-bound.result c.concept_count-bound.ensures.count);
 }

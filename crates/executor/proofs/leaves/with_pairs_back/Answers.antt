@@ -13,7 +13,7 @@ returns-clause-items g c =
     let release = c.args.snapshot.now.release in
     let indexed = c.args.indexes.now in
     let one : ℕ → Bool = is_one_of indexed.concepts (g.S.ConceptSet.items_of c.args.types.now) in
-    let ids_are : c.as_slice.result.now ≡ filter one (types_of indexed.rows) = c.as_slice.ensures.value ∙ c.in_ok-ids.ensures in
+    let ids_are : c.as_slice.result.now ≡ filter one (types_of indexed.rows) = c.as_slice.ensures.value ∙ c.in_ok-types.ensures.ids in
     IfOk-weaker c.as_often.result _ _
     (λ found found_is passes tells.
     values_found indexed release c.requires.index c.concept_count.ensures.rising one passes

@@ -1,10 +1,8 @@
-use Rattle.std.proofs.Common.{ℕ, ◌≡◌, List, map, take}
-use Rattle.std.specs.Prelude.{filter}
-use Rattle.idset.specs.Sets.{has_item}
-use Rattle.idset.specs.Words.{is_set}
+use Rattle.std.proofs.Common.{◌≡◌, take}
+use Rattle.std.specs.List.{flat_map}
+use Rattle.snapshot.specs.KeyedLists.{list_of}
 use Rattle.executor.proofs.reference_sets.components.Given as goal
 
+-- the components of the reference sets so far
 abbrev pub invariant-loop-refset : goal.invariant-loop-refset
-invariant-loop-refset l =
-    (refsets : List ℕ) → ((number : ℕ) → is_set l.marks number ≡ has_item refsets number)
-    → l.found.items ≡ map (λ (row : ℕ × ℕ). row.1) (filter (λ (row : ℕ × ℕ). has_item refsets row.0) (take l.refset-index l.rows))
+invariant-loop-refset l = l.found.items ≡ flat_map (list_of l.indexes.members) (take l.refset-index l.refsets)

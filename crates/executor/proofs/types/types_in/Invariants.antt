@@ -1,8 +1,12 @@
-use Rattle.std.proofs.Common.{◌≡◌, take}
+use Rattle.std.proofs.Common.{◌≡◌, get_or, take}
 use Rattle.std.specs.Prelude.{filter}
+use Rattle.idset.specs.Sets.{numbers_where}
 use Rattle.executor.specs.Tested.{is_one_of}
 use Rattle.executor.proofs.types.types_in.Given as goal
 
-abbrev pub invariant-loop-id : goal.invariant-loop-id
-invariant-loop-id g l =
-    l.ids.items ≡ filter (is_one_of l.indexes.concepts (g.S.ConceptSet.items_of l.set)) (take l.id-index l.types)
+-- those among the types so far
+abbrev pub invariant-loop-place : goal.invariant-loop-place
+invariant-loop-place g l = record {
+  ids : l.ids.items ≡ filter (is_one_of l.indexes.concepts (g.S.ConceptSet.items_of l.set)) (take l.place l.types);
+  places : l.places.items ≡ numbers_where l.place (λ place. is_one_of l.indexes.concepts (g.S.ConceptSet.items_of l.set) (get_or l.types place 0));
+}
