@@ -1,3 +1,4 @@
 pub mod AnswerText
 pub mod LoadRefusal
 pub mod Prefix
+pub mod ReportText

@@ -1,4 +1,4 @@
--- The line that tells why a list of files was refused.
+-- The line that tells why a list of files was refused, or can't be had.
 use Rattle.std.specs.Prelude.{ℕ, ◌++◌, List, [], ◌∷◌, codes, decimal, slice_index_or}
 use Rattle.std.specs.List.{flat_map}
 use Rattle.sctid.specs.declared.IdFault.{IdFault}
@@ -43,3 +43,11 @@ refusal_words names Memory = codes "memory" ∷ []
 
 abbrev pub load_refusal : List (List ℕ) → LoadFault → List ℕ
 load_refusal names fault = refused_line (refusal_words names fault)
+
+-- the line of a folder that can't be listed
+abbrev pub listing_refusal : List ℕ
+listing_refusal = refused_line (codes "device" ∷ [])
+
+-- the line of a file that can't be read, by its name
+abbrev pub device_refusal : List ℕ → List ℕ
+device_refusal name = refused_line (codes "device" ∷ name ∷ [])

@@ -1,5 +1,5 @@
-//! The text that the program writes: the answer to a query, and the lines that refuse a query or a
-//! release.
+//! The text that the program writes: the answer to a query, the report of a release, and the lines that
+//! refuse a query, a release or the files of one.
 //!
 //! Each printer appends to a vector. Where memory is refused it answers `AllocError`, and the vector
 //! is unchanged. `specs/` says which bytes are appended.
@@ -9,9 +9,11 @@ mod answer;
 mod load_refusal;
 mod numbers;
 mod query_refusal;
+mod report;
 #[cfg(test)]
 mod tests;
 
 pub use crate::answer::print_answer;
-pub use crate::load_refusal::{file_line, print_load_fault};
+pub use crate::load_refusal::{listing_line, print_device_fault, print_load_fault};
 pub use crate::query_refusal::print_fault;
+pub use crate::report::print_report;

@@ -1,6 +1,6 @@
-//! The line on standard error that tells why a release was refused.
+//! The line on standard error that tells why a release was refused, or why its files can't be had.
 ghost use Rattle.std.specs.Prelude.{◌≡◌, ◌++◌, ◌∷◌, [], codes, decimal, OnErr, OnOk, IfOk, slice_index_or};
-ghost use Rattle.answer_printer.specs.LoadRefusal.{cause_word as word_of_cause, id_word as word_of_id, load_refusal, refused_line};
+ghost use Rattle.answer_printer.specs.LoadRefusal.{cause_word as word_of_cause, device_refusal, id_word as word_of_id, listing_refusal, load_refusal, refused_line};
 ghost use Rattle.rf2_rows.specs.Parts.{texts_of};
 
 use rf2_rows::{RowCause, RowFault};
@@ -24,6 +24,23 @@ pub fn print_load_fault(
 {
     let line = refusal_line(alloc, fault, names)?;
     output.extend_from_slice(line.as_slice())
+}
+
+/// Appends the line that tells that a file can't be read: `REFUSED device` and its name. `AllocError` is
+/// answered where memory is refused; `output` is unchanged then.
+pub fn print_device_fault(alloc: Global, name: &str, output: &mut Vec<u8>) -> Result<(), AllocError>
+    ensures ok { OnOk result (output.new.items ≡ output.old.items ++ device_refusal name.now) }
+    ensures err { OnErr result (output.new.items ≡ output.old.items) }
+{
+    let line = file_line(alloc, b"device", name)?;
+    output.extend_from_slice(line.as_slice())
+}
+
+/// The line that tells that a folder can't be listed. It takes no memory.
+pub fn listing_line() -> &'static [u8]
+    ensures { result.now ≡ listing_refusal }
+{
+    b"REFUSED device\n"
 }
 
 // The line of a fault, apart, so that a growth that is refused leaves no part of it behind.
@@ -56,9 +73,7 @@ fn plain_line(alloc: Global, kind: &[u8]) -> Result<Vec<u8>, AllocError>
     Ok(line)
 }
 
-/// The line that refuses a file, or a release for it: `REFUSED`, the kind of the refusal, the name of
-/// the file and LF. `AllocError` is answered where memory is refused.
-pub fn file_line(alloc: Global, kind: &[u8], name: &str) -> Result<Vec<u8>, AllocError>
+fn file_line(alloc: Global, kind: &[u8], name: &str) -> Result<Vec<u8>, AllocError>
     ensures { IfOk result (λ line. line.items ≡ refused_line (kind.now ∷ name.now ∷ [])) }
 {
     let mut line = begun(alloc, kind)?;

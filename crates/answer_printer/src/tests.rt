@@ -6,14 +6,15 @@ ghost use Rattle.std.specs.Prelude.{◌≡◌, ◌≢◌};
 ghost use Rattle.idset.specs.Sets.{IsRisingBelow};
 
 use crate::answer::print_answer;
-use crate::load_refusal::{file_line, print_load_fault};
+use crate::load_refusal::{listing_line, print_device_fault, print_load_fault};
 use crate::query_refusal::print_fault;
+use crate::report::print_report;
 use ecl_lexer::{Feature, QueryFault};
 use idset::{ConceptSet, MixedSet, SortedSet, WordSet};
 use release_files::NamedBytes;
 use rf2_rows::{RowCause, RowFault};
 use sctid::{IdFault, SctId};
-use snapshot::{Limits, LoadFault, Snapshot};
+use snapshot::{Limits, LoadFault, Report, Snapshot};
 use std::alloc::{AllocError, Global};
 use std::process::Abort;
 use std::test::Fail;
@@ -310,12 +311,54 @@ fn check_causes(
     Ok(())
 }
 
+// Prints the line of a file that can't be read.
+fn device_refused(rt: &impl Abort, alloc: Global, name: &str) -> Result<Vec<u8>, AllocError> {
+    let mut output = Vec::from_slice(alloc, BEFORE)?;
+    if print_device_fault(alloc, name, &mut output).is_err() {
+        assert!(rt; output.as_slice() == BEFORE);
+        print_device_fault(alloc, name, &mut output)?;
+    }
+    Ok(output)
+}
+
 #[test]
 fn refuses_files(rt: HostRuntime) -> Result<(), Fail> {
-    let line = match file_line(rt.alloc(), b"device", "a/c.txt") {
-        Ok(line) => line,
-        Err(AllocError) => file_line(rt.alloc(), b"device", "a/c.txt")?,
+    let output = match device_refused(&rt, rt.alloc(), "a/c.txt") {
+        Ok(output) => output,
+        Err(AllocError) => device_refused(&rt, rt.alloc(), "a/c.txt")?,
     };
-    assert!(rt; line.as_slice() == b"REFUSED device a/c.txt\n".as_slice());
+    assert!(rt; output.as_slice() == b"before\nREFUSED device a/c.txt\n".as_slice());
+    assert!(rt; listing_line() == b"REFUSED device\n".as_slice());
+    Ok(())
+}
+
+// Prints a report.
+fn reported(rt: &impl Abort, alloc: Global, report: &Report) -> Result<Vec<u8>, AllocError> {
+    let mut output = Vec::from_slice(alloc, BEFORE)?;
+    if print_report(alloc, report, &mut output).is_err() {
+        assert!(rt; output.as_slice() == BEFORE);
+        print_report(alloc, report, &mut output)?;
+    }
+    Ok(output)
+}
+
+#[test]
+fn prints_reports(rt: HostRuntime) -> Result<(), Fail> {
+    let report = Report {
+        files: 5,
+        concepts: 10,
+        isa: 0,
+        attributes: 1234567890,
+        members: 2,
+        names: 18446744073709551615,
+        passed: 6,
+    };
+    let output = match reported(&rt, rt.alloc(), &report) {
+        Ok(output) => output,
+        Err(AllocError) => reported(&rt, rt.alloc(), &report)?,
+    };
+    let text =
+        b"before\nFILES 5\nCONCEPTS 10\nISA 0\nATTRIBUTES 1234567890\nMEMBERS 2\nNAMES 18446744073709551615\nPASSED 6\n".as_slice();
+    assert!(rt; output.as_slice() == text);
     Ok(())
 }

@@ -3,4 +3,5 @@ mod FaultLemmas
 mod HierarchyLemmas
 mod LineLemmas
 mod RunLemmas
+mod ServeLemmas
 mod WordLemmas

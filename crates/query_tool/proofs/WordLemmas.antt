@@ -1,5 +1,5 @@
 -- What a command that was named has, by the matches of the words.
-use Rattle.std.proofs.Common.{◌≡◌, ◌⊎◌, inl, inr, List, [], Option, None, Some, Box, Global, option_map, box_value, Result, Ok, Err, IfOk, IfErr, codes, refl, sym, subst}
+use Rattle.std.proofs.Common.{◌≡◌, ◌≢◌, ◌∙◌, ◌⊎◌, inl, inr, List, [], Option, None, Some, Box, Global, option_map, box_value, Result, Ok, Err, IfOk, IfErr, codes, refl, subst}
 use Rattle.std.specs.Borrow.{Bor}
 use Rattle.std.specs.Prelude.{unwrap_or}
 use Rattle.clap.specs.Words.{IsAmong, Row, Text, fault_of, first_of, found_of, rows_of, subcommand_of, subcommand_rows, subcommand_rows_of}
@@ -9,9 +9,9 @@ use Rattle.clap.specs.declared.parser.matches.SubCommand.{SubCommand}
 use Rattle.clap.specs.declared.parser.matches.ArgMatches.TheViews.{out-ArgMatches, out-SubCommand}
 use Rattle.clap.specs.declared.error.kind.ErrorKind.{ErrorKind}
 use Rattle.clap.specs.declared.error.kind.ErrorKind.TheVariants.{MissingSubcommand, OutOfMemory}
-use Rattle.query_tool.specs.CommandLine.{Asks, AsksQuery, IsFaultBy, IsNoRequest, IsRefusal, IsRequest, NamesFolder, program}
+use Rattle.query_tool.specs.CommandLine.{Asks, CommandAsks, IsFaultBy, IsNoRequest, IsRefusal, IsRequest, NamesFolder, program}
 use Rattle.query_tool.specs.declared.words.Mode.{Mode}
-use Rattle.query_tool.specs.declared.words.Mode.TheVariants.{Query}
+use Rattle.query_tool.specs.declared.words.Mode.TheVariants.{Sample, Query, Check}
 use Rattle.query_tool.specs.declared.words.Request.{Request}
 use Rattle.query_tool.specs.declared.words.WordFault.{WordFault}
 use Rattle.query_tool.specs.declared.words.WordFault.TheVariants.{Usage, Help, Memory}
@@ -37,20 +37,35 @@ lent_or None other (Some text) is = (cc)
 lent_or (Some lent) other None is = (cc)
 lent_or (Some lent) other (Some text) is = (cc)
 
+-- where clap finds no fault, what a command asks for the words ask for
+words_ask : (mode : Mode) (words : List Text) (request : Request) → fault_of program words ≡ [] → CommandAsks mode (subcommand_of program words) request → Asks mode words request
+words_ask Sample words request clean asked = absurd asked
+words_ask Query words request clean asked = (clean, asked)
+words_ask Check words request clean asked = (clean, asked)
+
 -- where the command is that of the words, so is the request
 pub request_is : (words : List Text) (command : Option (Text × List Row)) (result : Result Request WordFault) → command ≡ subcommand_of program words
-    → fault_of program words ≡ [] → IfOk result (λ (request : Request). request.mode ≡ Query) → IfOk result (AsksQuery command) → IfOk result (IsRequest words)
-request_is words command (Ok request) named clean mode asked =
-    subst (λ (m : Mode). Asks m words request) (sym mode) (clean, subst (λ (c : Option (Text × List Row)). AsksQuery c request) named asked)
-request_is words command (Err fault) named clean mode asked = tt
+    → fault_of program words ≡ [] → IfOk result (λ (request : Request). CommandAsks request.mode command request) → IfOk result (IsRequest words)
+request_is words command (Ok request) named clean asked =
+    words_ask request.mode words request clean (subst (λ (c : Option (Text × List Row)). CommandAsks request.mode c request) named asked)
+request_is words command (Err fault) named clean asked = tt
 
 -- a command without a folder among its rows names none
 pub names_no_folder : (command : Option (Text × List Row)) (rows : List Row) → option_map (λ (found : Text × List Row). found.1) command ≡ Some rows
     → first_of (codes "FOLDER") rows ≡ None → ¬ NamesFolder command
-names_no_folder command rows held none names = by names.0 names.1 names.2 names.3
+names_no_folder command rows held none names = by names.1 names.2 names.4 names.5
   where
-    by : (folder : Text) (named : List Row) → command ≡ Some (codes "query", named) → first_of (codes "FOLDER") named ≡ Some folder → ⊥
+    by : (folder : Text) (named : List Row) {name : Text} → command ≡ Some (name, named) → first_of (codes "FOLDER") named ≡ Some folder → ⊥
     by folder named is first = (cc)
+
+-- a command of another name names none
+pub other_names_no_folder : (command : Option (Text × List Row)) (name : Text) → option_map (λ (found : Text × List Row). found.0) command ≡ Some name
+    → name ≢ codes "query" → name ≢ codes "check" → ¬ NamesFolder command
+other_names_no_folder command name held other another names = by names.0 names.2 names.3 names.4
+  where
+    by : (named : Text) (rows : List Row) → (named ≡ codes "query") ⊎ (named ≡ codes "check") → command ≡ Some (named, rows) → ⊥
+    by named rows (inl query) is = other (let same : name ≡ named = (cc) in same ∙ query)
+    by named rows (inr check) is = another (let same : name ≡ named = (cc) in same ∙ check)
 
 -- where a command names no folder, it is no request, and no call for help
 pub is_no_request : (command : Option (Text × List Row)) (fault : WordFault) → IsFaultBy MissingSubcommand fault → ¬ NamesFolder command → IsNoRequest command fault

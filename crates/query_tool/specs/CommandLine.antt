@@ -1,11 +1,11 @@
 -- What the words of a command line ask for. The words begin with the program's name. How words are read as
 -- arguments is clap's; here is what the program takes, and what a request is of it.
-use Rattle.std.specs.Prelude.{◌≡◌, ◌≢◌, ◌⊎◌, ◌≤◌, ℕ, ⊤, true, List, [], length, codes, string_bytes, unwrap_or, Option, Some}
+use Rattle.std.specs.Prelude.{◌≡◌, ◌≢◌, ◌⊎◌, ◌≤◌, ℕ, ⊤, true, List, [], length, codes, string_bytes, unwrap_or, Option, None, Some, option_map}
 use Rattle.clap.specs.Words.{App, IsAmong, Row, Rule, Text, fault_of, first_of, new_app, new_rule, subcommand_of, with_rule, with_subcommand}
 use Rattle.clap.specs.declared.error.kind.ErrorKind.{ErrorKind}
 use Rattle.clap.specs.declared.error.kind.ErrorKind.TheVariants.{DisplayHelp, OutOfMemory}
 use Rattle.query_tool.specs.declared.words.Mode.{Mode}
-use Rattle.query_tool.specs.declared.words.Mode.TheVariants.{Sample, Query}
+use Rattle.query_tool.specs.declared.words.Mode.TheVariants.{Sample, Query, Check}
 use Rattle.query_tool.specs.declared.words.Request.{Request}
 use Rattle.query_tool.specs.declared.words.WordFault.{WordFault}
 use Rattle.query_tool.specs.declared.words.WordFault.TheVariants.{Usage, Help, Memory}
@@ -21,44 +21,72 @@ lang_rule = record (new_rule (codes "lang")) { long = Some (codes "lang"); value
 abbrev pub query_command : App
 query_command = with_rule (with_rule (new_app (codes "query")) folder_rule) lang_rule
 
+-- `check`, with the folder alone
+abbrev pub check_command : App
+check_command = with_rule (new_app (codes "check")) folder_rule
+
 -- a command has to be named
 abbrev pub requiring_command : App → App
 requiring_command app = record app { top = record app.top { subcommand_required = true } }
 
 -- the program
 abbrev pub program : App
-program = with_subcommand (requiring_command (new_app (codes "hosecrag"))) query_command.top
+program = with_subcommand (with_subcommand (requiring_command (new_app (codes "hosecrag"))) query_command.top) check_command.top
 
 -- the language whose names come first where none is given
 abbrev pub default_language : List ℕ
 default_language = codes "en"
 
--- no word but the program's name asks for the built-in release
+-- the folder of a request, if it has one
+abbrev pub folder_in : Request → Option (List ℕ)
+folder_in request = option_map string_bytes request.folder
+
+-- no word but the program's name asks for the built-in release, and for no folder
 abbrev pub AsksSample : List Text → Request → Type 0
-AsksSample words request = (length words ≤ 1) × (string_bytes request.folder ≡ []) × (string_bytes request.lang ≡ default_language)
+AsksSample words request = (length words ≤ 1) × (folder_in request ≡ None) × (string_bytes request.lang ≡ default_language)
+
+-- the folder of a request is that of a command's rows
+abbrev pub HasFolderOf : List Row → Request → Type 0
+HasFolderOf rows request = (folder : Text) × (first_of (codes "FOLDER") rows ≡ Some folder) × (folder_in request ≡ Some folder)
 
 -- a command `query` asks for the release of its folder, and for its language first
 abbrev pub AsksQuery : Option (Text × List Row) → Request → Type 0
 AsksQuery command request =
     (rows : List Row) × (command ≡ Some (codes "query", rows))
-    × (first_of (codes "FOLDER") rows ≡ Some (string_bytes request.folder))
+    × HasFolderOf rows request
     × (unwrap_or (first_of (codes "lang") rows) default_language ≡ string_bytes request.lang)
+
+-- a command `check` asks for the report of its folder
+abbrev pub AsksCheck : Option (Text × List Row) → Request → Type 0
+AsksCheck command request =
+    (rows : List Row) × (command ≡ Some (codes "check", rows))
+    × HasFolderOf rows request
+    × (string_bytes request.lang ≡ default_language)
+
+-- what a command asks for in each mode: none asks for the built-in release
+abbrev pub CommandAsks : Mode → Option (Text × List Row) → Request → Type 0
+CommandAsks Sample command request = ⊥
+CommandAsks Query command request = AsksQuery command request
+CommandAsks Check command request = AsksCheck command request
 
 -- what words ask for in each mode: a command is one in which clap finds no fault
 abbrev pub Asks : Mode → List Text → Request → Type 0
 Asks Sample words request = AsksSample words request
 Asks Query words request = (fault_of program words ≡ []) × AsksQuery (subcommand_of program words) request
+Asks Check words request = (fault_of program words ≡ []) × AsksCheck (subcommand_of program words) request
 
 -- the request is that of the words
 abbrev pub IsRequest : List Text → Request → Type 0
 IsRequest words request = Asks request.mode words request
 
--- a command `query` names a folder
+-- a command `query` or `check` names a folder
 abbrev pub NamesFolder : Option (Text × List Row) → Type 0
 NamesFolder command =
-    (folder : Text) × (rows : List Row) × (command ≡ Some (codes "query", rows)) × (first_of (codes "FOLDER") rows ≡ Some folder)
+    (name : Text) × (folder : Text) × (rows : List Row)
+    × ((name ≡ codes "query") ⊎ (name ≡ codes "check"))
+    × (command ≡ Some (name, rows)) × (first_of (codes "FOLDER") rows ≡ Some folder)
 
--- why a command that was named is no request: it names no folder for `query`
+-- why a command that was named is no request: it names no folder for `query` or `check`
 abbrev pub IsNoRequest : Option (Text × List Row) → WordFault → Type 0
 IsNoRequest command (Usage text) = ¬ NamesFolder command
 IsNoRequest command (Help text) = ⊥
@@ -71,7 +99,7 @@ IsFaultBy kind (Help text) = kind ≡ DisplayHelp
 IsFaultBy kind Memory = ⊤
 
 -- why words are refused: clap finds a fault in them that is no call for help; or it finds none, and they name
--- no folder for `query`; or they call for help; or memory was refused
+-- no folder for `query` or `check`; or they call for help; or memory was refused
 abbrev pub IsRefusal : List Text → WordFault → Type 0
 IsRefusal words (Usage text) =
     ((kind : ErrorKind) × IsAmong kind (fault_of program words) × (kind ≢ DisplayHelp))

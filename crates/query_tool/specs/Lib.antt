@@ -4,5 +4,7 @@ pub mod EngineInside
 pub mod Fault
 pub mod FolderRefusal
 pub mod Lines
+pub mod Report
 pub mod SampleContents
 pub mod Serve
+pub mod Streams

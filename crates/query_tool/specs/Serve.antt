@@ -1,44 +1,37 @@
--- What a request is answered by: a status, answers, and a line that tells of a refusal or a fault.
-use Rattle.std.specs.Prelude.{ℕ, ◌≡◌, Bool, false, List, codes, take, Option, IfSome, Result, Ok}
+-- What a request ends with: a status, and what it says of what was read, written and told.
+use Rattle.std.specs.Prelude.{ℕ, ◌≡◌, ◌≢◌, ◌⊎◌, ◌<◌, false, List, codes, length, map, take, IfSome, Result, Ok, Err}
 use Rattle.std.specs.Io.KnownBytes.{Appends, IsAtEnd}
 use Rattle.snapshot.specs.Contents.{Contents, load_of}
 use Rattle.snapshot.specs.Files.{FileText}
 use Rattle.snapshot.specs.Limits.{standard_limits}
 use Rattle.snapshot.specs.declared.fault.LoadFault.{LoadFault}
+use Rattle.snapshot.specs.declared.fault.LoadFault.TheVariants as load
+use Rattle.answer_printer.specs.LoadRefusal.{load_refusal}
+use Rattle.answer_printer.specs.ReportText.{report_text}
+use Rattle.query_tool.specs.Fault.{CountsTurns, EndsAt, HaveFailed}
+use Rattle.query_tool.specs.FolderRefusal.{folder_refusal}
 use Rattle.query_tool.specs.Lines.{AreWritten, query_lines}
+use Rattle.query_tool.specs.Report.{report_of}
 use Rattle.query_tool.specs.SampleContents.{sample_contents}
+use Rattle.query_tool.specs.Streams.{IsTold, Streams}
+use Rattle.query_tool.specs.declared.folder.FolderFault.{FolderFault}
+use Rattle.query_tool.specs.declared.folder.FolderFault.TheVariants as folder
 use Rattle.query_tool.specs.declared.run.RunFault.{RunFault}
 use Rattle.query_tool.specs.declared.run.RunFault.TheVariants.{Read, Write, Memory, Turns}
 use Rattle.query_tool.specs.declared.serve.Status.{Status}
 use Rattle.query_tool.specs.declared.serve.Status.TheVariants.{Done, DeviceFault, WordsFault, ReleaseRefused, MemoryRefused}
+use Rattle.query_tool.specs.declared.streams.AnswerOutput.{Ghosts as Output}
+use Rattle.query_tool.specs.declared.streams.QueryInput.{Ghosts as Input}
 use Rattle.query_tool.specs.declared.words.Mode.{Mode}
-use Rattle.query_tool.specs.declared.words.Mode.TheVariants.{Sample, Query}
+use Rattle.query_tool.specs.declared.words.Mode.TheVariants.{Sample, Query, Check}
 
--- the status that the program ends with
+-- the number that the program ends with
 abbrev pub status_code : Status → ℕ
 status_code Done = 0
 status_code DeviceFault = 1
 status_code WordsFault = 2
 status_code ReleaseRefused = 3
 status_code MemoryRefused = 4
-
--- the release that is asked for: the one that is built in, or that of the files with the names of a
--- language first; or the fault of the files
-abbrev pub loaded : Mode → List ℕ → List FileText → Result Contents LoadFault
-loaded Sample language files = Ok sample_contents
-loaded Query language files = load_of standard_limits language files
-
--- the input is at its end, and its lines were answered over a release
-abbrev pub IsAnswered : Contents → Option (List ℕ) → Option (List ℕ) → Option (List ℕ) → Option (List ℕ) → Type 0
-IsAnswered contents given left before after =
-    IsAtEnd left × IfSome given (λ bytes. AreWritten contents (query_lines bytes) before after)
-
--- the line that tells of a fault of a run
-abbrev pub fault_text : RunFault → List ℕ
-fault_text (Read count) = codes "FAULT read\n"
-fault_text (Write count) = codes "FAULT write\n"
-fault_text (Memory count) = codes "FAULT memory\n"
-fault_text (Turns count) = codes "FAULT turns\n"
 
 -- the status that a fault of a run ends with
 abbrev pub status_of : RunFault → Status
@@ -47,7 +40,143 @@ status_of (Write count) = DeviceFault
 status_of (Memory count) = MemoryRefused
 status_of (Turns count) = DeviceFault
 
--- a line was written: a front of it, and all of it unless the writer has failed
-pub record IsTold (failed : Bool) (before after : Option (List ℕ)) (line : List ℕ) : Type 0 where
-  pub whole : failed ≡ false → Appends before after line
-  pub front : (place : ℕ) × Appends before after (take place line)
+-- the line that tells of a fault of a run
+abbrev pub fault_text : RunFault → List ℕ
+fault_text (Read count) = codes "FAULT read\n"
+fault_text (Write count) = codes "FAULT write\n"
+fault_text (Memory count) = codes "FAULT memory\n"
+fault_text (Turns count) = codes "FAULT turns\n"
+
+-- the status that a fault of a load ends with
+abbrev pub refusal_status_of : LoadFault → Status
+refusal_status_of load.Memory = MemoryRefused
+refusal_status_of fault = ReleaseRefused
+
+-- the line that tells that memory was refused before a release was loaded
+abbrev pub memory_text : List ℕ
+memory_text = codes "REFUSED memory\n"
+
+-- the release that is asked for: the one that is built in, or that of the files with the names of a
+-- language first; or the fault of the files
+abbrev pub loaded : Mode → List ℕ → List FileText → Result Contents LoadFault
+loaded Sample language files = Ok sample_contents
+loaded Query language files = load_of standard_limits language files
+loaded Check language files = load_of standard_limits language files
+
+-- the names of files
+abbrev pub names_of : List FileText → List (List ℕ)
+names_of files = map (λ (file : FileText). file.name) files
+
+-- a task: what is done with a release, the release or the fault of its files, and their names
+pub record Task : Type 0 where
+  pub mode : Mode
+  pub loaded : Result Contents LoadFault
+  pub names : List (List ℕ)
+
+abbrev pub task_of : Mode → List ℕ → List FileText → Task
+task_of mode language files = record { mode = mode; loaded = loaded mode language files; names = names_of files }
+
+-- the query lines of an input to its end were answered
+pub record IsAnswered {R W E : Type 0} (r : Input R) (w : Output W) (contents : Contents) (before after : Streams R W E) : Type 0 where
+  pub read : IsAtEnd (r.remaining after.input)
+  pub written : IfSome (r.remaining before.input) (λ bytes. AreWritten contents (query_lines bytes) (w.written before.output) (w.written after.output))
+
+-- the report was written, and nothing was read
+pub record IsReported {R W E : Type 0} (w : Output W) (contents : Contents) (before after : Streams R W E) : Type 0 where
+  pub read : after.input ≡ before.input
+  pub written : Appends (w.written before.output) (w.written after.output) (report_text (report_of contents))
+
+-- what a mode asks for was done with a release
+abbrev pub IsServed : {R W E : Type 0} → Input R → Output W → Mode → Contents → Streams R W E → Streams R W E → Type 0
+IsServed r w Sample contents before after = IsAnswered r w contents before after
+IsServed r w Query contents before after = IsAnswered r w contents before after
+IsServed r w Check contents before after = IsReported w contents before after
+
+-- a front of the report was written, not all of it, and nothing was read
+pub record IsReportCut {R W E : Type 0} (w : Output W) (fault : RunFault) (contents : Contents) (before after : Streams R W E) : Type 0 where
+  pub is_write : fault ≡ Write 0
+  pub read : after.input ≡ before.input
+  pub written : (place : ℕ) × (place < length (report_text (report_of contents)))
+      × Appends (w.written before.output) (w.written after.output) (take place (report_text (report_of contents)))
+
+-- what was read and written of what a mode asks for, where a fault came
+abbrev pub IsCut : {R W E : Type 0} → Input R → Output W → Mode → RunFault → Contents → Streams R W E → Streams R W E → Type 0
+IsCut r w Sample fault contents before after =
+    EndsAt fault contents (r.remaining before.input) (r.remaining after.input) (w.written before.output) (w.written after.output)
+IsCut r w Query fault contents before after =
+    EndsAt fault contents (r.remaining before.input) (r.remaining after.input) (w.written before.output) (w.written after.output)
+IsCut r w Check fault contents before after = IsReportCut w fault contents before after
+
+-- status 0: all was done, no stream has failed, and nothing was told
+pub record IsDone {R W E : Type 0} (r : Input R) (w : Output W) (mode : Mode) (contents : Contents) (before after : Streams R W E) : Type 0 where
+  pub served : IsServed r w mode contents before after
+  pub sound : (r.has_failed after.input ≡ false) × (w.has_failed after.output ≡ false)
+  pub told : after.errors ≡ before.errors
+
+-- status 1, or 4 where memory was refused in a run: what was read and written until the fault, of which
+-- stream it is, and the line that tells of it
+pub record IsStopped {R W E : Type 0} (r : Input R) (w : Output W) (e : Output E) (mode : Mode) (contents : Contents) (status : Status) (before after : Streams R W E) : Type 0 where
+  pub fault : RunFault
+  pub ends : status_of fault ≡ status
+  pub served : IsCut r w mode fault contents before after
+  pub failed : HaveFailed fault (r.has_failed after.input) (w.has_failed after.output)
+  pub turns : CountsTurns fault (r.read_count before.input) (r.read_count after.input)
+  pub told : IsTold e before.errors after.errors (fault_text fault)
+
+-- status 3: nothing was read or written, and the fault of the files was told
+pub record IsRefused {R W E : Type 0} (e : Output E) (task : Task) (before after : Streams R W E) : Type 0 where
+  pub fault : LoadFault
+  pub loaded : task.loaded ≡ Err fault
+  pub read : after.input ≡ before.input
+  pub written : after.output ≡ before.output
+  pub told : IsTold e before.errors after.errors (load_refusal task.names fault)
+
+-- status 4, before anything was served: nothing was read or written, and want of memory was told
+pub record IsStarved {R W E : Type 0} (e : Output E) (before after : Streams R W E) : Type 0 where
+  pub read : after.input ≡ before.input
+  pub written : after.output ≡ before.output
+  pub told : IsTold e before.errors after.errors memory_text
+
+-- what each status says of a release that was loaded
+abbrev pub ServesWith : {R W E : Type 0} → Input R → Output W → Output E → Mode → Contents → Status → Streams R W E → Streams R W E → Type 0
+ServesWith r w e mode contents Done before after = IsDone r w mode contents before after
+ServesWith r w e mode contents DeviceFault before after = IsStopped r w e mode contents DeviceFault before after
+ServesWith r w e mode contents WordsFault before after = ⊥
+ServesWith r w e mode contents ReleaseRefused before after = ⊥
+ServesWith r w e mode contents MemoryRefused before after = IsStopped r w e mode contents MemoryRefused before after
+
+-- the release that is asked for was loaded and served
+pub record IsLoadedAndServed {R W E : Type 0} (r : Input R) (w : Output W) (e : Output E) (task : Task) (status : Status) (before after : Streams R W E) : Type 0 where
+  pub contents : Contents
+  pub loaded : task.loaded ≡ Ok contents
+  pub ended : ServesWith r w e task.mode contents status before after
+
+-- what each status says where no release was served
+abbrev pub RefusesWith : {R W E : Type 0} → Output E → Task → Status → Streams R W E → Streams R W E → Type 0
+RefusesWith e task Done before after = ⊥
+RefusesWith e task DeviceFault before after = ⊥
+RefusesWith e task WordsFault before after = ⊥
+RefusesWith e task ReleaseRefused before after = IsRefused e task before after
+RefusesWith e task MemoryRefused before after = IsStarved e before after
+
+-- a task ends with a status: its release was loaded and served, or it was refused
+abbrev pub EndsWith : {R W E : Type 0} → Input R → Output W → Output E → Task → Status → Streams R W E → Streams R W E → Type 0
+EndsWith r w e task status before after =
+    IsLoadedAndServed r w e task status before after ⊎ RefusesWith e task status before after
+
+-- what each status says where a fault of files with some names was to be told
+abbrev pub TellsLoadFault : {E : Type 0} → Output E → List (List ℕ) → LoadFault → Status → E → E → Type 0
+TellsLoadFault e names fault Done before after = ⊥
+TellsLoadFault e names fault DeviceFault before after = ⊥
+TellsLoadFault e names fault WordsFault before after = ⊥
+TellsLoadFault e names fault ReleaseRefused before after = (fault ≢ load.Memory) × IsTold e before after (load_refusal names fault)
+TellsLoadFault e names fault MemoryRefused before after = IsTold e before after memory_text
+
+-- what each status says where a fault of a folder was to be told: only of a file may want of memory be told
+-- in its place
+abbrev pub TellsFolderFault : {E : Type 0} → Output E → FolderFault → Status → E → E → Type 0
+TellsFolderFault e fault Done before after = ⊥
+TellsFolderFault e fault DeviceFault before after = (fault ≢ folder.Memory) × IsTold e before after (folder_refusal fault)
+TellsFolderFault e fault WordsFault before after = ⊥
+TellsFolderFault e fault ReleaseRefused before after = ⊥
+TellsFolderFault e fault MemoryRefused before after = (fault ≢ folder.Listing) × IsTold e before after memory_text

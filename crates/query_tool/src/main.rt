@@ -1,4 +1,5 @@
-//! Answers queries over a SNOMED CT release, one to a line of standard input.
+//! Answers queries over a SNOMED CT release, one to a line of standard input, or reports what a release
+//! has.
 #![tactic(auto)]
 
 mod engine;
@@ -43,7 +44,7 @@ use std::io::ErrorKind;
 use std::process::ExitCode;
 use std::{env, io};
 use streams::{StreamInput, StreamOutput};
-use words::{Mode, Request, WordFault, read_words};
+use words::{Request, WordFault, read_words};
 
 fn main(rt: HostRuntime) -> ExitCode {
     ExitCode::from(outcome(&rt).code())
@@ -52,7 +53,7 @@ fn main(rt: HostRuntime) -> ExitCode {
 // Does what the command line asks for.
 fn outcome(rt: &HostRuntime) -> Status {
     match asked(rt) {
-        Ok(request) => answer(rt, &request),
+        Ok(request) => fulfil(rt, &request),
         Err(WordFault::Help(text)) => {
             let _ = print!(rt; "{text}");
             Status::Done
@@ -90,8 +91,8 @@ fn unread_words(rt: &HostRuntime, error: &io::Error) -> WordFault {
     }
 }
 
-// Answers standard input over the release that is asked for.
-fn answer(rt: &HostRuntime, request: &Request) -> Status {
+// Does what is asked of the release that is asked for.
+fn fulfil(rt: &HostRuntime, request: &Request) -> Status {
     match files_asked(rt, request) {
         Ok(files) => match named(rt, files.as_slice()) {
             Ok(named) => serve_streams(rt, request, named.as_slice()),
@@ -103,9 +104,9 @@ fn answer(rt: &HostRuntime, request: &Request) -> Status {
 
 // The files of the folder that is asked for, or none where the release is built in.
 fn files_asked(rt: &HostRuntime, request: &Request) -> Result<Vec<FolderFile>, FolderFault> {
-    match request.mode {
-        Mode::Sample => Ok(Vec::new(rt.alloc())),
-        Mode::Query => read_folder(rt, request.folder.as_str(), Limits::standard().bytes),
+    match &request.folder {
+        Some(folder) => read_folder(rt, folder.as_str(), Limits::standard().bytes),
+        None => Ok(Vec::new(rt.alloc())),
     }
 }
 

@@ -14,12 +14,32 @@ use std::test::Fail;
 const ANSWER: &[u8] =
     b"OK 3\n101009 |Beta (finding)|\n102002 |Gamma (finding)|\n103007 |Delta (finding)|\n";
 
-// Checks what a run over an input and an output answers and writes.
+// Checks what a run of an engine over an input and an output answers and writes.
+fn check_run_of(
+    rt: &impl Abort,
+    alloc: Global,
+    engine: &Engine,
+    mut input: PieceInput<'_>,
+    mut output: PieceOutput,
+    answer: Result<u64, RunFault>,
+    written: &[u8],
+)
+    requires input { input.failed ≡ false }
+    requires output { output.failed ≡ false }
+{
+    let found = run(alloc, engine, &mut input, &mut output);
+    assert!(rt; found == answer);
+    assert!(rt; output.bytes.as_slice() == written);
+    assert!(rt; input.failed() == matches!(answer, Err(RunFault::Read(_))));
+    assert!(rt; output.failed() == matches!(answer, Err(RunFault::Write(_))));
+}
+
+// Checks what a run over the sample release answers and writes.
 fn check_run(
     rt: &impl Abort,
     alloc: Global,
-    mut input: PieceInput<'_>,
-    mut output: PieceOutput,
+    input: PieceInput<'_>,
+    output: PieceOutput,
     answer: Result<u64, RunFault>,
     written: &[u8],
 ) -> Result<(), Fail>
@@ -27,13 +47,7 @@ fn check_run(
     requires output { output.failed ≡ false }
 {
     match Engine::load(alloc, &sample(), "en", Limits::standard()) {
-        Ok(engine) => {
-            let found = run(alloc, &engine, &mut input, &mut output);
-            assert!(rt; found == answer);
-            assert!(rt; output.bytes.as_slice() == written);
-            assert!(rt; input.failed() == matches!(answer, Err(RunFault::Read(_))));
-            assert!(rt; output.failed() == matches!(answer, Err(RunFault::Write(_))));
-        }
+        Ok(engine) => check_run_of(rt, alloc, &engine, input, output, answer, written),
         Err(_) => assert!(rt; false, "the release loads"),
     }
     Ok(())

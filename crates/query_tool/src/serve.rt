@@ -1,13 +1,14 @@
 //! What the program does with a request, its files and its streams.
-ghost use Rattle.std.specs.Prelude.{◌≡◌, ◌≢◌, ◌⊎◌, false, codes, Err, IfOk, Ok, map, string_bytes};
-ghost use Rattle.snapshot.specs.Contents.{Contents, load_of};
-ghost use Rattle.snapshot.specs.Files.{FileText, file_text};
-ghost use Rattle.snapshot.specs.Limits.{standard_limits};
+ghost use Rattle.std.specs.Prelude.{◌≡◌, false, IfErr, IfOk, Ok, map, string_bytes};
 ghost use Rattle.rf2_rows.specs.Parts.{texts_of};
-ghost use Rattle.query_tool.specs.Fault.{CountsTurns, EndsAt, HaveFailed};
-ghost use Rattle.answer_printer.specs.LoadRefusal.{load_refusal};
-ghost use Rattle.query_tool.specs.FolderRefusal.{folder_refusal};
-ghost use Rattle.query_tool.specs.Serve.{IsAnswered, IsTold, fault_text, loaded, status_code, status_of};
+ghost use Rattle.snapshot.specs.Contents.{Contents, IsFaultOf, load_of};
+ghost use Rattle.snapshot.specs.Files.{file_text};
+ghost use Rattle.snapshot.specs.Limits.{standard_limits};
+ghost use Rattle.answer_printer.specs.LoadRefusal.{device_refusal, load_refusal};
+ghost use Rattle.answer_printer.specs.ReportText.{report_text};
+ghost use Rattle.query_tool.specs.Report.{report_of};
+ghost use Rattle.query_tool.specs.Serve.{EndsWith, ServesWith, TellsFolderFault, TellsLoadFault, fault_text, memory_text, names_of, refusal_status_of, status_code, status_of, task_of};
+ghost use Rattle.query_tool.specs.Streams.{IsTold, streams};
 
 use crate::engine::Engine;
 use crate::folder::FolderFault;
@@ -15,15 +16,15 @@ use crate::run::{RunFault, run, write_all};
 use crate::sample::sample_files;
 use crate::streams::{AnswerOutput, QueryInput};
 use crate::words::{Mode, Request};
-use answer_printer::{file_line, print_load_fault};
+use answer_printer::{listing_line, print_device_fault, print_load_fault, print_report};
 use release_files::NamedBytes;
-use snapshot::{Limits, LoadFault};
+use snapshot::{Limits, LoadFault, Snapshot};
 use std::alloc::{AllocError, Global};
 
 /// How the program ended.
 #[derive(Clone, Copy, Debug, PartialEq, Eq)]
 pub enum Status {
-    /// All lines were answered.
+    /// All that was asked for was done.
     Done,
     /// A folder, a file or a stream failed, or the input did not end.
     DeviceFault,
@@ -50,8 +51,9 @@ impl Status {
     }
 }
 
-/// Answers the query lines of an input over the release that is asked for: the one that is built in,
-/// or that of the files. What is refused, and a fault of the run, is told by one line on `errors`,
+/// Does what is asked of a release: of the one that is built in, or of that of the files. Answers the
+/// query lines of an input, or, at `Check`, writes what the release has, and reads nothing. Nothing is
+/// written before the release is loaded. What is refused, and a fault, is told by one line on `errors`,
 /// whose own failure changes nothing.
 pub fn serve<R: QueryInput, W: AnswerOutput, E: AnswerOutput>(
     alloc: Global,
@@ -64,42 +66,26 @@ pub fn serve<R: QueryInput, W: AnswerOutput, E: AnswerOutput>(
     requires input { R.has_failed input.old ≡ false }
     requires output { W.has_failed output.old ≡ false }
     requires errors { E.AnswerOutput.has_failed errors.old ≡ false }
-    ensures done { result ≡ Status.Done → (contents : Contents)
-        × (loaded request.now.mode (string_bytes request.now.lang) (map file_text files.now) ≡ Ok contents)
-        × IsAnswered contents (R.remaining input.old) (R.remaining input.new) (W.written output.old) (W.written output.new) }
-    ensures refused { result ≡ Status.ReleaseRefused → (fault : LoadFault)
-        × (loaded request.now.mode (string_bytes request.now.lang) (map file_text files.now) ≡ Err fault)
-        × (input.new ≡ input.old)
-        × (output.new ≡ output.old)
-        × IsTold (E.AnswerOutput.has_failed errors.new) (E.written errors.old) (E.written errors.new) (load_refusal (map (λ (file : FileText). file.name) (map file_text files.now)) fault) }
-    ensures device { result ≡ Status.DeviceFault → (contents : Contents) × (fault : RunFault)
-        × (loaded request.now.mode (string_bytes request.now.lang) (map file_text files.now) ≡ Ok contents)
-        × (status_of fault ≡ Status.DeviceFault)
-        × EndsAt fault contents (R.remaining input.old) (R.remaining input.new) (W.written output.old) (W.written output.new)
-        × HaveFailed fault (R.has_failed input.new) (W.has_failed output.new)
-        × CountsTurns fault (R.read_count input.old) (R.read_count input.new)
-        × IsTold (E.AnswerOutput.has_failed errors.new) (E.written errors.old) (E.written errors.new) (fault_text fault) }
-    ensures quiet { result ≡ Status.Done → E.written errors.new ≡ E.written errors.old }
-    ensures sound { result ≡ Status.Done → (R.has_failed input.new ≡ false) × (W.has_failed output.new ≡ false) }
-    ensures known { result ≢ Status.WordsFault }
-    ensures memory { result ≡ Status.MemoryRefused →
-        ((input.new ≡ input.old) × (output.new ≡ output.old) × IsTold (E.AnswerOutput.has_failed errors.new) (E.written errors.old) (E.written errors.new) (codes "REFUSED memory\n"))
-        ⊎ ((contents : Contents) × (fault : RunFault)
-        × (loaded request.now.mode (string_bytes request.now.lang) (map file_text files.now) ≡ Ok contents)
-        × (status_of fault ≡ Status.MemoryRefused)
-        × EndsAt fault contents (R.remaining input.old) (R.remaining input.new) (W.written output.old) (W.written output.new)
-        × HaveFailed fault (R.has_failed input.new) (W.has_failed output.new)
-        × CountsTurns fault (R.read_count input.old) (R.read_count input.new)
-        × IsTold (E.AnswerOutput.has_failed errors.new) (E.written errors.old) (E.written errors.new) (fault_text fault)) }
+    ensures { EndsWith R.QueryInput W.AnswerOutput E.AnswerOutput
+        (task_of request.now.mode (string_bytes request.now.lang) (map file_text files.now)) result
+        (streams input.old output.old errors.old) (streams input.new output.new errors.new) }
 {
+    let lang = request.lang.as_str();
     match request.mode {
-        Mode::Sample => serve_files(alloc, "en", &sample_files(), input, output, errors),
-        Mode::Query => serve_files(alloc, request.lang.as_str(), files, input, output, errors),
+        Mode::Sample => answer_files(alloc, "en", &sample_files(), input, output, errors),
+        Mode::Query => answer_files(alloc, lang, files, input, output, errors),
+        Mode::Check => match report(alloc, lang, files) {
+            Ok(text) => match write_all(text.as_slice(), output) {
+                Ok(()) => Status::Done,
+                Err(_) => tell_fault(RunFault::Write(0), errors),
+            },
+            Err(fault) => refuse(alloc, fault, files, errors),
+        },
     }
 }
 
 // Answers the query lines of an input over the release of some files.
-fn serve_files<R: QueryInput, W: AnswerOutput, E: AnswerOutput>(
+fn answer_files<R: QueryInput, W: AnswerOutput, E: AnswerOutput>(
     alloc: Global,
     lang: &str,
     files: &[NamedBytes<'_>],
@@ -110,33 +96,9 @@ fn serve_files<R: QueryInput, W: AnswerOutput, E: AnswerOutput>(
     requires input { R.has_failed input.old ≡ false }
     requires output { W.has_failed output.old ≡ false }
     requires errors { E.AnswerOutput.has_failed errors.old ≡ false }
-    ensures done { result ≡ Status.Done → (contents : Contents)
-        × (load_of standard_limits lang.now (map file_text files.now) ≡ Ok contents)
-        × IsAnswered contents (R.remaining input.old) (R.remaining input.new) (W.written output.old) (W.written output.new) }
-    ensures refused { result ≡ Status.ReleaseRefused → (fault : LoadFault)
-        × (load_of standard_limits lang.now (map file_text files.now) ≡ Err fault)
-        × (input.new ≡ input.old)
-        × (output.new ≡ output.old)
-        × IsTold (E.AnswerOutput.has_failed errors.new) (E.written errors.old) (E.written errors.new) (load_refusal (map (λ (file : FileText). file.name) (map file_text files.now)) fault) }
-    ensures device { result ≡ Status.DeviceFault → (contents : Contents) × (fault : RunFault)
-        × (load_of standard_limits lang.now (map file_text files.now) ≡ Ok contents)
-        × (status_of fault ≡ Status.DeviceFault)
-        × EndsAt fault contents (R.remaining input.old) (R.remaining input.new) (W.written output.old) (W.written output.new)
-        × HaveFailed fault (R.has_failed input.new) (W.has_failed output.new)
-        × CountsTurns fault (R.read_count input.old) (R.read_count input.new)
-        × IsTold (E.AnswerOutput.has_failed errors.new) (E.written errors.old) (E.written errors.new) (fault_text fault) }
-    ensures quiet { result ≡ Status.Done → E.written errors.new ≡ E.written errors.old }
-    ensures sound { result ≡ Status.Done → (R.has_failed input.new ≡ false) × (W.has_failed output.new ≡ false) }
-    ensures known { result ≢ Status.WordsFault }
-    ensures memory { result ≡ Status.MemoryRefused →
-        ((input.new ≡ input.old) × (output.new ≡ output.old) × IsTold (E.AnswerOutput.has_failed errors.new) (E.written errors.old) (E.written errors.new) (codes "REFUSED memory\n"))
-        ⊎ ((contents : Contents) × (fault : RunFault)
-        × (load_of standard_limits lang.now (map file_text files.now) ≡ Ok contents)
-        × (status_of fault ≡ Status.MemoryRefused)
-        × EndsAt fault contents (R.remaining input.old) (R.remaining input.new) (W.written output.old) (W.written output.new)
-        × HaveFailed fault (R.has_failed input.new) (W.has_failed output.new)
-        × CountsTurns fault (R.read_count input.old) (R.read_count input.new)
-        × IsTold (E.AnswerOutput.has_failed errors.new) (E.written errors.old) (E.written errors.new) (fault_text fault)) }
+    ensures { EndsWith R.QueryInput W.AnswerOutput E.AnswerOutput
+        (task_of Mode.Query lang.now (map file_text files.now)) result
+        (streams input.old output.old errors.old) (streams input.new output.new errors.new) }
 {
     match Engine::load(alloc, files, lang, Limits::standard()) {
         Ok(engine) => answer_all(alloc, &engine, input, output, errors),
@@ -155,68 +117,64 @@ fn answer_all<R: QueryInput, W: AnswerOutput, E: AnswerOutput>(
     requires input { R.has_failed input.old ≡ false }
     requires output { W.has_failed output.old ≡ false }
     requires errors { E.AnswerOutput.has_failed errors.old ≡ false }
-    ensures done { result ≡ Status.Done → IsAnswered engine.now (R.remaining input.old) (R.remaining input.new) (W.written output.old) (W.written output.new) }
-    ensures taken { result ≢ Status.ReleaseRefused }
-    ensures fault { result ≢ Status.Done → (fault : RunFault)
-        × (status_of fault ≡ result)
-        × EndsAt fault engine.now (R.remaining input.old) (R.remaining input.new) (W.written output.old) (W.written output.new)
-        × HaveFailed fault (R.has_failed input.new) (W.has_failed output.new)
-        × CountsTurns fault (R.read_count input.old) (R.read_count input.new)
-        × IsTold (E.AnswerOutput.has_failed errors.new) (E.written errors.old) (E.written errors.new) (fault_text fault) }
-    ensures quiet { result ≡ Status.Done → E.written errors.new ≡ E.written errors.old }
-    ensures sound { result ≡ Status.Done → (R.has_failed input.new ≡ false) × (W.has_failed output.new ≡ false) }
-    ensures known { result ≢ Status.WordsFault }
+    ensures { ServesWith R.QueryInput W.AnswerOutput E.AnswerOutput Mode.Query engine.now result
+        (streams input.old output.old errors.old) (streams input.new output.new errors.new) }
 {
     match run(alloc, engine, input, output) {
         Ok(_) => Status::Done,
-        Err(fault) => {
-            tell(fault_line(fault), errors);
-            fault_status(fault)
-        }
+        Err(fault) => tell_fault(fault, errors),
     }
 }
 
-// Tells why files are no release.
+// The text of the report of the release of some files.
+fn report(alloc: Global, lang: &str, files: &[NamedBytes<'_>]) -> Result<Vec<u8>, LoadFault>
+    ensures ok { IfOk result (λ text. (contents : Contents)
+        × (load_of standard_limits lang.now (map file_text files.now) ≡ Ok contents)
+        × (text.items ≡ report_text (report_of contents))) }
+    ensures err { IfErr result (λ fault. IsFaultOf fault (load_of standard_limits lang.now (map file_text files.now))) }
+{
+    match Snapshot::load(alloc, files, lang, Limits::standard()) {
+        Ok(snapshot) => {
+            let mut text = Vec::new(alloc);
+            print_report(alloc, &snapshot.report(), &mut text)?;
+            Ok(text)
+        }
+        Err(fault) => Err(fault),
+    }
+}
+
+// Tells why files are no release. Want of memory for the line is told as want of memory.
 fn refuse<E: AnswerOutput>(
     alloc: Global,
     fault: LoadFault,
     files: &[NamedBytes<'_>],
     errors: &mut E,
 ) -> Status
-    requires errors { E.AnswerOutput.has_failed errors.old ≡ false }
-    ensures refused { result ≡ Status.ReleaseRefused → (fault ≢ LoadFault.Memory)
-        × IsTold (E.AnswerOutput.has_failed errors.new) (E.written errors.old) (E.written errors.new) (load_refusal (map (λ (file : FileText). file.name) (map file_text files.now)) fault) }
-    ensures undone { result ≢ Status.Done }
-    ensures memory { result ≡ Status.MemoryRefused →
-        IsTold (E.AnswerOutput.has_failed errors.new) (E.written errors.old) (E.written errors.new) (codes "REFUSED memory\n") }
-    ensures refusing { (result ≢ Status.DeviceFault) × (result ≢ Status.WordsFault) }
+    requires { E.AnswerOutput.has_failed errors.old ≡ false }
+    ensures { TellsLoadFault E.AnswerOutput (names_of (map file_text files.now)) fault result errors.old errors.new }
 {
-    let status = refusal_status(&fault);
     match refusal(alloc, fault, files) {
         Ok(line) => {
             tell(line.as_slice(), errors);
-            status
+            refusal_status(&fault)
         }
-        Err(_) => {
-            tell(b"REFUSED memory\n", errors);
-            Status::MemoryRefused
-        }
+        Err(_) => tell_memory(errors),
     }
 }
 
 // The line that tells why files are no release.
 fn refusal(alloc: Global, fault: LoadFault, files: &[NamedBytes<'_>]) -> Result<Vec<u8>, AllocError>
-    ensures { IfOk result (λ line. line.items ≡ load_refusal (map (λ (file : FileText). file.name) (map file_text files.now)) fault) }
+    ensures { IfOk result (λ line. line.items ≡ load_refusal (names_of (map file_text files.now)) fault) }
 {
-    let names = names_of(alloc, files)?;
+    let names = file_names(alloc, files)?;
     let mut line = Vec::new(alloc);
     print_load_fault(alloc, fault, names.as_slice(), &mut line)?;
     Ok(line)
 }
 
 // The names of files.
-fn names_of<'a>(alloc: Global, files: &[NamedBytes<'a>]) -> Result<Vec<&'a str>, AllocError>
-    ensures { IfOk result (λ names. texts_of names.items ≡ map (λ (file : FileText). file.name) (map file_text files.now)) }
+fn file_names<'a>(alloc: Global, files: &[NamedBytes<'a>]) -> Result<Vec<&'a str>, AllocError>
+    ensures { IfOk result (λ names. texts_of names.items ≡ names_of (map file_text files.now)) }
 {
     let mut names = Vec::new(alloc);
     for file in files {
@@ -225,52 +183,67 @@ fn names_of<'a>(alloc: Global, files: &[NamedBytes<'a>]) -> Result<Vec<&'a str>,
     Ok(names)
 }
 
-// Writes a line as far as it can be written.
-fn tell<E: AnswerOutput>(line: &[u8], errors: &mut E)
-    requires { E.AnswerOutput.has_failed errors.old ≡ false }
-    ensures { IsTold (E.AnswerOutput.has_failed errors.new) (E.written errors.old) (E.written errors.new) line.now }
-{
-    let _ = write_all(line, errors);
-}
-
 /// Tells by one line on `errors` why the files of a folder can't be had. Want of memory for the line
 /// of a file is told as want of memory.
 pub fn refuse_folder<E: AnswerOutput>(alloc: Global, fault: &FolderFault, errors: &mut E) -> Status
     requires { E.AnswerOutput.has_failed errors.old ≡ false }
-    ensures device { result ≡ Status.DeviceFault → (fault.now ≢ FolderFault.Memory)
-        × IsTold (E.AnswerOutput.has_failed errors.new) (E.written errors.old) (E.written errors.new) (folder_refusal fault.now) }
-    ensures memory { result ≡ Status.MemoryRefused →
-        IsTold (E.AnswerOutput.has_failed errors.new) (E.written errors.old) (E.written errors.new) (codes "REFUSED memory\n") }
-    ensures refusing { (result ≡ Status.DeviceFault) ⊎ (result ≡ Status.MemoryRefused) }
-    ensures listing { fault.now ≡ FolderFault.Listing → result ≡ Status.DeviceFault }
+    ensures { TellsFolderFault E.AnswerOutput fault.now result errors.old errors.new }
 {
     match fault {
         FolderFault::Listing => {
-            tell(b"REFUSED device\n", errors);
+            tell(listing_line(), errors);
             Status::DeviceFault
         }
-        FolderFault::File(name) => match file_line(alloc, b"device", name.as_str()) {
+        FolderFault::File(name) => match device_line(alloc, name.as_str()) {
             Ok(line) => {
                 tell(line.as_slice(), errors);
                 Status::DeviceFault
             }
-            Err(_) => {
-                tell(b"REFUSED memory\n", errors);
-                Status::MemoryRefused
-            }
+            Err(_) => tell_memory(errors),
         },
-        FolderFault::Memory => {
-            tell(b"REFUSED memory\n", errors);
-            Status::MemoryRefused
-        }
+        FolderFault::Memory => tell_memory(errors),
     }
 }
 
+// The line that tells that a file can't be read.
+fn device_line(alloc: Global, name: &str) -> Result<Vec<u8>, AllocError>
+    ensures { IfOk result (λ line. line.items ≡ device_refusal name.now) }
+{
+    let mut line = Vec::new(alloc);
+    print_device_fault(alloc, name, &mut line)?;
+    Ok(line)
+}
+
+// Tells of a fault by its line, and answers the status that it ends with.
+fn tell_fault<E: AnswerOutput>(fault: RunFault, errors: &mut E) -> Status
+    requires { E.AnswerOutput.has_failed errors.old ≡ false }
+    ensures status { result ≡ status_of fault }
+    ensures told { IsTold E.AnswerOutput errors.old errors.new (fault_text fault) }
+{
+    tell(fault_line(fault), errors);
+    fault_status(fault)
+}
+
+// Tells that memory was refused before a release was loaded.
+fn tell_memory<E: AnswerOutput>(errors: &mut E) -> Status
+    requires { E.AnswerOutput.has_failed errors.old ≡ false }
+    ensures status { result ≡ Status.MemoryRefused }
+    ensures told { IsTold E.AnswerOutput errors.old errors.new memory_text }
+{
+    tell(b"REFUSED memory\n", errors);
+    Status::MemoryRefused
+}
+
+// Writes a line as far as it can be written.
+fn tell<E: AnswerOutput>(line: &[u8], errors: &mut E)
+    requires { E.AnswerOutput.has_failed errors.old ≡ false }
+    ensures { IsTold E.AnswerOutput errors.old errors.new line.now }
+{
+    let _ = write_all(line, errors);
+}
+
 fn refusal_status(fault: &LoadFault) -> Status
-    ensures refused { result ≡ Status.ReleaseRefused → fault.now ≢ LoadFault.Memory }
-    ensures undone { result ≢ Status.Done }
-    ensures memory { result ≡ Status.MemoryRefused → fault.now ≡ LoadFault.Memory }
-    ensures refusing { (result ≢ Status.DeviceFault) × (result ≢ Status.WordsFault) }
+    ensures { result ≡ refusal_status_of fault.now }
 {
     match fault {
         LoadFault::Memory => Status::MemoryRefused,

@@ -2,6 +2,7 @@
 use crate::folder::FolderFault;
 use crate::load_tests::{replaced, sample};
 use crate::serve::{Status, refuse_folder, serve};
+use crate::streams::QueryInput;
 use crate::test_streams::{PieceInput, PieceOutput, ROOM};
 use crate::words::{Mode, Request, WordFault, read_words};
 use release_files::NamedBytes;
@@ -12,6 +13,9 @@ use std::test::Fail;
 const ANSWER: &[u8] =
     b"OK 3\n101009 |Beta (finding)|\n102002 |Gamma (finding)|\n103007 |Delta (finding)|\n";
 
+const REPORT: &[u8] =
+    b"FILES 5\nCONCEPTS 10\nISA 10\nATTRIBUTES 9\nMEMBERS 2\nNAMES 10\nPASSED 6\n";
+
 // The places of the sample's concept and relationship files in the list.
 const CONCEPTS: usize = 1;
 
@@ -19,35 +23,44 @@ const RELATIONSHIPS: usize = 4;
 
 const LAST_CONCEPT: &[u8] = b"109006\t20240101\t0\t900000000000207008\t900000000000074008\r\n";
 
+// The folder of a request, if it has one.
+fn folder_of(request: &Request) -> Option<&str> {
+    match &request.folder {
+        Some(folder) => Some(folder.as_str()),
+        None => None,
+    }
+}
+
 #[test]
 fn reads_words(rt: HostRuntime) {
     let requests = [
-        (["hosecrag"].as_slice(), Mode::Sample, "", "en"),
-        (&["hosecrag", "query", "F"], Mode::Query, "F", "en"),
+        (["hosecrag"].as_slice(), Mode::Sample, None, "en"),
+        (&["hosecrag", "query", "F"], Mode::Query, Some("F"), "en"),
         (
             &["hosecrag", "query", "F", "--lang", "da"],
             Mode::Query,
-            "F",
+            Some("F"),
             "da",
         ),
         (
             &["hosecrag", "query", "--lang=da", "F"],
             Mode::Query,
-            "F",
+            Some("F"),
             "da",
         ),
         (
             &["hosecrag", "query", "", "--lang", ""],
             Mode::Query,
-            "",
+            Some(""),
             "",
         ),
+        (&["hosecrag", "check", "F"], Mode::Check, Some("F"), "en"),
     ];
     for (words, mode, folder, lang) in requests {
         match read_words(rt.alloc(), words) {
             Ok(request) => {
                 assert!(rt; request.mode == mode);
-                assert!(rt; request.folder.as_str() == folder);
+                assert!(rt; folder_of(&request) == folder);
                 assert!(rt; request.lang.as_str() == lang);
             }
             Err(_) => assert!(rt; false, "words of a request"),
@@ -62,6 +75,9 @@ fn refuses_words(rt: HostRuntime) {
         &["hosecrag", "explain", "F"],
         &["hosecrag", "query", "F", "G"],
         &["hosecrag", "query", "F", "--lang"],
+        &["hosecrag", "check"],
+        &["hosecrag", "check", "F", "G"],
+        &["hosecrag", "check", "F", "--lang", "da"],
         &["hosecrag", "--"],
     ];
     for words in refused {
@@ -70,6 +86,7 @@ fn refuses_words(rt: HostRuntime) {
     for words in [
         ["hosecrag", "--help"].as_slice(),
         &["hosecrag", "query", "-h"],
+        &["hosecrag", "check", "-h"],
     ] {
         assert!(rt; matches!(read_words(rt.alloc(), words), Err(WordFault::Help(_))));
     }
@@ -86,7 +103,7 @@ fn check_served(
 ) -> Result<(), Fail> {
     let request = Request {
         mode,
-        folder: String::new(alloc),
+        folder: None,
         lang: String::from_str(alloc, lang)?,
     };
     let mut input = PieceInput::new(b"<100005\n", ROOM, ROOM);
@@ -109,6 +126,54 @@ fn serves_releases(rt: HostRuntime) -> Result<(), Fail> {
         b"OK 3\n101009 |Beta (finding)|\n102002 |Gamma (finding)|\n103007 |Delta (fund)|\n";
     let done = (Status::Done, danish.as_slice(), b"".as_slice());
     check_served(&rt, alloc, Mode::Query, "da", &sample(), done)
+}
+
+// What the report of files ends with, where the output has room for so many bytes, and what it writes as
+// the report and as errors. No query is read.
+fn check_reported(
+    rt: &impl Abort,
+    alloc: Global,
+    files: &[NamedBytes<'_>],
+    room: usize,
+    wanted: (Status, &[u8], &[u8]),
+) -> Result<(), Fail> {
+    let request = Request {
+        mode: Mode::Check,
+        folder: None,
+        lang: String::from_str(alloc, "en")?,
+    };
+    let mut input = PieceInput::new(b"<100005\n", ROOM, ROOM);
+    let mut output = PieceOutput::new(alloc, ROOM, room)?;
+    let mut errors = PieceOutput::new(alloc, ROOM, ROOM)?;
+    let status = serve(alloc, &request, files, &mut input, &mut output, &mut errors);
+    assert!(rt; status == wanted.0);
+    assert!(rt; output.bytes.as_slice() == wanted.1);
+    assert!(rt; errors.bytes.as_slice() == wanted.2);
+    assert!(rt; input.reads() == 0);
+    Ok(())
+}
+
+#[test]
+fn reports_releases(rt: HostRuntime) -> Result<(), Fail> {
+    let alloc = rt.alloc();
+    let done = (Status::Done, REPORT, b"".as_slice());
+    check_reported(&rt, alloc, &sample(), ROOM, done)?;
+    // without the files of relationships and concrete values
+    let few = b"FILES 3\nCONCEPTS 10\nISA 0\nATTRIBUTES 0\nMEMBERS 2\nNAMES 10\nPASSED 3\n";
+    let done = (Status::Done, few.as_slice(), b"".as_slice());
+    check_reported(&rt, alloc, &sample()[..3], ROOM, done)?;
+    let cut = (
+        Status::DeviceFault,
+        b"FILES 5\nCO".as_slice(),
+        b"FAULT write\n".as_slice(),
+    );
+    check_reported(&rt, alloc, &sample(), 10, cut)?;
+    let none = (
+        Status::ReleaseRefused,
+        b"".as_slice(),
+        b"REFUSED no-concept-file\n".as_slice(),
+    );
+    check_reported(&rt, alloc, &[], ROOM, none)
 }
 
 // The sample release with the first `from` in a file replaced is refused by a line.

@@ -162,8 +162,23 @@ const TWO_CONCEPTS: &[u8] = b"id\teffectiveTime\tactive\tmoduleId\tdefinitionSta
 1000004\t20240101\t1\t900000000000207008\t900000000000074008\r\n\
 100005\t20240101\t1\t900000000000207008\t900000000000074008\r\n";
 
-// What a release with the names of a language answers to a line, behind what the vector holds before;
-// or just that, where memory is refused.
+// What an engine answers to a line, behind what the vector holds before; or just that, where memory is
+// refused.
+fn answered_by(
+    rt: &impl Abort,
+    alloc: Global,
+    engine: &Engine,
+    line: &[u8],
+) -> Result<Vec<u8>, AllocError> {
+    let mut output = Vec::from_slice(alloc, b"before\n")?;
+    if engine.answer(alloc, line, &mut output).is_err() {
+        assert!(rt; output.as_slice() == b"before\n".as_slice());
+        engine.answer(alloc, line, &mut output)?;
+    }
+    Ok(output)
+}
+
+// What a release with the names of a language answers to a line.
 fn answered(
     rt: &impl Abort,
     alloc: Global,
@@ -171,15 +186,8 @@ fn answered(
     language: &str,
     line: &[u8],
 ) -> Result<Vec<u8>, AllocError> {
-    let mut output = Vec::from_slice(alloc, b"before\n")?;
     match Engine::load(alloc, files, language, Limits::standard()) {
-        Ok(engine) => {
-            if engine.answer(alloc, line, &mut output).is_err() {
-                assert!(rt; output.as_slice() == b"before\n".as_slice());
-                engine.answer(alloc, line, &mut output)?;
-            }
-            Ok(output)
-        }
+        Ok(engine) => answered_by(rt, alloc, &engine, line),
         Err(fault) => {
             assert!(rt; fault == LoadFault::Memory, "the release loads");
             Err(AllocError)

@@ -1,43 +1,50 @@
 //! The words of the command line.
-ghost use Rattle.std.specs.Prelude.{◌≡◌, ◌≤◌, IfErr, IfOk, length, string_bytes};
-ghost use Rattle.clap.specs.Words.{app_of, kind_of, subcommand_rows_of};
+ghost use Rattle.std.specs.Prelude.{◌≡◌, ◌≤◌, IfErr, IfOk, false, length, string_bytes};
+ghost use Rattle.clap.specs.Words.{app_of, kind_of, rule_of, subcommand_rows_of};
 ghost use Rattle.clap.specs.declared.error.kind.ErrorKind.TheVariants.{MissingSubcommand};
 ghost use Rattle.rf2_rows.specs.Parts.{texts_of};
-ghost use Rattle.query_tool.specs.CommandLine.{AsksQuery, IsFaultBy, IsNoRequest, IsRefusal, IsRequest, program};
+ghost use Rattle.query_tool.specs.CommandLine.{CommandAsks, IsFaultBy, IsNoRequest, IsRefusal, IsRequest, folder_in, folder_rule, lang_rule, program};
 
 use clap::error::ErrorKind;
 use clap::{Arg, ArgMatches, Command, Error};
 use std::alloc::{AllocError, Global};
 
-/// What a run of the program is over.
+/// What a run of the program does.
 #[derive(Clone, Copy, Debug, PartialEq, Eq)]
 pub enum Mode {
-    /// The release that is built in.
+    /// It answers queries over the release that is built in.
     Sample,
-    /// The release of a folder.
+    /// It answers queries over the release of a folder.
     Query,
+    /// It reports what the release of a folder has.
+    Check,
 }
 
 /// What the command line asks for.
 #[derive(Drop, Debug)]
 pub struct Request {
-    /// What the run is over.
+    /// What is to be done.
     pub mode: Mode,
-    /// The folder as its word stands, empty where the release is built in.
-    pub folder: String,
+    /// The folder as its word stands, where one was asked for.
+    pub folder: Option<String>,
     /// The code of the language whose names come first: `en` where none is given.
     pub lang: String,
 }
 
 impl Request {
-    fn new(alloc: Global, mode: Mode, folder: &str, lang: &str) -> Result<Request, AllocError>
+    // What is asked of the release of a folder.
+    fn of_folder(alloc: Global, mode: Mode, folder: &str, lang: &str) -> Result<Request, AllocError>
         ensures mode { IfOk result (λ request. request.mode ≡ mode) }
-        ensures folder { IfOk result (λ request. string_bytes request.folder ≡ folder.now) }
+        ensures folder { IfOk result (λ request. folder_in request ≡ Some folder.now) }
         ensures lang { IfOk result (λ request. string_bytes request.lang ≡ lang.now) }
     {
         let folder = String::from_str(alloc, folder)?;
         let lang = String::from_str(alloc, lang)?;
-        Ok(Request { mode, folder, lang })
+        Ok(Request {
+            mode,
+            folder: Some(folder),
+            lang,
+        })
     }
 }
 
@@ -69,19 +76,23 @@ impl WordFault {
 
 const DEFAULT_LANGUAGE: &str = "en";
 
-/// Reads the words of a command line, of which the first is the program's name: no more words, or
-/// `query FOLDER [--lang CODE]`.
+/// Reads the words of a command line, of which the first is the program's name: no more words,
+/// `query FOLDER [--lang CODE]`, or `check FOLDER`.
 pub fn read_words<'a>(alloc: Global, words: &'a [&'a str]) -> Result<Request, WordFault>
     ensures asked { IfOk result (IsRequest (texts_of words.now)) }
     ensures refused { IfErr result (IsRefusal (texts_of words.now)) }
     ensures none { length words.now ≤ 1 → IfErr result (λ fault. fault ≡ WordFault.Memory) }
 {
     if words.len() <= 1 {
-        return Ok(Request::new(alloc, Mode::Sample, "", DEFAULT_LANGUAGE)?);
+        return Ok(Request {
+            mode: Mode::Sample,
+            folder: None,
+            lang: String::from_str(alloc, DEFAULT_LANGUAGE)?,
+        });
     }
     let command = command_line(alloc)?;
     match command.try_get_matches_from(words) {
-        Ok(matches) => query_request(alloc, &matches),
+        Ok(matches) => command_request(alloc, &matches),
         Err(error) => Err(word_fault(alloc, &error)),
     }
 }
@@ -90,29 +101,46 @@ pub fn read_words<'a>(alloc: Global, words: &'a [&'a str]) -> Result<Request, Wo
 fn command_line<'a>(alloc: Global) -> Result<Command<'a>, AllocError>
     ensures { IfOk result (λ command. app_of command ≡ program) }
 {
-    let folder = Arg::new(alloc, "FOLDER")
-        .required(true)
-        .help("the folder of the Snapshot files, with its subfolders");
-    let lang = Arg::new(alloc, "lang")
-        .long("lang")
-        .value_name("CODE")
-        .help("the language whose names come first, en by default");
     let query = Command::new(alloc, "query")
         .about("answers queries on the release of a folder")
-        .arg(folder)?
-        .arg(lang)?;
-    Command::new(alloc, "hosecrag")
+        .arg(folder_argument(alloc))?
+        .arg(lang_argument(alloc))?;
+    let check = Command::new(alloc, "check")
+        .about("reports what the release of a folder has, and reads no queries")
+        .arg(folder_argument(alloc))?;
+    let with_query = Command::new(alloc, "hosecrag")
         .about(
             "answers SNOMED CT queries, one to a line of standard input; without a command, on a small release that is built in",
         )
         .subcommand_required(true)
-        .subcommand(query)
+        .subcommand(query)?;
+    with_query.subcommand(check)
+}
+
+// The folder that a command takes.
+fn folder_argument<'a>(alloc: Global) -> Arg<'a>
+    ensures rule { rule_of result ≡ folder_rule }
+    ensures own { result.global ≡ false }
+{
+    Arg::new(alloc, "FOLDER")
+        .required(true)
+        .help("the folder of the Snapshot files, with its subfolders")
+}
+
+// The code of a language that `query` takes.
+fn lang_argument<'a>(alloc: Global) -> Arg<'a>
+    ensures rule { rule_of result ≡ lang_rule }
+    ensures own { result.global ≡ false }
+{
+    Arg::new(alloc, "lang")
+        .long("lang")
+        .value_name("CODE")
+        .help("the language whose names come first, en by default")
 }
 
 // What is asked by the command that was named.
-fn query_request(alloc: Global, matches: &ArgMatches<'_>) -> Result<Request, WordFault>
-    ensures mode { IfOk result (λ request. request.mode ≡ Mode.Query) }
-    ensures asked { IfOk result (AsksQuery (subcommand_rows_of matches.now)) }
+fn command_request(alloc: Global, matches: &ArgMatches<'_>) -> Result<Request, WordFault>
+    ensures asked { IfOk result (λ request. CommandAsks request.mode (subcommand_rows_of matches.now) request) }
     ensures refused { IfErr result (IsNoRequest (subcommand_rows_of matches.now)) }
 {
     let Some((name, arguments)) = matches.subcommand() else {
@@ -121,11 +149,14 @@ fn query_request(alloc: Global, matches: &ArgMatches<'_>) -> Result<Request, Wor
     let Some(folder) = arguments.get_str("FOLDER") else {
         return Err(no_command(alloc));
     };
-    if name != "query" {
-        return Err(no_command(alloc));
+    if name == "query" {
+        let lang = arguments.get_str("lang").unwrap_or(DEFAULT_LANGUAGE);
+        return Ok(Request::of_folder(alloc, Mode::Query, folder, lang)?);
     }
-    let lang = arguments.get_str("lang").unwrap_or(DEFAULT_LANGUAGE);
-    Ok(Request::new(alloc, Mode::Query, folder, lang)?)
+    if name == "check" {
+        return Ok(Request::of_folder(alloc, Mode::Check, folder, DEFAULT_LANGUAGE)?);
+    }
+    Err(no_command(alloc))
 }
 
 // The fault of words that name no command.

@@ -23,7 +23,7 @@ returns-in-Ok-clause-asked c =
     (c.in-Ok.ensures.matches (ap is_simple is ∙ program_is_simple)).1 ∙ ap (λ (app : App). subcommand_of app (texts_of c.args.words.now)) is in
     let clean : fault_of program (texts_of c.args.words.now) ≡ [] =
     subst (λ (app : App). fault_of app (texts_of c.args.words.now) ≡ []) is (c.in-Ok.ensures.kinds (ap is_simple_and_free is ∙ program_is_free)) in
-    request_is (texts_of c.args.words.now) (subcommand_rows_of c.in-Ok.matches) c.query_request.result named clean c.query_request.ensures.mode c.query_request.ensures.asked
+    request_is (texts_of c.args.words.now) (subcommand_rows_of c.in-Ok.matches) c.command_request.result named clean c.command_request.ensures.asked
 
 pub returns-in-Ok-clause-refused : goal.returns-in-Ok-clause-refused
 returns-in-Ok-clause-refused c =
@@ -32,7 +32,7 @@ returns-in-Ok-clause-refused c =
     (c.in-Ok.ensures.matches (ap is_simple is ∙ program_is_simple)).1 ∙ ap (λ (app : App). subcommand_of app (texts_of c.args.words.now)) is in
     let clean : fault_of program (texts_of c.args.words.now) ≡ [] =
     subst (λ (app : App). fault_of app (texts_of c.args.words.now) ≡ []) is (c.in-Ok.ensures.kinds (ap is_simple_and_free is ∙ program_is_free)) in
-    refusal_is (texts_of c.args.words.now) (subcommand_rows_of c.in-Ok.matches) c.query_request.result named clean c.query_request.ensures.refused
+    refusal_is (texts_of c.args.words.now) (subcommand_rows_of c.in-Ok.matches) c.command_request.result named clean c.command_request.ensures.refused
 
 pub returns-in-Err-clause-refused : goal.returns-in-Err-clause-refused
 returns-in-Err-clause-refused c =

@@ -1,0 +1,15 @@
+-- The text that tells what a loaded release has, in numbers.
+use Rattle.std.specs.Prelude.{ℕ, ◌++◌, List, codes}
+use Rattle.snapshot.specs.declared.report.Report.{Report}
+use Rattle.answer_printer.specs.AnswerText.{number_line}
+
+-- a line for each number: the files that have a kind, the rows of the five lists, and the rows in none of them
+abbrev pub report_text : Report → List ℕ
+report_text report =
+    (codes "FILES " ++ number_line report.files)
+    ++ (codes "CONCEPTS " ++ number_line report.concepts)
+    ++ (codes "ISA " ++ number_line report.isa)
+    ++ (codes "ATTRIBUTES " ++ number_line report.attributes)
+    ++ (codes "MEMBERS " ++ number_line report.members)
+    ++ (codes "NAMES " ++ number_line report.names)
+    ++ (codes "PASSED " ++ number_line report.passed)

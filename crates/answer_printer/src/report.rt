@@ -1,0 +1,45 @@
+//! The report of a release.
+ghost use Rattle.std.specs.Prelude.{◌≡◌, ◌++◌, IfOk, OnErr, OnOk};
+ghost use Rattle.answer_printer.specs.AnswerText.{number_line};
+ghost use Rattle.answer_printer.specs.ReportText.{report_text};
+
+use crate::numbers::append_number;
+use snapshot::Report;
+use std::alloc::{AllocError, Global};
+
+/// Appends what a release has, in numbers, each on a line of its own behind a word: the files that have
+/// a kind (`FILES`), the rows in force of the five lists (`CONCEPTS`, `ISA`, `ATTRIBUTES`, `MEMBERS` and
+/// `NAMES`), and the rows in none of them (`PASSED`). `AllocError` is answered where memory is refused;
+/// `output` is unchanged then.
+pub fn print_report(alloc: Global, report: &Report, output: &mut Vec<u8>) -> Result<(), AllocError>
+    ensures ok { OnOk result (output.new.items ≡ output.old.items ++ report_text report.now) }
+    ensures err { OnErr result (output.new.items ≡ output.old.items) }
+{
+    let text = text_of(alloc, report)?;
+    output.extend_from_slice(text.as_slice())
+}
+
+// The text of a report, apart, so that a growth that is refused leaves no part of it behind.
+fn text_of(alloc: Global, report: &Report) -> Result<Vec<u8>, AllocError>
+    ensures { IfOk result (λ text. text.items ≡ report_text report.now) }
+{
+    let mut text = Vec::new(alloc);
+    push_count(b"FILES ", report.files, &mut text)?;
+    push_count(b"CONCEPTS ", report.concepts, &mut text)?;
+    push_count(b"ISA ", report.isa, &mut text)?;
+    push_count(b"ATTRIBUTES ", report.attributes, &mut text)?;
+    push_count(b"MEMBERS ", report.members, &mut text)?;
+    push_count(b"NAMES ", report.names, &mut text)?;
+    push_count(b"PASSED ", report.passed, &mut text)?;
+    Ok(text)
+}
+
+// Adds a line: a word and a number.
+fn push_count(word: &[u8], count: u64, text: &mut Vec<u8>) -> Result<(), AllocError>
+    ensures { OnOk result (text.new.items ≡ text.old.items ++ (word.now ++ number_line count)) }
+{
+    text.extend_from_slice(word)?;
+    append_number(count, text)?;
+    text.push(b'\n')?;
+    Ok(())
+}

@@ -1,0 +1,16 @@
+-- What a report says of a loaded release.
+use Rattle.std.specs.Prelude.{length}
+use Rattle.snapshot.specs.Contents.{Contents}
+use Rattle.snapshot.specs.declared.report.Report.{Report}
+
+-- the number of files, the lengths of the five lists, and the number of rows in none of them
+abbrev pub report_of : Contents → Report
+report_of contents = record {
+  files = contents.files;
+  concepts = length contents.release.concepts;
+  isa = length contents.release.isa;
+  attributes = length contents.release.attributes;
+  members = length contents.release.members;
+  names = length contents.release.names;
+  passed = contents.passed;
+}
