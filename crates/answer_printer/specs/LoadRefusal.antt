@@ -7,6 +7,7 @@ use Rattle.rf2_rows.specs.declared.fault.RowCause.{RowCause}
 use Rattle.rf2_rows.specs.declared.fault.RowCause.TheVariants.{Fields, Id, Time, Active, Group, Value, Utf8, Uuid}
 use Rattle.snapshot.specs.declared.fault.LoadFault.{LoadFault}
 use Rattle.snapshot.specs.declared.fault.LoadFault.TheVariants.{NoConceptFile, Header, Row, Duplicate, TooMany, Cycle, Memory}
+use Rattle.answer_printer.specs.ToldName.{told_name}
 
 -- the word for the cause for which an identifier, and a row, is refused
 abbrev pub id_word : IdFault → List ℕ
@@ -30,14 +31,18 @@ cause_word Uuid = codes "uuid"
 abbrev pub refused_line : List (List ℕ) → List ℕ
 refused_line words = (codes "REFUSED" ++ flat_map (λ word. 32 ∷ word) words) ++ 10 ∷ []
 
+-- the name of a file, as it is told, by its place among the names
+abbrev pub told_at : List (List ℕ) → ℕ → List ℕ
+told_at names file = told_name (slice_index_or names file [])
+
 -- the words of a fault, over the names of the files
 abbrev pub refusal_words : List (List ℕ) → LoadFault → List (List ℕ)
 refusal_words names NoConceptFile = codes "no-concept-file" ∷ []
-refusal_words names (Header file) = codes "header" ∷ slice_index_or names file [] ∷ []
+refusal_words names (Header file) = codes "header" ∷ told_at names file ∷ []
 refusal_words names (Row file line fault) =
-    codes "row" ∷ slice_index_or names file [] ∷ decimal line ∷ decimal fault.column ∷ cause_word fault.cause ∷ []
-refusal_words names (Duplicate file line) = codes "duplicate" ∷ slice_index_or names file [] ∷ decimal line ∷ []
-refusal_words names (TooMany file line) = codes "too-many" ∷ slice_index_or names file [] ∷ decimal line ∷ []
+    codes "row" ∷ told_at names file ∷ decimal line ∷ decimal fault.column ∷ cause_word fault.cause ∷ []
+refusal_words names (Duplicate file line) = codes "duplicate" ∷ told_at names file ∷ decimal line ∷ []
+refusal_words names (TooMany file line) = codes "too-many" ∷ told_at names file ∷ decimal line ∷ []
 refusal_words names (Cycle concept) = codes "cycle" ∷ decimal concept ∷ []
 refusal_words names Memory = codes "memory" ∷ []
 
@@ -50,4 +55,4 @@ listing_refusal = refused_line (codes "device" ∷ [])
 
 -- the line of a file that can't be read, by its name
 abbrev pub device_refusal : List ℕ → List ℕ
-device_refusal name = refused_line (codes "device" ∷ name ∷ [])
+device_refusal name = refused_line (codes "device" ∷ told_name name ∷ [])

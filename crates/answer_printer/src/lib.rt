@@ -12,6 +12,7 @@ mod query_refusal;
 mod report;
 #[cfg(test)]
 mod tests;
+mod told_name;
 
 pub use crate::answer::print_answer;
 pub use crate::load_refusal::{listing_line, print_device_fault, print_load_fault};

@@ -1,8 +1,10 @@
 //! The line on standard error that tells why a release was refused, or why its files can't be had.
 ghost use Rattle.std.specs.Prelude.{◌≡◌, ◌++◌, ◌∷◌, [], codes, decimal, OnErr, OnOk, IfOk, slice_index_or};
 ghost use Rattle.answer_printer.specs.LoadRefusal.{cause_word as word_of_cause, device_refusal, id_word as word_of_id, listing_refusal, load_refusal, refused_line};
+ghost use Rattle.answer_printer.specs.ToldName.{told_name};
 ghost use Rattle.rf2_rows.specs.Parts.{texts_of};
 
+use crate::told_name::push_name;
 use rf2_rows::{RowCause, RowFault};
 use sctid::IdFault;
 use snapshot::LoadFault;
@@ -10,9 +12,10 @@ use std::alloc::{AllocError, Global};
 
 /// Appends the line that tells why a release was refused: `REFUSED`, the kind of the fault, and then
 /// its file, line, column and cause or its concept, as far as it has them. `names` are the names of the
-/// files that were to be loaded, in their order; a fault's file is told by its name there. A line counts
-/// from 1, and so does a column; column 0 stands for a wrong number of fields. `AllocError` is answered
-/// where memory is refused; `output` is unchanged then.
+/// files that were to be loaded, in their order; a fault's file is told by its name there, with control
+/// characters as `\x` and two hexadecimal digits. A line counts from 1, and so does a column; column 0
+/// stands for a wrong number of fields. `AllocError` is answered where memory is refused; `output` is
+/// unchanged then.
 pub fn print_load_fault(
     alloc: Global,
     fault: LoadFault,
@@ -26,8 +29,8 @@ pub fn print_load_fault(
     output.extend_from_slice(line.as_slice())
 }
 
-/// Appends the line that tells that a file can't be read: `REFUSED device` and its name. `AllocError` is
-/// answered where memory is refused; `output` is unchanged then.
+/// Appends the line that tells that a file can't be read: `REFUSED device` and its name, told as by
+/// `print_load_fault`. `AllocError` is answered where memory is refused; `output` is unchanged then.
 pub fn print_device_fault(alloc: Global, name: &str, output: &mut Vec<u8>) -> Result<(), AllocError>
     ensures ok { OnOk result (output.new.items ≡ output.old.items ++ device_refusal name.now) }
     ensures err { OnErr result (output.new.items ≡ output.old.items) }
@@ -74,29 +77,29 @@ fn plain_line(alloc: Global, kind: &[u8]) -> Result<Vec<u8>, AllocError>
 }
 
 fn file_line(alloc: Global, kind: &[u8], name: &str) -> Result<Vec<u8>, AllocError>
-    ensures { IfOk result (λ line. line.items ≡ refused_line (kind.now ∷ name.now ∷ [])) }
+    ensures { IfOk result (λ line. line.items ≡ refused_line (kind.now ∷ told_name name.now ∷ [])) }
 {
     let mut line = begun(alloc, kind)?;
-    push_word(&mut line, name.as_bytes())?;
+    push_name(&mut line, name)?;
     line.push(b'\n')?;
     Ok(line)
 }
 
 fn place_line(alloc: Global, kind: &[u8], name: &str, number: u64) -> Result<Vec<u8>, AllocError>
-    ensures { IfOk result (λ line. line.items ≡ refused_line (kind.now ∷ name.now ∷ decimal number ∷ [])) }
+    ensures { IfOk result (λ line. line.items ≡ refused_line (kind.now ∷ told_name name.now ∷ decimal number ∷ [])) }
 {
     let mut line = begun(alloc, kind)?;
-    push_word(&mut line, name.as_bytes())?;
+    push_name(&mut line, name)?;
     push_number(&mut line, number)?;
     line.push(b'\n')?;
     Ok(line)
 }
 
 fn row_line(alloc: Global, name: &str, number: u64, fault: RowFault) -> Result<Vec<u8>, AllocError>
-    ensures { IfOk result (λ line. line.items ≡ refused_line (codes "row" ∷ name.now ∷ decimal number ∷ decimal fault.column ∷ word_of_cause fault.cause ∷ [])) }
+    ensures { IfOk result (λ line. line.items ≡ refused_line (codes "row" ∷ told_name name.now ∷ decimal number ∷ decimal fault.column ∷ word_of_cause fault.cause ∷ [])) }
 {
     let mut line = begun(alloc, b"row")?;
-    push_word(&mut line, name.as_bytes())?;
+    push_name(&mut line, name)?;
     push_number(&mut line, number)?;
     push_number(&mut line, u64::from(fault.column))?;
     push_word(&mut line, cause_word(fault.cause))?;

@@ -321,13 +321,27 @@ fn device_refused(rt: &impl Abort, alloc: Global, name: &str) -> Result<Vec<u8>,
     Ok(output)
 }
 
+// Looks at the line of a file that can't be read.
+fn check_device_refused(
+    rt: &impl Abort,
+    alloc: Global,
+    name: &str,
+    line: &[u8],
+) -> Result<(), AllocError> {
+    let output = match device_refused(rt, alloc, name) {
+        Ok(output) => output,
+        Err(AllocError) => device_refused(rt, alloc, name)?,
+    };
+    assert!(rt; output.as_slice().strip_prefix(BEFORE) == Some(line));
+    Ok(())
+}
+
 #[test]
 fn refuses_files(rt: HostRuntime) -> Result<(), Fail> {
-    let output = match device_refused(&rt, rt.alloc(), "a/c.txt") {
-        Ok(output) => output,
-        Err(AllocError) => device_refused(&rt, rt.alloc(), "a/c.txt")?,
-    };
-    assert!(rt; output.as_slice() == b"before\nREFUSED device a/c.txt\n".as_slice());
+    let alloc = rt.alloc();
+    check_device_refused(&rt, alloc, "a/c.txt", b"REFUSED device a/c.txt\n")?;
+    let controls = b"REFUSED device \\x00a\\x0ab\\x0d\\x1b[2J\\x1f ~\\x7f\xc3\xa4\n";
+    check_device_refused(&rt, alloc, "\0a\nb\r\x1b[2J\x1f ~\x7f\u{e4}", controls)?;
     assert!(rt; listing_line() == b"REFUSED device\n".as_slice());
     Ok(())
 }

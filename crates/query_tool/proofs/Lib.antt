@@ -1,6 +1,7 @@
 mod AnswerLemmas
 mod FaultLemmas
 mod HierarchyLemmas
+mod KeptLemmas
 mod LineLemmas
 mod RunLemmas
 mod ServeLemmas

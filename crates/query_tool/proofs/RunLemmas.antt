@@ -1,6 +1,6 @@
 -- What a run has read and written, piece by piece and at its end.
 use Rattle.std.proofs.Common.{◌≡◌, ℕ, ◌+◌, Bool, List, ◌++◌, length, take, Option, Result, Ok, Err, IfOk, IfErr, IfSome, OnOk, sym, ap, ◌∙◌, subst, length-append, add-zero, arith}
-use Rattle.std.specs.Io.KnownBytes.{Appends, Consumes, IsAtEnd}
+use Rattle.std.specs.Io.KnownBytes.{Consumes, IsAtEnd}
 use Rattle.std.proofs.KnownBytes.{Consumes-whole}
 use Rattle.std.proofs.lemmas.List.{take_at}
 use Rattle.snapshot.specs.Contents.{Contents}

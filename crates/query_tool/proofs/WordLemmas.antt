@@ -9,7 +9,7 @@ use Rattle.clap.specs.declared.parser.matches.SubCommand.{SubCommand}
 use Rattle.clap.specs.declared.parser.matches.ArgMatches.TheViews.{out-ArgMatches, out-SubCommand}
 use Rattle.clap.specs.declared.error.kind.ErrorKind.{ErrorKind}
 use Rattle.clap.specs.declared.error.kind.ErrorKind.TheVariants.{MissingSubcommand, OutOfMemory}
-use Rattle.query_tool.specs.CommandLine.{Asks, CommandAsks, IsFaultBy, IsNoRequest, IsRefusal, IsRequest, NamesFolder, program}
+use Rattle.query_tool.specs.CommandLine.{Asks, CommandAsks, IsCall, IsFaultBy, IsNoRequest, IsRefusal, IsRequest, NamesFolder, program}
 use Rattle.query_tool.specs.declared.words.Mode.{Mode}
 use Rattle.query_tool.specs.declared.words.Mode.TheVariants.{Sample, Query, Check}
 use Rattle.query_tool.specs.declared.words.Request.{Request}
@@ -70,7 +70,11 @@ other_names_no_folder command name held other another names = by names.0 names.2
 -- where a command names no folder, it is no request, and no call for help
 pub is_no_request : (command : Option (Text × List Row)) (fault : WordFault) → IsFaultBy MissingSubcommand fault → ¬ NamesFolder command → IsNoRequest command fault
 is_no_request command (Usage text) by none = none
-is_no_request command (Help text) by none = (cc)
+is_no_request command (Help text) by none = absurd (no_call by)
+  where
+    no_call : IsCall MissingSubcommand → ⊥
+    no_call (inl help) = (cc)
+    no_call (inr version) = (cc)
 is_no_request command Memory by none = tt
 
 -- where the command is that of the words, so is the refusal
@@ -81,11 +85,16 @@ refusal_is words command (Err (Usage text)) named clean none = inr (clean, subst
 refusal_is words command (Err (Help text)) named clean none = absurd none
 refusal_is words command (Err Memory) named clean none = tt
 
+-- want of memory is no call
+no_memory : (kind : ErrorKind) → IsCall kind → kind ≡ OutOfMemory → ⊥
+no_memory kind (inl help) refused = (cc)
+no_memory kind (inr version) refused = (cc)
+
 -- a fault that tells of clap's error is a refusal of the words
 pub refusal_by : (words : List Text) (kind : ErrorKind) (fault : WordFault) → IsFaultBy kind fault
     → (kind ≡ OutOfMemory) ⊎ IsAmong kind (fault_of program words) → IsRefusal words fault
 refusal_by words kind (Usage text) by (inl refused) = absurd (by.1 refused)
 refusal_by words kind (Usage text) by (inr among) = inl (kind, among, by.0)
-refusal_by words kind (Help text) by (inl refused) = (cc)
-refusal_by words kind (Help text) by (inr among) = subst (λ (k : ErrorKind). IsAmong k (fault_of program words)) by among
+refusal_by words kind (Help text) by (inl refused) = absurd (no_memory kind by refused)
+refusal_by words kind (Help text) by (inr among) = (kind, among, by)
 refusal_by words kind Memory by found = tt

@@ -1,9 +1,11 @@
 -- What the words of a command line ask for. The words begin with the program's name. How words are read as
 -- arguments is clap's; here is what the program takes, and what a request is of it.
-use Rattle.std.specs.Prelude.{◌≡◌, ◌≢◌, ◌⊎◌, ◌≤◌, ℕ, ⊤, true, List, [], length, codes, string_bytes, unwrap_or, Option, None, Some, option_map}
+use Rattle.std.specs.Prelude.{◌≡◌, ◌≢◌, ◌⊎◌, ◌≤◌, ℕ, ⊤, false, true, List, [], length, codes, string_bytes, unwrap_or, Option, None, Some, option_map}
 use Rattle.clap.specs.Words.{App, IsAmong, Row, Rule, Text, fault_of, first_of, new_app, new_rule, subcommand_of, with_rule, with_subcommand}
+use Rattle.clap.specs.declared.builder.command.Command.{Command}
+use Rattle.clap.specs.declared.builder.command.Command.TheViews.{out-Command}
 use Rattle.clap.specs.declared.error.kind.ErrorKind.{ErrorKind}
-use Rattle.clap.specs.declared.error.kind.ErrorKind.TheVariants.{DisplayHelp, OutOfMemory}
+use Rattle.clap.specs.declared.error.kind.ErrorKind.TheVariants.{DisplayHelp, DisplayVersion, OutOfMemory}
 use Rattle.query_tool.specs.declared.words.Mode.{Mode}
 use Rattle.query_tool.specs.declared.words.Mode.TheVariants.{Sample, Query, Check}
 use Rattle.query_tool.specs.declared.words.Request.{Request}
@@ -25,13 +27,25 @@ query_command = with_rule (with_rule (new_app (codes "query")) folder_rule) lang
 abbrev pub check_command : App
 check_command = with_rule (new_app (codes "check")) folder_rule
 
+-- none of its arguments is one of its commands too
+abbrev pub HasOwnArguments : Command → Type 0
+HasOwnArguments command = (out-Command command).has_globals ≡ false
+
 -- a command has to be named
 abbrev pub requiring_command : App → App
 requiring_command app = record app { top = record app.top { subcommand_required = true } }
 
+-- the version can be asked for
+abbrev pub having_version : App → App
+having_version app = record app { top = record app.top { has_version = true } }
+
+-- the program, without its commands
+abbrev pub bare_program : App
+bare_program = requiring_command (having_version (new_app (codes "hosecrag")))
+
 -- the program
 abbrev pub program : App
-program = with_subcommand (with_subcommand (requiring_command (new_app (codes "hosecrag"))) query_command.top) check_command.top
+program = with_subcommand (with_subcommand bare_program query_command.top) check_command.top
 
 -- the language whose names come first where none is given
 abbrev pub default_language : List ℕ
@@ -92,19 +106,23 @@ IsNoRequest command (Usage text) = ¬ NamesFolder command
 IsNoRequest command (Help text) = ⊥
 IsNoRequest command Memory = ⊤
 
--- a fault tells of clap's error: of the help that was asked for, or of words that are wrong
+-- a call for help, or for the version
+abbrev pub IsCall : ErrorKind → Type 0
+IsCall kind = (kind ≡ DisplayHelp) ⊎ (kind ≡ DisplayVersion)
+
+-- a fault tells of clap's error: of what was called for, or of words that are wrong
 abbrev pub IsFaultBy : ErrorKind → WordFault → Type 0
-IsFaultBy kind (Usage text) = (kind ≢ DisplayHelp) × (kind ≢ OutOfMemory)
-IsFaultBy kind (Help text) = kind ≡ DisplayHelp
+IsFaultBy kind (Usage text) = (¬ IsCall kind) × (kind ≢ OutOfMemory)
+IsFaultBy kind (Help text) = IsCall kind
 IsFaultBy kind Memory = ⊤
 
--- why words are refused: clap finds a fault in them that is no call for help; or it finds none, and they name
--- no folder for `query` or `check`; or they call for help; or memory was refused
+-- why words are refused: clap finds a fault in them that is no call for help or for the version; or it finds
+-- none, and they name no folder for `query` or `check`; or they are such a call; or memory was refused
 abbrev pub IsRefusal : List Text → WordFault → Type 0
 IsRefusal words (Usage text) =
-    ((kind : ErrorKind) × IsAmong kind (fault_of program words) × (kind ≢ DisplayHelp))
+    ((kind : ErrorKind) × IsAmong kind (fault_of program words) × (¬ IsCall kind))
     ⊎ ((fault_of program words ≡ []) × ¬ NamesFolder (subcommand_of program words))
-IsRefusal words (Help text) = IsAmong DisplayHelp (fault_of program words)
+IsRefusal words (Help text) = (kind : ErrorKind) × IsAmong kind (fault_of program words) × IsCall kind
 IsRefusal words Memory = ⊤
 
 -- the numbers of the faults

@@ -3,8 +3,10 @@ pub mod CommandLine
 pub mod EngineInside
 pub mod Fault
 pub mod FolderRefusal
+pub mod KeptLine
 pub mod Lines
 pub mod Report
 pub mod SampleContents
 pub mod Serve
 pub mod Streams
+pub mod WordRefusal

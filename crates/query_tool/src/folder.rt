@@ -2,9 +2,11 @@
 use release_files::NamedBytes;
 use rf2_rows::file_kind;
 use std::alloc::{AllocError, AllocFailed, Global};
-use std::fs::File;
+use std::collections::BTreeSet;
+use std::fs::{File, Metadata};
 use std::io::{ErrorKind, Read};
-use std::{fs, io};
+use std::os::unix::fs::MetadataExt;
+use std::{fs, io, mem};
 
 /// A file: its path below the folder, with `/` between, and its bytes.
 #[derive(Drop)]
@@ -37,9 +39,10 @@ impl FolderFile {
 // A folder has subfolders of this many levels; what lies deeper is not listed.
 const LEVELS: usize = 16;
 
-/// The plain files of a folder and its subfolders in the byte order of their names; links are
-/// followed. A file whose name tells of a kind of Snapshot file has its bytes, up to one past the
-/// limit on bytes; no other is read, and it has none.
+/// The plain files of a folder and its subfolders in the byte order of their names. Links are followed,
+/// but each folder is entered once, whatever links lead to it: level by level, and in a folder in the
+/// byte order of the names. A file whose name tells of a kind of Snapshot file has its bytes, up to one
+/// past the limit on bytes; no other is read, and it has none.
 pub fn read_folder(
     rt: &HostRuntime,
     folder: &str,
@@ -63,43 +66,92 @@ pub fn read_folder(
 
 // The names of the plain files of a folder and its subfolders, level by level.
 fn list_files(rt: &HostRuntime, folder: &str) -> Result<Vec<String>, FolderFault> {
-    let mut names = Vec::new(rt.alloc());
+    let mut walk = Walk::new(rt.alloc());
     let mut level = Vec::new(rt.alloc());
     level.push(String::new(rt.alloc()))?;
     for _ in 0..=LEVELS {
-        let mut next = Vec::new(rt.alloc());
         for below in &level {
-            if let Err(error) = list_one(rt, folder, below.as_str(), &mut names, &mut next) {
-                return Err(listing_fault(&error));
+            walk.enter(rt, folder, below.as_str())?;
+        }
+        level = mem::replace(&mut walk.next, Vec::new(rt.alloc()));
+    }
+    Ok(walk.names)
+}
+
+// What a walk through a folder and its subfolders has found. A path is one below the folder.
+#[derive(Drop)]
+struct Walk {
+    // The paths of the plain files.
+    names: Vec<String>,
+    // The paths of the folders of the next level, each with a `/` behind it.
+    next: Vec<String>,
+    // The folders that were entered, by their devices and their numbers there: a link may lead to one
+    // again.
+    entered: BTreeSet<(u64, u64)>,
+}
+
+impl Walk {
+    fn new(alloc: Global) -> Walk {
+        Walk {
+            names: Vec::new(alloc),
+            next: Vec::new(alloc),
+            entered: BTreeSet::new(alloc),
+        }
+    }
+
+    // Takes what a folder has, in the byte order of the names, unless the folder was entered before.
+    fn enter(&mut self, rt: &HostRuntime, folder: &str, below: &str) -> Result<(), FolderFault> {
+        let path = joined(rt.alloc(), folder, below)?;
+        let attributes = fs::metadata(rt, path.as_str())?;
+        if self.entered.insert((attributes.dev(), attributes.ino()))? {
+            for entry in entries(rt, path.as_str())? {
+                let mut name = String::from_str(rt.alloc(), below)?;
+                name.push_str(entry.as_str())?;
+                self.take(rt, folder, name)?;
             }
         }
-        level = next;
+        Ok(())
     }
+
+    // Takes a plain file or a folder by its path, and nothing else.
+    fn take(&mut self, rt: &HostRuntime, folder: &str, name: String) -> Result<(), FolderFault> {
+        let path = joined(rt.alloc(), folder, name.as_str())?;
+        match fs::metadata(rt, path.as_str()) {
+            Ok(attributes) => self.take_by(name, &attributes),
+            Err(error) => pass_over(name, &error),
+        }
+    }
+
+    fn take_by(&mut self, mut name: String, attributes: &Metadata) -> Result<(), FolderFault> {
+        if attributes.is_dir() {
+            name.push_str("/")?;
+            self.next.push(name)?;
+        } else if attributes.is_file() {
+            self.names.push(name)?;
+        }
+        Ok(())
+    }
+}
+
+// The names in a folder, in byte order.
+fn entries(rt: &HostRuntime, path: &str) -> Result<Vec<String>, FolderFault> {
+    let mut names = Vec::new(rt.alloc());
+    for entry in fs::read_dir(rt, path)? {
+        names.push(String::from_str(rt.alloc(), entry?.file_name())?)?;
+    }
+    names.sort()?;
     Ok(names)
 }
 
-// Adds the plain files and the folders of one folder, whose path below the first begins their names.
-fn list_one(
-    rt: &HostRuntime,
-    folder: &str,
-    below: &str,
-    names: &mut Vec<String>,
-    folders: &mut Vec<String>,
-) -> io::Result<()> {
-    let path = joined(rt.alloc(), folder, below)?;
-    for entry in fs::read_dir(rt, path.as_str())? {
-        let entry = entry?;
-        let mut name = String::from_str(rt.alloc(), below)?;
-        name.push_str(entry.file_name())?;
-        let attributes = fs::metadata(rt, entry.path())?;
-        if attributes.is_dir() {
-            name.push_str("/")?;
-            folders.push(name)?;
-        } else if attributes.is_file() {
-            names.push(name)?;
-        }
+// Passes over a link that leads nowhere, unless its name is that of a file that would be read.
+fn pass_over(name: String, error: &io::Error) -> Result<(), FolderFault> {
+    if file_kind(name.as_str()).is_some() {
+        return Err(file_fault(name, error));
     }
-    Ok(())
+    match error.kind() {
+        ErrorKind::NotFound | ErrorKind::NotADirectory | ErrorKind::FilesystemLoop => Ok(()),
+        _ => Err(listing_fault(error)),
+    }
 }
 
 fn read_file(rt: &HostRuntime, path: &str, limit: u64, bytes: &mut Vec<u8>) -> io::Result<()> {
@@ -129,6 +181,13 @@ fn file_fault(name: String, error: &io::Error) -> FolderFault {
     match error.kind() {
         ErrorKind::OutOfMemory => FolderFault::Memory,
         _ => FolderFault::File(name),
+    }
+}
+
+// A fault of the walk, which is no file's.
+impl From<io::Error> for FolderFault {
+    fn from(error: io::Error) -> FolderFault {
+        listing_fault(&error)
     }
 }
 

@@ -37,7 +37,7 @@ mod words;
 
 use folder::{FolderFault, FolderFile, read_folder};
 use release_files::NamedBytes;
-use serve::{Status, refuse_folder, serve};
+use serve::{Status, refuse_folder, refuse_words, serve};
 use snapshot::Limits;
 use std::alloc::AllocError;
 use std::io::ErrorKind;
@@ -54,18 +54,11 @@ fn main(rt: HostRuntime) -> ExitCode {
 fn outcome(rt: &HostRuntime) -> Status {
     match asked(rt) {
         Ok(request) => fulfil(rt, &request),
-        Err(WordFault::Help(text)) => {
-            let _ = print!(rt; "{text}");
-            Status::Done
-        }
-        Err(WordFault::Usage(text)) => {
-            let _ = eprint!(rt; "{text}");
-            Status::WordsFault
-        }
-        Err(WordFault::Memory) => {
-            let _ = eprintln!(rt; "FAULT memory");
-            Status::MemoryRefused
-        }
+        Err(fault) => refuse_words(
+            &fault,
+            &mut StreamOutput::new(io::writer(rt)),
+            &mut StreamOutput::new(rt.stderr()),
+        ),
     }
 }
 

@@ -3,7 +3,8 @@ ghost use Rattle.std.specs.Prelude.{◌≡◌, ℕ, ◌+◌, ◌^◌, ◌<◌, �
 ghost use Rattle.std.specs.Io.KnownBytes.{Appends, IsAtEnd};
 ghost use Rattle.query_tool.specs.Answer.{IsAnswer};
 ghost use Rattle.query_tool.specs.Fault.{CountsTurns, EndsAt, HaveFailed, IsAnswerFault, LeavesWritten, number_of};
-ghost use Rattle.query_tool.specs.Lines.{AreWritten, HasNoFeed, IsCutInto, line_feed, query_lines};
+ghost use Rattle.query_tool.specs.KeptLine.{IsCutTo, kept_of};
+ghost use Rattle.query_tool.specs.Lines.{AreWritten, HasNoFeed, line_feed, query_lines};
 
 use crate::engine::Engine;
 use crate::streams::{AnswerOutput, IoFault, QueryInput};
@@ -43,6 +44,9 @@ const TURNS: u64 = 1 << 40;
 
 // How many bytes are read at once.
 const PIECE_LENGTH: usize = 65_536;
+
+// How many bytes of a line are kept until it ends: one more than a line may have.
+const KEPT_LENGTH: usize = 65_536;
 
 const LINE_FEED: u8 = b'\n';
 
@@ -98,7 +102,7 @@ fn zeros(alloc: Global, count: usize) -> Result<Vec<u8>, AllocError>
     vec![in alloc; 0u8; count]
 }
 
-// What a run carries from one piece of the input to the next: the bytes of a line that has not
+// What a run carries from one piece of the input to the next: the first bytes of a line that has not
 // ended, room for an answer, and how many answers were written.
 #[derive(Drop)]
 struct Progress {
@@ -119,7 +123,8 @@ impl Progress {
         }
     }
 
-    // Answers the lines that end in a piece of the input, and keeps what is behind them.
+    // Answers the lines that end in a piece of the input, and keeps what is behind them, as far as it
+    // is kept of a line. Whatever the line was of which the pending bytes are kept, its answer is that.
     fn take_piece<W: AnswerOutput>(
         &mut self,
         alloc: Global,
@@ -127,18 +132,19 @@ impl Progress {
         piece: &[u8],
         output: &mut W,
     ) -> Result<(), RunFault>
-        requires unended { HasNoFeed self.old.pending.items }
         requires room { self.old.answered + length piece.now < 2 ^ 64 }
         requires sound { W.has_failed output.old ≡ false }
-        ensures ok { OnOk result ((lines : List (List ℕ))
-            × IsCutInto (self.old.pending.items ++ piece.now) lines self.new.pending.items
+        ensures ok { OnOk result ((unended : List ℕ) → HasNoFeed unended → self.old.pending.items ≡ kept_of unended
+            → (lines : List (List ℕ))
+            × IsCutTo (unended ++ piece.now) lines self.new.pending.items
             × (self.new.answered ≡ self.old.answered + length lines)
             × AreWritten engine.now lines (W.written output.old) (W.written output.new)) }
         ensures few { OnOk result (self.new.answered ≤ self.old.answered + length piece.now) }
         ensures sound { OnOk result (W.has_failed output.new ≡ false) }
-        ensures fault { IfErr result (λ fault. (count : ℕ)
+        ensures fault { IfErr result (λ fault. (unended : List ℕ) → HasNoFeed unended → self.old.pending.items ≡ kept_of unended
+            → (count : ℕ)
             × IsAnswerFault fault (self.old.answered + count) (W.has_failed output.new)
-            × LeavesWritten engine.now (query_lines (self.old.pending.items ++ piece.now)) count fault (W.written output.old) (W.written output.new)) }
+            × LeavesWritten engine.now (query_lines (unended ++ piece.now)) count fault (W.written output.old) (W.written output.new)) }
     {
         let mut rest = piece;
         while let Some((line, later)) = first_line(rest) {
@@ -147,10 +153,20 @@ impl Progress {
                 Err(fault) => return Err(fault),
             }
         }
-        match self.pending.extend_from_slice(rest) {
+        match self.keep(rest) {
             Ok(()) => Ok(()),
             Err(_) => Err(RunFault::Memory(self.answered)),
         }
+    }
+
+    // Adds bytes to those that are kept of a line.
+    fn keep(&mut self, bytes: &[u8]) -> Result<(), AllocError>
+        ensures pending { OnOk result (self.new.pending.items ≡ kept_of (self.old.pending.items ++ bytes.now)) }
+        ensures answered { self.new.answered ≡ self.old.answered }
+    {
+        self.pending.extend_from_slice(bytes)?;
+        self.pending.truncate(KEPT_LENGTH);
+        Ok(())
     }
 
     // Answers the line that the pending bytes begin and that `line` ends.

@@ -8,14 +8,15 @@ ghost use Rattle.answer_printer.specs.LoadRefusal.{device_refusal, load_refusal}
 ghost use Rattle.answer_printer.specs.ReportText.{report_text};
 ghost use Rattle.query_tool.specs.Report.{report_of};
 ghost use Rattle.query_tool.specs.Serve.{EndsWith, ServesWith, TellsFolderFault, TellsLoadFault, fault_text, memory_text, names_of, refusal_status_of, status_code, status_of, task_of};
-ghost use Rattle.query_tool.specs.Streams.{IsTold, streams};
+ghost use Rattle.query_tool.specs.Streams.{IsTold, outputs, streams};
+ghost use Rattle.query_tool.specs.WordRefusal.{TellsWordFault};
 
 use crate::engine::Engine;
 use crate::folder::FolderFault;
 use crate::run::{RunFault, run, write_all};
 use crate::sample::sample_files;
 use crate::streams::{AnswerOutput, QueryInput};
-use crate::words::{Mode, Request};
+use crate::words::{Mode, Request, WordFault};
 use answer_printer::{listing_line, print_device_fault, print_load_fault, print_report};
 use release_files::NamedBytes;
 use snapshot::{Limits, LoadFault, Snapshot};
@@ -202,6 +203,31 @@ pub fn refuse_folder<E: AnswerOutput>(alloc: Global, fault: &FolderFault, errors
             Err(_) => tell_memory(errors),
         },
         FolderFault::Memory => tell_memory(errors),
+    }
+}
+
+/// Writes the help or the version that was called for, or tells on `errors` why words are no request.
+/// Where the output fails, that is told.
+pub fn refuse_words<W: AnswerOutput, E: AnswerOutput>(
+    fault: &WordFault,
+    output: &mut W,
+    errors: &mut E,
+) -> Status
+    requires output { W.AnswerOutput.has_failed output.old ≡ false }
+    requires errors { E.AnswerOutput.has_failed errors.old ≡ false }
+    ensures { TellsWordFault W.AnswerOutput E.AnswerOutput fault.now result
+        (outputs output.old errors.old) (outputs output.new errors.new) }
+{
+    match fault {
+        WordFault::Help(text) => match write_all(text.as_bytes(), output) {
+            Ok(()) => Status::Done,
+            Err(_) => tell_fault(RunFault::Write(0), errors),
+        },
+        WordFault::Usage(text) => {
+            tell(text.as_bytes(), errors);
+            Status::WordsFault
+        }
+        WordFault::Memory => tell_fault(RunFault::Memory(0), errors),
     }
 }
 

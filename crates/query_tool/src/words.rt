@@ -3,7 +3,7 @@ ghost use Rattle.std.specs.Prelude.{◌≡◌, ◌≤◌, IfErr, IfOk, false, le
 ghost use Rattle.clap.specs.Words.{app_of, kind_of, rule_of, subcommand_rows_of};
 ghost use Rattle.clap.specs.declared.error.kind.ErrorKind.TheVariants.{MissingSubcommand};
 ghost use Rattle.rf2_rows.specs.Parts.{texts_of};
-ghost use Rattle.query_tool.specs.CommandLine.{CommandAsks, IsFaultBy, IsNoRequest, IsRefusal, IsRequest, folder_in, folder_rule, lang_rule, program};
+ghost use Rattle.query_tool.specs.CommandLine.{CommandAsks, HasOwnArguments, IsFaultBy, IsNoRequest, IsRefusal, IsRequest, bare_program, check_command, folder_in, folder_rule, lang_rule, program, query_command};
 
 use clap::error::ErrorKind;
 use clap::{Arg, ArgMatches, Command, Error};
@@ -53,7 +53,7 @@ impl Request {
 pub enum WordFault {
     /// The words are not those of a command: what to tell the user.
     Usage(String),
-    /// Help was asked for: what to tell the user.
+    /// Help or the version was asked for: what to tell the user.
     Help(String),
     /// A growth of memory was refused.
     Memory,
@@ -76,8 +76,24 @@ impl WordFault {
 
 const DEFAULT_LANGUAGE: &str = "en";
 
+// The version of the program. It stands nowhere else.
+const VERSION: &str = "0.1.0";
+
+// What help tells behind the commands.
+const USES: &str = "Three ways to start it:
+  printf '<100005\\n' | hosecrag
+  printf '<<404684003\\n' | hosecrag query SnomedCT_Release/Snapshot --lang en
+  hosecrag check SnomedCT_Release/Snapshot
+
+It ends with a status:
+  0  all was done
+  1  a folder, a file or a stream failed, or the input had no end
+  2  the words are no command
+  3  the files are no release
+  4  memory was refused";
+
 /// Reads the words of a command line, of which the first is the program's name: no more words,
-/// `query FOLDER [--lang CODE]`, or `check FOLDER`.
+/// `query FOLDER [--lang CODE]`, or `check FOLDER`. `--help` and `--version` are answered as `Help`.
 pub fn read_words<'a>(alloc: Global, words: &'a [&'a str]) -> Result<Request, WordFault>
     ensures asked { IfOk result (IsRequest (texts_of words.now)) }
     ensures refused { IfErr result (IsRefusal (texts_of words.now)) }
@@ -101,20 +117,46 @@ pub fn read_words<'a>(alloc: Global, words: &'a [&'a str]) -> Result<Request, Wo
 fn command_line<'a>(alloc: Global) -> Result<Command<'a>, AllocError>
     ensures { IfOk result (λ command. app_of command ≡ program) }
 {
-    let query = Command::new(alloc, "query")
-        .about("answers queries on the release of a folder")
-        .arg(folder_argument(alloc))?
-        .arg(lang_argument(alloc))?;
-    let check = Command::new(alloc, "check")
-        .about("reports what the release of a folder has, and reads no queries")
-        .arg(folder_argument(alloc))?;
-    let with_query = Command::new(alloc, "hosecrag")
-        .about(
-            "answers SNOMED CT queries, one to a line of standard input; without a command, on a small release that is built in",
-        )
-        .subcommand_required(true)
-        .subcommand(query)?;
+    let query = query_command(alloc)?;
+    let check = check_command(alloc)?;
+    let with_query = bare_program(alloc)?.subcommand(query)?;
     with_query.subcommand(check)
+}
+
+// The program without its commands.
+fn bare_program<'a>(alloc: Global) -> Result<Command<'a>, AllocError>
+    ensures { IfOk result (λ command. app_of command ≡ bare_program) }
+{
+    let named = Command::new(alloc, "hosecrag").bin_name("hosecrag")?;
+    Ok(
+        named
+            .version(VERSION)
+            .about(
+                "answers SNOMED CT queries, one to a line of standard input; without a command, on a small release that is built in",
+            )
+            .override_usage("hosecrag [COMMAND]")
+            .after_help(USES)
+            .subcommand_required(true),
+    )
+}
+
+fn query_command<'a>(alloc: Global) -> Result<Command<'a>, AllocError>
+    ensures shape { IfOk result (λ command. app_of command ≡ query_command) }
+    ensures own { IfOk result HasOwnArguments }
+{
+    let with_folder = Command::new(alloc, "query")
+        .about("answers queries on the release of a folder")
+        .arg(folder_argument(alloc))?;
+    with_folder.arg(lang_argument(alloc))
+}
+
+fn check_command<'a>(alloc: Global) -> Result<Command<'a>, AllocError>
+    ensures shape { IfOk result (λ command. app_of command ≡ check_command) }
+    ensures own { IfOk result HasOwnArguments }
+{
+    Command::new(alloc, "check")
+        .about("reports what the release of a folder has, and reads no queries")
+        .arg(folder_argument(alloc))
 }
 
 // The folder that a command takes.
@@ -177,7 +219,7 @@ fn word_fault(alloc: Global, error: &Error) -> WordFault
         return WordFault::Memory;
     };
     match error.kind() {
-        ErrorKind::DisplayHelp => WordFault::Help(text),
+        ErrorKind::DisplayHelp | ErrorKind::DisplayVersion => WordFault::Help(text),
         ErrorKind::OutOfMemory => WordFault::Memory,
         _ => WordFault::Usage(text),
     }

@@ -1,9 +1,10 @@
 use Rattle.std.proofs.Common.{◌≡◌, ◌⊎◌, ℕ, ◌+◌, ◌-◌, ◌*◌, ◌^◌, ◌≤◌, false, List, length}
-use Rattle.std.specs.Io.KnownBytes.{Appends, Consumes}
-use Rattle.query_tool.specs.Lines.{AreWritten, IsCutInto}
+use Rattle.std.specs.Io.KnownBytes.{Consumes}
+use Rattle.query_tool.specs.KeptLine.{IsCutTo}
+use Rattle.query_tool.specs.Lines.{AreWritten}
 use Rattle.query_tool.proofs.run.run.Given as goal
 
--- what was read is cut into lines that were answered, and the pending bytes
+-- what was read is cut into lines that were answered, and one that has not ended, of which the pending bytes are kept
 abbrev pub invariant-loop-turn : goal.invariant-loop-turn
 invariant-loop-turn g l = record {
   input_sound : g.R.QueryInput.has_failed l.input ≡ false;
@@ -13,7 +14,7 @@ invariant-loop-turn g l = record {
   few : l.progress.answered ≤ l._turn * 65536;
   lines : (read : List ℕ) × (lines : List (List ℕ))
       × Consumes (g.R.QueryInput.remaining l.fn.input) (g.R.QueryInput.remaining l.input) read
-      × IsCutInto read lines l.progress.pending.items
+      × IsCutTo read lines l.progress.pending.items
       × (l.progress.answered ≡ length lines)
       × AreWritten l.engine lines (g.W.AnswerOutput.written l.fn.output) (g.W.AnswerOutput.written l.output);
 }

@@ -1,4 +1,4 @@
-use Rattle.std.proofs.Common.{ℕ, ◌≡◌, ◌++◌, ◌∙◌, List, sym, subst}
+use Rattle.std.proofs.Common.{ℕ, ◌++◌, ◌∙◌, List, sym, subst}
 use Rattle.query_tool.specs.Answer.{IsAnswer}
 use Rattle.query_tool.proofs.FaultLemmas.{answers_one, on_ok_here}
 use Rattle.query_tool.proofs.run.Progress.answer_line.Goals as goal

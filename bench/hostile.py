@@ -1,0 +1,286 @@
+#!/usr/bin/env python3
+"""Tries the program as a careless user and an attacker would: links, odd names, streams that fail, little memory.
+
+    bench/hostile.py [PROGRAM]
+
+PROGRAM is the built program, crates/query_tool/out/query_tool where it is left out. A line is printed for each case,
+and at the end `N passed, M failed`. The folders are made below a new temporary folder, which is removed.
+"""
+import contextlib
+import os
+import random
+import re
+import resource
+import shutil
+import signal
+import socket
+import subprocess
+import sys
+import tempfile
+import time
+
+ROOT = os.path.dirname(os.path.dirname(os.path.abspath(__file__)))
+CONCEPTS = "sct2_Concept_Snapshot_INT_20240101.txt"
+RELATIONSHIPS = "sct2_Relationship_Snapshot_INT_20240101.txt"
+QUERY = b"<100005\n"
+ANSWER = b"OK 3\n101009 |Beta (finding)|\n102002 |Gamma (finding)|\n103007 |Delta (finding)|\n"
+REPORT = b"FILES 5\nCONCEPTS 10\nISA 10\nATTRIBUTES 9\nMEMBERS 2\nNAMES 10\nPASSED 6\n"
+CAUSES = "fields|id-length|id-digit|id-zero|id-part|id-check|time|active|group|value|utf8|uuid"
+REFUSALS = re.compile(
+    rf"REFUSED (no-concept-file|header \S+|row \S+ \d+ \d+ ({CAUSES})|duplicate \S+ \d+|too-many \S+ \d+|cycle \d+)\n"
+)
+passed, failed = 0, 0
+
+
+def sample_files():
+    """The built-in files, by their names, as their source has them."""
+    with open(f"{ROOT}/crates/query_tool/src/sample.rt", encoding="utf-8") as it:
+        source = it.read()
+    texts = {}
+    for name, text in re.findall(r'const (\w+): &\[u8\] =\s*b"(.*?)";', source, re.S):
+        text = re.sub(r"\\\n\s*", "", text)
+        texts[name] = text.encode().decode("unicode_escape").encode("latin-1")
+    return {name: texts[of] for name, of in re.findall(r'name: "([^"]+)",\s*bytes: (\w+)', source)}
+
+
+def put(folder, files):
+    os.makedirs(folder, exist_ok=True)
+    for name, data in files.items():
+        with open(os.path.join(os.fsencode(folder), os.fsencode(name)), "wb") as it:
+            it.write(data)
+
+
+def run(*words, stdin=b"", seconds=60, before=None, **streams):
+    """Runs the program, and returns its status, output and errors. A run that does not end has status None."""
+    given = {"stdin": subprocess.PIPE, "stdout": subprocess.PIPE, "stderr": subprocess.PIPE, **streams}
+    started = subprocess.Popen([PROGRAM, *words], preexec_fn=before, cwd="/", **given)
+    try:
+        out, err = started.communicate(stdin if given["stdin"] == subprocess.PIPE else None, timeout=seconds)
+    except subprocess.TimeoutExpired:
+        started.kill()
+        out, err = started.communicate()
+        return None, out, err
+    return started.returncode, out, err
+
+
+def case(name, got, wanted):
+    global passed, failed
+    well = got == wanted
+    passed, failed = passed + well, failed + (not well)
+    print(f"{'ok    ' if well else 'FAILED'} {name}{'' if well else f': {got!r}, not {wanted!r}'}", flush=True)
+
+
+def refused(text, status=3):
+    return (status, b"", f"REFUSED {text}\n".encode())
+
+
+@contextlib.contextmanager
+def folder():
+    with tempfile.TemporaryDirectory(prefix="hostile-") as room:
+        os.chmod(room, 0o755)
+        yield room
+
+
+def links():
+    with folder() as room:
+        put(room, FILES)
+        for name in ("l1", "l2", "l3"):
+            os.symlink(".", f"{room}/{name}")
+        case("three links to the folder itself", run("check", room), (0, REPORT, b""))
+    with folder() as room:
+        put(f"{room}/a/b", FILES)
+        os.symlink("..", f"{room}/a/b/up")
+        os.symlink("a/b", f"{room}/z")
+        case("links up and across", run("check", room), (0, REPORT, b""))
+    with folder() as room:
+        put(f"{room}/elsewhere", FILES)
+        os.mkdir(f"{room}/release")
+        os.symlink("../elsewhere", f"{room}/release/here")
+        case("a folder behind a link alone", run("check", f"{room}/release"), (0, REPORT, b""))
+    with folder() as room:
+        put(f"{room}/z", {CONCEPTS: b"bad"})
+        os.symlink("z", f"{room}/b")
+        os.symlink("z", f"{room}/a")
+        case("a folder is told by its first name", run("check", room), refused(f"header a/{CONCEPTS}"))
+    status, out, err = run("query", "/sys", seconds=120)
+    case("a folder of the kernel's ends", (status in (1, 3), out, err.count(b"\n")), (True, b"", 1))
+    with folder() as room:
+        put(room, FILES)
+        os.symlink("nowhere", f"{room}/notes.txt")
+        os.symlink("loop", f"{room}/loop")
+        os.symlink(f"{CONCEPTS}/x", f"{room}/through_a_file")
+        case("links that lead nowhere", run("check", room), (0, REPORT, b""))
+        name = RELATIONSHIPS.replace("INT", "XX")
+        os.symlink("nowhere", f"{room}/{name}")
+        case("a link that leads nowhere, of a file's name", run("check", room), refused(f"device {name}", 1))
+
+
+def names():
+    for name, told in ((f"a\n\x1b[31mb", r"a\x0a\x1b[31mb"), ("\x01\x1f\x7f é", r"\x01\x1f\x7f é")):
+        with folder() as room:
+            put(f"{room}/{name}", {CONCEPTS: b"bad"})
+            case(f"a folder named {name!r}", run("check", room), refused(f"header {told}/{CONCEPTS}"))
+    with folder() as room:
+        put(room, FILES)
+        put(room, {b"\xff.txt": b""})
+        case("a name that is not UTF-8", run("check", room), refused("device", 1))
+    with folder() as room:
+        deep = "/".join("abcdefghijklmnop")
+        put(f"{room}/{deep}", FILES)
+        case("16 levels", run("check", room), (0, REPORT, b""))
+        put(f"{room}/{deep}/q", {CONCEPTS.replace("INT", "XX"): b"bad"})
+        case("17 levels", run("check", room), (0, REPORT, b""))
+    with folder() as room:
+        put(room, FILES)
+        put(f"{room}/many", {f"{at}.txt": b"" for at in range(100_000)})
+        case("100,000 other files", run("check", room), (0, REPORT, b""))
+    case("no folder", run("check", "/nowhere/at/all"), refused("device", 1))
+    case("an empty word", run("check", ""), refused("device", 1))
+
+
+def kinds_of_file():
+    with folder() as room:
+        put(room, {it: FILES[it] for it in FILES if it != CONCEPTS})
+        os.mkfifo(f"{room}/{CONCEPTS}")
+        other = socket.socket(socket.AF_UNIX)
+        os.chdir(room)
+        other.bind(CONCEPTS.replace("INT", "XX"))
+        os.chdir("/")
+        case("a FIFO and a socket for the Concept file", run("check", room), refused("no-concept-file"))
+        other.close()
+    with folder() as room:
+        put(room, {it: FILES[it] for it in FILES if it != CONCEPTS})
+        put(f"{room}/{CONCEPTS}", {CONCEPTS: FILES[CONCEPTS]})
+        case("a folder with a file's name", run("check", room), (0, REPORT, b""))
+    with folder() as room:
+        put(room, FILES)
+        os.chmod(f"{room}/{CONCEPTS}", 0)
+        case("a file that can't be read", run("check", room, before=to_nobody), refused(f"device {CONCEPTS}", 1))
+        os.chmod(f"{room}/{CONCEPTS}", 0o644)
+        os.mkdir(f"{room}/closed", 0)
+        case("a folder that can't be read", run("check", room, before=to_nobody), refused("device", 1))
+        os.chmod(f"{room}/closed", 0o755)
+
+
+def to_nobody():
+    if os.geteuid() == 0:
+        os.setgroups([])
+        os.setgid(65534)
+        os.setuid(65534)
+
+
+def spoiled():
+    """Truncations and flipped bits: a release, or a refusal that is named."""
+    dice, odd = random.Random(20240101), []
+    with folder() as room:
+        put(room, FILES)
+        for turn in range(2_000):
+            name = dice.choice(sorted(FILES))
+            data = bytearray(FILES[name])
+            if turn % 2:
+                del data[dice.randrange(len(data)) :]
+            else:
+                data[dice.randrange(len(data))] ^= 1 << dice.randrange(8)
+            put(room, {name: bytes(data)})
+            status, out, err = run("check", room)
+            is_load = status == 0 and re.fullmatch(rb"(?:[A-Z]+ \d+\n){7}", out) and err == b""
+            is_refusal = status == 3 and out == b"" and REFUSALS.fullmatch(err.decode())
+            if not is_load and not is_refusal:
+                odd.append((turn, status, out, err))
+            put(room, {name: FILES[name]})
+    case("2,000 truncations and flipped bits", odd[:3], [])
+
+
+def streams():
+    case("a query", run(stdin=QUERY), (0, ANSWER, b""))
+    with open("/dev/full", "wb") as full:
+        fault = (1, None, b"FAULT write\n")
+        case("a full output", run(stdin=QUERY, stdout=full), fault)
+        case("help to a full output", run("--help", stdout=full), fault)
+        case("the version to a full output", run("--version", stdout=full), fault)
+        with folder() as room:
+            put(room, FILES)
+            case("a report to a full output", run("check", room, stdout=full), fault)
+        case("errors to a full output", run("query", "/nowhere", stderr=full)[0], 1)
+    closes = lambda handle: lambda: os.close(handle)
+    case("a closed output", run(stdin=QUERY, before=closes(1))[::2], (1, b"FAULT write\n"))
+    case("help to a closed output", run("--help", before=closes(1))[::2], (1, b"FAULT write\n"))
+    case("a closed input", run(before=closes(0)), (1, b"", b"FAULT read\n"))
+    case("closed errors", run("query", "/nowhere", before=closes(2))[0], 1)
+    with open(os.devnull, "rb") as none:
+        case("an empty input", run(stdin=none), (0, b"", b""))
+    case("a byte order mark before the first query", run(stdin=b"\xef\xbb\xbf*\n")[1], b"ERR token 0\n")
+
+
+def words():
+    status, out, err = run("--version")
+    case("the version", (status, bool(re.fullmatch(rb"hosecrag \d+\.\d+\.\d+\n", out)), err), (0, True, b""))
+    status, out, err = run("--help")
+    told = [it for it in (b"hosecrag [COMMAND]", b"hosecrag query", b"hosecrag check", b"| hosecrag\n", b"  4  ") if it not in out]
+    case("help", (status, told, b"query_tool" in out, err), (0, [], False, b""))
+    for given in (["qery"], ["query"], ["check"], ["check", "F", "G"], ["--lang", "en"], ["explain", "F"]):
+        status, out, err = run(*given)
+        case(f"words that are no command: {given}", (status, out, b"query_tool" in err, b"hosecrag" in err), (2, b"", False, True))
+
+
+def long_lines():
+    def peak(stdin):
+        """The peak memory of a run in KiB, and what it wrote."""
+        program = (
+            "import resource, subprocess, sys\n"
+            "ran = subprocess.run([sys.argv[1]], stdout=subprocess.PIPE)\n"
+            "sys.stdout.buffer.write(b'%d ' % resource.getrusage(resource.RUSAGE_CHILDREN).ru_maxrss + ran.stdout)\n"
+        )
+        ran = subprocess.Popen([sys.executable, "-c", program, PROGRAM], stdin=subprocess.PIPE, stdout=subprocess.PIPE)
+        for piece in stdin:
+            ran.stdin.write(piece)
+        memory, _, out = ran.communicate()[0].partition(b" ")
+        return int(memory), out
+
+    short, out = peak([QUERY])
+    case("a short line", out, ANSWER)
+    piece = b"<" * (1 << 20)
+    memory, out = peak([*[piece] * 1024, b"\n", QUERY])
+    case("behind a line of 1 GiB the next one is answered", out, b"ERR long\n" + ANSWER)
+    case("a line of 1 GiB takes less than 1 MiB", memory - short < 1024, True)
+    line = b" " * (65_535 - len(QUERY) + 1) + QUERY
+    case("a line of 65,535 bytes", run(stdin=line)[1], ANSWER)
+    case("a line of 65,536 bytes", run(stdin=b" " + line)[1], b"ERR long\n")
+    case("a last line of 70,000 bytes", run(stdin=b" " * 70_000)[1], b"ERR long\n")
+
+
+def memory():
+    """The program under limits on its address space: the answer, or a line that tells of memory."""
+    told, odd = set(), []
+    with folder() as room:
+        put(room, FILES)
+        for kib in range(4 << 10, 96 << 10, 256):
+            limit = lambda: resource.setrlimit(resource.RLIMIT_AS, (kib << 10, kib << 10))
+            try:
+                status, out, err = run("query", room, stdin=QUERY, before=limit)
+            except OSError:
+                continue
+            told.add((status, err))
+            is_answer = (status, out, err) == (0, ANSWER, b"")
+            is_refusal = status == 4 and out == b"" and err in (b"REFUSED memory\n", b"FAULT memory\n")
+            # below what the system's own loader needs nothing of the program runs
+            is_loader = status in (127, -signal.SIGKILL, -signal.SIGSEGV) and out == b"" and (0, b"") not in told
+            if not is_answer and not is_refusal and not is_loader:
+                odd.append((kib, status, out, err))
+    case("limits on memory in steps of 256 KiB", odd[:3], [])
+    case("one of them is enough", (0, b"") in told, True)
+
+
+if __name__ == "__main__":
+    given = sys.argv[1] if len(sys.argv) > 1 else f"{ROOT}/crates/query_tool/out/query_tool"
+    FILES = sample_files()
+    started = time.time()
+    with tempfile.TemporaryDirectory(prefix="hostile-program-") as at:
+        # a copy that another user can start
+        os.chmod(at, 0o755)
+        PROGRAM = shutil.copy(given, f"{at}/hosecrag")
+        os.chmod(PROGRAM, 0o755)
+        for part in (words, streams, links, names, kinds_of_file, long_lines, memory, spoiled):
+            part()
+    print(f"{passed} passed, {failed} failed")
+    sys.exit(1 if failed else 0)
