@@ -207,8 +207,7 @@ def streams():
     case("help to a closed output", run("--help", before=closes(1))[::2], (1, b"FAULT write\n"))
     case("a closed input", run(before=closes(0)), (1, b"", b"FAULT read\n"))
     case("closed errors", run("query", "/nowhere", before=closes(2))[0], 1)
-    with open(os.devnull, "rb") as none:
-        case("an empty input", run(stdin=none), (0, b"", b""))
+    case("an empty input", run(), (0, b"", b""))
     case("a byte order mark before the first query", run(stdin=b"\xef\xbb\xbf*\n")[1], b"ERR token 0\n")
 
 
