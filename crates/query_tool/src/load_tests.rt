@@ -459,6 +459,34 @@ fn push_row(bytes: &mut Vec<u8>, id: SctId, child: SctId, parent: SctId) -> Resu
     bytes.extend_from_slice(ISA_REST)
 }
 
+// A file of relationships and a file of concepts. The rows stand before the concepts that they name.
+fn two_files<'a>(rows: &'a [u8], concepts: &'a [u8]) -> [NamedBytes<'a>; 2] {
+    [
+        NamedBytes {
+            name: RELATIONSHIP_NAME,
+            bytes: rows,
+        },
+        NamedBytes {
+            name: NAME,
+            bytes: concepts,
+        },
+    ]
+}
+
+// How many concepts and how many is-a rows a release has.
+fn counts_of(alloc: Global, files: &[NamedBytes<'_>]) -> Result<(u32, usize), LoadFault> {
+    let snapshot = Snapshot::load(alloc, files, "en", Limits::standard())?;
+    Ok((snapshot.concept_count(), snapshot.isa_rows().len()))
+}
+
+// Adds the row that joins the last of some concepts to the first.
+fn join_ends(rows: &mut Vec<u8>, ids: &[SctId], concepts: &[SctId]) -> Result<(), AllocError> {
+    if let (Some(first), Some(last), Some(id)) = (concepts.first(), concepts.last(), ids.last()) {
+        push_row(rows, *id, *first, *last)?;
+    }
+    Ok(())
+}
+
 // A chain of 100,000 concepts loads, and with its ends joined it is refused: nothing goes by depth.
 #[test]
 fn loads_a_long_chain(rt: HostRuntime) -> Result<(), Fail> {
@@ -467,40 +495,13 @@ fn loads_a_long_chain(rt: HostRuntime) -> Result<(), Fail> {
     let ids = identifiers(&rt, alloc, b"02", 100_000)?;
     let concept_bytes = concept_file(alloc, concepts.as_slice())?;
     let mut rows = chain_file(alloc, ids.as_slice(), concepts.as_slice())?;
-    // the rows stand before the concepts that they name
-    let files = [
-        NamedBytes {
-            name: RELATIONSHIP_NAME,
-            bytes: rows.as_slice(),
-        },
-        NamedBytes {
-            name: NAME,
-            bytes: concept_bytes.as_slice(),
-        },
-    ];
-    match Snapshot::load(alloc, &files, "en", Limits::standard()) {
-        Ok(snapshot) => {
-            assert_eq!(rt; snapshot.concept_count(), 100_000);
-            assert_eq!(rt; snapshot.isa_rows().len(), 99_999);
-        }
-        Err(fault) => panic!(rt; "{fault}"),
-    }
-    let (first, last) = (concepts.first(), concepts.last());
-    if let (Some(first), Some(last), Some(id)) = (first, last, ids.last()) {
-        push_row(&mut rows, *id, *first, *last)?;
-        let files = [
-            NamedBytes {
-                name: RELATIONSHIP_NAME,
-                bytes: rows.as_slice(),
-            },
-            NamedBytes {
-                name: NAME,
-                bytes: concept_bytes.as_slice(),
-            },
-        ];
-        let fault = fault_of(alloc, &files, Limits::standard());
-        assert!(rt; fault == Some(LoadFault::Cycle(*first)), "{fault:?}");
-    }
+    let counts = counts_of(alloc, &two_files(rows.as_slice(), concept_bytes.as_slice()))?;
+    assert!(rt; counts == (100_000, 99_999));
+    join_ends(&mut rows, ids.as_slice(), concepts.as_slice())?;
+    let files = two_files(rows.as_slice(), concept_bytes.as_slice());
+    let fault = fault_of(alloc, &files, Limits::standard());
+    let least = concepts.first().map(|first| LoadFault::Cycle(*first));
+    assert!(rt; fault == least, "{fault:?}");
     Ok(())
 }
 

@@ -7,6 +7,7 @@ use rf2_rows::{FileKind, header};
 use sctid::SctId;
 use snapshot::{Limits, Snapshot};
 use std::alloc::{AllocError, Global};
+use std::process::Abort;
 use std::test::Fail;
 
 const ROWS: u64 = 3_000;
@@ -94,16 +95,20 @@ fn loads_some_thousand_rows_of_each_kind(rt: HostRuntime) -> Result<(), Fail> {
         ),
         file(RELATIONSHIP_NAME, isa_bytes.as_slice()),
     ];
-    match Snapshot::load(alloc, &files, "en", Limits::standard()) {
-        Ok(snapshot) => {
-            assert_eq!(rt; snapshot.concept_count(), 3_000);
-            assert_eq!(rt; snapshot.isa_rows().len(), 2_999);
-            assert_eq!(rt; snapshot.member_rows().len(), 3_000);
-            for number in 0..snapshot.concept_count() {
-                assert!(rt; snapshot.name(number) == Some("Name (test)"));
-            }
-        }
-        Err(fault) => panic!(rt; "{fault}"),
-    }
+    assert_loaded(&rt, alloc, &files)
+}
+
+fn assert_loaded(rt: &impl Abort, alloc: Global, files: &[NamedBytes<'_>]) -> Result<(), Fail> {
+    let snapshot = Snapshot::load(alloc, files, "en", Limits::standard())?;
+    assert_all_kept(rt, &snapshot);
     Ok(())
+}
+
+fn assert_all_kept(rt: &impl Abort, snapshot: &Snapshot) {
+    assert_eq!(rt; snapshot.concept_count(), 3_000);
+    assert_eq!(rt; snapshot.isa_rows().len(), 2_999);
+    assert_eq!(rt; snapshot.member_rows().len(), 3_000);
+    for number in 0..snapshot.concept_count() {
+        assert!(rt; snapshot.name(number) == Some("Name (test)"));
+    }
 }
