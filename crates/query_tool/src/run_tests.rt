@@ -7,7 +7,7 @@ use crate::run::{RunFault, run};
 use crate::streams::{AnswerOutput, QueryInput, StreamInput, StreamOutput};
 use crate::test_streams::{PieceInput, PieceOutput, ROOM};
 use snapshot::Limits;
-use std::alloc::Global;
+use std::alloc::{AllocError, Global};
 use std::process::Abort;
 use std::test::Fail;
 
@@ -75,6 +75,33 @@ fn answers_each_line(rt: HostRuntime) -> Result<(), Fail> {
             let input = PieceInput::new(bytes, most, ROOM);
             let output = PieceOutput::new(rt.alloc(), most, ROOM)?;
             check_run(&rt, rt.alloc(), input, output, answer, written)?;
+        }
+    }
+    Ok(())
+}
+
+// Blanks, as many as are asked for, and a query behind them.
+fn behind_blanks(alloc: Global, blanks: usize) -> Result<Vec<u8>, AllocError> {
+    let mut bytes = Vec::new(alloc);
+    for _ in 0..blanks {
+        bytes.push(b' ')?;
+    }
+    bytes.extend_from_slice(b"<100005\n<100005")?;
+    Ok(bytes)
+}
+
+// A line is refused for its length alone, however long it is and however it is cut.
+#[test]
+fn refuses_lines_longer_than_are_kept(rt: HostRuntime) -> Result<(), Fail> {
+    let alloc = rt.alloc();
+    let mut refused = Vec::from_slice(alloc, b"ERR long\n")?;
+    refused.extend_from_slice(ANSWER)?;
+    for blanks in [65_529, 65_530, 200_000] {
+        let bytes = behind_blanks(alloc, blanks)?;
+        for most in [1_000, 70_000] {
+            let input = PieceInput::new(bytes.as_slice(), most, usize::MAX);
+            let output = PieceOutput::new(alloc, ROOM, ROOM)?;
+            check_run(&rt, alloc, input, output, Ok(2), refused.as_slice())?;
         }
     }
     Ok(())

@@ -1,7 +1,7 @@
 //! What the program answers to its words, and to releases that are refused.
 use crate::folder::FolderFault;
 use crate::load_tests::{replaced, sample};
-use crate::serve::{Status, refuse_folder, serve};
+use crate::serve::{Status, refuse_folder, refuse_words, serve};
 use crate::streams::QueryInput;
 use crate::test_streams::{PieceInput, PieceOutput, ROOM};
 use crate::words::{Mode, Request, WordFault, read_words};
@@ -87,6 +87,8 @@ fn refuses_words(rt: HostRuntime) {
         ["hosecrag", "--help"].as_slice(),
         &["hosecrag", "query", "-h"],
         &["hosecrag", "check", "-h"],
+        &["hosecrag", "--version"],
+        &["hosecrag", "-V"],
     ] {
         assert!(rt; matches!(read_words(rt.alloc(), words), Err(WordFault::Help(_))));
     }
@@ -261,6 +263,58 @@ fn ends_with_its_status(rt: HostRuntime) {
         Status::MemoryRefused,
     ];
     assert!(rt; statuses.map(|status| status.code()) == [0, 1, 2, 3, 4]);
+}
+
+// What a call for help or for the version writes, and where it is told of words that are wrong.
+#[test]
+fn writes_what_is_called_for(rt: HostRuntime) -> Result<(), Fail> {
+    let alloc = rt.alloc();
+    let help = WordFault::Help(String::from_str(alloc, "how it is used\n")?);
+    check_words(
+        &rt,
+        alloc,
+        &help,
+        ROOM,
+        (Status::Done, b"how it is used\n", b""),
+    )?;
+    check_words(
+        &rt,
+        alloc,
+        &help,
+        3,
+        (Status::DeviceFault, b"how", b"FAULT write\n"),
+    )?;
+    let usage = WordFault::Usage(String::from_str(alloc, "no command\n")?);
+    check_words(
+        &rt,
+        alloc,
+        &usage,
+        ROOM,
+        (Status::WordsFault, b"", b"no command\n"),
+    )?;
+    let memory = (
+        Status::MemoryRefused,
+        b"".as_slice(),
+        b"FAULT memory\n".as_slice(),
+    );
+    check_words(&rt, alloc, &WordFault::Memory, ROOM, memory)
+}
+
+// Looks at what is written of words that are no request, to an output that takes so many bytes, and told.
+fn check_words(
+    rt: &impl Abort,
+    alloc: Global,
+    fault: &WordFault,
+    sound: usize,
+    wanted: (Status, &[u8], &[u8]),
+) -> Result<(), Fail> {
+    let mut output = PieceOutput::new(alloc, ROOM, sound)?;
+    let mut errors = PieceOutput::new(alloc, ROOM, ROOM)?;
+    let status = refuse_words(fault, &mut output, &mut errors);
+    assert!(rt; status == wanted.0);
+    assert!(rt; output.bytes.as_slice() == wanted.1);
+    assert!(rt; errors.bytes.as_slice() == wanted.2);
+    Ok(())
 }
 
 // What is told of a folder whose files can't be had.
