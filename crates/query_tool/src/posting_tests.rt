@@ -6,7 +6,7 @@ use crate::load_tests::{MEMBERS, RELATIONSHIPS, replaced, sample};
 use postings::{Indexes, Mark};
 use release_files::NamedBytes;
 use rf2_rows::Value;
-use snapshot::{Limits, Snapshot};
+use snapshot::{Limits, LoadFault, Snapshot};
 use std::alloc::Global;
 use std::process::Abort;
 use std::test::Fail;
@@ -279,12 +279,12 @@ fn assert_indexes(rt: &impl Abort, indexes: &Indexes, wants: &Wants<'_>) {
 
 // The indexes of a release, and how many member rows it has. Functions that own a snapshot or indexes are dear to
 // prove, so each of these does little else.
-fn indexes_of(alloc: Global, files: &[NamedBytes<'_>]) -> Result<Indexes, Fail> {
+fn indexes_of(alloc: Global, files: &[NamedBytes<'_>]) -> Result<Indexes, LoadFault> {
     let snapshot = Snapshot::load(alloc, files, "en", Limits::standard())?;
     Ok(Indexes::build(alloc, &snapshot)?)
 }
 
-fn member_rows_of(alloc: Global, files: &[NamedBytes<'_>]) -> Result<usize, Fail> {
+fn member_rows_of(alloc: Global, files: &[NamedBytes<'_>]) -> Result<usize, LoadFault> {
     let snapshot = Snapshot::load(alloc, files, "en", Limits::standard())?;
     Ok(snapshot.member_rows().len())
 }
