@@ -1,2 +1,4 @@
 pub mod Examples
+pub mod HeldLemmas
 pub mod Parts
+pub mod PieceLemmas

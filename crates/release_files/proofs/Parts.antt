@@ -30,7 +30,7 @@ parts_last (byte ∷ next ∷ bytes) some none =
     rw (parts_onto byte (next ∷ bytes) (none 0 (omega arith)), rest) refl
 
 -- a line's bytes and its line feed are the first part of what begins with them
-parts_ended : (bytes rest : List ℕ) → HasNoFeed bytes → parts (bytes ++ 10 ∷ rest) ≡ (bytes ++ 10 ∷ []) ∷ parts rest
+pub parts_ended : (bytes rest : List ℕ) → HasNoFeed bytes → parts (bytes ++ 10 ∷ rest) ≡ (bytes ++ 10 ∷ []) ∷ parts rest
 parts_ended [] rest clear = refl
 parts_ended (byte ∷ bytes) rest clear =
     let other = All-head (λ x. x ≢ 10) byte bytes clear in
@@ -66,7 +66,7 @@ length-onto byte [] = omega arith
 length-onto byte (part ∷ cut) = omega arith
 
 -- the parts of a text are lines, and joined they are the text
-lines_of_parts : (bytes : List ℕ) → AreLines (parts bytes) × (concat (parts bytes) ≡ bytes)
+pub lines_of_parts : (bytes : List ℕ) → AreLines (parts bytes) × (concat (parts bytes) ≡ bytes)
 lines_of_parts [] = (no_more, refl)
 lines_of_parts (byte ∷ bytes) =
     let rest = lines_of_parts bytes in
@@ -84,7 +84,7 @@ parts_are_lines bytes cut =
     )
 
 -- there are no more parts than bytes
-length-parts : (bytes : List ℕ) → length (parts bytes) ≤ length bytes
+pub length-parts : (bytes : List ℕ) → length (parts bytes) ≤ length bytes
 length-parts [] = omega arith
 length-parts (byte ∷ bytes) = elim (cases_eq byte 10) [
   | inl is ↦ rw (eq-eqb byte 10 is) (omega (arith, length-parts bytes))

@@ -1,1 +1,4 @@
+pub mod Held
 pub mod Lines
+pub mod PieceLines
+pub mod Source

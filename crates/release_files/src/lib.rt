@@ -2,11 +2,18 @@
 //! row to a line, lines ended by CR LF).
 #![tactic(auto)]
 
+mod held;
 mod lines;
+mod memory_files;
+mod piece_lines;
+mod source;
 #[cfg(test)]
 mod tests;
 
 pub use crate::lines::{Line, Lines, parts_are_lines};
+pub use crate::memory_files::MemoryFiles;
+pub use crate::piece_lines::PieceLines;
+pub use crate::source::{FileSource, SourceFault};
 
 /// A file of a release, whole in memory.
 #[derive(Clone, Copy, Debug)]

@@ -39,9 +39,9 @@ impl<'a> Model for Lines<'a> {
 }
 
 // The byte order mark in UTF-8, and the bytes that end a line.
-const BYTE_ORDER_MARK: &[u8] = b"\xef\xbb\xbf";
+pub(crate) const BYTE_ORDER_MARK: &[u8] = b"\xef\xbb\xbf";
 
-const LINE_FEED: u8 = b'\n';
+pub(crate) const LINE_FEED: u8 = b'\n';
 
 const CARRIAGE_RETURN: u8 = b'\r';
 
@@ -117,7 +117,7 @@ fn first_part(bytes: &[u8]) -> (&[u8], &[u8])
 }
 
 // A line without its end: without its line feed, and then without one carriage return.
-fn text_of(part: &[u8]) -> &[u8]
+pub(crate) fn text_of(part: &[u8]) -> &[u8]
     ensures { result.now ≡ text_of part.now }
 {
     without_last(without_last(part, LINE_FEED), CARRIAGE_RETURN)

@@ -1,0 +1,105 @@
+-- How bytes that are held begin with a part, and how they grow.
+use Rattle.std.proofs.Common.{◌≡◌, ◌≢◌, ℕ, suc, ◌+◌, ◌<◌, ◌≤◌, true, eqb, List, [], ◌∷◌, ◌++◌, length, get_or, take, drop, slice_range, ◌-◌, None, Some, refl, sym, ap, ◌∙◌, append-nil, append_assoc, length-take, length-drop, arith}
+use Rattle.std.specs.Prelude.{Option}
+use Rattle.std.proofs.Math.Seq.{take-add, take-suc}
+use Rattle.std.proofs.lemmas.Bool.{eqb-true, eq-eqb}
+use Rattle.std.proofs.lemmas.List.{get_or-take, get_or_default, take-take, take_all, drop_all, nil_from_length, take-append-drop}
+use Rattle.std.proofs.lemmas.List.Elements.{All-append}
+use Rattle.std.specs.Io.KnownBytes.{Consumes, IsAtEnd}
+use Rattle.release_files.specs.Held.{BeginsWithPart, GrowsBy, IsEndedPart, KeepsBytes}
+use Rattle.release_files.specs.Lines.{parts, HasNoFeed}
+use Rattle.release_files.proofs.Parts.{NoFeed, parts_ended, parts_last}
+
+-- no line feed is found among the first bytes
+front_clear : (bytes : List ℕ) (at : ℕ) → at ≤ length bytes → NoFeed bytes at → HasNoFeed (take at bytes)
+front_clear bytes at fits none k d below is =
+    let here : k < at = omega (arith, length-take at bytes) in
+    none k here (eq-eqb (get_or bytes k 0) 10 (get_or_default bytes k 0 d (omega arith) ∙ sym (get_or-take at bytes k d here) ∙ is))
+
+-- nor among the next ones
+pub clear_further : (bytes : List ℕ) (searched at : ℕ) → HasNoFeed (take searched bytes) → at ≤ length (drop searched bytes) → NoFeed (drop searched bytes) at
+    → HasNoFeed (take (searched + at) bytes)
+clear_further bytes searched at clear fits none =
+    rw (take-add searched at bytes) (All-append (λ byte. byte ≢ 10) (take searched bytes) (take at (drop searched bytes)) clear (front_clear (drop searched bytes) at fits none))
+
+-- the first line feed ends a part
+pub ended_part : (bytes : List ℕ) (at : ℕ) → at < length bytes → HasNoFeed (take at bytes) → eqb (get_or bytes at 0) 10 ≡ true → IsEndedPart (take (suc at) bytes)
+ended_part bytes at fits clear is rest =
+    let whole : take (suc at) bytes ≡ take at bytes ++ 10 ∷ [] =
+    take-suc bytes at 0 fits ∙ ap (λ (byte : ℕ). take at bytes ++ byte ∷ []) (eqb-true (get_or bytes at 0) 10 is) in
+    rw whole (ap parts (append_assoc (take at bytes) (10 ∷ []) rest) ∙ parts_ended (take at bytes) rest clear)
+
+-- what is held begins with a part that is ended
+pub begins_ended : (rest : Option (List ℕ)) (held : List ℕ) (count : ℕ) → 0 < count → IsEndedPart (take count held) → BeginsWithPart rest held count
+begins_ended None held count some part = tt
+begins_ended (Some rest) held count some part = (
+  λ none. absurd (omega arith),
+  λ _.
+      ap (λ (bytes : List ℕ). parts (bytes ++ rest)) (sym (take-append-drop count held))
+      ∙ ap parts (append_assoc (take count held) (drop count held) rest)
+      ∙ part (drop count held ++ rest),
+)
+
+-- bytes without a line feed are the last part
+all_last : (held : List ℕ) (count : ℕ) → count ≡ length held → HasNoFeed held → BeginsWithPart (Some []) held count
+all_last held count all clear = (
+  λ none. ap (λ (bytes : List ℕ). parts (bytes ++ [])) (nil_from_length held (sym all ∙ none)),
+  λ some.
+      ap parts (append-nil held)
+      ∙ parts_last held (omega arith) (λ k below is. clear k 0 below (eqb-true _ 10 is))
+      ∙ ap (λ (part : List ℕ). part ∷ []) (sym (take_all count held (omega arith)))
+      ∙ ap (λ (behind : List ℕ). take count held ∷ parts (behind ++ [])) (sym (drop_all count held (omega arith))),
+)
+
+pub begins_last : (rest : Option (List ℕ)) (held : List ℕ) (count : ℕ) → IsAtEnd rest → count ≡ length held → HasNoFeed held → BeginsWithPart rest held count
+begins_last None held count end all clear = tt
+begins_last (Some rest) held count end all clear = rw end (all_last held count all clear)
+
+pub KeepsBytes-refl : (rest : Option (List ℕ)) (held : List ℕ) → KeepsBytes rest rest held held
+KeepsBytes-refl None held = tt
+KeepsBytes-refl (Some rest) held = refl
+
+pub KeepsBytes-trans : (first next last : Option (List ℕ)) (old mid new : List ℕ) → KeepsBytes first next old mid → KeepsBytes next last mid new → KeepsBytes first last old new
+KeepsBytes-trans None next last old mid new before after = tt
+KeepsBytes-trans (Some first) None last old mid new before after = absurd before
+KeepsBytes-trans (Some first) (Some next) None old mid new before after = absurd after
+KeepsBytes-trans (Some first) (Some next) (Some last) old mid new before after = before ∙ after
+
+-- a piece moves from the file to what is held
+pub GrowsBy-keeps : (before after : Option (List ℕ)) (old new : List ℕ) (count : ℕ) → GrowsBy before after old new count → KeepsBytes before after old new
+GrowsBy-keeps None after old new count grows = tt
+GrowsBy-keeps (Some before) None old new count grows = absurd grows.consumed
+GrowsBy-keeps (Some before) (Some after) old new count grows =
+    ap (λ (bytes : List ℕ). old ++ bytes) grows.consumed
+    ∙ sym (append_assoc old grows.piece after)
+    ∙ ap (λ (bytes : List ℕ). bytes ++ after) (sym grows.held)
+
+-- without a piece nothing changes
+pub GrowsBy-none : (before after : Option (List ℕ)) (old new : List ℕ) → GrowsBy before after old new 0 → new ≡ old
+GrowsBy-none before after old new grows =
+    grows.held ∙ ap (λ (bytes : List ℕ). old ++ bytes) (nil_from_length grows.piece grows.counted) ∙ append-nil old
+
+-- a piece was read behind bytes that were moved to the front of a buffer, which grew
+pub grows_read : (before after : Option (List ℕ)) (held items moved grown read : List ℕ) (start filled count : ℕ)
+    → held ≡ slice_range items start filled
+    → take (filled - start) moved ≡ slice_range items start filled
+    → filled - start ≤ length moved
+    → take (length moved) grown ≡ moved
+    → take (filled - start) read ≡ take (filled - start) grown
+    → (filled - start) + count ≤ length read
+    → Consumes before after (slice_range read (filled - start) ((filled - start) + count))
+    → (count ≡ 0 → IsAtEnd after)
+    → GrowsBy before after held (slice_range read 0 ((filled - start) + count)) count
+grows_read before after held items moved grown read start filled count is move room grow kept within consumes end =
+    let at = filled - start in
+    let piece : List ℕ = slice_range read at (at + count) in
+    let count_is : count ≡ at + count - at = omega arith in
+    let all_is : at + count - 0 ≡ at + count = omega arith in
+    let front : take at read ≡ held =
+    kept ∙ sym (take-take at (length moved) grown room) ∙ ap (take at) grow ∙ move ∙ sym is in record {
+      piece = piece;
+      held = ap (λ (n : ℕ). take n read) all_is ∙ take-add at count read ∙ ap (λ (bytes : List ℕ). bytes ++ take count (drop at read)) front ∙ ap (λ (n : ℕ). held ++ take n (drop at read)) count_is;
+      counted = omega (arith, length-take (at + count - at) (drop at read), length-drop at read);
+      consumed = consumes;
+      end = end;
+    }

@@ -1,0 +1,5 @@
+use Rattle.std.proofs.Common.{◌≡◌, map, take, string_bytes}
+use Rattle.release_files.proofs.memory_files.names_of.Given as goal
+
+abbrev pub invariant-loop-file : goal.invariant-loop-file
+invariant-loop-file l = map string_bytes l.names.items ≡ map (λ file. file.name.now) (take l.file-index l.files)

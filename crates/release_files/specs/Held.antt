@@ -1,0 +1,34 @@
+-- What is held of a file that is read in pieces.
+use Rattle.std.specs.Prelude.{◌≡◌, ℕ, ◌<◌, List, [], ◌∷◌, ◌++◌, length, take, drop, ⊤, Option, None, Some}
+use Rattle.std.specs.Io.KnownBytes.{Consumes, IsAtEnd}
+use Rattle.release_files.specs.Lines.{parts}
+
+-- the bytes that were taken last, and those behind them that were read
+pub record HeldBytes : Type 0 where
+  pub taken : List ℕ
+  pub bytes : List ℕ
+
+-- `held` grew by the next `count` bytes of a file, which are none only at its end
+pub record GrowsBy (before after : Option (List ℕ)) (old new : List ℕ) (count : ℕ) : Type 0 where
+  pub piece : List ℕ
+  pub held : new ≡ old ++ piece
+  pub counted : length piece ≡ count
+  pub consumed : Consumes before after piece
+  pub end : count ≡ 0 → IsAtEnd after
+
+-- a part of a text that is one part whatever follows it
+abbrev pub IsEndedPart : List ℕ → Type 0
+IsEndedPart part = (rest : List ℕ) → parts (part ++ rest) ≡ part ∷ parts rest
+
+-- the bytes that are held, followed by those that are left of the file, are the same bytes before and after
+abbrev pub KeepsBytes : Option (List ℕ) → Option (List ℕ) → List ℕ → List ℕ → Type 0
+KeepsBytes None after old new = ⊤
+KeepsBytes (Some before) None old new = ⊥
+KeepsBytes (Some before) (Some after) old new = old ++ before ≡ new ++ after
+
+-- they begin with a part of `count` bytes that are held; at 0 there is none
+abbrev pub BeginsWithPart : Option (List ℕ) → List ℕ → ℕ → Type 0
+BeginsWithPart None held count = ⊤
+BeginsWithPart (Some rest) held count =
+    (count ≡ 0 → parts (held ++ rest) ≡ [])
+    × (0 < count → parts (held ++ rest) ≡ take count held ∷ parts (drop count held ++ rest))

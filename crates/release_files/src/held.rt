@@ -1,0 +1,196 @@
+//! The bytes of a file that were read in pieces and not yet cut into lines.
+ghost use Rattle.std.specs.Prelude.{◌≡◌, ◌+◌, ◌-◌, ◌^◌, ◌<◌, ◌≤◌, ◌⊎◌, IfOk, MatchOption, MatchResult, OnOk, [], length, drop, slice_range, take, vec_len};
+ghost use Rattle.std.specs.Io.KnownBytes.{Consumes, IsAtEnd};
+ghost use Rattle.release_files.specs.Held.{BeginsWithPart, GrowsBy, IsEndedPart, KeepsBytes};
+ghost use Rattle.release_files.specs.Lines.{HasNoFeed};
+ghost use Rattle.release_files.specs.Source.{CountsFailures};
+
+use crate::lines::LINE_FEED;
+use crate::source::{FileSource, SourceFault};
+use bstr::ByteSlice;
+use std::alloc::{AllocError, Global};
+use std::marker::Model;
+
+// How many bytes are read at once.
+const PIECE_LENGTH: usize = 65_536;
+
+/// The bytes that were taken last, and those behind them that were read. Contracts see the two.
+#[derive(Debug, Drop)]
+pub struct Held {
+    buffer: Vec<u8>,
+    from: usize,
+    start: usize,
+    filled: usize,
+}
+
+impl Model for Held {
+    ghost use Rattle.std.specs.Prelude.{◌≤◌, slice_range, vec_len};
+    ghost use Rattle.release_files.specs.Held.{HeldBytes};
+
+    ghost Value = { HeldBytes };
+
+    ghost view = { λ held. record {
+      taken = slice_range held.buffer.items held.from held.start;
+      bytes = slice_range held.buffer.items held.start held.filled;
+    } };
+
+    ghost invariant = { λ held. (held.from ≤ held.start) × (held.start ≤ held.filled) × (held.filled ≤ vec_len held.buffer) };
+}
+
+impl Held {
+    /// Nothing. Takes no memory.
+    pub fn new(alloc: Global) -> Held
+        ensures { result.bytes ≡ [] }
+    {
+        Held {
+            buffer: Vec::new(alloc),
+            from: 0,
+            start: 0,
+            filled: 0,
+        }
+    }
+
+    /// The bytes that were taken last.
+    pub fn taken(&self) -> &[u8]
+        ensures { result.now ≡ self.now.taken }
+    {
+        let (from, start) = (self.from, self.start);
+        let all = self.buffer.as_slice();
+        &all[from..start]
+    }
+
+    /// The bytes behind those that were taken.
+    pub fn bytes(&self) -> &[u8]
+        ensures { result.now ≡ self.now.bytes }
+    {
+        let (start, filled) = (self.start, self.filled);
+        let all = self.buffer.as_slice();
+        &all[start..filled]
+    }
+
+    /// Takes the next bytes.
+    pub fn take(&mut self, count: usize)
+        requires { count ≤ length self.old.bytes }
+        ensures taken { self.new.taken ≡ take count self.old.bytes }
+        ensures bytes { self.new.bytes ≡ drop count self.old.bytes }
+    {
+        self.from = self.start;
+        self.start += count;
+    }
+
+    /// Reads the next piece of a source's open file, and answers how many bytes it has: 0 only at
+    /// the end of the file.
+    pub fn read_piece<S: FileSource>(&mut self, source: &mut S) -> Result<usize, SourceFault>
+        ensures piece { IfOk result (λ count. GrowsBy (S.rest source.old) (S.rest source.new) self.old.bytes self.new.bytes count) }
+        ensures room { length self.new.bytes < 2 ^ 64 }
+        ensures files { S.files source.new ≡ S.files source.old }
+        ensures failures { CountsFailures result (S.failure_count source.old) (S.failure_count source.new) }
+    {
+        let length = self.filled - self.start;
+        move_to_front(self.buffer.as_mut_slice(), self.start, self.filled);
+        self.from = 0;
+        self.start = 0;
+        self.filled = length;
+        if grow(&mut self.buffer, length + PIECE_LENGTH).is_err() {
+            return Err(SourceFault::Memory);
+        }
+        let count = read_behind(source, self.buffer.as_mut_slice(), length)?;
+        self.filled += count;
+        Ok(count)
+    }
+
+    /// Reads on until so many bytes are held, or the file has ended.
+    pub fn read_at_least<S: FileSource>(
+        &mut self,
+        count: usize,
+        source: &mut S,
+    ) -> Result<(), SourceFault>
+        ensures kept { OnOk result (KeepsBytes (S.rest source.old) (S.rest source.new) self.old.bytes self.new.bytes) }
+        ensures enough { OnOk result ((count ≤ length self.new.bytes) ⊎ IsAtEnd (S.rest source.new)) }
+        ensures files { S.files source.new ≡ S.files source.old }
+        ensures failures { CountsFailures result (S.failure_count source.old) (S.failure_count source.new) }
+    {
+        while self.bytes().len() < count {
+            if self.read_piece(source)? == 0 {
+                break;
+            }
+        }
+        Ok(())
+    }
+
+    /// Reads on until the first part of the bytes is ended, by its line feed or by the end of the
+    /// file, and answers how long it is: 0 where there is none.
+    pub fn find_part<S: FileSource>(&mut self, source: &mut S) -> Result<usize, SourceFault>
+        ensures within { IfOk result (λ count. count ≤ length self.new.bytes) }
+        ensures kept { OnOk result (KeepsBytes (S.rest source.old) (S.rest source.new) self.old.bytes self.new.bytes) }
+        ensures part { IfOk result (λ count. BeginsWithPart (S.rest source.new) self.new.bytes count) }
+        ensures files { S.files source.new ≡ S.files source.old }
+        ensures failures { CountsFailures result (S.failure_count source.old) (S.failure_count source.new) }
+    {
+        let mut searched = 0;
+        loop {
+            if let Some(count) = ended_length(self.bytes(), searched) {
+                return Ok(count);
+            }
+            searched = self.bytes().len();
+            if self.read_piece(source)? == 0 {
+                return Ok(searched);
+            }
+        }
+    }
+}
+
+// Moves the bytes from `start` to `end` to the front.
+fn move_to_front(buffer: &mut [u8], start: usize, end: usize)
+    requires ordered { start ≤ end }
+    requires within { end ≤ length buffer.old }
+    ensures { take (end - start) buffer.new ≡ slice_range buffer.old start end }
+{
+    if start > 0 {
+        buffer.copy_within(start..end, 0);
+    }
+}
+
+// Makes a buffer at least so long.
+fn grow(buffer: &mut Vec<u8>, count: usize) -> Result<(), AllocError>
+    ensures kept { take (vec_len buffer.old) buffer.new.items ≡ buffer.old.items }
+    ensures longer { vec_len buffer.old ≤ vec_len buffer.new }
+    ensures enough { OnOk result (count ≤ vec_len buffer.new) }
+{
+    if buffer.len() < count {
+        buffer.resize(count, 0)?;
+    }
+    Ok(())
+}
+
+// Reads a piece of a source's open file into a buffer, behind its first bytes.
+fn read_behind<S: FileSource>(
+    source: &mut S,
+    buffer: &mut [u8],
+    at: usize,
+) -> Result<usize, SourceFault>
+    requires { at + PIECE_LENGTH ≤ length buffer.old }
+    ensures kept { take at buffer.new ≡ take at buffer.old }
+    ensures within { IfOk result (λ count. at + count ≤ length buffer.new) }
+    ensures piece { IfOk result (λ count. Consumes (S.rest source.old) (S.rest source.new) (slice_range buffer.new at (at + count))) }
+    ensures end { IfOk result (λ count. count ≡ 0 → IsAtEnd (S.rest source.new)) }
+    ensures files { S.files source.new ≡ S.files source.old }
+    ensures failures { CountsFailures result (S.failure_count source.old) (S.failure_count source.new) }
+{
+    source.read(&mut buffer[at..at + PIECE_LENGTH])
+}
+
+// The length of the first part of some bytes with its line feed, if they have one: it is known that
+// none is among the first ones.
+fn ended_length(bytes: &[u8], searched: usize) -> Option<usize>
+    requires within { searched ≤ length bytes.now }
+    requires clear { HasNoFeed (take searched bytes.now) }
+    ensures { MatchOption result (HasNoFeed bytes.now) (λ count.
+        (0 < count) × (count ≤ length bytes.now) × IsEndedPart (take count bytes.now)) }
+{
+    let rest = &bytes[searched..];
+    match rest.find_byte(LINE_FEED) {
+        Some(at) => Some(searched + at + 1),
+        None => None,
+    }
+}

@@ -1,0 +1,143 @@
+//! Files in memory as a source.
+ghost use Rattle.std.specs.Prelude.{◌≡◌, ◌≢◌, ◌+◌, ◌-◌, ◌^◌, ◌<◌, ◌≤◌, IfErr, IfOk, IfSome, MatchOption, OnOk, None, Some, [], length, map, min, string_bytes};
+ghost use Rattle.release_files.specs.Source.{IsRaised, bytes_of, file_text};
+
+use crate::NamedBytes;
+use crate::source::{FileSource, SourceFault};
+use std::alloc::{AllocError, Global};
+
+/// Files in memory as a source. It borrows the files, and takes memory for the names that it lists
+/// alone.
+#[derive(Debug, Drop)]
+pub struct MemoryFiles<'a> {
+    alloc: Global,
+    files: &'a [NamedBytes<'a>],
+    rest: &'a [u8],
+    piece: usize,
+    fail_at: u64,
+    calls: u64,
+    failures: u64,
+    ghost some: { 1 ≤ piece },
+}
+
+impl<'a> MemoryFiles<'a> {
+    /// A source of these files with none open. It reads at most `piece` bytes at once. Of its calls
+    /// of `list`, `open` and `read`, counted from 1 up to `u64::MAX`, the one with the number
+    /// `fail_at` fails; at 0 none fails.
+    pub fn new(
+        alloc: Global,
+        files: &'a [NamedBytes<'a>],
+        piece: usize,
+        fail_at: u64,
+    ) -> MemoryFiles<'a>
+        requires { 1 ≤ piece }
+        ensures files { ⟦<MemoryFiles<'a> as FileSource>⟧.files result ≡ Some (map file_text files.now) }
+        ensures closed { ⟦<MemoryFiles<'a> as FileSource>⟧.rest result ≡ Some [] }
+        ensures failures { ⟦<MemoryFiles<'a> as FileSource>⟧.failure_count result ≡ 0 }
+    {
+        MemoryFiles {
+            alloc,
+            files,
+            rest: &[],
+            piece,
+            fail_at,
+            calls: 0,
+            failures: 0,
+        }
+    }
+
+    // Counts a call, and fails it if it is the one to fail.
+    fn count_call(&mut self) -> Result<(), SourceFault>
+        ensures calls { self.new.calls ≡ min (self.old.calls + 1) (2 ^ 64 - 1) }
+        ensures ok { OnOk result ((self.new.calls ≢ self.old.fail_at) × (self.new.rest ≡ self.old.rest) × (self.new.failures ≡ self.old.failures)) }
+        ensures fault { IfErr result (λ fault. (self.new.calls ≡ self.old.fail_at) × (fault ≡ SourceFault.Device)
+            × (self.new.rest.now ≡ []) × IsRaised self.old.failures self.new.failures) }
+        ensures files { self.new.files ≡ self.old.files }
+    {
+        self.calls = self.calls.saturating_add(1);
+        if self.calls == self.fail_at {
+            return Err(self.fail());
+        }
+        Ok(())
+    }
+
+    // Counts a failure, and closes the file.
+    fn fail(&mut self) -> SourceFault
+        ensures fault { result ≡ SourceFault.Device }
+        ensures closed { self.new.rest.now ≡ [] }
+        ensures raised { IsRaised self.old.failures self.new.failures }
+        ensures calls { self.new.calls ≡ self.old.calls }
+        ensures files { self.new.files ≡ self.old.files }
+    {
+        self.failures = self.failures.saturating_add(1);
+        self.rest = &[];
+        SourceFault::Device
+    }
+}
+
+impl<'a> FileSource for MemoryFiles<'a> {
+    ghost files = { λ source. Some (map file_text source.files.now) };
+
+    ghost rest = { λ source. Some source.rest.now };
+
+    ghost failure_count = { λ source. source.failures };
+
+    fn failures(&self) -> u64 {
+        self.failures
+    }
+
+    fn list(&mut self) -> Result<Vec<String>, SourceFault> {
+        self.count_call()?;
+        match names_of(self.alloc, self.files) {
+            Ok(names) => Ok(names),
+            Err(_) => {
+                self.rest = &[];
+                Err(SourceFault::Memory)
+            }
+        }
+    }
+
+    fn open(&mut self, name: &str) -> Result<(), SourceFault> {
+        self.count_call()?;
+        match file_named(self.files, name) {
+            Some(bytes) => {
+                self.rest = bytes;
+                Ok(())
+            }
+            None => Err(self.fail()),
+        }
+    }
+
+    fn read(&mut self, buffer: &mut [u8]) -> Result<usize, SourceFault> {
+        self.count_call()?;
+        let count = buffer.len().min(self.rest.len()).min(self.piece);
+        let (front, rest) = self.rest.split_at(count);
+        buffer[..count].copy_from_slice(front);
+        self.rest = rest;
+        Ok(count)
+    }
+}
+
+// The names of files, in order.
+fn names_of(alloc: Global, files: &[NamedBytes<'_>]) -> Result<Vec<String>, AllocError>
+    ensures { IfOk result (λ names. map string_bytes names.items ≡ map (λ file. file.name.now) files.now) }
+{
+    let mut names = Vec::new(alloc);
+    for file in files {
+        names.push(String::from_str(alloc, file.name)?)?;
+    }
+    Ok(names)
+}
+
+// The bytes of the first file of a name.
+fn file_named<'a>(files: &'a [NamedBytes<'a>], name: &str) -> Option<&'a [u8]>
+    ensures found { MatchOption result (bytes_of name.now (map file_text files.now) ≡ None) (λ bytes. bytes_of name.now (map file_text files.now) ≡ Some bytes.now) }
+    ensures short { IfSome result (λ bytes. length bytes.now < 2 ^ 64) }
+{
+    for file in files {
+        if file.name == name {
+            return Some(file.bytes);
+        }
+    }
+    None
+}

@@ -1,0 +1,169 @@
+//! The lines of a file that is read in pieces.
+ghost use Rattle.std.specs.Prelude.{◌≡◌, ◌⊎◌, ◌^◌, ◌<◌, ◌≤◌, if◌then◌else◌, IfOk, List, MatchResult, None, OnOk, Some, drop, length, option_map, take, ℕ};
+ghost use Rattle.std.specs.Borrow.{sem};
+ghost use Rattle.std.specs.Io.BufRead.{Rests};
+ghost use Rattle.release_files.specs.Held.{BeginsWithPart};
+ghost use Rattle.release_files.specs.Lines.{line_text, lines_of, mark_length};
+ghost use Rattle.release_files.specs.PieceLines.{GivesNext, HasEnded, KeepsLines, counted, current_line, lines_to_come};
+ghost use Rattle.release_files.specs.Source.{CountsFailures};
+ghost use Rattle.release_files.specs.contracts.piece_lines.PieceLines.{the_row};
+
+use crate::held::Held;
+use crate::lines::{BYTE_ORDER_MARK, Line, text_of};
+use crate::source::{FileSource, SourceFault};
+use std::alloc::Global;
+
+// How far the lines of a file have come.
+#[derive(Clone, Copy, Debug, PartialEq, Eq)]
+enum Stage {
+    // A byte order mark may stand before what comes.
+    Fresh,
+    // A line may come.
+    Begun,
+    // None comes any more.
+    Ended,
+}
+
+/// The lines of a file in turn, as `Lines` gives them, read from a source in pieces. What is held
+/// is the line at hand and at most one piece of 64 KiB.
+#[derive(Debug, Drop)]
+pub struct PieceLines {
+    held: Held,
+    stage: Stage,
+    number: u64,
+    end: u64,
+}
+
+impl PieceLines {
+    /// The lines of a file of which nothing was read yet. Takes no memory.
+    #[tactic(auto, unfolding(crate::specs::Lines::lines_of))]
+    pub fn new(alloc: Global) -> PieceLines
+        ensures { (bytes : List ℕ) → length bytes < 2 ^ 64 → lines_to_come result bytes ≡ lines_of bytes }
+    {
+        PieceLines {
+            held: Held::new(alloc),
+            stage: Stage::Fresh,
+            number: 0,
+            end: 0,
+        }
+    }
+
+    /// The next line of the source's open file, or `None` behind the last. The numbers of the lines
+    /// and their offsets stand still at `u64::MAX`.
+    ///
+    /// A fault is the source's, or `Memory` where a line gets no room. After it no line comes, as
+    /// after the last one.
+    pub fn next_line<S: FileSource>(
+        &mut self,
+        source: &mut S,
+    ) -> Result<Option<Line<'_>>, SourceFault>
+        ensures* lines { sem 𝓛 (Rests the_row self.entry (λ new. MatchResult result
+            (λ line. GivesNext (option_map line_text line) self.old new (S.rest source.old) (S.rest source.new))
+            (λ _. HasEnded new))) }
+        ensures files { S.files source.new ≡ S.files source.old }
+        ensures failures { CountsFailures result (S.failure_count source.old) (S.failure_count source.new) }
+    {
+        match self.advance(source) {
+            Ok(true) => Ok(Some(self.line())),
+            Ok(false) => Ok(None),
+            Err(fault) => Err(fault),
+        }
+    }
+
+    // Takes the next line, if there is one.
+    fn advance<S: FileSource>(&mut self, source: &mut S) -> Result<bool, SourceFault>
+        ensures lines { MatchResult result
+            (λ more. GivesNext (if more then Some (current_line self.new) else None) self.old self.new (S.rest source.old) (S.rest source.new))
+            (λ _. HasEnded self.new) }
+        ensures files { S.files source.new ≡ S.files source.old }
+        ensures failures { CountsFailures result (S.failure_count source.old) (S.failure_count source.new) }
+    {
+        let found = self.find_line(source);
+        match found {
+            Ok(count) => {
+                if count > 0 {
+                    self.take_line(count);
+                    return Ok(true);
+                }
+                self.stage = Stage::Ended;
+                Ok(false)
+            }
+            Err(fault) => {
+                self.stage = Stage::Ended;
+                Err(fault)
+            }
+        }
+    }
+
+    // Reads on until the next line is held, and answers how long it is with its end: 0 where there
+    // is none.
+    fn find_line<S: FileSource>(&mut self, source: &mut S) -> Result<usize, SourceFault>
+        ensures within { IfOk result (λ count. count ≤ length self.new.held.bytes) }
+        ensures kept { OnOk result (KeepsLines self.old self.new (S.rest source.old) (S.rest source.new)) }
+        ensures part { IfOk result (λ count. ((count ≡ 0) × (self.new.stage ≡ Stage.Ended))
+            ⊎ ((self.new.stage ≡ Stage.Begun) × BeginsWithPart (S.rest source.new) self.new.held.bytes count)) }
+        ensures files { S.files source.new ≡ S.files source.old }
+        ensures failures { CountsFailures result (S.failure_count source.old) (S.failure_count source.new) }
+    {
+        if self.stage == Stage::Ended {
+            return Ok(0);
+        }
+        if self.stage == Stage::Fresh {
+            self.begin(source)?;
+        }
+        self.held.find_part(source)
+    }
+
+    // Drops a byte order mark before the first line.
+    fn begin<S: FileSource>(&mut self, source: &mut S) -> Result<(), SourceFault>
+        requires { self.old.stage ≡ Stage.Fresh }
+        ensures begun { OnOk result (self.new.stage ≡ Stage.Begun) }
+        ensures kept { OnOk result (KeepsLines self.old self.new (S.rest source.old) (S.rest source.new)) }
+        ensures files { S.files source.new ≡ S.files source.old }
+        ensures failures { CountsFailures result (S.failure_count source.old) (S.failure_count source.new) }
+    {
+        self.held.read_at_least(BYTE_ORDER_MARK.len(), source)?;
+        let mark = mark_length(self.held.bytes());
+        self.held.take(mark);
+        self.number = 0;
+        self.end = mark as u64;
+        self.stage = Stage::Begun;
+        Ok(())
+    }
+
+    // Takes the next line, whose length with its end is known.
+    fn take_line(&mut self, count: usize)
+        requires { count ≤ length self.old.held.bytes }
+        ensures taken { self.new.held.taken ≡ take count self.old.held.bytes }
+        ensures bytes { self.new.held.bytes ≡ drop count self.old.held.bytes }
+        ensures number { self.new.number ≡ counted self.old.number 1 }
+        ensures end { self.new.end ≡ counted self.old.end count }
+        ensures stage { self.new.stage ≡ self.old.stage }
+    {
+        self.held.take(count);
+        self.number = self.number.saturating_add(1);
+        self.end = self.end.saturating_add(count as u64);
+    }
+
+    // The line that was taken last.
+    fn line(&self) -> Line<'_>
+        ensures { line_text result ≡ current_line self.now }
+    {
+        Line {
+            number: self.number,
+            end: self.end,
+            bytes: text_of(self.held.taken()),
+        }
+    }
+}
+
+// How long the byte order mark at the head of some bytes is, if they have one.
+fn mark_length(bytes: &[u8]) -> usize
+    ensures value { result ≡ mark_length bytes.now }
+    ensures within { result ≤ length bytes.now }
+{
+    match bytes.strip_prefix(BYTE_ORDER_MARK) {
+        Some(rest) => bytes.len() - rest.len(),
+        None => 0,
+    }
+}
