@@ -1,12 +1,12 @@
 -- How bytes that are held begin with a part, and how they grow.
-use Rattle.std.proofs.Common.{◌≡◌, ◌≢◌, ℕ, suc, ◌+◌, ◌<◌, ◌≤◌, true, eqb, List, [], ◌∷◌, ◌++◌, length, get_or, take, drop, slice_range, ◌-◌, None, Some, refl, sym, ap, ◌∙◌, append-nil, append_assoc, length-take, length-drop, arith}
+use Rattle.std.proofs.Common.{◌≡◌, ◌≢◌, ℕ, suc, ◌+◌, ◌<◌, ◌≤◌, zero, min, true, eqb, List, [], ◌∷◌, ◌++◌, length, get_or, take, drop, slice_range, ◌-◌, None, Some, refl, sym, ap, ◌∙◌, append-nil, append_assoc, length-take, length-drop, arith}
 use Rattle.std.specs.Prelude.{Option}
 use Rattle.std.proofs.Math.Seq.{take-add, take-suc}
 use Rattle.std.proofs.lemmas.Bool.{eqb-true, eq-eqb}
 use Rattle.std.proofs.lemmas.List.{get_or-take, get_or_default, take-take, take_all, drop_all, nil_from_length, take-append-drop}
 use Rattle.std.proofs.lemmas.List.Elements.{All-append}
 use Rattle.std.specs.Io.KnownBytes.{Consumes, IsAtEnd}
-use Rattle.release_files.specs.Held.{BeginsWithPart, GrowsBy, IsEndedPart, KeepsBytes}
+use Rattle.release_files.specs.Held.{BeginsWithPart, GrowsBy, IsEndedPart, KeepsBytes, reachable}
 use Rattle.release_files.specs.Lines.{parts, HasNoFeed}
 use Rattle.release_files.proofs.Parts.{NoFeed, parts_ended, parts_last}
 
@@ -103,3 +103,60 @@ grows_read before after held items moved grown read start filled count is move r
       consumed = consumes;
       end = end;
     }
+
+-- what is taken behind some bytes
+take_behind : (count : ℕ) (front rest : List ℕ) → length front ≤ count → take count (front ++ rest) ≡ front ++ take (count - length front) rest
+take_behind count [] rest within =
+    let same : count - 0 ≡ count = omega arith in
+    ap (λ (n : ℕ). take n rest) (sym same)
+take_behind zero (byte ∷ front) rest within = absurd (omega arith)
+take_behind (suc count) (byte ∷ front) rest within =
+    let same : count - length front ≡ suc count - suc (length front) = omega arith in
+    ap (λ (bytes : List ℕ). byte ∷ bytes) (take_behind count front rest (omega arith) ∙ ap (λ (n : ℕ). front ++ take n rest) same)
+
+take_nothing : (count : ℕ) → take {A = ℕ} count [] ≡ []
+take_nothing zero = refl
+take_nothing (suc count) = refl
+
+-- bytes that were read are no longer among those that may be read
+reached_bytes : (before after : Option (List ℕ)) (piece : List ℕ) (left new_left count : ℕ) → Consumes before after piece → length piece ≡ count → count ≤ left → new_left ≡ left - count
+    → Consumes (reachable left before) (reachable new_left after) piece
+unfolding reachable
+reached_bytes None after piece left new_left count consumes counted few less = tt
+reached_bytes (Some before) None piece left new_left count consumes counted few less = absurd consumes
+reached_bytes (Some before) (Some after) piece left new_left count consumes counted few less =
+    let same : left - length piece ≡ new_left = omega arith in
+    ap (λ (bytes : List ℕ). take left bytes) consumes ∙ take_behind left piece after (omega arith) ∙ ap (λ (n : ℕ). piece ++ take n after) same
+
+-- where no byte was read, none may be read
+reached_end : (after : Option (List ℕ)) (left : ℕ) → ((0 < left) → IsAtEnd after) → IsAtEnd (reachable left after)
+unfolding reachable
+reached_end None left end = tt
+reached_end (Some after) zero end = refl
+reached_end (Some after) (suc left) end = ap (λ (bytes : List ℕ). take (suc left) bytes) (end (omega arith)) ∙ take_nothing (suc left)
+
+-- so a piece was read of the bytes that may be read
+pub grows_reached : (before after : Option (List ℕ)) (held items moved grown read : List ℕ) (start filled count left new_left room : ℕ)
+    → held ≡ slice_range items start filled
+    → take (filled - start) moved ≡ slice_range items start filled
+    → filled - start ≤ length moved
+    → take (length moved) grown ≡ moved
+    → take (filled - start) read ≡ take (filled - start) grown
+    → (filled - start) + count ≤ length read
+    → Consumes before after (slice_range read (filled - start) ((filled - start) + count))
+    → (count ≡ 0 → 0 < room → IsAtEnd after)
+    → count ≤ room
+    → room ≡ min left 65536
+    → new_left ≡ left - count
+    → GrowsBy (reachable left before) (reachable new_left after) held (slice_range read 0 ((filled - start) + count)) count
+grows_reached before after held items moved grown read start filled count left new_left room is move size grow kept within consumes end few fits less =
+    let at = filled - start in
+    let counted : length (slice_range read at (at + count)) ≡ count = omega (arith, length-take (at + count - at) (drop at read), length-drop at read) in
+    grows_read (reachable left before) (reachable new_left after) held items moved grown read start filled count is move size grow kept within
+    (reached_bytes before after (slice_range read at (at + count)) left new_left count consumes counted (omega arith) less)
+    (λ none. reached_end after new_left (λ some. end none (omega arith)))
+
+-- where the bytes of a file are told, those that may be read are the first of them
+pub reachable_told : (left : ℕ) (rest : Option (List ℕ)) (bytes : List ℕ) → rest ≡ Some bytes → reachable left rest ≡ Some (take left bytes)
+unfolding reachable
+reachable_told left rest bytes told = ap (λ (some : Option (List ℕ)). reachable left some) told

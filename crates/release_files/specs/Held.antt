@@ -1,12 +1,17 @@
 -- What is held of a file that is read in pieces.
-use Rattle.std.specs.Prelude.{◌≡◌, ℕ, ◌<◌, List, [], ◌∷◌, ◌++◌, length, take, drop, ⊤, Option, None, Some}
+use Rattle.std.specs.Prelude.{◌≡◌, ℕ, ◌<◌, List, [], ◌∷◌, ◌++◌, length, take, drop, ⊤, Option, None, Some, option_map}
 use Rattle.std.specs.Io.KnownBytes.{Consumes, IsAtEnd}
 use Rattle.release_files.specs.Lines.{parts}
 
--- the bytes that were taken last, and those behind them that were read
+-- the bytes that were taken last, those behind them that were read, and how many may still be read
 pub record HeldBytes : Type 0 where
   pub taken : List ℕ
   pub bytes : List ℕ
+  pub left : ℕ
+
+-- of the bytes that are left of the file, those that may still be read
+unfoldable pub reachable : ℕ → Option (List ℕ) → Option (List ℕ)
+reachable left rest = option_map (λ (bytes : List ℕ). take left bytes) rest
 
 -- `held` grew by the next `count` bytes of a file, which are none only at its end
 pub record GrowsBy (before after : Option (List ℕ)) (old new : List ℕ) (count : ℕ) : Type 0 where

@@ -1,7 +1,7 @@
 //! The bytes of a file that were read in pieces and not yet cut into lines.
 ghost use Rattle.std.specs.Prelude.{◌≡◌, ◌+◌, ◌-◌, ◌^◌, ◌<◌, ◌≤◌, ◌⊎◌, IfOk, MatchOption, MatchResult, OnOk, [], length, drop, slice_range, take, vec_len};
 ghost use Rattle.std.specs.Io.KnownBytes.{Consumes, IsAtEnd};
-ghost use Rattle.release_files.specs.Held.{BeginsWithPart, GrowsBy, IsEndedPart, KeepsBytes};
+ghost use Rattle.release_files.specs.Held.{BeginsWithPart, GrowsBy, IsEndedPart, KeepsBytes, reachable};
 ghost use Rattle.release_files.specs.Lines.{HasNoFeed};
 ghost use Rattle.release_files.specs.Source.{CountsFailures};
 
@@ -14,13 +14,15 @@ use std::marker::Model;
 // How many bytes are read at once.
 const PIECE_LENGTH: usize = 65_536;
 
-/// The bytes that were taken last, and those behind them that were read. Contracts see the two.
+/// The bytes that were taken last, those behind them that were read, and how many may still be
+/// read. Contracts see the three.
 #[derive(Debug, Drop)]
 pub struct Held {
     buffer: Vec<u8>,
     from: usize,
     start: usize,
     filled: usize,
+    left: u64,
 }
 
 impl Model for Held {
@@ -32,21 +34,24 @@ impl Model for Held {
     ghost view = { λ held. record {
       taken = slice_range held.buffer.items held.from held.start;
       bytes = slice_range held.buffer.items held.start held.filled;
+      left = held.left;
     } };
 
     ghost invariant = { λ held. (held.from ≤ held.start) × (held.start ≤ held.filled) × (held.filled ≤ vec_len held.buffer) };
 }
 
 impl Held {
-    /// Nothing. Takes no memory.
-    pub fn new(alloc: Global) -> Held
-        ensures { result.bytes ≡ [] }
+    /// Nothing, where so many bytes may be read. Takes no memory.
+    pub fn new(alloc: Global, left: u64) -> Held
+        ensures bytes { result.bytes ≡ [] }
+        ensures left { result.left ≡ left }
     {
         Held {
             buffer: Vec::new(alloc),
             from: 0,
             start: 0,
             filled: 0,
+            left,
         }
     }
 
@@ -73,15 +78,17 @@ impl Held {
         requires { count ≤ length self.old.bytes }
         ensures taken { self.new.taken ≡ take count self.old.bytes }
         ensures bytes { self.new.bytes ≡ drop count self.old.bytes }
+        ensures left { self.new.left ≡ self.old.left }
     {
         self.from = self.start;
         self.start += count;
     }
 
     /// Reads the next piece of a source's open file, and answers how many bytes it has: 0 only at
-    /// the end of the file.
+    /// the end of the file, or where no more may be read.
     pub fn read_piece<S: FileSource>(&mut self, source: &mut S) -> Result<usize, SourceFault>
-        ensures piece { IfOk result (λ count. GrowsBy (S.rest source.old) (S.rest source.new) self.old.bytes self.new.bytes count) }
+        ensures piece { IfOk result (λ count. GrowsBy (reachable self.old.left (S.rest source.old)) (reachable self.new.left (S.rest source.new)) self.old.bytes self.new.bytes count) }
+        ensures counted { IfOk result (λ count. self.new.left + count ≡ self.old.left) }
         ensures room { length self.new.bytes < 2 ^ 64 }
         ensures files { S.files source.new ≡ S.files source.old }
         ensures failures { CountsFailures result (S.failure_count source.old) (S.failure_count source.new) }
@@ -94,8 +101,10 @@ impl Held {
         if grow(&mut self.buffer, length + PIECE_LENGTH).is_err() {
             return Err(SourceFault::Memory);
         }
-        let count = read_behind(source, self.buffer.as_mut_slice(), length)?;
+        let room = self.left.min(PIECE_LENGTH as u64) as usize;
+        let count = read_behind(source, self.buffer.as_mut_slice(), length, room)?;
         self.filled += count;
+        self.left -= count as u64;
         Ok(count)
     }
 
@@ -105,8 +114,8 @@ impl Held {
         count: usize,
         source: &mut S,
     ) -> Result<(), SourceFault>
-        ensures kept { OnOk result (KeepsBytes (S.rest source.old) (S.rest source.new) self.old.bytes self.new.bytes) }
-        ensures enough { OnOk result ((count ≤ length self.new.bytes) ⊎ IsAtEnd (S.rest source.new)) }
+        ensures kept { OnOk result (KeepsBytes (reachable self.old.left (S.rest source.old)) (reachable self.new.left (S.rest source.new)) self.old.bytes self.new.bytes) }
+        ensures enough { OnOk result ((count ≤ length self.new.bytes) ⊎ IsAtEnd (reachable self.new.left (S.rest source.new))) }
         ensures files { S.files source.new ≡ S.files source.old }
         ensures failures { CountsFailures result (S.failure_count source.old) (S.failure_count source.new) }
     {
@@ -122,8 +131,8 @@ impl Held {
     /// file, and answers how long it is: 0 where there is none.
     pub fn find_part<S: FileSource>(&mut self, source: &mut S) -> Result<usize, SourceFault>
         ensures within { IfOk result (λ count. count ≤ length self.new.bytes) }
-        ensures kept { OnOk result (KeepsBytes (S.rest source.old) (S.rest source.new) self.old.bytes self.new.bytes) }
-        ensures part { IfOk result (λ count. BeginsWithPart (S.rest source.new) self.new.bytes count) }
+        ensures kept { OnOk result (KeepsBytes (reachable self.old.left (S.rest source.old)) (reachable self.new.left (S.rest source.new)) self.old.bytes self.new.bytes) }
+        ensures part { IfOk result (λ count. BeginsWithPart (reachable self.new.left (S.rest source.new)) self.new.bytes count) }
         ensures files { S.files source.new ≡ S.files source.old }
         ensures failures { CountsFailures result (S.failure_count source.old) (S.failure_count source.new) }
     {
@@ -163,21 +172,23 @@ fn grow(buffer: &mut Vec<u8>, count: usize) -> Result<(), AllocError>
     Ok(())
 }
 
-// Reads a piece of a source's open file into a buffer, behind its first bytes.
+// Reads a piece of a source's open file into a buffer, behind its first bytes, where there is room.
 fn read_behind<S: FileSource>(
     source: &mut S,
     buffer: &mut [u8],
     at: usize,
+    room: usize,
 ) -> Result<usize, SourceFault>
-    requires { at + PIECE_LENGTH ≤ length buffer.old }
+    requires { at + room ≤ length buffer.old }
     ensures kept { take at buffer.new ≡ take at buffer.old }
     ensures within { IfOk result (λ count. at + count ≤ length buffer.new) }
+    ensures few { IfOk result (λ count. count ≤ room) }
     ensures piece { IfOk result (λ count. Consumes (S.rest source.old) (S.rest source.new) (slice_range buffer.new at (at + count))) }
-    ensures end { IfOk result (λ count. count ≡ 0 → IsAtEnd (S.rest source.new)) }
+    ensures end { IfOk result (λ count. count ≡ 0 → 0 < room → IsAtEnd (S.rest source.new)) }
     ensures files { S.files source.new ≡ S.files source.old }
     ensures failures { CountsFailures result (S.failure_count source.old) (S.failure_count source.new) }
 {
-    source.read(&mut buffer[at..at + PIECE_LENGTH])
+    source.read(&mut buffer[at..at + room])
 }
 
 // The length of the first part of some bytes with its line feed, if they have one: it is known that

@@ -1,8 +1,8 @@
 //! The lines of a file that is read in pieces.
-ghost use Rattle.std.specs.Prelude.{◌≡◌, ◌⊎◌, ◌^◌, ◌<◌, ◌≤◌, if◌then◌else◌, IfOk, List, MatchResult, None, OnOk, Some, drop, length, option_map, take, ℕ};
+ghost use Rattle.std.specs.Prelude.{◌≡◌, ◌⊎◌, ◌+◌, ◌^◌, ◌<◌, ◌≤◌, if◌then◌else◌, IfOk, List, MatchResult, None, OnOk, Some, drop, length, option_map, take, ℕ};
 ghost use Rattle.std.specs.Borrow.{sem};
 ghost use Rattle.std.specs.Io.BufRead.{Rests};
-ghost use Rattle.release_files.specs.Held.{BeginsWithPart};
+ghost use Rattle.release_files.specs.Held.{BeginsWithPart, reachable};
 ghost use Rattle.release_files.specs.Lines.{line_text, lines_of, mark_length};
 ghost use Rattle.release_files.specs.PieceLines.{GivesNext, HasEnded, KeepsLines, counted, current_line, lines_to_come};
 ghost use Rattle.release_files.specs.Source.{CountsFailures};
@@ -36,20 +36,30 @@ pub struct PieceLines {
 
 impl PieceLines {
     /// The lines of a file of which nothing was read yet. Takes no memory.
-    #[tactic(auto, unfolding(crate::specs::Lines::lines_of))]
     pub fn new(alloc: Global) -> PieceLines
-        ensures { (bytes : List ℕ) → length bytes < 2 ^ 64 → lines_to_come result bytes ≡ lines_of bytes }
+        ensures lines { (bytes : List ℕ) → length bytes < 2 ^ 64 → lines_to_come result bytes ≡ lines_of bytes }
+        ensures left { result.held.left + 1 ≡ 2 ^ 64 }
+    {
+        PieceLines::within(alloc, u64::MAX)
+    }
+
+    /// The lines of a file of which nothing was read yet, as if it had no more than its first
+    /// `limit` bytes: no others are read. Takes no memory.
+    #[tactic(auto, unfolding(crate::specs::Lines::lines_of))]
+    pub fn within(alloc: Global, limit: u64) -> PieceLines
+        ensures lines { (bytes : List ℕ) → length bytes < 2 ^ 64 → lines_to_come result bytes ≡ lines_of bytes }
+        ensures left { result.held.left ≡ limit }
     {
         PieceLines {
-            held: Held::new(alloc),
+            held: Held::new(alloc, limit),
             stage: Stage::Fresh,
             number: 0,
             end: 0,
         }
     }
 
-    /// The next line of the source's open file, or `None` behind the last. The numbers of the lines
-    /// and their offsets stand still at `u64::MAX`.
+    /// The next line of the source's open file, or `None` behind the last one. The numbers of the
+    /// lines and their offsets stand still at `u64::MAX`.
     ///
     /// A fault is the source's, or `Memory` where a line gets no room. After it no line comes, as
     /// after the last one.
@@ -58,7 +68,7 @@ impl PieceLines {
         source: &mut S,
     ) -> Result<Option<Line<'_>>, SourceFault>
         ensures* lines { sem 𝓛 (Rests the_row self.entry (λ new. MatchResult result
-            (λ line. GivesNext (option_map line_text line) self.old new (S.rest source.old) (S.rest source.new))
+            (λ line. GivesNext (option_map line_text line) self.old new (reachable self.old.held.left (S.rest source.old)) (reachable new.held.left (S.rest source.new)))
             (λ _. HasEnded new))) }
         ensures files { S.files source.new ≡ S.files source.old }
         ensures failures { CountsFailures result (S.failure_count source.old) (S.failure_count source.new) }
@@ -73,7 +83,7 @@ impl PieceLines {
     // Takes the next line, if there is one.
     fn advance<S: FileSource>(&mut self, source: &mut S) -> Result<bool, SourceFault>
         ensures lines { MatchResult result
-            (λ more. GivesNext (if more then Some (current_line self.new) else None) self.old self.new (S.rest source.old) (S.rest source.new))
+            (λ more. GivesNext (if more then Some (current_line self.new) else None) self.old self.new (reachable self.old.held.left (S.rest source.old)) (reachable self.new.held.left (S.rest source.new)))
             (λ _. HasEnded self.new) }
         ensures files { S.files source.new ≡ S.files source.old }
         ensures failures { CountsFailures result (S.failure_count source.old) (S.failure_count source.new) }
@@ -99,9 +109,9 @@ impl PieceLines {
     // is none.
     fn find_line<S: FileSource>(&mut self, source: &mut S) -> Result<usize, SourceFault>
         ensures within { IfOk result (λ count. count ≤ length self.new.held.bytes) }
-        ensures kept { OnOk result (KeepsLines self.old self.new (S.rest source.old) (S.rest source.new)) }
+        ensures kept { OnOk result (KeepsLines self.old self.new (reachable self.old.held.left (S.rest source.old)) (reachable self.new.held.left (S.rest source.new))) }
         ensures part { IfOk result (λ count. ((count ≡ 0) × (self.new.stage ≡ Stage.Ended))
-            ⊎ ((self.new.stage ≡ Stage.Begun) × BeginsWithPart (S.rest source.new) self.new.held.bytes count)) }
+            ⊎ ((self.new.stage ≡ Stage.Begun) × BeginsWithPart (reachable self.new.held.left (S.rest source.new)) self.new.held.bytes count)) }
         ensures files { S.files source.new ≡ S.files source.old }
         ensures failures { CountsFailures result (S.failure_count source.old) (S.failure_count source.new) }
     {
@@ -118,7 +128,7 @@ impl PieceLines {
     fn begin<S: FileSource>(&mut self, source: &mut S) -> Result<(), SourceFault>
         requires { self.old.stage ≡ Stage.Fresh }
         ensures begun { OnOk result (self.new.stage ≡ Stage.Begun) }
-        ensures kept { OnOk result (KeepsLines self.old self.new (S.rest source.old) (S.rest source.new)) }
+        ensures kept { OnOk result (KeepsLines self.old self.new (reachable self.old.held.left (S.rest source.old)) (reachable self.new.held.left (S.rest source.new))) }
         ensures files { S.files source.new ≡ S.files source.old }
         ensures failures { CountsFailures result (S.failure_count source.old) (S.failure_count source.new) }
     {
@@ -139,6 +149,7 @@ impl PieceLines {
         ensures number { self.new.number ≡ counted self.old.number 1 }
         ensures end { self.new.end ≡ counted self.old.end count }
         ensures stage { self.new.stage ≡ self.old.stage }
+        ensures left { self.new.held.left ≡ self.old.held.left }
     {
         self.held.take(count);
         self.number = self.number.saturating_add(1);

@@ -171,6 +171,39 @@ fn reads_lines_in_pieces(rt: HostRuntime) -> Result<(), Fail> {
     Ok(())
 }
 
+// The first bytes of a file have the lines of a file that has no others.
+fn check_front<S: FileSource>(
+    rt: &impl Abort,
+    alloc: Global,
+    source: &mut S,
+    limit: usize,
+) -> Result<(), SourceFault> {
+    source.open(NAME)?;
+    let mut lines = PieceLines::within(alloc, limit as u64);
+    check_lines(rt, &mut lines, source, &TEXT[..limit.min(TEXT.len())])
+}
+
+// The same of a file in memory, where no call fails.
+fn check_limit(rt: &impl Abort, alloc: Global, limit: usize) -> Result<(), AllocError> {
+    let files = files();
+    let mut source = MemoryFiles::new(alloc, &files, 4_096, 0);
+    match check_front(rt, alloc, &mut source, limit) {
+        Ok(()) => Ok(()),
+        Err(fault) => Err(refused(rt, fault)),
+    }
+}
+
+#[test]
+fn reads_no_more_than_the_limit(rt: HostRuntime) -> Result<(), Fail> {
+    for limit in 0..TEXT.len() + 2 {
+        match check_limit(&rt, rt.alloc(), limit) {
+            Ok(()) => {}
+            Err(AllocError) => check_limit(&rt, rt.alloc(), limit)?,
+        }
+    }
+    Ok(())
+}
+
 // A line of so many bytes, and one of a byte.
 fn long_text(alloc: Global, count: usize) -> Result<Vec<u8>, AllocError> {
     let mut text = Vec::new(alloc);

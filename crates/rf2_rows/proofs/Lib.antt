@@ -1,3 +1,4 @@
+pub mod Accepted
 pub mod Columns
 pub mod DistinctLemmas
 pub mod Examples
@@ -8,3 +9,5 @@ pub mod Parts
 pub mod TabBits
 pub mod Texts
 pub mod Values
+pub mod VersionLemmas
+pub mod RowTextLemmas

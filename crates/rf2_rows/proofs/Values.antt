@@ -67,7 +67,7 @@ number_without_fraction whole behind one no_number = elim (one_or_more behind) [
 ]
 
 -- a text that begins with a byte
-begins_with : (byte : ℕ) (text : List ℕ) → 0 < length text → get_or text 0 0 ≡ byte → starts_with nat_eq text (byte ∷ []) ≡ true
+pub begins_with : (byte : ℕ) (text : List ℕ) → 0 < length text → get_or text 0 0 ≡ byte → starts_with nat_eq text (byte ∷ []) ≡ true
 begins_with byte [] some is = absurd (omega arith)
 begins_with byte (first ∷ text) some is = rw (eq-eqb byte first (sym is)) refl
 

@@ -1,5 +1,6 @@
 pub mod Columns
 pub mod Files
+pub mod Formats
 pub mod Groups
 pub mod Hierarchy
 pub mod Numbers
@@ -7,6 +8,8 @@ pub mod Pairs
 pub mod Parts
 pub mod RecentInside
 pub mod Release
+pub mod RowTexts
 pub mod Rows
 pub mod Tabs
 pub mod Values
+pub mod Versions

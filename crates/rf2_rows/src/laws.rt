@@ -1,6 +1,7 @@
 //! Laws about the definitions of this crate: functions that do nothing, each with the law as its contract.
 ghost use Rattle.rf2_rows.specs.Hierarchy.{TellsReaches};
 ghost use Rattle.rf2_rows.specs.Pairs.{KeepsEachNumberOnce, KeepsEachPairOnce, TellsSamePair, TellsSameValue};
+ghost use Rattle.rf2_rows.specs.Versions.{IsEquivalenceOfRows};
 
 /// The test of what a concept reaches, which computes, says exactly that a chain of is-a rows leads there.
 pub fn reaches_tells_chains()
@@ -17,4 +18,9 @@ pub fn same_pairs_are_told()
 pub fn distinct_keeps_each_once()
     ensures numbers { KeepsEachNumberOnce }
     ensures pairs { KeepsEachPairOnce }
+{}
+
+/// Being one row is an equivalence of the accepted lines of a kind.
+pub fn same_row_is_an_equivalence()
+    ensures { IsEquivalenceOfRows }
 {}

@@ -1,5 +1,6 @@
 //! The files and rows of an RF2 release (SNOMED CT Release File Specification): what kind of file a
-//! name tells of, the header of each kind, and the typed row that a line stands for.
+//! name tells of, the header of each kind, the typed row that a line stands for, and whether two lines
+//! stand for one row.
 #![tactic(auto)]
 
 mod concrete;
@@ -16,12 +17,18 @@ mod tabs;
 #[cfg(test)]
 mod tests;
 mod value;
+#[cfg(test)]
+mod version_tests;
+mod versions;
 
 pub use crate::concrete::decimal;
 pub use crate::fault::{RowCause, RowFault};
 pub use crate::fields::digits;
 pub use crate::kind::{FileKind, file_kind, header};
-pub use crate::laws::{distinct_keeps_each_once, reaches_tells_chains, same_pairs_are_told};
+pub use crate::laws::{
+    distinct_keeps_each_once, reaches_tells_chains, same_pairs_are_told, same_row_is_an_equivalence,
+};
 pub use crate::read::{RowReader, read_row};
 pub use crate::row::{ConceptRow, ConcreteRow, DescriptionRow, MemberRow, RelationshipRow, Row};
 pub use crate::value::{Decimal, Value};
+pub use crate::versions::same_row;

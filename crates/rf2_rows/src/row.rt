@@ -1,4 +1,7 @@
 //! The typed rows: one field for each column, in the order of the header.
+ghost use Rattle.std.specs.Prelude.{◌≡◌};
+ghost use Rattle.rf2_rows.specs.Versions.{time_in};
+
 use crate::value::Value;
 use sctid::SctId;
 use uuid::Uuid;
@@ -123,4 +126,19 @@ pub enum Row<'a> {
     Concrete(ConcreteRow<'a>),
     /// A row of a simple reference set file.
     Member(MemberRow),
+}
+
+impl Row<'_> {
+    /// The effective time of the row, `None` where it is unpublished.
+    pub fn effective_time(&self) -> Option<u32>
+        ensures { result ≡ time_in self.now }
+    {
+        match self {
+            Row::Concept(row) => row.effective_time,
+            Row::Description(row) => row.effective_time,
+            Row::Relationship(row) => row.effective_time,
+            Row::Concrete(row) => row.effective_time,
+            Row::Member(row) => row.effective_time,
+        }
+    }
 }
