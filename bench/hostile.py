@@ -27,7 +27,7 @@ ANSWER = b"OK 3\n101009 |Beta (finding)|\n102002 |Gamma (finding)|\n103007 |Delt
 REPORT = b"FILES 5\nCONCEPTS 10\nISA 10\nATTRIBUTES 9\nMEMBERS 2\nNAMES 10\nPASSED 6\n"
 CAUSES = "fields|id-length|id-digit|id-zero|id-part|id-check|time|active|group|value|utf8|uuid"
 REFUSALS = re.compile(
-    rf"REFUSED (no-concept-file|header \S+|row \S+ \d+ \d+ ({CAUSES})|duplicate \S+ \d+|too-many \S+ \d+|cycle \d+)\n"
+    rf"REFUSED (no-concept-file|header \S+|row \S+ \d+ \d+ ({CAUSES})|conflict \S+ \d+|too-many \S+ \d+|cycle \d+)\n"
 )
 passed, failed = 0, 0
 
@@ -113,6 +113,21 @@ def links():
         name = RELATIONSHIPS.replace("INT", "XX")
         os.symlink("nowhere", f"{room}/{name}")
         case("a link that leads nowhere, of a file's name", run("check", room), refused(f"device {name}", 1))
+
+
+def several():
+    later = FILES[CONCEPTS][: FILES[CONCEPTS].index(b"\n") + 1] + b"100005\t20240201\t0\t900000000000207008\t900000000000074008\r\n"
+    with folder() as one, folder() as other:
+        put(one, FILES)
+        put(other, {CONCEPTS: later})
+        report = b"FILES 6\nCONCEPTS 9\nISA 7\nATTRIBUTES 9\nMEMBERS 2\nNAMES 9\nPASSED 12\n"
+        case("an edition and an extension", run("check", one, other), (0, report, b""))
+        case("in the other order", run("check", other, one), (0, report, b""))
+        case("one folder twice", run("check", one, one), (0, REPORT.replace(b"FILES 5", b"FILES 10").replace(b"PASSED 6", b"PASSED 53"), b""))
+        case("queries over both", run("query", other, one, stdin=b"<100005\n100005\n"), (0, b"OK 0\nOK 0\n", b""))
+        put(other, {CONCEPTS: later.replace(b"20240201", b"20240101")})
+        case("a conflict in the second folder", run("check", one, other), refused(f"conflict 2/{CONCEPTS} 2"))
+        case("a second folder that is none", run("check", one, f"{one}/none"), refused("device", 1))
 
 
 def names():
@@ -217,9 +232,10 @@ def words():
     status, out, err = run("--help")
     told = [it for it in (b"hosecrag [COMMAND]", b"hosecrag query", b"hosecrag check", b"| hosecrag\n", b"  4  ") if it not in out]
     case("help", (status, told, b"query_tool" in out, err), (0, [], False, b""))
-    for given in (["qery"], ["query"], ["check"], ["check", "F", "G"], ["--lang", "en"], ["explain", "F"]):
+    for given in (["qery"], ["query"], ["check"], ["check", "F", "--lang", "da"], ["--lang", "en"], ["explain", "F"]):
         status, out, err = run(*given)
         case(f"words that are no command: {given}", (status, out, b"query_tool" in err, b"hosecrag" in err), (2, b"", False, True))
+    case("ten folders", run("check", *"ABCDEFGHIJ"), (2, b"", b"at most 9 folders\n"))
 
 
 def long_lines():
@@ -279,7 +295,7 @@ if __name__ == "__main__":
         os.chmod(at, 0o755)
         PROGRAM = shutil.copy(given, f"{at}/hosecrag")
         os.chmod(PROGRAM, 0o755)
-        for part in (words, streams, links, names, kinds_of_file, long_lines, memory, spoiled):
+        for part in (words, streams, links, several, names, kinds_of_file, long_lines, memory, spoiled):
             part()
     print(f"{passed} passed, {failed} failed")
     sys.exit(1 if failed else 0)

@@ -1,12 +1,12 @@
 -- The line that tells why a list of files was refused, or can't be had.
-use Rattle.std.specs.Prelude.{ℕ, ◌++◌, List, [], ◌∷◌, codes, decimal, slice_index_or}
+use Rattle.std.specs.Prelude.{ℕ, ◌++◌, List, [], ◌∷◌, codes, decimal, slice_index_or, None, Some}
 use Rattle.std.specs.List.{flat_map}
 use Rattle.sctid.specs.declared.IdFault.{IdFault}
 use Rattle.sctid.specs.declared.IdFault.TheVariants.{Length, Digit, LeadingZero, Partition, Check}
 use Rattle.rf2_rows.specs.declared.fault.RowCause.{RowCause}
 use Rattle.rf2_rows.specs.declared.fault.RowCause.TheVariants.{Fields, Id, Time, Active, Group, Value, Utf8, Uuid}
 use Rattle.snapshot.specs.declared.fault.LoadFault.{LoadFault}
-use Rattle.snapshot.specs.declared.fault.LoadFault.TheVariants.{NoConceptFile, Header, Row, Duplicate, TooMany, Cycle, Memory}
+use Rattle.snapshot.specs.declared.fault.LoadFault.TheVariants.{NoConceptFile, Header, Row, Conflict, TooMany, Cycle, Device, Memory}
 use Rattle.answer_printer.specs.ToldName.{told_name}
 
 -- the word for the cause for which an identifier, and a row, is refused
@@ -41,18 +41,12 @@ refusal_words names NoConceptFile = codes "no-concept-file" ∷ []
 refusal_words names (Header file) = codes "header" ∷ told_at names file ∷ []
 refusal_words names (Row file line fault) =
     codes "row" ∷ told_at names file ∷ decimal line ∷ decimal fault.column ∷ cause_word fault.cause ∷ []
-refusal_words names (Duplicate file line) = codes "duplicate" ∷ told_at names file ∷ decimal line ∷ []
+refusal_words names (Conflict file line) = codes "conflict" ∷ told_at names file ∷ decimal line ∷ []
 refusal_words names (TooMany file line) = codes "too-many" ∷ told_at names file ∷ decimal line ∷ []
 refusal_words names (Cycle concept) = codes "cycle" ∷ decimal concept ∷ []
+refusal_words names (Device (Some file)) = codes "device" ∷ told_at names file ∷ []
+refusal_words names (Device None) = codes "device" ∷ []
 refusal_words names Memory = codes "memory" ∷ []
 
 abbrev pub load_refusal : List (List ℕ) → LoadFault → List ℕ
 load_refusal names fault = refused_line (refusal_words names fault)
-
--- the line of a folder that can't be listed
-abbrev pub listing_refusal : List ℕ
-listing_refusal = refused_line (codes "device" ∷ [])
-
--- the line of a file that can't be read, by its name
-abbrev pub device_refusal : List ℕ → List ℕ
-device_refusal name = refused_line (codes "device" ∷ told_name name ∷ [])

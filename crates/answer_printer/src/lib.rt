@@ -15,6 +15,6 @@ mod tests;
 mod told_name;
 
 pub use crate::answer::print_answer;
-pub use crate::load_refusal::{listing_line, print_device_fault, print_load_fault};
+pub use crate::load_refusal::print_load_fault;
 pub use crate::query_refusal::print_fault;
 pub use crate::report::print_report;

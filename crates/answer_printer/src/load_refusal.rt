@@ -1,6 +1,6 @@
-//! The line on standard error that tells why a release was refused, or why its files can't be had.
+//! The line on standard error that tells why a release was refused, or why its files can't be read.
 ghost use Rattle.std.specs.Prelude.{◌≡◌, ◌++◌, ◌∷◌, [], codes, decimal, OnErr, OnOk, IfOk, slice_index_or};
-ghost use Rattle.answer_printer.specs.LoadRefusal.{cause_word as word_of_cause, device_refusal, id_word as word_of_id, listing_refusal, load_refusal, refused_line};
+ghost use Rattle.answer_printer.specs.LoadRefusal.{cause_word as word_of_cause, id_word as word_of_id, load_refusal, refused_line};
 ghost use Rattle.answer_printer.specs.ToldName.{told_name};
 ghost use Rattle.rf2_rows.specs.Parts.{texts_of};
 
@@ -29,23 +29,6 @@ pub fn print_load_fault(
     output.extend_from_slice(line.as_slice())
 }
 
-/// Appends the line that tells that a file can't be read: `REFUSED device` and its name, told as by
-/// `print_load_fault`. `AllocError` is answered where memory is refused; `output` is unchanged then.
-pub fn print_device_fault(alloc: Global, name: &str, output: &mut Vec<u8>) -> Result<(), AllocError>
-    ensures ok { OnOk result (output.new.items ≡ output.old.items ++ device_refusal name.now) }
-    ensures err { OnErr result (output.new.items ≡ output.old.items) }
-{
-    let line = file_line(alloc, b"device", name)?;
-    output.extend_from_slice(line.as_slice())
-}
-
-/// The line that tells that a folder can't be listed. It takes no memory.
-pub fn listing_line() -> &'static [u8]
-    ensures { result.now ≡ listing_refusal }
-{
-    b"REFUSED device\n"
-}
-
 // The line of a fault, apart, so that a growth that is refused leaves no part of it behind.
 fn refusal_line(alloc: Global, fault: LoadFault, names: &[&str]) -> Result<Vec<u8>, AllocError>
     ensures { IfOk result (λ line. line.items ≡ load_refusal (texts_of names.now) fault) }
@@ -54,8 +37,8 @@ fn refusal_line(alloc: Global, fault: LoadFault, names: &[&str]) -> Result<Vec<u
         LoadFault::NoConceptFile => plain_line(alloc, b"no-concept-file"),
         LoadFault::Header { file } => file_line(alloc, b"header", name_at(names, file)),
         LoadFault::Row { file, line, fault } => row_line(alloc, name_at(names, file), line, fault),
-        LoadFault::Duplicate { file, line } => {
-            place_line(alloc, b"duplicate", name_at(names, file), line)
+        LoadFault::Conflict { file, line } => {
+            place_line(alloc, b"conflict", name_at(names, file), line)
         }
         LoadFault::TooMany { file, line } => place_line(
             alloc,
@@ -64,7 +47,18 @@ fn refusal_line(alloc: Global, fault: LoadFault, names: &[&str]) -> Result<Vec<u
             line,
         ),
         LoadFault::Cycle(concept) => cycle_line(alloc, concept.number()),
+        LoadFault::Device { file } => device_line(alloc, names, file),
         LoadFault::Memory => plain_line(alloc, b"memory"),
+    }
+}
+
+// The line that tells that a file can't be read, or that the files can't be listed.
+fn device_line(alloc: Global, names: &[&str], file: Option<usize>) -> Result<Vec<u8>, AllocError>
+    ensures { IfOk result (λ line. line.items ≡ load_refusal (texts_of names.now) (LoadFault.Device file)) }
+{
+    match file {
+        Some(file) => file_line(alloc, b"device", name_at(names, file)),
+        None => plain_line(alloc, b"device"),
     }
 }
 

@@ -1,20 +1,24 @@
 -- What a request ends with, by the status and the faults that it met.
-use Rattle.std.proofs.Common.{ℕ, ◌≡◌, ◌≢◌, ◌<◌, inl, inr, false, true, List, codes, length, take, Ok, Err, refl, sym, ap, subst, ◌∙◌}
+use Rattle.std.proofs.Common.{ℕ, ◌≡◌, ◌<◌, ◌⊎◌, inl, inr, false, true, List, [], codes, length, map, take, Option, None, Some, Result, Ok, Err, refl, sym, ap, subst, ◌∙◌}
+use Rattle.std.specs.Prelude.{IfSome}
+use Rattle.std.proofs.lemmas.Bool.{true≢false}
+use Rattle.std.proofs.lemmas.List.{length-map}
 use Rattle.std.specs.Io.KnownBytes.{Appends}
 use Rattle.snapshot.specs.Contents.{Contents, IsFaultOf, load_of}
-use Rattle.snapshot.specs.Files.{FileText}
+use Rattle.release_files.specs.Source.{FileText}
 use Rattle.snapshot.specs.Limits.{standard_limits}
+use Rattle.snapshot.specs.Pieces.{AreInOrder, FailsToList, listed}
+use Rattle.snapshot.specs.Taking.{FailsBelow, is_device}
 use Rattle.snapshot.specs.declared.fault.LoadFault.{LoadFault}
+use Rattle.snapshot.specs.declared.fault.LoadFault.TheVariants as load
+use Rattle.snapshot.specs.declared.limits.Limits.{Limits}
 use Rattle.snapshot.specs.declared.report.Report.{Report}
 use Rattle.answer_printer.specs.ReportText.{report_text}
 use Rattle.query_tool.specs.Fault.{CountsTurns, HaveFailed}
-use Rattle.query_tool.specs.FolderRefusal.{folder_refusal}
 use Rattle.query_tool.specs.Report.{report_of}
 use Rattle.query_tool.specs.SampleContents.{sample_contents}
-use Rattle.query_tool.specs.Serve.{EndsWith, IsCut, IsServed, RefusesWith, ServesWith, Task, TellsFolderFault, TellsLoadFault, fault_text, status_of, task_of}
+use Rattle.query_tool.specs.Serve.{CountsDevice, EndsWith, IsCut, IsLoadOf, IsServed, IsTask, ServesWith, Task, TellsLoadFault, fault_text, refusal_status_of, sample_task, status_of}
 use Rattle.query_tool.specs.Streams.{IsTold, Streams, streams}
-use Rattle.query_tool.specs.declared.folder.FolderFault.{FolderFault}
-use Rattle.query_tool.specs.declared.folder.FolderFault.TheVariants as folder
 use Rattle.query_tool.specs.declared.run.RunFault.{RunFault}
 use Rattle.query_tool.specs.declared.run.RunFault.TheVariants.{Read, Write, Memory, Turns}
 use Rattle.query_tool.specs.declared.serve.Status.{Status}
@@ -23,11 +27,6 @@ use Rattle.query_tool.specs.declared.streams.AnswerOutput.{Ghosts as Output}
 use Rattle.query_tool.specs.declared.streams.QueryInput.{Ghosts as Input}
 use Rattle.query_tool.specs.declared.words.Mode.{Mode}
 use Rattle.query_tool.specs.declared.words.Mode.TheVariants.{Sample, Query, Check}
-
--- a fault of a folder that was told by its line
-pub tells_folder_fault : {E : Type 0} (e : Output E) (fault : FolderFault) (line : List ℕ) (before after : E)
-    → fault ≢ folder.Memory → line ≡ folder_refusal fault → IsTold e before after line → TellsFolderFault e fault DeviceFault before after
-tells_folder_fault e fault line before after other is told = (other, subst (λ (text : List ℕ). IsTold e before after text) is told)
 
 -- a fault that came while a release was served, and was told by its line
 pub stops_with : {R W E : Type 0} (r : Input R) (w : Output W) (e : Output E) (mode : Mode) (contents : Contents) (fault : RunFault) (status : Status) (before after : Streams R W E)
@@ -47,13 +46,14 @@ stops_with r w e mode contents fault status before after is cut failed turns tol
 
 -- files that were refused, and nothing was read or written
 pub refuses_with : {R W E : Type 0} (r : Input R) (w : Output W) (e : Output E) (task : Task) (fault : LoadFault) (status : Status) (input : R) (output : W) (before after : E)
-    → IsFaultOf fault task.loaded → TellsLoadFault e task.names fault status before after
+    → task.loaded ≡ Err fault → TellsLoadFault e task.names fault status before after
     → EndsWith r w e task status (streams input output before) (streams input output after)
 refuses_with r w e task fault Done input output before after is told = absurd told
-refuses_with r w e task fault DeviceFault input output before after is told = absurd told
+refuses_with r w e task fault DeviceFault input output before after is told =
+    inr (record { fault = fault; ends = told.0; loaded = is; read = refl; written = refl; told = told.1 })
 refuses_with r w e task fault WordsFault input output before after is told = absurd told
 refuses_with r w e task fault ReleaseRefused input output before after is told =
-    inr (record { fault = fault; loaded = is told.0; read = refl; written = refl; told = told.1 })
+    inr (record { fault = fault; ends = told.0; loaded = is; read = refl; written = refl; told = told.1 })
 refuses_with r w e task fault MemoryRefused input output before after is told = inr (record { read = refl; written = refl; told = told })
 
 -- the release that is built in is served as one of files is
@@ -67,33 +67,69 @@ serves_sample r w e contents ReleaseRefused before after none = none
 serves_sample r w e contents MemoryRefused before after stopped =
     record { fault = stopped.fault; ends = stopped.ends; served = stopped.served; failed = stopped.failed; turns = stopped.turns; told = stopped.told }
 
-ok_is_no_err : (contents : Contents) (fault : LoadFault) → Ok contents ≡ Err fault → ⊥
-ok_is_no_err contents fault is = (cc)
+-- the release that is built in was loaded and served
+pub ends_sample : {R W E : Type 0} (r : Input R) (w : Output W) (e : Output E) (own : List FileText) (limits : Limits) (contents : Contents) (status : Status) (before after : Streams R W E)
+    → limits ≡ standard_limits → load_of standard_limits (codes "en") own ≡ Ok sample_contents → load_of limits (codes "en") own ≡ Ok contents
+    → ServesWith r w e Query contents status before after → EndsWith r w e sample_task status before after
+ends_sample r w e own limits contents status before after same sample loads served = inl (record {
+  contents = contents;
+  loaded = sym sample ∙ ap (λ (l : Limits). load_of l (codes "en") own) (sym same) ∙ loads;
+  ended = serves_sample r w e contents status before after served;
+})
 
--- files that load are not refused as no release
-starves_sample : {R W E : Type 0} (e : Output E) (task other : Task) (contents : Contents) (status : Status) (before after : Streams R W E)
-    → task.loaded ≡ Ok contents → RefusesWith e task status before after → RefusesWith e other status before after
-starves_sample e task other contents Done before after loads none = none
-starves_sample e task other contents DeviceFault before after loads none = none
-starves_sample e task other contents WordsFault before after loads none = none
-starves_sample e task other contents ReleaseRefused before after loads refused = absurd (ok_is_no_err contents refused.fault (sym loads ∙ refused.loaded))
-starves_sample e task other contents MemoryRefused before after loads starved = starved
+only_memory : (fault : LoadFault) (loaded : Result Contents LoadFault) → loaded ≡ Ok sample_contents → IsFaultOf fault loaded → (fault ≡ load.Memory → ⊥) → ⊥
+only_memory fault loaded is said other = let clash : Ok sample_contents ≡ Err fault = sym is ∙ said other in (cc)
 
--- so what ends over the built-in files ends over the release that is built in
-pub ends_sample : {R W E : Type 0} (r : Input R) (w : Output W) (e : Output E) (language : List ℕ) (files own : List FileText) (status : Status) (before after : Streams R W E)
-    → load_of standard_limits (codes "en") own ≡ Ok sample_contents
-    → EndsWith r w e (task_of Query (codes "en") own) status before after → EndsWith r w e (task_of Sample language files) status before after
-ends_sample r w e language files own status before after loads (inl served) =
-    inl (record { contents = served.contents; loaded = sym loads ∙ served.loaded; ended = serves_sample r w e served.contents status before after served.ended })
-ends_sample r w e language files own status before after loads (inr refused) =
-    inr (starves_sample e (task_of Query (codes "en") own) (task_of Sample language files) sample_contents status before after loads refused)
+-- only for want of memory it is not
+pub refuses_sample : {R W E : Type 0} (r : Input R) (w : Output W) (e : Output E) (own : List FileText) (limits : Limits) (fault : LoadFault) (status : Status) (input : R) (output : W) (before after : E)
+    → limits ≡ standard_limits → load_of standard_limits (codes "en") own ≡ Ok sample_contents → IsFaultOf fault (load_of limits (codes "en") own)
+    → TellsLoadFault e [] fault status before after → EndsWith r w e sample_task status (streams input output before) (streams input output after)
+refuses_sample r w e own limits fault Done input output before after same sample said told = absurd told
+refuses_sample r w e own limits fault DeviceFault input output before after same sample said told =
+    absurd (only_memory fault (load_of limits (codes "en") own) (ap (λ (l : Limits). load_of l (codes "en") own) same ∙ sample) said
+    (λ memory. let clash : MemoryRefused ≡ DeviceFault = ap refusal_status_of (sym memory) ∙ told.0 in (cc)))
+refuses_sample r w e own limits fault WordsFault input output before after same sample said told = absurd told
+refuses_sample r w e own limits fault ReleaseRefused input output before after same sample said told =
+    absurd (only_memory fault (load_of limits (codes "en") own) (ap (λ (l : Limits). load_of l (codes "en") own) same ∙ sample) said
+    (λ memory. let clash : MemoryRefused ≡ ReleaseRefused = ap refusal_status_of (sym memory) ∙ told.0 in (cc)))
+refuses_sample r w e own limits fault MemoryRefused input output before after same sample said told = inr (record { read = refl; written = refl; told = told })
+
+-- what a load of a source's files answered, where it tells its files
+pub loaded_whole : (told : Option (List FileText)) (limits : Limits) (language : List ℕ) (names : List (List ℕ)) (contents : Contents) → limits ≡ standard_limits
+    → IfSome told (λ known. load_of limits language (listed known names) ≡ Ok contents) → IfSome told (λ known. AreInOrder known names ⊎ ⊥)
+    → IfSome told (λ known. IsLoadOf known language names (Ok contents))
+loaded_whole None limits language names contents same loads ordered = tt
+loaded_whole (Some known) limits language names contents same loads (inl order) = (order, ap (λ (l : Limits). load_of l language (listed known names)) (sym same) ∙ loads)
+loaded_whole (Some known) limits language names contents same loads (inr none) = absurd none
+
+pub loaded_not : (told : Option (List FileText)) (limits : Limits) (language : List ℕ) (names : List (List ℕ)) (fault : LoadFault) → limits ≡ standard_limits
+    → IfSome told (λ known. is_device fault ≡ false → IsFaultOf fault (load_of limits language (listed known names)))
+    → IfSome told (λ known. AreInOrder known names ⊎ (names ≡ []) × ((fault ≡ load.Device None) ⊎ (fault ≡ load.Memory)))
+    → IfSome told (λ known. IsLoadOf known language names (Err fault))
+loaded_not None limits language names fault same said ordered = tt
+loaded_not (Some known) limits language names fault same said (inl order) =
+    λ other own. (order, ap (λ (l : Limits). load_of l language (listed known names)) (sym same) ∙ said own other)
+loaded_not (Some known) limits language names fault same said (inr (none, inl device)) = λ other own. absurd (true≢false (ap is_device (sym device) ∙ own))
+loaded_not (Some known) limits language names fault same said (inr (none, inr memory)) = λ other own. absurd (other memory)
+
+-- a failure of the device at one of some names was counted
+pub counts_device : {X : Type 0} (text_of : X → List ℕ) (items : List X) (old new : ℕ) (fault : LoadFault)
+    → (is_device fault ≡ true → FailsToList old new (map text_of items) fault ⊎ FailsBelow (length items) old new fault)
+    → CountsDevice old new (map text_of items) (Err fault)
+counts_device text_of items old new fault said =
+    subst (λ (count : ℕ). is_device fault ≡ true → FailsToList old new (map text_of items) fault ⊎ FailsBelow count old new fault) (sym (length-map items text_of)) said
+
+-- what is said of want of memory behind a load
+pub loaded_no_more : (told : Option (List FileText)) (language : List ℕ) (names : List (List ℕ)) (fault : LoadFault) → fault ≡ load.Memory
+    → IfSome told (λ known. IsLoadOf known language names (Err fault))
+loaded_no_more None language names fault memory = tt
+loaded_no_more (Some known) language names fault memory = λ other own. absurd (other memory)
 
 -- a task is told by its mode and its language
-pub ends_as : {R W E : Type 0} (r : Input R) (w : Output W) (e : Output E) (mode asked : Mode) (lent language : List ℕ) (files : List FileText) (status : Status) (before after : Streams R W E)
-    → asked ≡ mode → lent ≡ language → EndsWith r w e (task_of mode lent files) status before after → EndsWith r w e (task_of asked language files) status before after
-ends_as r w e mode asked lent language files status before after is same ended =
-    subst (λ (m : Mode). EndsWith r w e (task_of m language files) status before after) (sym is)
-    (subst (λ (code : List ℕ). EndsWith r w e (task_of mode code files) status before after) same ended)
+pub asked_as : (told : Option (List FileText)) (old new : ℕ) (lent language : List ℕ) (mode asked : Mode) (task : Task) → asked ≡ mode → lent ≡ language
+    → IsTask told old new lent mode task → IsTask told old new language asked task
+asked_as told old new lent language mode asked task is same task_is =
+    subst (λ (m : Mode). IsTask told old new language m task) (sym is) (subst (λ (code : List ℕ). IsTask told old new code mode task) same task_is)
 
 -- the numbers of a report are those of what was loaded, and so is its text
 pub report_is : (contents : Contents) (report : Report) → report.files ≡ contents.files → report.concepts ≡ length contents.release.concepts

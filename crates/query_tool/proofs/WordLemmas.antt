@@ -1,7 +1,8 @@
 -- What a command that was named has, by the matches of the words.
-use Rattle.std.proofs.Common.{◌≡◌, ◌≢◌, ◌∙◌, ◌⊎◌, inl, inr, List, [], Option, None, Some, Box, Global, option_map, box_value, Result, Ok, Err, IfOk, IfErr, codes, refl, subst}
+use Rattle.std.proofs.Common.{◌≡◌, ◌≢◌, ◌∙◌, ◌⊎◌, ◌||◌, Bool, true, false, if◌then◌else◌, inl, inr, ap, ap₂, List, [], Option, None, Some, Box, Global, option_map, box_value, Result, Ok, Err, IfOk, IfErr, codes, refl, subst}
 use Rattle.std.specs.Borrow.{Bor}
-use Rattle.std.specs.Prelude.{unwrap_or}
+use Rattle.std.specs.Prelude.{bytes_eq, unwrap_or}
+use Rattle.std.proofs.lemmas.Slice.Eq.{bytes_eq-Decides}
 use Rattle.clap.specs.Words.{IsAmong, Row, Text, fault_of, first_of, found_of, rows_of, subcommand_of, subcommand_rows, subcommand_rows_of}
 use Rattle.clap.specs.Matches.{subcommand_name_of}
 use Rattle.clap.specs.declared.parser.matches.ArgMatches.{ArgMatches}
@@ -9,7 +10,7 @@ use Rattle.clap.specs.declared.parser.matches.SubCommand.{SubCommand}
 use Rattle.clap.specs.declared.parser.matches.ArgMatches.TheViews.{out-ArgMatches, out-SubCommand}
 use Rattle.clap.specs.declared.error.kind.ErrorKind.{ErrorKind}
 use Rattle.clap.specs.declared.error.kind.ErrorKind.TheVariants.{MissingSubcommand, OutOfMemory}
-use Rattle.query_tool.specs.CommandLine.{Asks, CommandAsks, IsCall, IsFaultBy, IsNoRequest, IsRefusal, IsRequest, NamesFolder, program}
+use Rattle.query_tool.specs.CommandLine.{Asks, CommandAsks, IsCall, IsFaultBy, IsNoRequest, IsRefusal, IsRequest, folders_named, folders_of, program}
 use Rattle.query_tool.specs.declared.words.Mode.{Mode}
 use Rattle.query_tool.specs.declared.words.Mode.TheVariants.{Sample, Query, Check}
 use Rattle.query_tool.specs.declared.words.Request.{Request}
@@ -50,26 +51,30 @@ request_is words command (Ok request) named clean asked =
     words_ask request.mode words request clean (subst (λ (c : Option (Text × List Row)). CommandAsks request.mode c request) named asked)
 request_is words command (Err fault) named clean asked = tt
 
--- a command without a folder among its rows names none
-pub names_no_folder : (command : Option (Text × List Row)) (rows : List Row) → option_map (λ (found : Text × List Row). found.1) command ≡ Some rows
-    → first_of (codes "FOLDER") rows ≡ None → ¬ NamesFolder command
-names_no_folder command rows held none names = by names.1 names.2 names.4 names.5
+-- the folders that a command `query` or `check` names are those of its rows
+pub names_folders : (command : Option (Text × List Row)) (name : Text) (rows : List Row) → command ≡ Some (name, rows)
+    → (name ≡ codes "query") ⊎ (name ≡ codes "check") → folders_named command ≡ folders_of rows
+names_folders command name rows is (inl query) = ap folders_named is ∙ ap (λ (n : Text). folders_named (Some (n, rows))) query
+names_folders command name rows is (inr check) = ap folders_named is ∙ ap (λ (n : Text). folders_named (Some (n, rows))) check
+
+-- the test whether two texts are the same, of two that are not
+unlike : (one other : Text) → one ≢ other → bytes_eq one other ≡ false
+unlike one other apart = by (bytes_eq one other) refl
   where
-    by : (folder : Text) (named : List Row) {name : Text} → command ≡ Some (name, named) → first_of (codes "FOLDER") named ≡ Some folder → ⊥
-    by folder named is first = (cc)
+    by : (same : Bool) → bytes_eq one other ≡ same → bytes_eq one other ≡ false
+    by false is = is
+    by true is = absurd (apart ((bytes_eq-Decides one other).0 is))
 
 -- a command of another name names none
-pub other_names_no_folder : (command : Option (Text × List Row)) (name : Text) → option_map (λ (found : Text × List Row). found.0) command ≡ Some name
-    → name ≢ codes "query" → name ≢ codes "check" → ¬ NamesFolder command
-other_names_no_folder command name held other another names = by names.0 names.2 names.3 names.4
-  where
-    by : (named : Text) (rows : List Row) → (named ≡ codes "query") ⊎ (named ≡ codes "check") → command ≡ Some (named, rows) → ⊥
-    by named rows (inl query) is = other (let same : name ≡ named = (cc) in same ∙ query)
-    by named rows (inr check) is = another (let same : name ≡ named = (cc) in same ∙ check)
+pub names_no_folder : (command : Option (Text × List Row)) (name : Text) (rows : List Row) → command ≡ Some (name, rows)
+    → name ≢ codes "query" → name ≢ codes "check" → folders_named command ≡ []
+names_no_folder command name rows is other another =
+    ap folders_named is
+    ∙ ap₂ (λ (query check : Bool). if query || check then folders_of rows else []) (unlike name (codes "query") other) (unlike name (codes "check") another)
 
 -- where a command names no folder, it is no request, and no call for help
-pub is_no_request : (command : Option (Text × List Row)) (fault : WordFault) → IsFaultBy MissingSubcommand fault → ¬ NamesFolder command → IsNoRequest command fault
-is_no_request command (Usage text) by none = none
+pub is_no_request : (command : Option (Text × List Row)) (fault : WordFault) → IsFaultBy MissingSubcommand fault → folders_named command ≡ [] → IsNoRequest command fault
+is_no_request command (Usage text) by none = inl none
 is_no_request command (Help text) by none = absurd (no_call by)
   where
     no_call : IsCall MissingSubcommand → ⊥
@@ -81,7 +86,7 @@ is_no_request command Memory by none = tt
 pub refusal_is : (words : List Text) (command : Option (Text × List Row)) (result : Result Request WordFault) → command ≡ subcommand_of program words
     → fault_of program words ≡ [] → IfErr result (IsNoRequest command) → IfErr result (IsRefusal words)
 refusal_is words command (Ok request) named clean none = tt
-refusal_is words command (Err (Usage text)) named clean none = inr (clean, subst (λ (c : Option (Text × List Row)). ¬ NamesFolder c) named none)
+refusal_is words command (Err (Usage text)) named clean none = inr (clean, subst (λ (c : Option (Text × List Row)). IsNoRequest c (Usage text)) named none)
 refusal_is words command (Err (Help text)) named clean none = absurd none
 refusal_is words command (Err Memory) named clean none = tt
 

@@ -1,7 +1,8 @@
 -- What the words of a command line ask for. The words begin with the program's name. How words are read as
 -- arguments is clap's; here is what the program takes, and what a request is of it.
-use Rattle.std.specs.Prelude.{◌≡◌, ◌≢◌, ◌⊎◌, ◌≤◌, ℕ, ⊤, false, true, List, [], length, codes, string_bytes, unwrap_or, Option, None, Some, option_map}
-use Rattle.clap.specs.Words.{App, IsAmong, Row, Rule, Text, fault_of, first_of, new_app, new_rule, subcommand_of, with_rule, with_subcommand}
+use Rattle.std.specs.Prelude.{◌≡◌, ◌≢◌, ◌⊎◌, ◌<◌, ◌≤◌, ◌||◌, ℕ, ⊤, false, true, if◌then◌else◌, List, [], bytes_eq, length, map, codes, string_bytes, unwrap_or, Option, None, Some}
+use Rattle.clap.specs.Words.{App, IsAmong, Row, Rule, Text, all_of, fault_of, first_of, new_app, new_rule, subcommand_of, with_rule, with_subcommand}
+use Rattle.clap.specs.declared.builder.action.ArgAction.TheVariants.{Append}
 use Rattle.clap.specs.declared.builder.command.Command.{Command}
 use Rattle.clap.specs.declared.builder.command.Command.TheViews.{out-Command}
 use Rattle.clap.specs.declared.error.kind.ErrorKind.{ErrorKind}
@@ -12,9 +13,9 @@ use Rattle.query_tool.specs.declared.words.Request.{Request}
 use Rattle.query_tool.specs.declared.words.WordFault.{WordFault}
 use Rattle.query_tool.specs.declared.words.WordFault.TheVariants.{Usage, Help, Memory}
 
--- a folder, which has to be there, and `--lang` with a code of a language
+-- folders, one of which has to be there and more may be, and `--lang` with a code of a language
 abbrev pub folder_rule : Rule
-folder_rule = record (new_rule (codes "FOLDER")) { required = true }
+folder_rule = record (new_rule (codes "FOLDER")) { required = true; action = Some Append }
 
 abbrev pub lang_rule : Rule
 lang_rule = record (new_rule (codes "lang")) { long = Some (codes "lang"); value_names = 1 }
@@ -23,7 +24,7 @@ lang_rule = record (new_rule (codes "lang")) { long = Some (codes "lang"); value
 abbrev pub query_command : App
 query_command = with_rule (with_rule (new_app (codes "query")) folder_rule) lang_rule
 
--- `check`, with the folder alone
+-- `check`, with the folders alone
 abbrev pub check_command : App
 check_command = with_rule (new_app (codes "check")) folder_rule
 
@@ -51,30 +52,42 @@ program = with_subcommand (with_subcommand bare_program query_command.top) check
 abbrev pub default_language : List ℕ
 default_language = codes "en"
 
--- the folder of a request, if it has one
-abbrev pub folder_in : Request → Option (List ℕ)
-folder_in request = option_map string_bytes request.folder
+-- how many folders a release is read from at most
+abbrev pub most_folders : ℕ
+most_folders = 9
+
+-- one to nine folders
+abbrev pub AreOneToNine : List Text → Type 0
+AreOneToNine folders = (1 ≤ length folders) × (length folders ≤ most_folders)
+
+-- the folders of a request
+abbrev pub folders_in : Request → List Text
+folders_in request = map string_bytes request.folders.items
+
+-- the folders among a command's rows, in the order of their words
+abbrev pub folders_of : List Row → List Text
+folders_of rows = unwrap_or (all_of (codes "FOLDER") rows) []
 
 -- no word but the program's name asks for the built-in release, and for no folder
 abbrev pub AsksSample : List Text → Request → Type 0
-AsksSample words request = (length words ≤ 1) × (folder_in request ≡ None) × (string_bytes request.lang ≡ default_language)
+AsksSample words request = (length words ≤ 1) × (folders_in request ≡ []) × (string_bytes request.lang ≡ default_language)
 
--- the folder of a request is that of a command's rows
-abbrev pub HasFolderOf : List Row → Request → Type 0
-HasFolderOf rows request = (folder : Text) × (first_of (codes "FOLDER") rows ≡ Some folder) × (folder_in request ≡ Some folder)
+-- the folders of a request are those of a command's rows, one to nine of them
+abbrev pub HasFoldersOf : List Row → Request → Type 0
+HasFoldersOf rows request = (folders_in request ≡ folders_of rows) × AreOneToNine (folders_of rows)
 
--- a command `query` asks for the release of its folder, and for its language first
+-- a command `query` asks for the release of its folders, and for its language first
 abbrev pub AsksQuery : Option (Text × List Row) → Request → Type 0
 AsksQuery command request =
     (rows : List Row) × (command ≡ Some (codes "query", rows))
-    × HasFolderOf rows request
+    × HasFoldersOf rows request
     × (unwrap_or (first_of (codes "lang") rows) default_language ≡ string_bytes request.lang)
 
--- a command `check` asks for the report of its folder
+-- a command `check` asks for the report of its folders
 abbrev pub AsksCheck : Option (Text × List Row) → Request → Type 0
 AsksCheck command request =
     (rows : List Row) × (command ≡ Some (codes "check", rows))
-    × HasFolderOf rows request
+    × HasFoldersOf rows request
     × (string_bytes request.lang ≡ default_language)
 
 -- what a command asks for in each mode: none asks for the built-in release
@@ -93,18 +106,30 @@ Asks Check words request = (fault_of program words ≡ []) × AsksCheck (subcomm
 abbrev pub IsRequest : List Text → Request → Type 0
 IsRequest words request = Asks request.mode words request
 
--- a command `query` or `check` names a folder
-abbrev pub NamesFolder : Option (Text × List Row) → Type 0
-NamesFolder command =
-    (name : Text) × (folder : Text) × (rows : List Row)
-    × ((name ≡ codes "query") ⊎ (name ≡ codes "check"))
-    × (command ≡ Some (name, rows)) × (first_of (codes "FOLDER") rows ≡ Some folder)
+-- the folders that a command names, in the order of their words: those of `query` and of `check`
+abbrev pub folders_named : Option (Text × List Row) → List Text
+folders_named None = []
+folders_named (Some command) = if bytes_eq command.0 (codes "query") || bytes_eq command.0 (codes "check") then folders_of command.1 else []
 
--- why a command that was named is no request: it names no folder for `query` or `check`
+-- what is told of more folders than a release is read from
+abbrev pub too_many_text : Text
+too_many_text = codes "at most 9 folders\n"
+
+-- that is told, or memory was refused
+abbrev pub TellsTooMany : WordFault → Type 0
+TellsTooMany (Usage text) = string_bytes text ≡ too_many_text
+TellsTooMany (Help text) = ⊥
+TellsTooMany Memory = ⊤
+
+-- why no release is read from folders: there are none, or more than nine, and then that is told
+abbrev pub IsFaultOfFolders : List Text → WordFault → Type 0
+IsFaultOfFolders folders (Usage text) = (folders ≡ []) ⊎ ((most_folders < length folders) × TellsTooMany (Usage text))
+IsFaultOfFolders folders (Help text) = ⊥
+IsFaultOfFolders folders Memory = ⊤
+
+-- why a command that was named is no request: no release is read from the folders that it names
 abbrev pub IsNoRequest : Option (Text × List Row) → WordFault → Type 0
-IsNoRequest command (Usage text) = ¬ NamesFolder command
-IsNoRequest command (Help text) = ⊥
-IsNoRequest command Memory = ⊤
+IsNoRequest command fault = IsFaultOfFolders (folders_named command) fault
 
 -- a call for help, or for the version
 abbrev pub IsCall : ErrorKind → Type 0
@@ -117,11 +142,12 @@ IsFaultBy kind (Help text) = IsCall kind
 IsFaultBy kind Memory = ⊤
 
 -- why words are refused: clap finds a fault in them that is no call for help or for the version; or it finds
--- none, and they name no folder for `query` or `check`; or they are such a call; or memory was refused
+-- none, and they name no folder for `query` or `check`, or more than nine; or they are such a call; or memory was
+-- refused
 abbrev pub IsRefusal : List Text → WordFault → Type 0
 IsRefusal words (Usage text) =
     ((kind : ErrorKind) × IsAmong kind (fault_of program words) × (¬ IsCall kind))
-    ⊎ ((fault_of program words ≡ []) × ¬ NamesFolder (subcommand_of program words))
+    ⊎ ((fault_of program words ≡ []) × IsNoRequest (subcommand_of program words) (Usage text))
 IsRefusal words (Help text) = (kind : ErrorKind) × IsAmong kind (fault_of program words) × IsCall kind
 IsRefusal words Memory = ⊤
 

@@ -2,7 +2,6 @@ pub mod Answer
 pub mod CommandLine
 pub mod EngineInside
 pub mod Fault
-pub mod FolderRefusal
 pub mod KeptLine
 pub mod Lines
 pub mod Report

@@ -1,21 +1,20 @@
 -- What a request ends with: a status, and what it says of what was read, written and told.
-use Rattle.std.specs.Prelude.{ℕ, ◌≡◌, ◌≢◌, ◌⊎◌, ◌<◌, false, List, codes, length, map, take, IfSome, Result, Ok, Err}
+use Rattle.std.specs.Prelude.{ℕ, ⊤, ◌≡◌, ◌≢◌, ◌⊎◌, ◌<◌, false, true, List, [], codes, length, take, IfSome, Option, Result, Ok, Err}
 use Rattle.std.specs.Io.KnownBytes.{Appends, IsAtEnd}
 use Rattle.snapshot.specs.Contents.{Contents, load_of}
-use Rattle.snapshot.specs.Files.{FileText}
+use Rattle.release_files.specs.Source.{FileText}
 use Rattle.snapshot.specs.Limits.{standard_limits}
+use Rattle.snapshot.specs.Pieces.{AreInOrder, FailsToList, listed}
+use Rattle.snapshot.specs.Taking.{FailsBelow, is_device}
 use Rattle.snapshot.specs.declared.fault.LoadFault.{LoadFault}
 use Rattle.snapshot.specs.declared.fault.LoadFault.TheVariants as load
 use Rattle.answer_printer.specs.LoadRefusal.{load_refusal}
 use Rattle.answer_printer.specs.ReportText.{report_text}
 use Rattle.query_tool.specs.Fault.{CountsTurns, EndsAt, HaveFailed}
-use Rattle.query_tool.specs.FolderRefusal.{folder_refusal}
 use Rattle.query_tool.specs.Lines.{AreWritten, query_lines}
 use Rattle.query_tool.specs.Report.{report_of}
 use Rattle.query_tool.specs.SampleContents.{sample_contents}
 use Rattle.query_tool.specs.Streams.{IsTold, Streams}
-use Rattle.query_tool.specs.declared.folder.FolderFault.{FolderFault}
-use Rattle.query_tool.specs.declared.folder.FolderFault.TheVariants as folder
 use Rattle.query_tool.specs.declared.run.RunFault.{RunFault}
 use Rattle.query_tool.specs.declared.run.RunFault.TheVariants.{Read, Write, Memory, Turns}
 use Rattle.query_tool.specs.declared.serve.Status.{Status}
@@ -50,31 +49,51 @@ fault_text (Turns count) = codes "FAULT turns\n"
 -- the status that a fault of a load ends with
 abbrev pub refusal_status_of : LoadFault → Status
 refusal_status_of load.Memory = MemoryRefused
+refusal_status_of (load.Device place) = DeviceFault
 refusal_status_of fault = ReleaseRefused
 
 -- the line that tells that memory was refused before a release was loaded
 abbrev pub memory_text : List ℕ
 memory_text = codes "REFUSED memory\n"
 
--- the release that is asked for: the one that is built in, or that of the files with the names of a
--- language first; or the fault of the files
-abbrev pub loaded : Mode → List ℕ → List FileText → Result Contents LoadFault
-loaded Sample language files = Ok sample_contents
-loaded Query language files = load_of standard_limits language files
-loaded Check language files = load_of standard_limits language files
-
--- the names of files
-abbrev pub names_of : List FileText → List (List ℕ)
-names_of files = map (λ (file : FileText). file.name) files
-
--- a task: what is done with a release, the release or the fault of its files, and their names
+-- a task: what is done with a release, what its load answered, and the names of its files
 pub record Task : Type 0 where
   pub mode : Mode
   pub loaded : Result Contents LoadFault
   pub names : List (List ℕ)
 
-abbrev pub task_of : Mode → List ℕ → List FileText → Task
-task_of mode language files = record { mode = mode; loaded = loaded mode language files; names = names_of files }
+-- what a load of files answered: their release, or their first fault, by the byte order of their names; or that
+-- memory was refused, or the device failed
+abbrev pub IsLoadOf : List FileText → List ℕ → List (List ℕ) → Result Contents LoadFault → Type 0
+IsLoadOf known language names (Ok contents) = AreInOrder known names × (load_of standard_limits language (listed known names) ≡ Ok contents)
+IsLoadOf known language names (Err fault) =
+    fault ≢ load.Memory → is_device fault ≡ false → AreInOrder known names × (load_of standard_limits language (listed known names) ≡ Err fault)
+
+-- where the device failed this was counted: it was to list the files, or to read one of these
+abbrev pub CountsDevice : ℕ → ℕ → List (List ℕ) → Result Contents LoadFault → Type 0
+CountsDevice old new names (Ok contents) = ⊤
+CountsDevice old new names (Err fault) = is_device fault ≡ true → FailsToList old new names fault ⊎ FailsBelow (length names) old new fault
+
+-- the files of a source were loaded, which had failed so often before and behind
+pub record IsLoadedFrom (told : Option (List FileText)) (old new : ℕ) (language : List ℕ) (task : Task) : Type 0 where
+  pub loaded : IfSome told (λ known. IsLoadOf known language task.names task.loaded)
+  pub device : CountsDevice old new task.names task.loaded
+
+-- the release that a mode asks for: the one that is built in, or that of the files of a source with the names of
+-- a language first
+abbrev pub IsAskedFor : Option (List FileText) → ℕ → ℕ → List ℕ → Mode → Task → Type 0
+IsAskedFor told old new language Sample task = task.loaded ≡ Ok sample_contents
+IsAskedFor told old new language Query task = IsLoadedFrom told old new language task
+IsAskedFor told old new language Check task = IsLoadedFrom told old new language task
+
+-- the task of a mode
+pub record IsTask (told : Option (List FileText)) (old new : ℕ) (language : List ℕ) (mode : Mode) (task : Task) : Type 0 where
+  pub mode_is : task.mode ≡ mode
+  pub loaded : IsAskedFor told old new language mode task
+
+-- the task of answering queries over the release that is built in
+abbrev pub sample_task : Task
+sample_task = record { mode = Sample; loaded = Ok sample_contents; names = [] }
 
 -- the query lines of an input to its end were answered
 pub record IsAnswered {R W E : Type 0} (r : Input R) (w : Output W) (contents : Contents) (before after : Streams R W E) : Type 0 where
@@ -123,9 +142,10 @@ pub record IsStopped {R W E : Type 0} (r : Input R) (w : Output W) (e : Output E
   pub turns : CountsTurns fault (r.read_count before.input) (r.read_count after.input)
   pub told : IsTold e before.errors after.errors (fault_text fault)
 
--- status 3: nothing was read or written, and the fault of the files was told
-pub record IsRefused {R W E : Type 0} (e : Output E) (task : Task) (before after : Streams R W E) : Type 0 where
+-- status 3, or 1 where the device failed: nothing was read or written, and the fault of the files was told
+pub record IsRefused {R W E : Type 0} (e : Output E) (task : Task) (status : Status) (before after : Streams R W E) : Type 0 where
   pub fault : LoadFault
+  pub ends : refusal_status_of fault ≡ status
   pub loaded : task.loaded ≡ Err fault
   pub read : after.input ≡ before.input
   pub written : after.output ≡ before.output
@@ -154,9 +174,9 @@ pub record IsLoadedAndServed {R W E : Type 0} (r : Input R) (w : Output W) (e : 
 -- what each status says where no release was served
 abbrev pub RefusesWith : {R W E : Type 0} → Output E → Task → Status → Streams R W E → Streams R W E → Type 0
 RefusesWith e task Done before after = ⊥
-RefusesWith e task DeviceFault before after = ⊥
+RefusesWith e task DeviceFault before after = IsRefused e task DeviceFault before after
 RefusesWith e task WordsFault before after = ⊥
-RefusesWith e task ReleaseRefused before after = IsRefused e task before after
+RefusesWith e task ReleaseRefused before after = IsRefused e task ReleaseRefused before after
 RefusesWith e task MemoryRefused before after = IsStarved e before after
 
 -- a task ends with a status: its release was loaded and served, or it was refused
@@ -167,16 +187,7 @@ EndsWith r w e task status before after =
 -- what each status says where a fault of files with some names was to be told
 abbrev pub TellsLoadFault : {E : Type 0} → Output E → List (List ℕ) → LoadFault → Status → E → E → Type 0
 TellsLoadFault e names fault Done before after = ⊥
-TellsLoadFault e names fault DeviceFault before after = ⊥
+TellsLoadFault e names fault DeviceFault before after = (refusal_status_of fault ≡ DeviceFault) × IsTold e before after (load_refusal names fault)
 TellsLoadFault e names fault WordsFault before after = ⊥
-TellsLoadFault e names fault ReleaseRefused before after = (fault ≢ load.Memory) × IsTold e before after (load_refusal names fault)
+TellsLoadFault e names fault ReleaseRefused before after = (refusal_status_of fault ≡ ReleaseRefused) × IsTold e before after (load_refusal names fault)
 TellsLoadFault e names fault MemoryRefused before after = IsTold e before after memory_text
-
--- what each status says where a fault of a folder was to be told: only of a file may want of memory be told
--- in its place
-abbrev pub TellsFolderFault : {E : Type 0} → Output E → FolderFault → Status → E → E → Type 0
-TellsFolderFault e fault Done before after = ⊥
-TellsFolderFault e fault DeviceFault before after = (fault ≢ folder.Memory) × IsTold e before after (folder_refusal fault)
-TellsFolderFault e fault WordsFault before after = ⊥
-TellsFolderFault e fault ReleaseRefused before after = ⊥
-TellsFolderFault e fault MemoryRefused before after = (fault ≢ folder.Listing) × IsTold e before after memory_text

@@ -1,11 +1,13 @@
 //! The engine: a release that answers queries.
-ghost use Rattle.std.specs.Prelude.{ℕ, ◌≡◌, ◌++◌, List, IfErr, IfOk, Ok, OnErr, OnOk, map};
+ghost use Rattle.std.specs.Prelude.{ℕ, ◌≡◌, ◌⊎◌, ◌++◌, List, IfErr, IfOk, IfSome, Ok, OnErr, OnOk, false, length, map, string_bytes, true};
 ghost use Rattle.std.specs.List.Sorted.{IsStrictlyIncreasing};
 ghost use Rattle.constraint_tree.specs.Denotation.{denotation};
 ghost use Rattle.constraint_tree.specs.Tree.{Tree, tree_of};
 ghost use Rattle.postings.specs.Indexed.{IsIndexOf};
 ghost use Rattle.snapshot.specs.Contents.{IsFaultOf, load_of};
-ghost use Rattle.snapshot.specs.Files.{file_text};
+ghost use Rattle.snapshot.specs.Pieces.{AreInOrder, FailsToList, IsUnlisted, listed};
+ghost use Rattle.snapshot.specs.Taking.{FailsBelow, is_device};
+ghost use Rattle.release_files.specs.Source.{file_text};
 ghost use Rattle.query_tool.specs.Answer.{constraint_answer, IsAnswer};
 
 use answer_printer::{print_answer, print_fault};
@@ -15,7 +17,7 @@ use ecl_parser::parse;
 use executor::execute;
 use idset::MixedSet;
 use postings::Indexes;
-use release_files::NamedBytes;
+use release_files::{FileSource, NamedBytes};
 use set_algebra::lower;
 use snapshot::{Limits, LoadFault, Snapshot};
 use std::alloc::{AllocError, Global};
@@ -53,12 +55,29 @@ impl Engine {
         ensures err { IfErr result (λ fault. IsFaultOf fault (load_of limits lang.now (map file_text files.now))) }
     {
         match Snapshot::load(alloc, files, lang, limits) {
-            Ok(snapshot) => {
-                // its contract says that the concepts rise
-                let _ = snapshot.concept_count();
-                let indexes = Indexes::build(alloc, &snapshot)?;
-                Ok(Engine { snapshot, indexes })
-            }
+            Ok(snapshot) => with_indexes(alloc, snapshot),
+            Err(fault) => Err(fault),
+        }
+    }
+
+    /// Loads the files that a source lists, in the byte order of their names, as
+    /// `Snapshot::load_from` does, and leaves these in `names`.
+    pub fn load_from<S: FileSource>(
+        alloc: Global,
+        source: &mut S,
+        names: &mut Vec<String>,
+        lang: &str,
+        limits: Limits,
+    ) -> Result<Engine, LoadFault>
+        ensures ok { IfSome (S.files source.old) (λ known. IfOk result (λ engine. load_of limits lang.now (listed known (map string_bytes names.new.items)) ≡ Ok engine)) }
+        ensures err { IfSome (S.files source.old) (λ known. IfErr result (λ fault. is_device fault ≡ false → IsFaultOf fault (load_of limits lang.now (listed known (map string_bytes names.new.items))))) }
+        ensures names { IfSome (S.files source.old) (λ known. AreInOrder known (map string_bytes names.new.items) ⊎ IsUnlisted result (map string_bytes names.new.items)) }
+        ensures device { IfErr result (λ fault. is_device fault ≡ true
+            → FailsToList (S.failure_count source.old) (S.failure_count source.new) (map string_bytes names.new.items) fault
+            ⊎ FailsBelow (length names.new.items) (S.failure_count source.old) (S.failure_count source.new) fault) }
+    {
+        match Snapshot::load_from(alloc, source, names, lang, limits) {
+            Ok(snapshot) => with_indexes(alloc, snapshot),
             Err(fault) => Err(fault),
         }
     }
@@ -75,6 +94,17 @@ impl Engine {
     {
         answer_line(alloc, &self.snapshot, &self.indexes, line, output)
     }
+}
+
+// A release with its indexes.
+fn with_indexes(alloc: Global, snapshot: Snapshot) -> Result<Engine, LoadFault>
+    ensures same { IfOk result (λ engine. engine ≡ snapshot) }
+    ensures memory { IfErr result (λ fault. fault ≡ LoadFault.Memory) }
+{
+    // its contract says that the concepts rise
+    let _ = snapshot.concept_count();
+    let indexes = Indexes::build(alloc, &snapshot)?;
+    Ok(Engine { snapshot, indexes })
 }
 
 // Appends what answers a line over a release.

@@ -148,7 +148,7 @@ fn refuses_changed_loads(rt: HostRuntime) -> Result<(), Fail> {
             CONCEPTS,
             b"109006\t20240101\t0\t900000000000207008\t900000000000074008\r\n",
             b"109006\t20240101\t0\t900000000000207008\t900000000000074008\r\n100005\t20240101\t0\t900000000000207008\t900000000000074008\r\n",
-            Some(LoadFault::Duplicate { file: 1, line: 13 }),
+            Some(LoadFault::Conflict { file: 1, line: 13 }),
         ),
         (
             CONCEPTS,
@@ -184,7 +184,7 @@ fn refuses_changed_loads(rt: HostRuntime) -> Result<(), Fail> {
             DESCRIPTIONS,
             b"101013\t20240101\t1\t",
             b"100014\t20240101\t0\t",
-            Some(LoadFault::Duplicate { file: 2, line: 3 }),
+            Some(LoadFault::Conflict { file: 2, line: 3 }),
         ),
         (
             DESCRIPTIONS,
@@ -202,7 +202,7 @@ fn refuses_changed_loads(rt: HostRuntime) -> Result<(), Fail> {
             MEMBERS,
             b"00000000-0000-4000-8000-000000000002",
             b"00000000-0000-4000-8000-000000000001",
-            Some(LoadFault::Duplicate { file: 0, line: 3 }),
+            Some(LoadFault::Conflict { file: 0, line: 3 }),
         ),
         (
             MEMBERS,
@@ -220,7 +220,7 @@ fn refuses_changed_loads(rt: HostRuntime) -> Result<(), Fail> {
             CONCRETE_VALUES,
             b"117026\t20240101\t1\t",
             b"114022\t20240101\t0\t",
-            Some(LoadFault::Duplicate { file: 3, line: 3 }),
+            Some(LoadFault::Conflict { file: 3, line: 3 }),
         ),
         (CONCEPTS, b"", b"", None),
         // a component of another part, and a concrete value whose identifier a relationship has
@@ -505,7 +505,7 @@ fn loads_a_long_chain(rt: HostRuntime) -> Result<(), Fail> {
     Ok(())
 }
 
-// Two concept files are one list of concepts, in which an identifier stands once.
+// Two concept files are one list of concepts, in which equal rows are one.
 #[test]
 fn joins_files_of_a_kind(rt: HostRuntime) -> Result<(), Fail> {
     let alloc = rt.alloc();
@@ -525,14 +525,13 @@ fn joins_files_of_a_kind(rt: HostRuntime) -> Result<(), Fail> {
         Err(fault) => panic!(rt; "{fault}"),
     }
     let twice = [file(NAME, one.as_slice()), file(NAME, one.as_slice())];
-    let fault = fault_of(alloc, &twice, Limits::standard());
-    assert!(rt; fault == Some(LoadFault::Duplicate { file: 1, line: 2 }));
+    assert!(rt; fault_of(alloc, &twice, Limits::standard()).is_none());
     Ok(())
 }
 
-// A repeated identifier is found whatever the order of the rows, and the first repetition is told.
+// Equal rows are one whatever the order of the rows, and each row more is passed over.
 #[test]
-fn finds_repeated_identifiers_in_any_order(rt: HostRuntime) -> Result<(), Fail> {
+fn takes_equal_rows_once_in_any_order(rt: HostRuntime) -> Result<(), Fail> {
     let alloc = rt.alloc();
     let [a, b, c, d] = [
         id(&rt, b"100005"),
@@ -541,31 +540,130 @@ fn finds_repeated_identifiers_in_any_order(rt: HostRuntime) -> Result<(), Fail> 
         id(&rt, b"103007"),
     ];
     let lists = [
-        ([a, b, c, d, d], 6),
-        ([a, b, c, d, b], 6),
-        ([d, c, b, a, d], 6),
-        ([b, d, a, c, c], 6),
-        ([b, d, a, c, d], 6),
-        ([b, d, d, b, a], 4),
+        ([a, b, c, d, d], (4, 1)),
+        ([a, b, c, d, b], (4, 1)),
+        ([d, c, b, a, d], (4, 1)),
+        ([b, d, a, c, c], (4, 1)),
+        ([b, d, d, b, a], (3, 2)),
+        ([b, b, b, b, b], (1, 4)),
     ];
-    for (concepts, line) in &lists {
-        let fault = fault_of_concepts(alloc, concepts)?;
-        let want = LoadFault::Duplicate {
-            file: 0,
-            line: *line,
-        };
-        assert!(rt; fault == Some(want), "{fault:?}");
+    for (concepts, want) in &lists {
+        let bytes = concept_file(alloc, concepts)?;
+        assert!(rt; concept_counts(alloc, bytes.as_slice()) == Some(*want));
     }
-    assert!(rt; fault_of_concepts(alloc, &[b, d, a, c])?.is_none());
     Ok(())
 }
 
-// The fault of a concept file with a row for each identifier.
-fn fault_of_concepts(alloc: Global, ids: &[SctId]) -> Result<Option<LoadFault>, AllocError> {
-    let bytes = concept_file(alloc, ids)?;
-    let file = NamedBytes {
-        name: NAME,
+// How many concepts of a concept file are in force, and how many of its rows are passed over.
+fn concept_counts(alloc: Global, bytes: &[u8]) -> Option<(u64, u64)> {
+    let files = [NamedBytes { name: NAME, bytes }];
+    match Snapshot::load(alloc, &files, "en", Limits::standard()) {
+        Ok(snapshot) => {
+            let report = snapshot.report();
+            Some((report.concepts, report.passed))
+        }
+        Err(_) => None,
+    }
+}
+
+// Rows of one concept: the latest time counts, none at all is the latest, and of one time they are
+// equal.
+#[test]
+fn takes_the_latest_row_of_a_concept(rt: HostRuntime) -> Result<(), Fail> {
+    let alloc = rt.alloc();
+    let cases = [
+        (
+            b"20240101\t1".as_slice(),
+            b"20240201\t0".as_slice(),
+            Some((0, 2)),
+        ),
+        (b"20240201\t0", b"20240101\t1", Some((0, 2))),
+        (b"20240101\t1", b"20231201\t0", Some((1, 1))),
+        (b"20240101\t1", b"\t0", Some((0, 2))),
+        (b"\t0", b"20240101\t1", Some((0, 2))),
+        (b"\t1", b"00000000\t0", Some((1, 1))),
+        (b"20240101\t1", b"20240101\t1", Some((1, 1))),
+        (b"20240101\t1", b"20240101\t0", None),
+        (b"\t1", b"\t0", None),
+    ];
+    for (one, other, want) in cases {
+        let mut bytes = Vec::new(alloc);
+        bytes.extend_from_slice(HEADER)?;
+        for middle in [one, other] {
+            bytes.extend_from_slice(b"100005\t")?;
+            bytes.extend_from_slice(middle)?;
+            bytes.extend_from_slice(b"\t900000000000207008\t900000000000074008\r\n")?;
+        }
+        assert!(rt;
+            concept_counts(alloc, bytes.as_slice()) == want,
+            "{one:?} {other:?}"
+        );
+    }
+    Ok(())
+}
+
+// The sample with one concept row more, in a file of its own, as that of an extension: how many
+// concepts, is-a rows, attribute rows, members and names are in force, and how many rows are passed
+// over.
+#[test]
+fn reads_an_extension(rt: HostRuntime) -> Result<(), Fail> {
+    let cases = [
+        (b"100005\t20240101\t1".as_slice(), [10, 10, 9, 2, 10, 7]),
+        (b"100005\t20231201\t0", [10, 10, 9, 2, 10, 7]),
+        (b"100005\t20240201\t0", [9, 7, 9, 2, 9, 12]),
+        (b"100005\t\t0", [9, 7, 9, 2, 9, 12]),
+        (b"109006\t20240201\t1", [11, 10, 10, 3, 10, 4]),
+    ];
+    for (row, want) in cases {
+        assert!(rt;
+            report_with(rt.alloc(), row, true)? == Some(want),
+            "{row:?}"
+        );
+        assert!(rt;
+            report_with(rt.alloc(), row, false)? == Some(want),
+            "{row:?}"
+        );
+    }
+    Ok(())
+}
+
+// The counts of the sample with one concept row more, in a file before or behind the others.
+fn report_with(alloc: Global, row: &[u8], first: bool) -> Result<Option<[u64; 6]>, AllocError> {
+    let mut bytes = Vec::new(alloc);
+    bytes.extend_from_slice(HEADER)?;
+    bytes.extend_from_slice(row)?;
+    bytes.extend_from_slice(b"\t900000000000207008\t900000000000074008\r\n")?;
+    let extension = NamedBytes {
+        name: "2/sct2_Concept_Snapshot_XX.txt",
         bytes: bytes.as_slice(),
     };
-    Ok(fault_of(alloc, &[file], Limits::standard()))
+    let mut files = Vec::new(alloc);
+    if first {
+        files.push(extension)?;
+    }
+    for named in &sample() {
+        files.push(*named)?;
+    }
+    if !first {
+        files.push(extension)?;
+    }
+    Ok(report_of(alloc, files.as_slice()))
+}
+
+// The counts of a release, if it is one.
+fn report_of(alloc: Global, files: &[NamedBytes<'_>]) -> Option<[u64; 6]> {
+    match Snapshot::load(alloc, files, "en", Limits::standard()) {
+        Ok(snapshot) => {
+            let report = snapshot.report();
+            Some([
+                report.concepts,
+                report.isa,
+                report.attributes,
+                report.members,
+                report.names,
+                report.passed,
+            ])
+        }
+        Err(_) => None,
+    }
 }

@@ -27,6 +27,8 @@ mod serve;
 #[cfg(test)]
 mod serve_tests;
 #[cfg(test)]
+mod source_tests;
+#[cfg(test)]
 mod stream_tests;
 mod streams;
 #[cfg(test)]
@@ -35,11 +37,8 @@ mod test_streams;
 mod tests;
 mod words;
 
-use folder::{FolderFault, FolderFile, read_folder};
-use release_files::NamedBytes;
-use serve::{Status, refuse_folder, refuse_words, serve};
-use snapshot::Limits;
-use std::alloc::AllocError;
+use folder::FolderSource;
+use serve::{Status, refuse_words, serve};
 use std::io::ErrorKind;
 use std::process::ExitCode;
 use std::{env, io};
@@ -86,45 +85,16 @@ fn unread_words(rt: &HostRuntime, error: &io::Error) -> WordFault {
 
 // Does what is asked of the release that is asked for.
 fn fulfil(rt: &HostRuntime, request: &Request) -> Status {
-    match files_asked(rt, request) {
-        Ok(files) => match named(rt, files.as_slice()) {
-            Ok(named) => serve_streams(rt, request, named.as_slice()),
-            Err(_) => tell_folder_fault(rt, &FolderFault::Memory),
-        },
-        Err(fault) => tell_folder_fault(rt, &fault),
-    }
-}
-
-// The files of the folder that is asked for, or none where the release is built in.
-fn files_asked(rt: &HostRuntime, request: &Request) -> Result<Vec<FolderFile>, FolderFault> {
-    match &request.folder {
-        Some(folder) => read_folder(rt, folder.as_str(), Limits::standard().bytes),
-        None => Ok(Vec::new(rt.alloc())),
-    }
-}
-
-fn named<'a>(rt: &HostRuntime, files: &'a [FolderFile]) -> Result<Vec<NamedBytes<'a>>, AllocError> {
-    files
-        .iter()
-        .map(FolderFile::named_bytes)
-        .collect(rt.alloc())
-}
-
-fn serve_streams(rt: &HostRuntime, request: &Request, files: &[NamedBytes<'_>]) -> Status {
+    let mut source = FolderSource::new(rt, request.folders.as_slice());
     let mut input = StreamInput::new(rt.reader());
     let mut output = StreamOutput::new(io::writer(rt));
     let mut errors = StreamOutput::new(rt.stderr());
     serve(
         rt.alloc(),
         request,
-        files,
+        &mut source,
         &mut input,
         &mut output,
         &mut errors,
     )
-}
-
-// Tells why the files of a folder can't be had.
-fn tell_folder_fault(rt: &HostRuntime, fault: &FolderFault) -> Status {
-    refuse_folder(rt.alloc(), fault, &mut StreamOutput::new(rt.stderr()))
 }

@@ -1,7 +1,7 @@
 //! The sample release: a small release of eleven concepts, built into the program.
 ghost use Rattle.std.specs.Prelude.{◌≡◌, Ok, codes, map};
 ghost use Rattle.snapshot.specs.Contents.{load_of};
-ghost use Rattle.snapshot.specs.Files.{FileText, file_text};
+ghost use Rattle.release_files.specs.Source.{FileText, file_text};
 ghost use Rattle.snapshot.specs.Limits.{standard_limits};
 ghost use Rattle.query_tool.specs.SampleContents.{sample_contents, sample_names};
 

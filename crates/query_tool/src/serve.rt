@@ -1,24 +1,21 @@
 //! What the program does with a request, its files and its streams.
-ghost use Rattle.std.specs.Prelude.{◌≡◌, false, IfErr, IfOk, Ok, map, string_bytes};
+ghost use Rattle.std.specs.Prelude.{◌≡◌, false, Err, IfErr, IfOk, IfSome, Ok, map, string_bytes};
 ghost use Rattle.rf2_rows.specs.Parts.{texts_of};
-ghost use Rattle.snapshot.specs.Contents.{Contents, IsFaultOf, load_of};
-ghost use Rattle.snapshot.specs.Files.{file_text};
-ghost use Rattle.snapshot.specs.Limits.{standard_limits};
-ghost use Rattle.answer_printer.specs.LoadRefusal.{device_refusal, load_refusal};
+ghost use Rattle.snapshot.specs.Contents.{Contents};
+ghost use Rattle.answer_printer.specs.LoadRefusal.{load_refusal};
 ghost use Rattle.answer_printer.specs.ReportText.{report_text};
 ghost use Rattle.query_tool.specs.Report.{report_of};
-ghost use Rattle.query_tool.specs.Serve.{EndsWith, ServesWith, TellsFolderFault, TellsLoadFault, fault_text, memory_text, names_of, refusal_status_of, status_code, status_of, task_of};
+ghost use Rattle.query_tool.specs.Serve.{CountsDevice, EndsWith, IsLoadOf, IsTask, ServesWith, Task, TellsLoadFault, fault_text, memory_text, refusal_status_of, sample_task, status_code, status_of};
 ghost use Rattle.query_tool.specs.Streams.{IsTold, outputs, streams};
 ghost use Rattle.query_tool.specs.WordRefusal.{TellsWordFault};
 
 use crate::engine::Engine;
-use crate::folder::FolderFault;
 use crate::run::{RunFault, run, write_all};
 use crate::sample::sample_files;
 use crate::streams::{AnswerOutput, QueryInput};
 use crate::words::{Mode, Request, WordFault};
-use answer_printer::{listing_line, print_device_fault, print_load_fault, print_report};
-use release_files::NamedBytes;
+use answer_printer::{print_load_fault, print_report};
+use release_files::FileSource;
 use snapshot::{Limits, LoadFault, Snapshot};
 use std::alloc::{AllocError, Global};
 
@@ -52,14 +49,14 @@ impl Status {
     }
 }
 
-/// Does what is asked of a release: of the one that is built in, or of that of the files. Answers the
-/// query lines of an input, or, at `Check`, writes what the release has, and reads nothing. Nothing is
-/// written before the release is loaded. What is refused, and a fault, is told by one line on `errors`,
-/// whose own failure changes nothing.
-pub fn serve<R: QueryInput, W: AnswerOutput, E: AnswerOutput>(
+/// Does what is asked of a release: of the one that is built in, or of that of the files of a source.
+/// Answers the query lines of an input, or, at `Check`, writes what the release has, and reads nothing.
+/// Nothing is written before the release is loaded. What is refused, and a fault, is told by one line on
+/// `errors`, whose own failure changes nothing.
+pub fn serve<S: FileSource, R: QueryInput, W: AnswerOutput, E: AnswerOutput>(
     alloc: Global,
     request: &Request,
-    files: &[NamedBytes<'_>],
+    source: &mut S,
     input: &mut R,
     output: &mut W,
     errors: &mut E,
@@ -67,29 +64,21 @@ pub fn serve<R: QueryInput, W: AnswerOutput, E: AnswerOutput>(
     requires input { R.has_failed input.old ≡ false }
     requires output { W.has_failed output.old ≡ false }
     requires errors { E.AnswerOutput.has_failed errors.old ≡ false }
-    ensures { EndsWith R.QueryInput W.AnswerOutput E.AnswerOutput
-        (task_of request.now.mode (string_bytes request.now.lang) (map file_text files.now)) result
-        (streams input.old output.old errors.old) (streams input.new output.new errors.new) }
+    ensures { (task : Task)
+        × IsTask (S.files source.old) (S.failure_count source.old) (S.failure_count source.new) (string_bytes request.now.lang) request.now.mode task
+        × EndsWith R.QueryInput W.AnswerOutput E.AnswerOutput task result (streams input.old output.old errors.old) (streams input.new output.new errors.new) }
 {
     let lang = request.lang.as_str();
     match request.mode {
-        Mode::Sample => answer_files(alloc, "en", &sample_files(), input, output, errors),
-        Mode::Query => answer_files(alloc, lang, files, input, output, errors),
-        Mode::Check => match report(alloc, lang, files) {
-            Ok(text) => match write_all(text.as_slice(), output) {
-                Ok(()) => Status::Done,
-                Err(_) => tell_fault(RunFault::Write(0), errors),
-            },
-            Err(fault) => refuse(alloc, fault, files, errors),
-        },
+        Mode::Sample => answer_sample(alloc, input, output, errors),
+        Mode::Query => answer_source(alloc, lang, source, input, output, errors),
+        Mode::Check => report_source(alloc, lang, source, input, output, errors),
     }
 }
 
-// Answers the query lines of an input over the release of some files.
-fn answer_files<R: QueryInput, W: AnswerOutput, E: AnswerOutput>(
+// Answers the query lines of an input over the release that is built in.
+fn answer_sample<R: QueryInput, W: AnswerOutput, E: AnswerOutput>(
     alloc: Global,
-    lang: &str,
-    files: &[NamedBytes<'_>],
     input: &mut R,
     output: &mut W,
     errors: &mut E,
@@ -97,13 +86,35 @@ fn answer_files<R: QueryInput, W: AnswerOutput, E: AnswerOutput>(
     requires input { R.has_failed input.old ≡ false }
     requires output { W.has_failed output.old ≡ false }
     requires errors { E.AnswerOutput.has_failed errors.old ≡ false }
-    ensures { EndsWith R.QueryInput W.AnswerOutput E.AnswerOutput
-        (task_of Mode.Query lang.now (map file_text files.now)) result
+    ensures { EndsWith R.QueryInput W.AnswerOutput E.AnswerOutput sample_task result
         (streams input.old output.old errors.old) (streams input.new output.new errors.new) }
 {
-    match Engine::load(alloc, files, lang, Limits::standard()) {
+    match Engine::load(alloc, &sample_files(), "en", Limits::standard()) {
         Ok(engine) => answer_all(alloc, &engine, input, output, errors),
-        Err(fault) => refuse(alloc, fault, files, errors),
+        Err(fault) => refuse(alloc, fault, &[], errors),
+    }
+}
+
+// Answers the query lines of an input over the release of a source's files.
+fn answer_source<S: FileSource, R: QueryInput, W: AnswerOutput, E: AnswerOutput>(
+    alloc: Global,
+    lang: &str,
+    source: &mut S,
+    input: &mut R,
+    output: &mut W,
+    errors: &mut E,
+) -> Status
+    requires input { R.has_failed input.old ≡ false }
+    requires output { W.has_failed output.old ≡ false }
+    requires errors { E.AnswerOutput.has_failed errors.old ≡ false }
+    ensures { (task : Task)
+        × IsTask (S.files source.old) (S.failure_count source.old) (S.failure_count source.new) lang.now Mode.Query task
+        × EndsWith R.QueryInput W.AnswerOutput E.AnswerOutput task result (streams input.old output.old errors.old) (streams input.new output.new errors.new) }
+{
+    let mut names = Vec::new(alloc);
+    match Engine::load_from(alloc, source, &mut names, lang, Limits::standard()) {
+        Ok(engine) => answer_all(alloc, &engine, input, output, errors),
+        Err(fault) => refuse(alloc, fault, names.as_slice(), errors),
     }
 }
 
@@ -127,14 +138,45 @@ fn answer_all<R: QueryInput, W: AnswerOutput, E: AnswerOutput>(
     }
 }
 
-// The text of the report of the release of some files.
-fn report(alloc: Global, lang: &str, files: &[NamedBytes<'_>]) -> Result<Vec<u8>, LoadFault>
-    ensures ok { IfOk result (λ text. (contents : Contents)
-        × (load_of standard_limits lang.now (map file_text files.now) ≡ Ok contents)
-        × (text.items ≡ report_text (report_of contents))) }
-    ensures err { IfErr result (λ fault. IsFaultOf fault (load_of standard_limits lang.now (map file_text files.now))) }
+// Writes what the release of a source's files has.
+fn report_source<S: FileSource, R: QueryInput, W: AnswerOutput, E: AnswerOutput>(
+    alloc: Global,
+    lang: &str,
+    source: &mut S,
+    input: &mut R,
+    output: &mut W,
+    errors: &mut E,
+) -> Status
+    requires input { R.has_failed input.old ≡ false }
+    requires output { W.has_failed output.old ≡ false }
+    requires errors { E.AnswerOutput.has_failed errors.old ≡ false }
+    ensures { (task : Task)
+        × IsTask (S.files source.old) (S.failure_count source.old) (S.failure_count source.new) lang.now Mode.Check task
+        × EndsWith R.QueryInput W.AnswerOutput E.AnswerOutput task result (streams input.old output.old errors.old) (streams input.new output.new errors.new) }
 {
-    match Snapshot::load(alloc, files, lang, Limits::standard()) {
+    let mut names = Vec::new(alloc);
+    match report(alloc, lang, source, &mut names) {
+        Ok(text) => match write_all(text.as_slice(), output) {
+            Ok(()) => Status::Done,
+            Err(_) => tell_fault(RunFault::Write(0), errors),
+        },
+        Err(fault) => refuse(alloc, fault, names.as_slice(), errors),
+    }
+}
+
+// The text of the report of the release of a source's files, and their names.
+fn report<S: FileSource>(
+    alloc: Global,
+    lang: &str,
+    source: &mut S,
+    names: &mut Vec<String>,
+) -> Result<Vec<u8>, LoadFault>
+    ensures ok { IfOk result (λ text. (contents : Contents) × (text.items ≡ report_text (report_of contents))
+        × IfSome (S.files source.old) (λ known. IsLoadOf known lang.now (map string_bytes names.new.items) (Ok contents))) }
+    ensures err { IfErr result (λ fault. IfSome (S.files source.old) (λ known. IsLoadOf known lang.now (map string_bytes names.new.items) (Err fault))) }
+    ensures device { IfErr result (λ fault. CountsDevice (S.failure_count source.old) (S.failure_count source.new) (map string_bytes names.new.items) (Err fault)) }
+{
+    match Snapshot::load_from(alloc, source, names, lang, Limits::standard()) {
         Ok(snapshot) => {
             let mut text = Vec::new(alloc);
             print_report(alloc, &snapshot.report(), &mut text)?;
@@ -144,17 +186,18 @@ fn report(alloc: Global, lang: &str, files: &[NamedBytes<'_>]) -> Result<Vec<u8>
     }
 }
 
-// Tells why files are no release. Want of memory for the line is told as want of memory.
+// Tells why files of some names are no release, or could not be read. Want of memory for the line is
+// told as want of memory.
 fn refuse<E: AnswerOutput>(
     alloc: Global,
     fault: LoadFault,
-    files: &[NamedBytes<'_>],
+    names: &[String],
     errors: &mut E,
 ) -> Status
     requires { E.AnswerOutput.has_failed errors.old ≡ false }
-    ensures { TellsLoadFault E.AnswerOutput (names_of (map file_text files.now)) fault result errors.old errors.new }
+    ensures { TellsLoadFault E.AnswerOutput (map string_bytes names.now) fault result errors.old errors.new }
 {
-    match refusal(alloc, fault, files) {
+    match refusal(alloc, fault, names) {
         Ok(line) => {
             tell(line.as_slice(), errors);
             refusal_status(&fault)
@@ -163,47 +206,25 @@ fn refuse<E: AnswerOutput>(
     }
 }
 
-// The line that tells why files are no release.
-fn refusal(alloc: Global, fault: LoadFault, files: &[NamedBytes<'_>]) -> Result<Vec<u8>, AllocError>
-    ensures { IfOk result (λ line. line.items ≡ load_refusal (names_of (map file_text files.now)) fault) }
+// The line that tells why files of some names are no release, or could not be read.
+fn refusal(alloc: Global, fault: LoadFault, names: &[String]) -> Result<Vec<u8>, AllocError>
+    ensures { IfOk result (λ line. line.items ≡ load_refusal (map string_bytes names.now) fault) }
 {
-    let names = file_names(alloc, files)?;
+    let texts = lent_texts(alloc, names)?;
     let mut line = Vec::new(alloc);
-    print_load_fault(alloc, fault, names.as_slice(), &mut line)?;
+    print_load_fault(alloc, fault, texts.as_slice(), &mut line)?;
     Ok(line)
 }
 
-// The names of files.
-fn file_names<'a>(alloc: Global, files: &[NamedBytes<'a>]) -> Result<Vec<&'a str>, AllocError>
-    ensures { IfOk result (λ names. texts_of names.items ≡ names_of (map file_text files.now)) }
+// Texts, lent one by one.
+fn lent_texts<'a>(alloc: Global, texts: &'a [String]) -> Result<Vec<&'a str>, AllocError>
+    ensures { IfOk result (λ lent. texts_of lent.items ≡ map string_bytes texts.now) }
 {
-    let mut names = Vec::new(alloc);
-    for file in files {
-        names.push(file.name)?;
+    let mut lent = Vec::new(alloc);
+    for text in texts {
+        lent.push(text.as_str())?;
     }
-    Ok(names)
-}
-
-/// Tells by one line on `errors` why the files of a folder can't be had. Want of memory for the line
-/// of a file is told as want of memory.
-pub fn refuse_folder<E: AnswerOutput>(alloc: Global, fault: &FolderFault, errors: &mut E) -> Status
-    requires { E.AnswerOutput.has_failed errors.old ≡ false }
-    ensures { TellsFolderFault E.AnswerOutput fault.now result errors.old errors.new }
-{
-    match fault {
-        FolderFault::Listing => {
-            tell(listing_line(), errors);
-            Status::DeviceFault
-        }
-        FolderFault::File(name) => match device_line(alloc, name.as_str()) {
-            Ok(line) => {
-                tell(line.as_slice(), errors);
-                Status::DeviceFault
-            }
-            Err(_) => tell_memory(errors),
-        },
-        FolderFault::Memory => tell_memory(errors),
-    }
+    Ok(lent)
 }
 
 /// Writes the help or the version that was called for, or tells on `errors` why words are no request.
@@ -229,15 +250,6 @@ pub fn refuse_words<W: AnswerOutput, E: AnswerOutput>(
         }
         WordFault::Memory => tell_fault(RunFault::Memory(0), errors),
     }
-}
-
-// The line that tells that a file can't be read.
-fn device_line(alloc: Global, name: &str) -> Result<Vec<u8>, AllocError>
-    ensures { IfOk result (λ line. line.items ≡ device_refusal name.now) }
-{
-    let mut line = Vec::new(alloc);
-    print_device_fault(alloc, name, &mut line)?;
-    Ok(line)
 }
 
 // Tells of a fault by its line, and answers the status that it ends with.
@@ -273,6 +285,7 @@ fn refusal_status(fault: &LoadFault) -> Status
 {
     match fault {
         LoadFault::Memory => Status::MemoryRefused,
+        LoadFault::Device { .. } => Status::DeviceFault,
         _ => Status::ReleaseRefused,
     }
 }

@@ -1,14 +1,16 @@
 //! What the program answers to its words, and to releases that are refused.
-use crate::folder::FolderFault;
 use crate::load_tests::{replaced, sample};
-use crate::serve::{Status, refuse_folder, refuse_words, serve};
+use crate::serve::{Status, refuse_words, serve};
 use crate::streams::QueryInput;
 use crate::test_streams::{PieceInput, PieceOutput, ROOM};
 use crate::words::{Mode, Request, WordFault, read_words};
-use release_files::NamedBytes;
+use release_files::{MemoryFiles, NamedBytes};
 use std::alloc::Global;
 use std::process::Abort;
 use std::test::Fail;
+
+// How many bytes a source reads at once.
+const PIECE: usize = 4_096;
 
 const ANSWER: &[u8] =
     b"OK 3\n101009 |Beta (finding)|\n102002 |Gamma (finding)|\n103007 |Delta (finding)|\n";
@@ -23,44 +25,53 @@ const RELATIONSHIPS: usize = 4;
 
 const LAST_CONCEPT: &[u8] = b"109006\t20240101\t0\t900000000000207008\t900000000000074008\r\n";
 
-// The folder of a request, if it has one.
-fn folder_of(request: &Request) -> Option<&str> {
-    match &request.folder {
-        Some(folder) => Some(folder.as_str()),
-        None => None,
-    }
-}
+// Ten folders behind a command.
+const TEN_FOLDERS: [&str; 12] = [
+    "hosecrag", "check", "1", "2", "3", "4", "5", "6", "7", "8", "9", "10",
+];
 
 #[test]
 fn reads_words(rt: HostRuntime) {
     let requests = [
-        (["hosecrag"].as_slice(), Mode::Sample, None, "en"),
-        (&["hosecrag", "query", "F"], Mode::Query, Some("F"), "en"),
+        (["hosecrag"].as_slice(), Mode::Sample, [].as_slice(), "en"),
+        (&["hosecrag", "query", "F"], Mode::Query, &["F"], "en"),
         (
-            &["hosecrag", "query", "F", "--lang", "da"],
+            &["hosecrag", "query", "F", "G", "--lang", "da"],
             Mode::Query,
-            Some("F"),
+            &["F", "G"],
             "da",
         ),
         (
-            &["hosecrag", "query", "--lang=da", "F"],
+            &["hosecrag", "query", "--lang=da", "G", "F"],
             Mode::Query,
-            Some("F"),
+            &["G", "F"],
+            "da",
+        ),
+        (
+            &["hosecrag", "query", "F", "--lang", "da", "F"],
+            Mode::Query,
+            &["F", "F"],
             "da",
         ),
         (
             &["hosecrag", "query", "", "--lang", ""],
             Mode::Query,
-            Some(""),
+            &[""],
             "",
         ),
-        (&["hosecrag", "check", "F"], Mode::Check, Some("F"), "en"),
+        (
+            &["hosecrag", "check", "F", "G"],
+            Mode::Check,
+            &["F", "G"],
+            "en",
+        ),
+        (&TEN_FOLDERS[..11], Mode::Check, &TEN_FOLDERS[2..11], "en"),
     ];
-    for (words, mode, folder, lang) in requests {
+    for (words, mode, folders, lang) in requests {
         match read_words(rt.alloc(), words) {
             Ok(request) => {
                 assert!(rt; request.mode == mode);
-                assert!(rt; folder_of(&request) == folder);
+                assert!(rt; are_texts(request.folders.as_slice(), folders));
                 assert!(rt; request.lang.as_str() == lang);
             }
             Err(_) => assert!(rt; false, "words of a request"),
@@ -68,15 +79,22 @@ fn reads_words(rt: HostRuntime) {
     }
 }
 
+fn are_texts(texts: &[String], wanted: &[&str]) -> bool {
+    texts.len() == wanted.len()
+        && texts
+            .iter()
+            .zip(wanted)
+            .all(|(text, other)| text.as_str() == *other)
+}
+
 #[test]
 fn refuses_words(rt: HostRuntime) {
     let refused = [
         ["hosecrag", "query"].as_slice(),
         &["hosecrag", "explain", "F"],
-        &["hosecrag", "query", "F", "G"],
         &["hosecrag", "query", "F", "--lang"],
+        &["hosecrag", "query", "--lang", "da"],
         &["hosecrag", "check"],
-        &["hosecrag", "check", "F", "G"],
         &["hosecrag", "check", "F", "--lang", "da"],
         &["hosecrag", "--"],
     ];
@@ -94,27 +112,50 @@ fn refuses_words(rt: HostRuntime) {
     }
 }
 
-// What serving a line ends with, and what it writes as answers and as errors.
+#[test]
+fn refuses_ten_folders(rt: HostRuntime) {
+    match read_words(rt.alloc(), &TEN_FOLDERS) {
+        Err(WordFault::Usage(text)) => assert!(rt; text.as_str() == "at most 9 folders\n"),
+        _other => assert!(rt; false, "ten folders"),
+    }
+}
+
+// A source of files in memory of which no call fails.
+fn whole<'a>(alloc: Global, files: &'a [NamedBytes<'a>]) -> MemoryFiles<'a> {
+    MemoryFiles::new(alloc, files, PIECE, 0)
+}
+
+// What serving a line ends with, where the output has room for so many bytes, and what it writes as
+// answers and as errors. At `check` no query is read.
 fn check_served(
     rt: &impl Abort,
     alloc: Global,
     mode: Mode,
     lang: &str,
-    files: &[NamedBytes<'_>],
+    source: &mut MemoryFiles<'_>,
+    room: usize,
     wanted: (Status, &[u8], &[u8]),
 ) -> Result<(), Fail> {
     let request = Request {
         mode,
-        folder: None,
+        folders: Vec::new(alloc),
         lang: String::from_str(alloc, lang)?,
     };
     let mut input = PieceInput::new(b"<100005\n", ROOM, ROOM);
-    let mut output = PieceOutput::new(alloc, ROOM, ROOM)?;
+    let mut output = PieceOutput::new(alloc, ROOM, room)?;
     let mut errors = PieceOutput::new(alloc, ROOM, ROOM)?;
-    let status = serve(alloc, &request, files, &mut input, &mut output, &mut errors);
+    let status = serve(
+        alloc,
+        &request,
+        source,
+        &mut input,
+        &mut output,
+        &mut errors,
+    );
     assert!(rt; status == wanted.0);
     assert!(rt; output.bytes.as_slice() == wanted.1);
     assert!(rt; errors.bytes.as_slice() == wanted.2);
+    assert!(rt; mode != Mode::Check || input.reads() == 0);
     Ok(())
 }
 
@@ -122,60 +163,91 @@ fn check_served(
 fn serves_releases(rt: HostRuntime) -> Result<(), Fail> {
     let alloc = rt.alloc();
     let done = (Status::Done, ANSWER, b"".as_slice());
-    check_served(&rt, alloc, Mode::Sample, "en", &[], done)?;
-    check_served(&rt, alloc, Mode::Query, "en", &sample(), done)?;
+    check_served(
+        &rt,
+        alloc,
+        Mode::Sample,
+        "en",
+        &mut whole(alloc, &[]),
+        ROOM,
+        done,
+    )?;
+    check_served(
+        &rt,
+        alloc,
+        Mode::Query,
+        "en",
+        &mut whole(alloc, &sample()),
+        ROOM,
+        done,
+    )?;
     let danish =
         b"OK 3\n101009 |Beta (finding)|\n102002 |Gamma (finding)|\n103007 |Delta (fund)|\n";
     let done = (Status::Done, danish.as_slice(), b"".as_slice());
-    check_served(&rt, alloc, Mode::Query, "da", &sample(), done)
-}
-
-// What the report of files ends with, where the output has room for so many bytes, and what it writes as
-// the report and as errors. No query is read.
-fn check_reported(
-    rt: &impl Abort,
-    alloc: Global,
-    files: &[NamedBytes<'_>],
-    room: usize,
-    wanted: (Status, &[u8], &[u8]),
-) -> Result<(), Fail> {
-    let request = Request {
-        mode: Mode::Check,
-        folder: None,
-        lang: String::from_str(alloc, "en")?,
-    };
-    let mut input = PieceInput::new(b"<100005\n", ROOM, ROOM);
-    let mut output = PieceOutput::new(alloc, ROOM, room)?;
-    let mut errors = PieceOutput::new(alloc, ROOM, ROOM)?;
-    let status = serve(alloc, &request, files, &mut input, &mut output, &mut errors);
-    assert!(rt; status == wanted.0);
-    assert!(rt; output.bytes.as_slice() == wanted.1);
-    assert!(rt; errors.bytes.as_slice() == wanted.2);
-    assert!(rt; input.reads() == 0);
-    Ok(())
+    check_served(
+        &rt,
+        alloc,
+        Mode::Query,
+        "da",
+        &mut whole(alloc, &sample()),
+        ROOM,
+        done,
+    )
 }
 
 #[test]
 fn reports_releases(rt: HostRuntime) -> Result<(), Fail> {
     let alloc = rt.alloc();
     let done = (Status::Done, REPORT, b"".as_slice());
-    check_reported(&rt, alloc, &sample(), ROOM, done)?;
+    check_served(
+        &rt,
+        alloc,
+        Mode::Check,
+        "en",
+        &mut whole(alloc, &sample()),
+        ROOM,
+        done,
+    )?;
     // without the files of relationships and concrete values
     let few = b"FILES 3\nCONCEPTS 10\nISA 0\nATTRIBUTES 0\nMEMBERS 2\nNAMES 10\nPASSED 3\n";
     let done = (Status::Done, few.as_slice(), b"".as_slice());
-    check_reported(&rt, alloc, &sample()[..3], ROOM, done)?;
+    check_served(
+        &rt,
+        alloc,
+        Mode::Check,
+        "en",
+        &mut whole(alloc, &sample()[..3]),
+        ROOM,
+        done,
+    )?;
     let cut = (
         Status::DeviceFault,
         b"FILES 5\nCO".as_slice(),
         b"FAULT write\n".as_slice(),
     );
-    check_reported(&rt, alloc, &sample(), 10, cut)?;
+    check_served(
+        &rt,
+        alloc,
+        Mode::Check,
+        "en",
+        &mut whole(alloc, &sample()),
+        10,
+        cut,
+    )?;
     let none = (
         Status::ReleaseRefused,
         b"".as_slice(),
         b"REFUSED no-concept-file\n".as_slice(),
     );
-    check_reported(&rt, alloc, &[], ROOM, none)
+    check_served(
+        &rt,
+        alloc,
+        Mode::Check,
+        "en",
+        &mut whole(alloc, &[]),
+        ROOM,
+        none,
+    )
 }
 
 // The sample release with the first `from` in a file replaced is refused by a line.
@@ -205,7 +277,15 @@ fn check_refused(
         })?;
     }
     let refused = (Status::ReleaseRefused, b"".as_slice(), line);
-    check_served(rt, alloc, Mode::Query, "en", files.as_slice(), refused)
+    check_served(
+        rt,
+        alloc,
+        Mode::Query,
+        "en",
+        &mut whole(alloc, files.as_slice()),
+        ROOM,
+        refused,
+    )
 }
 
 #[test]
@@ -221,7 +301,7 @@ fn refuses_releases(rt: HostRuntime) -> Result<(), Fail> {
             CONCEPTS,
             LAST_CONCEPT,
             b"109006\t20240101\t0\t900000000000207008\t900000000000074008\r\n100005\t20240101\t0\t900000000000207008\t900000000000074008\r\n",
-            b"REFUSED duplicate sct2_Concept_Snapshot_INT_20240101.txt 13\n",
+            b"REFUSED conflict sct2_Concept_Snapshot_INT_20240101.txt 13\n",
         ),
         (
             CONCEPTS,
@@ -250,7 +330,15 @@ fn refuses_releases(rt: HostRuntime) -> Result<(), Fail> {
         b"".as_slice(),
         b"REFUSED no-concept-file\n".as_slice(),
     );
-    check_served(&rt, rt.alloc(), Mode::Query, "en", &[], none)
+    check_served(
+        &rt,
+        rt.alloc(),
+        Mode::Query,
+        "en",
+        &mut whole(rt.alloc(), &[]),
+        ROOM,
+        none,
+    )
 }
 
 #[test]
@@ -317,36 +405,29 @@ fn check_words(
     Ok(())
 }
 
-// What is told of a folder whose files can't be had.
+// What the sample ends with where a call of its source fails, and what is told.
+fn check_failed(
+    rt: &impl Abort,
+    alloc: Global,
+    mode: Mode,
+    fail_at: u64,
+    line: &[u8],
+) -> Result<(), Fail> {
+    let files = sample();
+    let mut source = MemoryFiles::new(alloc, &files, PIECE, fail_at);
+    let failed = (Status::DeviceFault, b"".as_slice(), line);
+    check_served(rt, alloc, mode, "en", &mut source, ROOM, failed)
+}
+
+// The first call lists the files, the second opens the first of them, and the next ones read it.
 #[test]
-fn refuses_folders(rt: HostRuntime) -> Result<(), Fail> {
+fn tells_of_a_device(rt: HostRuntime) -> Result<(), Fail> {
     let alloc = rt.alloc();
-    let name = String::from_str(alloc, "a/c.txt")?;
-    let faults = [
-        (
-            FolderFault::Listing,
-            Status::DeviceFault,
-            b"REFUSED device\n".as_slice(),
-        ),
-        (
-            FolderFault::File(name),
-            Status::DeviceFault,
-            b"REFUSED device a/c.txt\n",
-        ),
-        (
-            FolderFault::Memory,
-            Status::MemoryRefused,
-            b"REFUSED memory\n",
-        ),
-    ];
-    for (fault, status, line) in &faults {
-        let mut errors = PieceOutput::new(alloc, ROOM, ROOM)?;
-        assert!(rt; refuse_folder(alloc, fault, &mut errors) == *status);
-        assert!(rt; errors.bytes.as_slice() == *line);
-        // a failing output changes no status
-        let mut errors = PieceOutput::new(alloc, ROOM, 3)?;
-        assert!(rt; refuse_folder(alloc, fault, &mut errors) == *status);
-        assert!(rt; errors.bytes.as_slice() == b"REF".as_slice());
-    }
-    Ok(())
+    let listing = b"REFUSED device\n";
+    check_failed(&rt, alloc, Mode::Query, 1, listing)?;
+    check_failed(&rt, alloc, Mode::Check, 1, listing)?;
+    let file = b"REFUSED device der2_Refset_SimpleSnapshot_INT_20240101.txt\n";
+    check_failed(&rt, alloc, Mode::Query, 2, file)?;
+    check_failed(&rt, alloc, Mode::Query, 3, file)?;
+    check_failed(&rt, alloc, Mode::Check, 2, file)
 }

@@ -58,8 +58,8 @@ pub trait AnswerOutput {
         ensures { result ≡ has_failed self.now };
 }
 
-// How often a read or a write is tried that is interrupted each time.
-const TRIES: u32 = 1_000;
+/// How often a read or a write is tried that is interrupted each time.
+pub const TRIES: u32 = 1_000;
 
 /// A stream of the standard library as an input.
 #[derive(Debug, Drop)]

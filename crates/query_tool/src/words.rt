@@ -1,12 +1,12 @@
 //! The words of the command line.
-ghost use Rattle.std.specs.Prelude.{◌≡◌, ◌≤◌, IfErr, IfOk, false, length, string_bytes};
-ghost use Rattle.clap.specs.Words.{app_of, kind_of, rule_of, subcommand_rows_of};
+ghost use Rattle.std.specs.Prelude.{◌≡◌, ◌≤◌, IfErr, IfOk, false, length, map, string_bytes};
+ghost use Rattle.clap.specs.Words.{app_of, found_of, kind_of, rows_of, rule_of, subcommand_rows_of};
 ghost use Rattle.clap.specs.declared.error.kind.ErrorKind.TheVariants.{MissingSubcommand};
 ghost use Rattle.rf2_rows.specs.Parts.{texts_of};
-ghost use Rattle.query_tool.specs.CommandLine.{CommandAsks, HasOwnArguments, IsFaultBy, IsNoRequest, IsRefusal, IsRequest, bare_program, check_command, folder_in, folder_rule, lang_rule, program, query_command};
+ghost use Rattle.query_tool.specs.CommandLine.{AreOneToNine, CommandAsks, HasOwnArguments, IsFaultBy, IsFaultOfFolders, IsNoRequest, IsRefusal, IsRequest, TellsTooMany, bare_program, check_command, folder_rule, folders_in, folders_of, lang_rule, program, query_command};
 
 use clap::error::ErrorKind;
-use clap::{Arg, ArgMatches, Command, Error};
+use clap::{Arg, ArgAction, ArgMatches, Command, Error};
 use std::alloc::{AllocError, Global};
 
 /// What a run of the program does.
@@ -14,9 +14,9 @@ use std::alloc::{AllocError, Global};
 pub enum Mode {
     /// It answers queries over the release that is built in.
     Sample,
-    /// It answers queries over the release of a folder.
+    /// It answers queries over the release of folders.
     Query,
-    /// It reports what the release of a folder has.
+    /// It reports what the release of folders has.
     Check,
 }
 
@@ -25,27 +25,48 @@ pub enum Mode {
 pub struct Request {
     /// What is to be done.
     pub mode: Mode,
-    /// The folder as its word stands, where one was asked for.
-    pub folder: Option<String>,
+    /// The folders in the order of their words, from 1 to 9, each as its word stands; none for the
+    /// release that is built in.
+    pub folders: Vec<String>,
     /// The code of the language whose names come first: `en` where none is given.
     pub lang: String,
 }
 
 impl Request {
-    // What is asked of the release of a folder.
-    fn of_folder(alloc: Global, mode: Mode, folder: &str, lang: &str) -> Result<Request, AllocError>
-        ensures mode { IfOk result (λ request. request.mode ≡ mode) }
-        ensures folder { IfOk result (λ request. folder_in request ≡ Some folder.now) }
-        ensures lang { IfOk result (λ request. string_bytes request.lang ≡ lang.now) }
+    // What is asked of the release of folders.
+    fn of_folders(
+        alloc: Global,
+        mode: Mode,
+        folders: &[&str],
+        lang: &str,
+    ) -> Result<Request, WordFault>
+        ensures asked { IfOk result (λ request. (request.mode ≡ mode) × (folders_in request ≡ texts_of folders.now)
+            × AreOneToNine (texts_of folders.now) × (string_bytes request.lang ≡ lang.now)) }
+        ensures refused { IfErr result (IsFaultOfFolders (texts_of folders.now)) }
     {
-        let folder = String::from_str(alloc, folder)?;
-        let lang = String::from_str(alloc, lang)?;
+        if folders.is_empty() {
+            return Err(no_command(alloc));
+        }
+        if folders.len() > MOST_FOLDERS {
+            return Err(too_many_folders(alloc));
+        }
         Ok(Request {
             mode,
-            folder: Some(folder),
-            lang,
+            folders: copies(alloc, folders)?,
+            lang: String::from_str(alloc, lang)?,
         })
     }
+}
+
+// Texts of one's own, in order.
+fn copies(alloc: Global, texts: &[&str]) -> Result<Vec<String>, AllocError>
+    ensures { IfOk result (λ copies. map string_bytes copies.items ≡ texts_of texts.now) }
+{
+    let mut copies = Vec::new(alloc);
+    for text in texts {
+        copies.push(String::from_str(alloc, text)?)?;
+    }
+    Ok(copies)
 }
 
 /// Why the words are no request.
@@ -76,13 +97,17 @@ impl WordFault {
 
 const DEFAULT_LANGUAGE: &str = "en";
 
+// How many folders a release is read from at most.
+const MOST_FOLDERS: usize = 9;
+
 // The version of the program. It stands nowhere else.
 const VERSION: &str = "0.1.0";
 
 // What help tells behind the commands.
-const USES: &str = "Three ways to start it:
+const USES: &str = "Four ways to start it:
   printf '<100005\\n' | hosecrag
   printf '<<404684003\\n' | hosecrag query SnomedCT_Release/Snapshot --lang en
+  printf '<<404684003\\n' | hosecrag query SnomedCT_Release/Snapshot SnomedCT_Extension/Snapshot
   hosecrag check SnomedCT_Release/Snapshot
 
 It ends with a status:
@@ -93,7 +118,8 @@ It ends with a status:
   4  memory was refused";
 
 /// Reads the words of a command line, of which the first is the program's name: no more words,
-/// `query FOLDER [--lang CODE]`, or `check FOLDER`. `--help` and `--version` are answered as `Help`.
+/// `query FOLDER.. [--lang CODE]`, or `check FOLDER..`, each with 1 to 9 folders. `--help` and
+/// `--version` are answered as `Help`.
 pub fn read_words<'a>(alloc: Global, words: &'a [&'a str]) -> Result<Request, WordFault>
     ensures asked { IfOk result (IsRequest (texts_of words.now)) }
     ensures refused { IfErr result (IsRefusal (texts_of words.now)) }
@@ -102,7 +128,7 @@ pub fn read_words<'a>(alloc: Global, words: &'a [&'a str]) -> Result<Request, Wo
     if words.len() <= 1 {
         return Ok(Request {
             mode: Mode::Sample,
-            folder: None,
+            folders: Vec::new(alloc),
             lang: String::from_str(alloc, DEFAULT_LANGUAGE)?,
         });
     }
@@ -145,7 +171,7 @@ fn query_command<'a>(alloc: Global) -> Result<Command<'a>, AllocError>
     ensures own { IfOk result HasOwnArguments }
 {
     let with_folder = Command::new(alloc, "query")
-        .about("answers queries on the release of a folder")
+        .about("answers queries on the release of 1 to 9 folders")
         .arg(folder_argument(alloc))?;
     with_folder.arg(lang_argument(alloc))
 }
@@ -155,18 +181,21 @@ fn check_command<'a>(alloc: Global) -> Result<Command<'a>, AllocError>
     ensures own { IfOk result HasOwnArguments }
 {
     Command::new(alloc, "check")
-        .about("reports what the release of a folder has, and reads no queries")
+        .about("reports what the release of 1 to 9 folders has, and reads no queries")
         .arg(folder_argument(alloc))
 }
 
-// The folder that a command takes.
+// The folders that a command takes.
 fn folder_argument<'a>(alloc: Global) -> Arg<'a>
     ensures rule { rule_of result ≡ folder_rule }
     ensures own { result.global ≡ false }
 {
     Arg::new(alloc, "FOLDER")
         .required(true)
-        .help("the folder of the Snapshot files, with its subfolders")
+        .action(ArgAction::Append)
+        .help(
+            "the folders of the Snapshot files, with their subfolders: one edition, or an edition and its extensions",
+        )
 }
 
 // The code of a language that `query` takes.
@@ -188,17 +217,25 @@ fn command_request(alloc: Global, matches: &ArgMatches<'_>) -> Result<Request, W
     let Some((name, arguments)) = matches.subcommand() else {
         return Err(no_command(alloc));
     };
-    let Some(folder) = arguments.get_str("FOLDER") else {
-        return Err(no_command(alloc));
-    };
+    let folders = folders_of(arguments);
     if name == "query" {
         let lang = arguments.get_str("lang").unwrap_or(DEFAULT_LANGUAGE);
-        return Ok(Request::of_folder(alloc, Mode::Query, folder, lang)?);
+        return Request::of_folders(alloc, Mode::Query, folders, lang);
     }
     if name == "check" {
-        return Ok(Request::of_folder(alloc, Mode::Check, folder, DEFAULT_LANGUAGE)?);
+        return Request::of_folders(alloc, Mode::Check, folders, DEFAULT_LANGUAGE);
     }
     Err(no_command(alloc))
+}
+
+// The folders among the arguments of a command.
+fn folders_of<'a>(arguments: &'a ArgMatches<'_>) -> &'a [&'a str]
+    ensures { texts_of result.now ≡ folders_of (rows_of (found_of arguments.now)) }
+{
+    let Some(folders) = arguments.get_strs("FOLDER") else {
+        return &[];
+    };
+    folders
 }
 
 // The fault of words that name no command.
@@ -206,6 +243,16 @@ fn no_command(alloc: Global) -> WordFault
     ensures { IsFaultBy MissingSubcommand result }
 {
     match String::from_str(alloc, "error: no command is named\n") {
+        Ok(text) => WordFault::Usage(text),
+        Err(_) => WordFault::Memory,
+    }
+}
+
+// The fault of words that name more folders than a release is read from.
+fn too_many_folders(alloc: Global) -> WordFault
+    ensures { TellsTooMany result }
+{
+    match String::from_str(alloc, "at most 9 folders\n") {
         Ok(text) => WordFault::Usage(text),
         Err(_) => WordFault::Memory,
     }

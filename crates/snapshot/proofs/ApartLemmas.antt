@@ -1,393 +1,299 @@
--- Where reading finds no fault, no identifier stands there twice, and there are no more rows than the
--- limits allow.
-use Rattle.std.proofs.Common.{ℕ, ◌≡◌, ◌<◌, ◌≤◌, ◌+◌, ◌==◌, ◌&&◌, List, [], ◌∷◌, ◌++◌, length, Option, None, Some, Ok, sym, ◌∙◌, subst, refl, arith, inl, inr, Bool, true, false, cond, nat_lt, nat_eq, length-append}
-use Rattle.std.specs.Prelude.{nat_le, not}
-use Rattle.std.specs.List.{IsDistinct}
-use Rattle.std.specs.Cmp.{nat_eq_equiv}
-use Rattle.std.proofs.lemmas.Bool.{cases_Bool, or_cases, or_left, or_right, eqb-true, false≢true, leb-false}
+-- Of places without a fault no two chosen rows of active concepts have one identifier, and there are no more rows than
+-- the limits allow.
+use Rattle.std.proofs.Common.{ℕ, ◌≡◌, ◌<◌, ◌≤◌, ◌+◌, ◌==◌, ◌&&◌, ◌||◌, ◌∙◌, List, [], ◌∷◌, ◌++◌, length, map, Option, None, Some, ap, append_assoc, arith, refl, subst, sym, Bool, true, false, cond, nat_eq}
+use Rattle.std.specs.Prelude.{⊤, nat_le, not, option_and_then, option_to_list}
+use Rattle.std.specs.List.{AllByRecursion, IsDistinct, cons_option, filter_map, list_any}
+use Rattle.std.proofs.lemmas.Bool.{eq-eqb, leb-false}
+use Rattle.std.proofs.lemmas.Bool.Decides.{nat_tests}
+use Rattle.std.proofs.lemmas.List.{append-nil, length-map}
 use Rattle.std.proofs.lemmas.List.Folds.{list_any-append}
-use Rattle.std.proofs.lemmas.Map.Keys.{IsDistinct-push}
-use Rattle.release_files.specs.Lines.{LineText}
-use Rattle.rf2_rows.specs.Rows.{row_fault, concept_row, concrete_row, description_row, member_row, relationship_row}
-use Rattle.rf2_rows.specs.Release.{Attribute, Name}
-use Rattle.rf2_rows.specs.declared.fault.RowFault.{RowFault}
+use Rattle.std.proofs.lemmas.List.Sums.{sum_by-append}
+use Rattle.rf2_rows.specs.RowTexts.{RowText, row_text}
+use Rattle.rf2_rows.specs.Rows.{concept_row}
+use Rattle.rf2_rows.specs.Versions.{id_on, same_time}
 use Rattle.rf2_rows.specs.declared.kind.FileKind.{FileKind}
 use Rattle.rf2_rows.specs.declared.kind.FileKind.TheVariants.{Concept, Concrete, Description, Member, Relationship}
-use Rattle.snapshot.specs.Faults.{fault_after, fault_of_id, fault_of_later, fault_of_row, id_on}
-use Rattle.snapshot.specs.Files.{Place, no_line, first_line, later_line}
-use Rattle.snapshot.specs.InForce.{concrete_attribute, has, is_name, member_number, name_on, relationship_attribute}
-use Rattle.snapshot.specs.Kept.{IsApart, Kept, ids_kept, is_concrete_attribute, keep, nothing_kept, read_all, unless_fault}
+use Rattle.snapshot.specs.Chosen.{choices, chosen, is_later, is_repeated, is_superseded, marked, same_component, same_kind, same_version, time_of}
+use Rattle.snapshot.specs.Contents.{text_of}
+use Rattle.snapshot.specs.Faults.{conflict_behind, count_of_kind, crowd_behind, fault_at, fault_behind, fault_here, first_fault, first_of}
+use Rattle.snapshot.specs.Files.{Place, RowAt, row_at, rows_of}
+use Rattle.snapshot.specs.Kept.{AreFew, IsReadFrom}
 use Rattle.snapshot.specs.Limits.{row_limit}
-use Rattle.snapshot.specs.Metadata.{inferred_relationship, is_a}
+use Rattle.snapshot.specs.Seen.{row_total}
+use Rattle.snapshot.specs.Listed.{Listed, attribute_listed, concept_listed, isa_listed, member_listed, name_listed}
 use Rattle.snapshot.specs.declared.fault.LoadFault.{LoadFault}
+use Rattle.snapshot.specs.declared.fault.LoadFault.TheVariants.{TooMany}
 use Rattle.snapshot.specs.declared.limits.Limits.{Limits}
+use Rattle.snapshot.proofs.PassLemmas.{rows_of-push}
+use Rattle.snapshot.proofs.SingleLemmas.{same_component-sym}
 
--- what holds of what was kept under limits
-record KeepsApart (limits : Limits) (kept : Kept) : Type 0 where
-  all_apart : IsDistinct nat_eq kept.concept_ids
-  active_among : (q : ℕ) → has kept.active_concepts q ≡ true → has kept.concept_ids q ≡ true
-  active_apart : IsDistinct nat_eq kept.active_concepts
-  fewer_active : length kept.active_concepts ≤ length kept.concept_ids
-  fewer_names : length kept.names ≤ length kept.description_ids
-  fewer_ends : length kept.isa_ends + length kept.attributes ≤ length kept.relationship_ids + length kept.concrete_ids
-  fewer_members : length kept.member_ends ≤ length kept.member_ids
-  few_concepts : length kept.concept_ids ≤ limits.concepts
-  few_descriptions : length kept.description_ids ≤ limits.descriptions
-  few_relationships : length kept.relationship_ids ≤ limits.relationships
-  few_concretes : length kept.concrete_ids ≤ limits.concrete
-  few_members : length kept.member_ids ≤ limits.members
+-- ---- a row is among others: what holds of none of them does not hold of it
+abbrev IsAmong : List RowAt → RowAt → Type 0
+IsAmong rows row = (test : RowAt → Bool) → list_any test rows ≡ false → test row ≡ false
 
--- an identifier without a fault is new and within the limit
-pub clean_id : (file line : ℕ) (earlier : List ℕ) (limit id : ℕ) → fault_of_id file line earlier limit id ≡ None
-    → (has earlier id ≡ false) × (length earlier < limit)
-clean_id file line earlier limit id clean = by (has earlier id) (nat_le limit (length earlier)) refl refl clean
+neither : (one other : Bool) → (one || other) ≡ false → (one ≡ false) × (other ≡ false)
+neither true other none = absurd (cc)
+neither false other none = (refl, none)
+
+among-append : (front rows : List RowAt) (row : RowAt) → IsAmong front row → IsAmong (front ++ rows) row
+among-append front rows row among test none =
+    among test (neither (list_any test front) (list_any test rows) (sym (list_any-append test front rows) ∙ none)).0
+
+among-here : (front rows : List RowAt) (row : RowAt) → IsAmong (front ++ row ∷ rows) row
+among-here front rows row test none =
+    (neither (test row) (list_any test rows) (neither (list_any test front) (list_any test (row ∷ rows)) (sym (list_any-append test front (row ∷ rows)) ∙ none)).1).0
+
+-- some rows are all among others
+abbrev AreAmong : List RowAt → List RowAt → Type 0
+AreAmong all [] = ⊤
+AreAmong all (row ∷ rows) = IsAmong all row × AreAmong all rows
+
+are_among : (front rows : List RowAt) → AreAmong (front ++ rows) rows
+are_among front [] = tt
+are_among front (row ∷ rows) =
+    (among-here front rows row, subst (λ (all : List RowAt). AreAmong all rows) (append_assoc front (row ∷ []) rows) (are_among (front ++ row ∷ []) rows))
+
+-- ---- two chosen rows of active concepts have different identifiers
+-- of two times of which neither is later the one is the other
+same_time-neither : (one other : Option ℕ) → is_later one other ≡ false → is_later other one ≡ false → same_time one other ≡ true
+same_time-neither None None first second = refl
+same_time-neither None (Some other) first second = sym first
+same_time-neither (Some one) None first second = sym second
+same_time-neither (Some one) (Some other) first second = eq-eqb one other (grind (arith, nat_tests, first, second))
+
+second_fails : (one other : Bool) → one ≡ true → (one && other) ≡ false → other ≡ false
+second_fails true other holds none = none
+second_fails false other holds none = absurd (cc)
+
+-- of one component no row is chosen behind another that is
+one_chosen : (rows earlier : List RowAt) (row next : RowAt) → IsAmong rows row → IsAmong rows next → IsAmong earlier row
+    → is_superseded rows row ≡ false → is_superseded rows next ≡ false → is_repeated earlier next ≡ false → same_component row next ≡ true → ⊥
+one_chosen rows earlier row next among next_among before latest next_latest first same =
+    let turned : same_component next row ≡ true = same_component-sym next row ∙ same in
+    let not_later : is_later (time_of row) (time_of next) ≡ false =
+    second_fails (same_component row next) (is_later (time_of row) (time_of next)) same (among (λ other. same_component other next && is_later (time_of other) (time_of next)) next_latest) in
+    let not_earlier : is_later (time_of next) (time_of row) ≡ false =
+    second_fails (same_component next row) (is_later (time_of next) (time_of row)) turned (next_among (λ other. same_component other row && is_later (time_of other) (time_of row)) latest) in
+    let apart : same_time (time_of row) (time_of next) ≡ false =
+    second_fails (same_component row next) (same_time (time_of row) (time_of next)) same (before (λ other. same_version other next) first) in
+    let alike : same_time (time_of row) (time_of next) ≡ true = same_time-neither (time_of row) (time_of next) not_later not_earlier in
+    (cc)
+
+-- two rows of active concepts with one identifier are of one component
+listed_alike : (row next : RowAt) (id other : ℕ) → concept_listed (text_of row) ≡ Some id → concept_listed (text_of next) ≡ Some other → nat_eq id other ≡ true
+    → same_component row next ≡ true
+listed_alike row next id other = by row.kind next.kind row.text next.text
   where
-    by : (there many : Bool) → has earlier id ≡ there → nat_le limit (length earlier) ≡ many
-        → cond there (Some (Rattle.snapshot.specs.declared.fault.LoadFault.TheVariants.Duplicate file line)) (cond many (Some (Rattle.snapshot.specs.declared.fault.LoadFault.TheVariants.TooMany file line)) None) ≡ None
-        → (has earlier id ≡ false) × (length earlier < limit)
-    by true many is count clean = (cc)
-    by false true is count clean = (cc)
-    by false false is count clean = (is, leb-false limit (length earlier) count)
+    number : (active : Bool) (own told : ℕ) → cond active (Some own) None ≡ Some told → own ≡ told
+    number true own told is = (cc)
+    number false own told is = (cc)
 
--- a line behind the header without a fault, where it is not empty, has a row whose identifier is new
-clean_later : (file line : ℕ) (kind : FileKind) (earlier : List ℕ) (limit : ℕ) (byte : ℕ) (bytes : List ℕ)
-    → fault_of_later file line kind earlier limit (byte ∷ bytes) ≡ None
-    → (has earlier (id_on kind (byte ∷ bytes)) ≡ false) × (length earlier < limit)
-clean_later file line kind earlier limit byte bytes clean = by (row_fault kind (byte ∷ bytes)) clean
+    by : (kind next_kind : FileKind) (line next_line : List ℕ) → concept_listed (row_text kind line) ≡ Some id → concept_listed (row_text next_kind next_line) ≡ Some other → nat_eq id other ≡ true
+        → (same_kind kind next_kind && (id_on kind line == id_on next_kind next_line)) ≡ true
+    by Concept Concept line next_line is next_is same =
+        let own : (concept_row line).id ≡ id = number (concept_row line).active (concept_row line).id id is in
+        let next_own : (concept_row next_line).id ≡ other = number (concept_row next_line).active (concept_row next_line).id other next_is in
+        (λ i. own i == next_own i) ∙ same
+    by Concept Description line next_line is next_is same = (cc)
+    by Concept Relationship line next_line is next_is same = (cc)
+    by Concept Concrete line next_line is next_is same = (cc)
+    by Concept Member line next_line is next_is same = (cc)
+    by Description next_kind line next_line is next_is same = (cc)
+    by Relationship next_kind line next_line is next_is same = (cc)
+    by Concrete next_kind line next_line is next_is same = (cc)
+    by Member next_kind line next_line is next_is same = (cc)
+
+-- the identifiers of the active concepts of rows
+abbrev active_ids : List RowAt → List ℕ
+active_ids rows = filter_map concept_listed (map text_of rows)
+
+-- behind a chosen row of an active concept there is no other of its identifier
+apart-later : (rows earlier later : List RowAt) (row : RowAt) (id : ℕ) → concept_listed (text_of row) ≡ Some id
+    → IsAmong rows row → is_superseded rows row ≡ false → IsAmong earlier row → AreAmong rows later
+    → AllByRecursion (λ other. nat_eq id other ≡ false) (active_ids (marked (choices rows earlier later) later))
+apart-later rows earlier [] row id listed among latest before all = tt
+apart-later rows earlier (next ∷ later) row id listed among latest before all =
+    by (apart-later rows (earlier ++ next ∷ []) later row id listed among latest (among-append earlier (next ∷ []) row before) all.1)
+    (is_superseded rows next) refl (is_repeated earlier next) refl
   where
-    by : (fault : Option RowFault) → fault_of_row file line kind earlier limit (byte ∷ bytes) fault ≡ None
-        → (has earlier (id_on kind (byte ∷ bytes)) ≡ false) × (length earlier < limit)
-    by None clean = clean_id file line earlier limit (id_on kind (byte ∷ bytes)) clean
-    by (Some fault) clean = (cc)
+    others : List ℕ
+    others = active_ids (marked (choices rows (earlier ++ next ∷ []) later) later)
 
--- a line behind the header without a fault is within the limit of bytes
-clean_within : (limits : Limits) (earlier : FileKind → List ℕ) (file : ℕ) (kind : FileKind) (line : LineText)
-    → fault_after limits earlier (later_line file kind line) ≡ None
-    → fault_of_later file line.number kind (earlier kind) (row_limit limits kind) line.bytes ≡ None
-clean_within limits earlier file kind line clean = by (nat_lt limits.bytes line.end) clean
-  where
-    by : (past : Bool)
-        → cond past (Some (Rattle.snapshot.specs.declared.fault.LoadFault.TheVariants.TooMany file line.number)) (fault_of_later file line.number kind (earlier kind) (row_limit limits kind) line.bytes) ≡ None
-        → fault_of_later file line.number kind (earlier kind) (row_limit limits kind) line.bytes ≡ None
-    by true clean = (cc)
-    by false clean = clean
+    by : AllByRecursion (λ other. nat_eq id other ≡ false) others
+        → (superseded : Bool) → is_superseded rows next ≡ superseded → (repeated : Bool) → is_repeated earlier next ≡ repeated
+        → AllByRecursion (λ other. nat_eq id other ≡ false) (active_ids (cond (not (superseded || repeated)) (next ∷ marked (choices rows (earlier ++ next ∷ []) later) later) (marked (choices rows (earlier ++ next ∷ []) later) later)))
+    by rest true next_latest repeated first = rest
+    by rest false next_latest true first = rest
+    by rest false next_latest false first = at (concept_listed (text_of next)) refl
+      where
+        at : (found : Option ℕ) → concept_listed (text_of next) ≡ found → AllByRecursion (λ other. nat_eq id other ≡ false) (cons_option found others)
+        at None is = rest
+        at (Some other) is = (differs (nat_eq id other) refl, rest)
+          where
+            differs : (same : Bool) → nat_eq id other ≡ same → same ≡ false
+            differs false told = refl
+            differs true told = absurd (one_chosen rows earlier row next among all.0 before latest next_latest first (listed_alike row next id other listed is told))
 
--- a new identifier at the end of a list
-has-push : (ids : List ℕ) (id q : ℕ) → has ids q ≡ true → has (ids ++ id ∷ []) q ≡ true
-has-push ids id q there = list_any-append (λ other. q == other) ids (id ∷ []) ∙ or_left (has ids q) _ there
-
-has-last : (ids : List ℕ) (id q : ℕ) → has (ids ++ id ∷ []) q ≡ true → (q ≡ id → ⊥) → has ids q ≡ true
-has-last ids id q there other = elim (or_cases (has ids q) (has (id ∷ []) q) (sym (list_any-append (λ other. q == other) ids (id ∷ [])) ∙ there)) [
-  | inl earlier ↦ earlier
-  | inr last ↦ elim (or_cases (q == id) false last) [ inl same ↦ absurd (other (eqb-true q id same)) | inr never ↦ absurd (false≢true never) ]
-]
-
--- what a concept row without a fault leaves
-keeps_concept : (limits : Limits) (kept : Kept) (file : ℕ) (line : LineText) (bytes : List ℕ) → KeepsApart limits kept
-    → fault_of_later file line.number Concept kept.concept_ids limits.concepts bytes ≡ None
-    → KeepsApart limits (keep kept (later_line file Concept (record line { bytes = bytes })))
-keeps_concept limits kept file line [] apart clean = apart
-keeps_concept limits kept file line (byte ∷ bytes) apart clean =
-    let parts = clean_later file line.number Concept kept.concept_ids limits.concepts byte bytes clean in
-    by (concept_row (byte ∷ bytes)).active (concept_row (byte ∷ bytes)).id parts.0 parts.1
-  where
-    by : (active : Bool) (id : ℕ) → has kept.concept_ids id ≡ false → length kept.concept_ids < limits.concepts
-        → KeepsApart limits (record kept {
-          concept_ids = kept.concept_ids ++ id ∷ [];
-          active_concepts = cond active (kept.active_concepts ++ id ∷ []) kept.active_concepts;
-        })
-    by true id new room = record {
-      all_apart = IsDistinct-push nat_eq_equiv kept.concept_ids id apart.all_apart new;
-      active_among = λ q there. elim (or_cases (has kept.active_concepts q) (has (id ∷ []) q) (sym (list_any-append (λ other. q == other) kept.active_concepts (id ∷ [])) ∙ there)) [
-        | inl earlier ↦ has-push kept.concept_ids id q (apart.active_among q earlier)
-        | inr last ↦ list_any-append (λ other. q == other) kept.concept_ids (id ∷ []) ∙ or_right (has kept.concept_ids q) (has (id ∷ []) q) last
-      ];
-      active_apart = IsDistinct-push nat_eq_equiv kept.active_concepts id apart.active_apart
-          (elim (cases_Bool (has kept.active_concepts id)) [
-            | inl there ↦ absurd (false≢true (sym new ∙ apart.active_among id there))
-            | inr lacks ↦ lacks
-          ]);
-      fewer_active = omega (arith, length-append kept.active_concepts (id ∷ []), length-append kept.concept_ids (id ∷ []), apart.fewer_active);
-      fewer_names = apart.fewer_names;
-      fewer_ends = apart.fewer_ends;
-      fewer_members = apart.fewer_members;
-      few_concepts = omega (arith, length-append kept.concept_ids (id ∷ []));
-      few_descriptions = apart.few_descriptions;
-      few_relationships = apart.few_relationships;
-      few_concretes = apart.few_concretes;
-      few_members = apart.few_members;
-    }
-    by false id new room = record {
-      all_apart = IsDistinct-push nat_eq_equiv kept.concept_ids id apart.all_apart new;
-      active_among = λ q there. has-push kept.concept_ids id q (apart.active_among q there);
-      active_apart = apart.active_apart;
-      fewer_active = omega (arith, length-append kept.concept_ids (id ∷ []), apart.fewer_active);
-      fewer_names = apart.fewer_names;
-      fewer_ends = apart.fewer_ends;
-      fewer_members = apart.fewer_members;
-      few_concepts = omega (arith, length-append kept.concept_ids (id ∷ []));
-      few_descriptions = apart.few_descriptions;
-      few_relationships = apart.few_relationships;
-      few_concretes = apart.few_concretes;
-      few_members = apart.few_members;
-    }
-
--- what a description row without a fault leaves
-keeps_description : (limits : Limits) (kept : Kept) (file : ℕ) (line : LineText) (bytes : List ℕ) → KeepsApart limits kept
-    → fault_of_later file line.number Description kept.description_ids limits.descriptions bytes ≡ None
-    → KeepsApart limits (keep kept (later_line file Description (record line { bytes = bytes })))
-keeps_description limits kept file line [] apart clean = apart
-keeps_description limits kept file line (byte ∷ bytes) apart clean =
-    let parts = clean_later file line.number Description kept.description_ids limits.descriptions byte bytes clean in
-    by (is_name (description_row (byte ∷ bytes))) (description_row (byte ∷ bytes)).id (name_on (description_row (byte ∷ bytes))) parts.1
-  where
-    by : (named : Bool) (id : ℕ) (name : Name) → length kept.description_ids < limits.descriptions
-        → KeepsApart limits (record kept {
-          description_ids = kept.description_ids ++ id ∷ [];
-          names = cond named (kept.names ++ name ∷ []) kept.names;
-        })
-    by true id name room = record {
-      all_apart = apart.all_apart;
-      active_among = apart.active_among;
-      active_apart = apart.active_apart;
-      fewer_active = apart.fewer_active;
-      fewer_names = omega (arith, length-append kept.names (name ∷ []), length-append kept.description_ids (id ∷ []), apart.fewer_names);
-      fewer_ends = apart.fewer_ends;
-      fewer_members = apart.fewer_members;
-      few_concepts = apart.few_concepts;
-      few_descriptions = omega (arith, length-append kept.description_ids (id ∷ []));
-      few_relationships = apart.few_relationships;
-      few_concretes = apart.few_concretes;
-      few_members = apart.few_members;
-    }
-    by false id name room = record {
-      all_apart = apart.all_apart;
-      active_among = apart.active_among;
-      active_apart = apart.active_apart;
-      fewer_active = apart.fewer_active;
-      fewer_names = omega (arith, length-append kept.description_ids (id ∷ []), apart.fewer_names);
-      fewer_ends = apart.fewer_ends;
-      fewer_members = apart.fewer_members;
-      few_concepts = apart.few_concepts;
-      few_descriptions = omega (arith, length-append kept.description_ids (id ∷ []));
-      few_relationships = apart.few_relationships;
-      few_concretes = apart.few_concretes;
-      few_members = apart.few_members;
-    }
-
--- what a relationship row without a fault leaves
-keeps_relationship : (limits : Limits) (kept : Kept) (file : ℕ) (line : LineText) (bytes : List ℕ) → KeepsApart limits kept
-    → fault_of_later file line.number Relationship kept.relationship_ids limits.relationships bytes ≡ None
-    → KeepsApart limits (keep kept (later_line file Relationship (record line { bytes = bytes })))
-keeps_relationship limits kept file line [] apart clean = apart
-keeps_relationship limits kept file line (byte ∷ bytes) apart clean =
-    let parts = clean_later file line.number Relationship kept.relationship_ids limits.relationships byte bytes clean in
-    let row = relationship_row (byte ∷ bytes) in
-    by (row.active && (row.characteristic_type_id == inferred_relationship)) (row.type_id == is_a) row.id (row.source_id, row.destination_id) (relationship_attribute row) parts.1
-  where
-    by : (inferred isa : Bool) (id : ℕ) (row : ℕ × ℕ) (attribute : Attribute) → length kept.relationship_ids < limits.relationships
-        → KeepsApart limits (record kept {
-          relationship_ids = kept.relationship_ids ++ id ∷ [];
-          isa_ends = cond (inferred && isa) (kept.isa_ends ++ row ∷ []) kept.isa_ends;
-          attributes = cond (inferred && not isa) (kept.attributes ++ attribute ∷ []) kept.attributes;
-        })
-    by true true id row attribute room = record {
-      all_apart = apart.all_apart;
-      active_among = apart.active_among;
-      active_apart = apart.active_apart;
-      fewer_active = apart.fewer_active;
-      fewer_names = apart.fewer_names;
-      fewer_ends = omega (arith, length-append kept.isa_ends (row ∷ []), length-append kept.relationship_ids (id ∷ []), apart.fewer_ends);
-      fewer_members = apart.fewer_members;
-      few_concepts = apart.few_concepts;
-      few_descriptions = apart.few_descriptions;
-      few_relationships = omega (arith, length-append kept.relationship_ids (id ∷ []));
-      few_concretes = apart.few_concretes;
-      few_members = apart.few_members;
-    }
-    by true false id row attribute room = record {
-      all_apart = apart.all_apart;
-      active_among = apart.active_among;
-      active_apart = apart.active_apart;
-      fewer_active = apart.fewer_active;
-      fewer_names = apart.fewer_names;
-      fewer_ends = omega (arith, length-append kept.attributes (attribute ∷ []), length-append kept.relationship_ids (id ∷ []), apart.fewer_ends);
-      fewer_members = apart.fewer_members;
-      few_concepts = apart.few_concepts;
-      few_descriptions = apart.few_descriptions;
-      few_relationships = omega (arith, length-append kept.relationship_ids (id ∷ []));
-      few_concretes = apart.few_concretes;
-      few_members = apart.few_members;
-    }
-    by false isa id row attribute room = record {
-      all_apart = apart.all_apart;
-      active_among = apart.active_among;
-      active_apart = apart.active_apart;
-      fewer_active = apart.fewer_active;
-      fewer_names = apart.fewer_names;
-      fewer_ends = omega (arith, length-append kept.relationship_ids (id ∷ []), apart.fewer_ends);
-      fewer_members = apart.fewer_members;
-      few_concepts = apart.few_concepts;
-      few_descriptions = apart.few_descriptions;
-      few_relationships = omega (arith, length-append kept.relationship_ids (id ∷ []));
-      few_concretes = apart.few_concretes;
-      few_members = apart.few_members;
-    }
-
--- what a row of a concrete value without a fault leaves
-keeps_concrete : (limits : Limits) (kept : Kept) (file : ℕ) (line : LineText) (bytes : List ℕ) → KeepsApart limits kept
-    → fault_of_later file line.number Concrete kept.concrete_ids limits.concrete bytes ≡ None
-    → KeepsApart limits (keep kept (later_line file Concrete (record line { bytes = bytes })))
-keeps_concrete limits kept file line [] apart clean = apart
-keeps_concrete limits kept file line (byte ∷ bytes) apart clean =
-    let parts = clean_later file line.number Concrete kept.concrete_ids limits.concrete byte bytes clean in
-    let row = concrete_row (byte ∷ bytes) in
-    by (is_concrete_attribute row) row.id (concrete_attribute row) parts.1
-  where
-    by : (there : Bool) (id : ℕ) (attribute : Attribute) → length kept.concrete_ids < limits.concrete
-        → KeepsApart limits (record kept {
-          concrete_ids = kept.concrete_ids ++ id ∷ [];
-          attributes = cond there (kept.attributes ++ attribute ∷ []) kept.attributes;
-        })
-    by true id attribute room = record {
-      all_apart = apart.all_apart;
-      active_among = apart.active_among;
-      active_apart = apart.active_apart;
-      fewer_active = apart.fewer_active;
-      fewer_names = apart.fewer_names;
-      fewer_ends = omega (arith, length-append kept.attributes (attribute ∷ []), length-append kept.concrete_ids (id ∷ []), apart.fewer_ends);
-      fewer_members = apart.fewer_members;
-      few_concepts = apart.few_concepts;
-      few_descriptions = apart.few_descriptions;
-      few_relationships = apart.few_relationships;
-      few_concretes = omega (arith, length-append kept.concrete_ids (id ∷ []));
-      few_members = apart.few_members;
-    }
-    by false id attribute room = record {
-      all_apart = apart.all_apart;
-      active_among = apart.active_among;
-      active_apart = apart.active_apart;
-      fewer_active = apart.fewer_active;
-      fewer_names = apart.fewer_names;
-      fewer_ends = omega (arith, length-append kept.concrete_ids (id ∷ []), apart.fewer_ends);
-      fewer_members = apart.fewer_members;
-      few_concepts = apart.few_concepts;
-      few_descriptions = apart.few_descriptions;
-      few_relationships = apart.few_relationships;
-      few_concretes = omega (arith, length-append kept.concrete_ids (id ∷ []));
-      few_members = apart.few_members;
-    }
-
--- what a member row without a fault leaves
-keeps_member : (limits : Limits) (kept : Kept) (file : ℕ) (line : LineText) (bytes : List ℕ) → KeepsApart limits kept
-    → fault_of_later file line.number Member kept.member_ids limits.members bytes ≡ None
-    → KeepsApart limits (keep kept (later_line file Member (record line { bytes = bytes })))
-keeps_member limits kept file line [] apart clean = apart
-keeps_member limits kept file line (byte ∷ bytes) apart clean =
-    let parts = clean_later file line.number Member kept.member_ids limits.members byte bytes clean in
-    let row = member_row (byte ∷ bytes) in
-    by row.active (member_number row) (row.refset_id, row.referenced_component_id) parts.1
-  where
-    by : (active : Bool) (id : ℕ) (ends : ℕ × ℕ) → length kept.member_ids < limits.members
-        → KeepsApart limits (record kept {
-          member_ids = kept.member_ids ++ id ∷ [];
-          member_ends = cond active (kept.member_ends ++ ends ∷ []) kept.member_ends;
-        })
-    by true id ends room = record {
-      all_apart = apart.all_apart;
-      active_among = apart.active_among;
-      active_apart = apart.active_apart;
-      fewer_active = apart.fewer_active;
-      fewer_names = apart.fewer_names;
-      fewer_ends = apart.fewer_ends;
-      fewer_members = omega (arith, length-append kept.member_ends (ends ∷ []), length-append kept.member_ids (id ∷ []), apart.fewer_members);
-      few_concepts = apart.few_concepts;
-      few_descriptions = apart.few_descriptions;
-      few_relationships = apart.few_relationships;
-      few_concretes = apart.few_concretes;
-      few_members = omega (arith, length-append kept.member_ids (id ∷ []));
-    }
-    by false id ends room = record {
-      all_apart = apart.all_apart;
-      active_among = apart.active_among;
-      active_apart = apart.active_apart;
-      fewer_active = apart.fewer_active;
-      fewer_names = apart.fewer_names;
-      fewer_ends = apart.fewer_ends;
-      fewer_members = omega (arith, length-append kept.member_ids (id ∷ []), apart.fewer_members);
-      few_concepts = apart.few_concepts;
-      few_descriptions = apart.few_descriptions;
-      few_relationships = apart.few_relationships;
-      few_concretes = apart.few_concretes;
-      few_members = omega (arith, length-append kept.member_ids (id ∷ []));
-    }
-
--- a place without a fault
-keeps_place : (limits : Limits) (kept : Kept) (place : Place) → KeepsApart limits kept → fault_after limits (ids_kept kept) place ≡ None
-    → KeepsApart limits (keep kept place)
-keeps_place limits kept (no_line file kind) apart clean = apart
-keeps_place limits kept (first_line file kind line) apart clean = apart
-keeps_place limits kept (later_line file Concept line) apart clean =
-    keeps_concept limits kept file line line.bytes apart (clean_within limits (ids_kept kept) file Concept line clean)
-keeps_place limits kept (later_line file Description line) apart clean =
-    keeps_description limits kept file line line.bytes apart (clean_within limits (ids_kept kept) file Description line clean)
-keeps_place limits kept (later_line file Relationship line) apart clean =
-    keeps_relationship limits kept file line line.bytes apart (clean_within limits (ids_kept kept) file Relationship line clean)
-keeps_place limits kept (later_line file Concrete line) apart clean =
-    keeps_concrete limits kept file line line.bytes apart (clean_within limits (ids_kept kept) file Concrete line clean)
-keeps_place limits kept (later_line file Member line) apart clean =
-    keeps_member limits kept file line line.bytes apart (clean_within limits (ids_kept kept) file Member line clean)
-
--- places without a fault
-keeps_all : (limits : Limits) (kept after : Kept) (places : List Place) → KeepsApart limits kept → read_all limits kept places ≡ Ok after → KeepsApart limits after
-keeps_all limits kept after [] apart read = let same : kept ≡ after = (cc) in subst (λ (k : Kept). KeepsApart limits k) same apart
-keeps_all limits kept after (place ∷ places) apart read =
-    by (fault_after limits (ids_kept kept) place) refl (λ clean. keeps_all limits (keep kept place) after places (keeps_place limits kept place apart clean)) read
-  where
-    by : (fault : Option LoadFault) → fault_after limits (ids_kept kept) place ≡ fault
-        → (fault_after limits (ids_kept kept) place ≡ None → read_all limits (keep kept place) places ≡ Ok after → KeepsApart limits after)
-        → unless_fault fault (read_all limits (keep kept place) places) ≡ Ok after → KeepsApart limits after
-    by None is rest read = rest is read
-    by (Some fault) is rest read = (cc)
-
-none_apart : IsDistinct nat_eq []
+distinct-choices : (rows earlier later : List RowAt) → AreAmong rows later → IsDistinct nat_eq (active_ids (marked (choices rows earlier later) later))
 unfolding IsDistinct
-none_apart = tt
+distinct-choices rows earlier [] all = tt
+distinct-choices rows earlier (row ∷ later) all =
+    by (distinct-choices rows (earlier ++ row ∷ []) later all.1) (is_superseded rows row) refl (is_repeated earlier row)
+  where
+    others : List RowAt
+    others = marked (choices rows (earlier ++ row ∷ []) later) later
 
-nothing_apart : (limits : Limits) → KeepsApart limits nothing_kept
-nothing_apart limits = record {
-  all_apart = none_apart;
-  active_among = λ q there. absurd (false≢true there);
-  active_apart = none_apart;
-  fewer_active = omega arith;
-  fewer_names = omega arith;
-  fewer_ends = omega arith;
-  fewer_members = omega arith;
-  few_concepts = omega arith;
-  few_descriptions = omega arith;
-  few_relationships = omega arith;
-  few_concretes = omega arith;
-  few_members = omega arith;
-}
+    by : IsDistinct nat_eq (active_ids others) → (superseded : Bool) → is_superseded rows row ≡ superseded → (repeated : Bool) → IsDistinct nat_eq (active_ids (cond (not (superseded || repeated)) (row ∷ others) others))
+    by rest true latest repeated = rest
+    by rest false latest true = rest
+    by rest false latest false = at (concept_listed (text_of row)) refl
+      where
+        at : (found : Option ℕ) → concept_listed (text_of row) ≡ found → IsDistinct nat_eq (cons_option found (active_ids others))
+        at None is = rest
+        at (Some id) is = (apart-later rows (earlier ++ row ∷ []) later row id is all.0 latest (among-here earlier [] row) all.1, rest)
 
--- what a load kept has no identifier twice, and is few enough to number
-pub IsApart-read : (limits : Limits) (kept : Kept) (places : List Place) → limits.concepts ≤ 4000000 → limits.descriptions ≤ 20000000 → limits.relationships ≤ 20000000
-    → limits.concrete ≤ 4000000 → limits.members ≤ 20000000
-    → read_all limits nothing_kept places ≡ Ok kept → IsApart kept
-IsApart-read limits kept places concepts descriptions relationships concretes members read =
-    let apart = keeps_all limits nothing_kept kept places (nothing_apart limits) read in (
-      apart.active_apart,
-      apart.fewer_active,
-      apart.fewer_names,
-      apart.fewer_ends,
-      apart.fewer_members,
-      omega (arith, apart.few_concepts),
-      omega (arith, apart.few_descriptions),
-      omega (arith, apart.few_relationships),
-      omega (arith, apart.few_concretes),
-      omega (arith, apart.few_members),
-    )
+-- no two chosen rows of active concepts have one identifier
+pub active-distinct : (rows : List RowAt) → IsDistinct nat_eq (filter_map concept_listed (map text_of (chosen rows)))
+active-distinct rows = distinct-choices rows [] rows (are_among [] rows)
 
--- no identifier of an active concept was read twice
-pub active_apart-read : (limits : Limits) (kept : Kept) (places : List Place) → read_all limits nothing_kept places ≡ Ok kept → IsDistinct nat_eq kept.active_concepts
-active_apart-read limits kept places read = (keeps_all limits nothing_kept kept places (nothing_apart limits) read).active_apart
+-- ---- there are no more rows than the limits allow
+same_kind-is : (one other : FileKind) → same_kind one other ≡ true → one ≡ other
+same_kind-is Concept Concept same = refl
+same_kind-is Concept Description same = (cc)
+same_kind-is Concept Relationship same = (cc)
+same_kind-is Concept Concrete same = (cc)
+same_kind-is Concept Member same = (cc)
+same_kind-is Description Concept same = (cc)
+same_kind-is Description Description same = refl
+same_kind-is Description Relationship same = (cc)
+same_kind-is Description Concrete same = (cc)
+same_kind-is Description Member same = (cc)
+same_kind-is Relationship Concept same = (cc)
+same_kind-is Relationship Description same = (cc)
+same_kind-is Relationship Relationship same = refl
+same_kind-is Relationship Concrete same = (cc)
+same_kind-is Relationship Member same = (cc)
+same_kind-is Concrete Concept same = (cc)
+same_kind-is Concrete Description same = (cc)
+same_kind-is Concrete Relationship same = (cc)
+same_kind-is Concrete Concrete same = refl
+same_kind-is Concrete Member same = (cc)
+same_kind-is Member Concept same = (cc)
+same_kind-is Member Description same = (cc)
+same_kind-is Member Relationship same = (cc)
+same_kind-is Member Concrete same = (cc)
+same_kind-is Member Member same = refl
+
+no_fault : (one later : Option LoadFault) → first_of one later ≡ None → (one ≡ None) × (later ≡ None)
+no_fault None later clean = (refl, clean)
+no_fault (Some fault) later clean = absurd (cc)
+
+count_of_kind-push : (kind : FileKind) (rows : List RowAt) (row : RowAt) → count_of_kind kind (rows ++ row ∷ []) ≡ count_of_kind kind rows + cond (same_kind row.kind kind) 1 0
+count_of_kind-push kind rows row = omega (arith, sum_by-append (λ (other : RowAt). cond (same_kind other.kind kind) 1 0) rows (row ∷ []))
+
+count_of_kind-cons : (kind : FileKind) (row : RowAt) (rows : List RowAt) → count_of_kind kind (row ∷ rows) ≡ cond (same_kind row.kind kind) 1 0 + count_of_kind kind rows
+count_of_kind-cons kind row rows = omega (arith, sum_by-append (λ (other : RowAt). cond (same_kind other.kind kind) 1 0) (row ∷ []) rows)
+
+-- a row behind which there is no fault leaves its kind within the limit
+module _ (limits : Limits) (kind : FileKind) where
+  abbrev IsFew : List RowAt → Type 0
+  IsFew rows = count_of_kind kind rows ≤ row_limit limits kind
+
+  few-row : (earlier : List RowAt) (row : RowAt) → IsFew earlier → crowd_behind limits earlier row ≡ None → IsFew (earlier ++ row ∷ [])
+  few-row earlier row few clean = by (same_kind row.kind kind) refl (count_of_kind-push kind earlier row)
+    where
+      room : (full : Bool) → nat_le (row_limit limits row.kind) (count_of_kind row.kind earlier) ≡ full
+          → cond full (Some (TooMany row.file row.line)) None ≡ None → count_of_kind row.kind earlier < row_limit limits row.kind
+      room true is none = absurd (cc)
+      room false is none = leb-false (row_limit limits row.kind) (count_of_kind row.kind earlier) is
+
+      by : (same : Bool) → same_kind row.kind kind ≡ same → count_of_kind kind (earlier ++ row ∷ []) ≡ count_of_kind kind earlier + cond same 1 0 → IsFew (earlier ++ row ∷ [])
+      by true same grown =
+          let below : count_of_kind kind earlier < row_limit limits kind =
+          subst (λ (own : FileKind). count_of_kind own earlier < row_limit limits own) (same_kind-is row.kind kind same)
+          (room (nat_le (row_limit limits row.kind) (count_of_kind row.kind earlier)) refl clean) in
+          omega (arith, below, grown)
+      by false same grown = omega (arith, few, grown)
+
+  few-place : (front : List Place) (place : Place) → IsFew (rows_of front) → fault_at limits front place ≡ None → IsFew (rows_of (front ++ place ∷ []))
+  few-place front place few clean =
+      subst IsFew (sym (rows_of-push front place))
+      (by (row_at place) (no_fault (fault_here limits place) (option_and_then (fault_behind limits (rows_of front)) (row_at place)) clean).1)
+    where
+      by : (row : Option RowAt) → option_and_then (fault_behind limits (rows_of front)) row ≡ None → IsFew (rows_of front ++ option_to_list row)
+      by None none = subst IsFew (sym (append-nil (rows_of front))) few
+      by (Some row) none = few-row (rows_of front) row few (no_fault (conflict_behind (rows_of front) row) (crowd_behind limits (rows_of front) row) none).1
+
+  few-places : (front places : List Place) → IsFew (rows_of front) → first_fault limits front places ≡ None → IsFew (rows_of (front ++ places))
+  few-places front [] few clean = subst (λ (all : List Place). IsFew (rows_of all)) (sym (append-nil front)) few
+  few-places front (place ∷ places) few clean =
+      let both = no_fault (fault_at limits front place) (first_fault limits (front ++ place ∷ []) places) clean in
+      subst (λ (all : List Place). IsFew (rows_of all)) (append_assoc front (place ∷ []) places)
+      (few-places (front ++ place ∷ []) places (few-place front place few both.0) both.1)
+
+-- the rows of the kinds are all rows
+all_kinds : (rows : List RowAt)
+    → count_of_kind Concept rows + count_of_kind Description rows + count_of_kind Relationship rows + count_of_kind Concrete rows + count_of_kind Member rows ≡ length rows
+all_kinds [] = refl
+all_kinds (row ∷ rows) =
+    by row.kind (count_of_kind-cons Concept row rows) (count_of_kind-cons Description row rows) (count_of_kind-cons Relationship row rows)
+    (count_of_kind-cons Concrete row rows) (count_of_kind-cons Member row rows) (all_kinds rows)
+  where
+    by : (own : FileKind)
+        → count_of_kind Concept (row ∷ rows) ≡ cond (same_kind own Concept) 1 0 + count_of_kind Concept rows
+        → count_of_kind Description (row ∷ rows) ≡ cond (same_kind own Description) 1 0 + count_of_kind Description rows
+        → count_of_kind Relationship (row ∷ rows) ≡ cond (same_kind own Relationship) 1 0 + count_of_kind Relationship rows
+        → count_of_kind Concrete (row ∷ rows) ≡ cond (same_kind own Concrete) 1 0 + count_of_kind Concrete rows
+        → count_of_kind Member (row ∷ rows) ≡ cond (same_kind own Member) 1 0 + count_of_kind Member rows
+        → count_of_kind Concept rows + count_of_kind Description rows + count_of_kind Relationship rows + count_of_kind Concrete rows + count_of_kind Member rows ≡ length rows
+        → count_of_kind Concept (row ∷ rows) + count_of_kind Description (row ∷ rows) + count_of_kind Relationship (row ∷ rows) + count_of_kind Concrete (row ∷ rows) + count_of_kind Member (row ∷ rows)
+        ≡ length (row ∷ rows)
+    by Concept concepts descriptions relationships concretes members rest = omega (arith, rest)
+    by Description concepts descriptions relationships concretes members rest = omega (arith, rest)
+    by Relationship concepts descriptions relationships concretes members rest = omega (arith, rest)
+    by Concrete concepts descriptions relationships concretes members rest = omega (arith, rest)
+    by Member concepts descriptions relationships concretes members rest = omega (arith, rest)
+
+few_rows : (limits : Limits) (places : List Place) → row_total limits ≤ 68000000 → first_fault limits [] places ≡ None → length (rows_of places) ≤ 68000000
+few_rows limits places room clean =
+    let concepts : count_of_kind Concept (rows_of places) ≤ limits.concepts = few-places limits Concept [] places (omega arith) clean in
+    let descriptions : count_of_kind Description (rows_of places) ≤ limits.descriptions = few-places limits Description [] places (omega arith) clean in
+    let relationships : count_of_kind Relationship (rows_of places) ≤ limits.relationships = few-places limits Relationship [] places (omega arith) clean in
+    let concretes : count_of_kind Concrete (rows_of places) ≤ limits.concrete = few-places limits Concrete [] places (omega arith) clean in
+    let members : count_of_kind Member (rows_of places) ≤ limits.members = few-places limits Member [] places (omega arith) clean in
+    omega (arith, concepts, descriptions, relationships, concretes, members, all_kinds (rows_of places), room)
+
+-- ---- no list of chosen rows is longer than the rows
+length-picked : {X Y : Type 0} (pick : X → Option Y) (items : List X) → length (filter_map pick items) ≤ length items
+length-picked pick [] = omega arith
+length-picked {X} {Y} pick (item ∷ items) = by (pick item) (length-picked pick items)
+  where
+    by : (found : Option Y) → length (filter_map pick items) ≤ length items → length (cons_option found (filter_map pick items)) ≤ length (item ∷ items)
+    by None rest = omega (arith, rest)
+    by (Some other) rest = omega (arith, rest)
+
+length-marked : {X : Type 0} (marks : List Bool) (items : List X) → length (marked marks items) ≤ length items
+length-marked [] items = omega arith
+length-marked (mark ∷ marks) [] = omega arith
+length-marked {X} (mark ∷ marks) (item ∷ items) = by mark (length-marked marks items)
+  where
+    by : (there : Bool) → length (marked marks items) ≤ length items → length (cond there (item ∷ marked marks items) (marked marks items)) ≤ length (item ∷ items)
+    by true rest = omega (arith, rest)
+    by false rest = omega (arith, rest)
+
+length-listed : {X : Type 0} (pick : RowText → Option X) (rows : List RowAt) → length (filter_map pick (map text_of (chosen rows))) ≤ length rows
+length-listed pick rows =
+    omega (arith, length-picked pick (map text_of (chosen rows)), length-map (chosen rows) text_of, length-marked (choices rows [] rows) rows)
+
+-- what was read of places without a fault is few
+pub AreFew-read : (limits : Limits) (places : List Place) (count : ℕ) (listed : Listed) → row_total limits ≤ 68000000 → IsReadFrom limits places count listed → AreFew count listed
+AreFew-read limits places count listed room read =
+    let rows : List RowAt = rows_of places in
+    record {
+      few = omega (arith, read.count_is, few_rows limits places room read.clean);
+      few_concepts = omega (arith, read.count_is, ap (λ (lists : Listed). length lists.active_concepts) read.lists, length-listed concept_listed rows);
+      few_names = omega (arith, read.count_is, ap (λ (lists : Listed). length lists.names) read.lists, length-listed name_listed rows);
+      few_isa = omega (arith, read.count_is, ap (λ (lists : Listed). length lists.isa_ends) read.lists, length-listed isa_listed rows);
+      few_attributes = omega (arith, read.count_is, ap (λ (lists : Listed). length lists.attributes) read.lists, length-listed attribute_listed rows);
+      few_members = omega (arith, read.count_is, ap (λ (lists : Listed). length lists.member_ends) read.lists, length-listed member_listed rows);
+    }

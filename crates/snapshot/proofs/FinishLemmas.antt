@@ -1,4 +1,4 @@
--- From what was kept of the rows to the contents of a snapshot.
+-- From what was listed of the rows to the contents of a snapshot.
 use Rattle.std.proofs.Common.{ℕ, ◌≡◌, ◌≤◌, ◌+◌, ◌-◌, All, refl, List, [], ◌∷◌, length, map, Option, None, Some, Ok, Err, sym, ◌∙◌, ap, subst, arith, Bool, true, false, cond, nat_lt, nat_eq, ◌&&◌}
 use Rattle.std.proofs.lemmas.List.{length-map}
 use Rattle.std.proofs.lemmas.Bool.{and_parts}
@@ -11,7 +11,8 @@ use Rattle.snapshot.specs.Search.{IsLeastCycle}
 use Rattle.rf2_rows.specs.Release.{Attribute, Name}
 use Rattle.snapshot.specs.Contents.{Contents, IsFaultOf, first_cyclic, unless_cyclic}
 use Rattle.snapshot.specs.InForce.{has, put, rising, rows_among}
-use Rattle.snapshot.specs.Kept.{Kept, IsCycle, attributes_among, contents_from, finished, is_value_among, names_among, rows_read}
+use Rattle.snapshot.specs.Kept.{IsCycle, attributes_among, contents_from, finished, is_value_among, names_among}
+use Rattle.snapshot.specs.Listed.{Listed}
 use Rattle.snapshot.specs.Numbering.{numbered_row, row_of_numbers}
 use Rattle.snapshot.specs.declared.fault.LoadFault.{LoadFault}
 use Rattle.snapshot.specs.declared.fault.LoadFault.TheVariants.{Cycle, Memory}
@@ -51,32 +52,32 @@ contents_by_number language files concepts isa attributes members names passed =
   passed = passed;
 }
 
--- where no concept reaches itself, the snapshot is of the contents made of what was kept
-pub finished-Ok : (language : List ℕ) (files : ℕ) (kept : Kept) (concepts : List ℕ) (isa : List (ℕ × ℕ)) (attributes : List Attribute) (members : List (ℕ × ℕ)) (names : List Name) (passed : ℕ)
-    → concepts ≡ rising kept.active_concepts → isa ≡ filter_map (numbered_row concepts) kept.isa_ends
-    → attributes ≡ attributes_among concepts kept.attributes → members ≡ filter_map (numbered_row concepts) kept.member_ends
-    → names ≡ names_among concepts kept.names
-    → first_cyclic concepts (rows_among concepts kept.isa_ends) ≡ None
-    → passed ≡ rows_read kept - (length concepts + length isa + length attributes + length members + length names)
-    → finished language files kept ≡ Ok (contents_by_number language files concepts isa attributes members names passed)
-finished-Ok language files kept concepts isa attributes members names passed rises isa_is attributes_are members_are named acyclic count =
-    let same_isa : rows_among (rising kept.active_concepts) kept.isa_ends ≡ map (row_of_numbers concepts) isa =
-    ap (λ (c : List ℕ). rows_among c kept.isa_ends) (sym rises) ∙ sym (numbered-among concepts kept.isa_ends isa isa_is) in
-    let same_members : rows_among (rising kept.active_concepts) kept.member_ends ≡ map (row_of_numbers concepts) members =
-    ap (λ (c : List ℕ). rows_among c kept.member_ends) (sym rises) ∙ sym (numbered-among concepts kept.member_ends members members_are) in
-    let same_attributes : attributes_among (rising kept.active_concepts) kept.attributes ≡ attributes =
-    ap (λ (c : List ℕ). attributes_among c kept.attributes) (sym rises) ∙ sym attributes_are in
-    let same_names : names_among (rising kept.active_concepts) kept.names ≡ names =
-    ap (λ (c : List ℕ). names_among c kept.names) (sym rises) ∙ sym named in
-    let isa_count : length (rows_among (rising kept.active_concepts) kept.isa_ends) ≡ length isa = ap length same_isa ∙ simp length-map in
-    let member_count : length (rows_among (rising kept.active_concepts) kept.member_ends) ≡ length members = ap length same_members ∙ simp length-map in
-    let attribute_count : length (attributes_among (rising kept.active_concepts) kept.attributes) ≡ length attributes = ap length same_attributes in
-    let name_count : length (names_among (rising kept.active_concepts) kept.names) ≡ length names = ap length same_names in
-    let concept_count : length (rising kept.active_concepts) ≡ length concepts = ap length (sym rises) in
-    let same_count : (contents_from language files kept).passed ≡ passed = omega arith in
-    let none : first_cyclic (rising kept.active_concepts) (rows_among (rising kept.active_concepts) kept.isa_ends) ≡ None =
-    subst (λ (c : List ℕ). first_cyclic c (rows_among c kept.isa_ends) ≡ None) rises acyclic in
-    ap (λ cyclic. unless_cyclic (contents_from language files kept) cyclic) none
+-- where no concept reaches itself, the snapshot is of the contents made of what was listed
+pub finished-Ok : (language : List ℕ) (files count : ℕ) (listed : Listed) (concepts : List ℕ) (isa : List (ℕ × ℕ)) (attributes : List Attribute) (members : List (ℕ × ℕ)) (names : List Name) (passed : ℕ)
+    → concepts ≡ rising listed.active_concepts → isa ≡ filter_map (numbered_row concepts) listed.isa_ends
+    → attributes ≡ attributes_among concepts listed.attributes → members ≡ filter_map (numbered_row concepts) listed.member_ends
+    → names ≡ names_among concepts listed.names
+    → first_cyclic concepts (rows_among concepts listed.isa_ends) ≡ None
+    → passed ≡ count - (length concepts + length isa + length attributes + length members + length names)
+    → finished language files count listed ≡ Ok (contents_by_number language files concepts isa attributes members names passed)
+finished-Ok language files count listed concepts isa attributes members names passed rises isa_is attributes_are members_are named acyclic counted =
+    let same_isa : rows_among (rising listed.active_concepts) listed.isa_ends ≡ map (row_of_numbers concepts) isa =
+    ap (λ (c : List ℕ). rows_among c listed.isa_ends) (sym rises) ∙ sym (numbered-among concepts listed.isa_ends isa isa_is) in
+    let same_members : rows_among (rising listed.active_concepts) listed.member_ends ≡ map (row_of_numbers concepts) members =
+    ap (λ (c : List ℕ). rows_among c listed.member_ends) (sym rises) ∙ sym (numbered-among concepts listed.member_ends members members_are) in
+    let same_attributes : attributes_among (rising listed.active_concepts) listed.attributes ≡ attributes =
+    ap (λ (c : List ℕ). attributes_among c listed.attributes) (sym rises) ∙ sym attributes_are in
+    let same_names : names_among (rising listed.active_concepts) listed.names ≡ names =
+    ap (λ (c : List ℕ). names_among c listed.names) (sym rises) ∙ sym named in
+    let isa_count : length (rows_among (rising listed.active_concepts) listed.isa_ends) ≡ length isa = ap length same_isa ∙ simp length-map in
+    let member_count : length (rows_among (rising listed.active_concepts) listed.member_ends) ≡ length members = ap length same_members ∙ simp length-map in
+    let attribute_count : length (attributes_among (rising listed.active_concepts) listed.attributes) ≡ length attributes = ap length same_attributes in
+    let name_count : length (names_among (rising listed.active_concepts) listed.names) ≡ length names = ap length same_names in
+    let concept_count : length (rising listed.active_concepts) ≡ length concepts = ap length (sym rises) in
+    let same_count : (contents_from language files count listed).passed ≡ passed = omega arith in
+    let none : first_cyclic (rising listed.active_concepts) (rows_among (rising listed.active_concepts) listed.isa_ends) ≡ None =
+    subst (λ (c : List ℕ). first_cyclic c (rows_among c listed.isa_ends) ≡ None) rises acyclic in
+    ap (λ cyclic. unless_cyclic (contents_from language files count listed) cyclic) none
     ∙ (λ i. Ok (record {
       release = record { concepts = sym rises i; isa = same_isa i; attributes = same_attributes i; members = same_members i; names = same_names i };
       language = language;
@@ -85,14 +86,14 @@ finished-Ok language files kept concepts isa attributes members names passed ris
     }))
 
 -- where one does, the least is the fault
-pub finished-Err : (language : List ℕ) (files : ℕ) (kept : Kept) (concepts : List ℕ) (fault : LoadFault)
-    → concepts ≡ rising kept.active_concepts → IsCycle fault (first_cyclic concepts (rows_among concepts kept.isa_ends))
-    → IsFaultOf fault (finished language files kept)
-finished-Err language files kept concepts fault rises cycle other =
-    by (first_cyclic (rising kept.active_concepts) (rows_among (rising kept.active_concepts) kept.isa_ends))
-    (subst (λ (c : List ℕ). option_map Cycle (first_cyclic c (rows_among c kept.isa_ends)) ≡ Some fault) rises (cycle other))
+pub finished-Err : (language : List ℕ) (files count : ℕ) (listed : Listed) (concepts : List ℕ) (fault : LoadFault)
+    → concepts ≡ rising listed.active_concepts → IsCycle fault (first_cyclic concepts (rows_among concepts listed.isa_ends))
+    → IsFaultOf fault (finished language files count listed)
+finished-Err language files count listed concepts fault rises cycle other =
+    by (first_cyclic (rising listed.active_concepts) (rows_among (rising listed.active_concepts) listed.isa_ends))
+    (subst (λ (c : List ℕ). option_map Cycle (first_cyclic c (rows_among c listed.isa_ends)) ≡ Some fault) rises (cycle other))
   where
-    by : (cyclic : Option ℕ) → option_map Cycle cyclic ≡ Some fault → unless_cyclic (contents_from language files kept) cyclic ≡ Err fault
+    by : (cyclic : Option ℕ) → option_map Cycle cyclic ≡ Some fault → unless_cyclic (contents_from language files count listed) cyclic ≡ Err fault
     by None found = (cc)
     by (Some concept) found = (cc)
 

@@ -1,27 +1,27 @@
 -- The rows that are in none of a release's lists are as many as the rows less those in its lists.
-use Rattle.std.proofs.Common.{ℕ, zero, suc, ◌≡◌, ◌<◌, ◌+◌, ◌&&◌, ◌||◌, ◌==◌, List, [], ◌∷◌, length, map, Option, None, Some, sym, ◌∙◌, ap, subst, refl, arith, Bool, true, false, cond, not, nat_eq, nat_lt, filter}
-use Rattle.std.specs.Prelude.{option_and_then, slice_index}
+use Rattle.std.proofs.Common.{ℕ, zero, suc, ◌≡◌, ◌<◌, ◌+◌, ◌-◌, ◌&&◌, ◌||◌, ◌==◌, List, [], ◌∷◌, ◌++◌, length, map, None, Some, sym, ◌∙◌, ap, subst, refl, arith, Bool, true, false, cond, not, nat_eq, nat_lt, filter}
+use Rattle.std.specs.Prelude.{count_by, slice_index}
 use Rattle.std.specs.List.{AllByRecursion, IsDistinct, cons_option}
 use Rattle.std.specs.List.Sorted.{IsStrictlyIncreasing}
-use Rattle.std.specs.Option.{option_or}
 use Rattle.std.proofs.lemmas.Bool.{false≢true, eqb-true, eq-eqb}
 use Rattle.std.proofs.lemmas.Cmp.{nat_eq_equiv}
 use Rattle.std.proofs.lemmas.List.{length-map}
+use Rattle.std.proofs.lemmas.List.Sums.{sum_by-append}
 use Rattle.std.proofs.lemmas.Map.Views.{Contains-from_any, list_any-from_Contains}
 use Rattle.rf2_rows.specs.Release.{Attribute}
+use Rattle.rf2_rows.specs.RowTexts.{RowText, of_concept, of_concrete, of_description, of_member, of_relationship}
 use Rattle.rf2_rows.specs.Rows.{ConcreteText, DescriptionText}
-use Rattle.rf2_rows.specs.declared.kind.FileKind.TheVariants.{Concept, Concrete, Description, Member, Relationship}
 use Rattle.rf2_rows.specs.declared.row.ConceptRow.{ConceptRow}
 use Rattle.rf2_rows.specs.declared.row.MemberRow.{MemberRow}
 use Rattle.rf2_rows.specs.declared.row.RelationshipRow.{RelationshipRow}
-use Rattle.snapshot.specs.Faults.{first_fault}
-use Rattle.snapshot.specs.Files.{Place, no_line, first_line, later_line}
-use Rattle.snapshot.specs.InForce.{KeepsRising, attribute_of_concrete, attribute_of_relationship, attributes_in_force, concept_rows, concepts_in_force, concrete_attribute, concrete_row_at, concrete_rows, description_rows, has, is_concrete_in_force, is_in_force, is_member_in_force, is_name, isa_in_force, member_rows, members_in_force, name_on, names_in_force, put, relationship_attribute, relationship_row_at, relationship_rows, rising}
+use Rattle.snapshot.specs.Chosen.{choices, chosen, is_chosen, marked}
+use Rattle.snapshot.specs.Contents.{text_of}
+use Rattle.snapshot.specs.Files.{RowAt, rows_of}
+use Rattle.snapshot.specs.InForce.{KeepsRising, attributes_in_force, concept_rows, concepts_in_force, concrete_attribute, concrete_rows, description_rows, has, is_concrete_in_force, is_in_force, is_member_in_force, is_name, isa_in_force, listed_count, member_rows, members_in_force, name_on, names_in_force, put, relationship_attribute, relationship_rows, release_of, rising}
 use Rattle.snapshot.specs.Metadata.{is_a}
-use Rattle.snapshot.specs.Passed.{CountsPassedRows, failing}
-use Rattle.snapshot.specs.declared.limits.Limits.{Limits}
-use Rattle.snapshot.proofs.ApartLemmas.{active_apart-read}
-use Rattle.snapshot.proofs.LoadLemmas.{kept_of, kept_unless, read_all-is}
+use Rattle.snapshot.specs.Passed.{CountsPassedRows, failing, passed_texts, superseded_rows}
+use Rattle.snapshot.proofs.ApartLemmas.{active-distinct}
+use Rattle.snapshot.proofs.LoadLemmas.{concepts-listed}
 use Rattle.snapshot.proofs.SortLemmas.{Rises, Rises-rising, has-rising}
 
 -- the rows that pass a test and those that fail it are all rows
@@ -71,73 +71,91 @@ IsCounted concepts attributes relationships concretes =
     ≡ length relationships + length concretes
 
 -- one row more
-count_relationship : (concepts : List ℕ) (attributes : List Attribute) (relationships : List RelationshipRow) (concretes : List ConcreteText) (row : Option RelationshipRow)
+count_relationship : (concepts : List ℕ) (attributes : List Attribute) (relationships : List RelationshipRow) (concretes : List ConcreteText) (row : RelationshipRow) (in_force isa : Bool)
     → IsCounted concepts attributes relationships concretes
-    → IsCounted concepts (cons_option (option_or (option_and_then (attribute_of_relationship concepts) row) None) attributes) (cons_option row relationships) concretes
-count_relationship concepts attributes relationships concretes None counted = counted
-count_relationship concepts attributes relationships concretes (Some row) counted = by (is_in_force concepts row) (row.type_id == is_a)
-  where
-    by : (in_force is : Bool)
-        → length (cons_option (option_or (cond (in_force && not is) (Some (relationship_attribute row)) None) None) attributes)
-        + length (cond (in_force && is) (row ∷ filter (λ (r : RelationshipRow). is_in_force concepts r && (r.type_id == is_a)) relationships) (filter (λ (r : RelationshipRow). is_in_force concepts r && (r.type_id == is_a)) relationships))
-        + length (cond (not in_force) (row ∷ filter (λ (r : RelationshipRow). not (is_in_force concepts r)) relationships) (filter (λ (r : RelationshipRow). not (is_in_force concepts r)) relationships))
-        + failing (is_listed concepts) concretes
-        ≡ suc (length relationships) + length concretes
-    by true true = omega (arith, counted)
-    by true false = omega (arith, counted)
-    by false is = omega (arith, counted)
+    → length (cons_option (cond (in_force && not isa) (Some (relationship_attribute row)) None) attributes)
+    + length (cond (in_force && isa) (row ∷ filter (λ (r : RelationshipRow). is_in_force concepts r && (r.type_id == is_a)) relationships) (filter (λ (r : RelationshipRow). is_in_force concepts r && (r.type_id == is_a)) relationships))
+    + length (cond (not in_force) (row ∷ filter (λ (r : RelationshipRow). not (is_in_force concepts r)) relationships) (filter (λ (r : RelationshipRow). not (is_in_force concepts r)) relationships))
+    + failing (is_listed concepts) concretes
+    ≡ suc (length relationships) + length concretes
+count_relationship concepts attributes relationships concretes row true true counted = omega (arith, counted)
+count_relationship concepts attributes relationships concretes row true false counted = omega (arith, counted)
+count_relationship concepts attributes relationships concretes row false isa counted = omega (arith, counted)
 
-count_concrete : (concepts : List ℕ) (attributes : List Attribute) (relationships : List RelationshipRow) (concretes : List ConcreteText) (row : Option ConcreteText)
+count_concrete : (concepts : List ℕ) (attributes : List Attribute) (relationships : List RelationshipRow) (concretes : List ConcreteText) (row : ConcreteText) (listed : Bool)
     → IsCounted concepts attributes relationships concretes
-    → IsCounted concepts (cons_option (option_and_then (attribute_of_concrete concepts) row) attributes) relationships (cons_option row concretes)
-count_concrete concepts attributes relationships concretes None counted = counted
-count_concrete concepts attributes relationships concretes (Some row) counted = by (is_listed concepts row)
-  where
-    by : (listed : Bool)
-        → length (cons_option (cond listed (Some (concrete_attribute row)) None) attributes) + isa_count concepts relationships + failing (is_in_force concepts) relationships
-        + length (cond (not listed) (row ∷ filter (λ (r : ConcreteText). not (is_listed concepts r)) concretes) (filter (λ (r : ConcreteText). not (is_listed concepts r)) concretes))
-        ≡ length relationships + suc (length concretes)
-    by true = omega (arith, counted)
-    by false = omega (arith, counted)
+    → length (cons_option (cond listed (Some (concrete_attribute row)) None) attributes) + isa_count concepts relationships + failing (is_in_force concepts) relationships
+    + length (cond (not listed) (row ∷ filter (λ (r : ConcreteText). not (is_listed concepts r)) concretes) (filter (λ (r : ConcreteText). not (is_listed concepts r)) concretes))
+    ≡ length relationships + suc (length concretes)
+count_concrete concepts attributes relationships concretes row true counted = omega (arith, counted)
+count_concrete concepts attributes relationships concretes row false counted = omega (arith, counted)
 
-counts_relationships : (concepts : List ℕ) (places : List Place)
-    → IsCounted concepts (attributes_in_force concepts places) (relationship_rows places) (concrete_rows places)
+counts_relationships : (concepts : List ℕ) (rows : List RowText)
+    → IsCounted concepts (attributes_in_force concepts rows) (relationship_rows rows) (concrete_rows rows)
 counts_relationships concepts [] = omega arith
-counts_relationships concepts (no_line file kind ∷ places) = counts_relationships concepts places
-counts_relationships concepts (first_line file kind line ∷ places) = counts_relationships concepts places
-counts_relationships concepts (later_line file Concept line ∷ places) = counts_relationships concepts places
-counts_relationships concepts (later_line file Description line ∷ places) = counts_relationships concepts places
-counts_relationships concepts (later_line file Relationship line ∷ places) =
-    count_relationship concepts (attributes_in_force concepts places) (relationship_rows places) (concrete_rows places)
-    (relationship_row_at (later_line file Relationship line)) (counts_relationships concepts places)
-counts_relationships concepts (later_line file Concrete line ∷ places) =
-    count_concrete concepts (attributes_in_force concepts places) (relationship_rows places) (concrete_rows places)
-    (concrete_row_at (later_line file Concrete line)) (counts_relationships concepts places)
-counts_relationships concepts (later_line file Member line ∷ places) = counts_relationships concepts places
+counts_relationships concepts (of_concept row ∷ rows) = counts_relationships concepts rows
+counts_relationships concepts (of_description row ∷ rows) = counts_relationships concepts rows
+counts_relationships concepts (of_relationship row ∷ rows) =
+    count_relationship concepts (attributes_in_force concepts rows) (relationship_rows rows) (concrete_rows rows) row
+    (is_in_force concepts row) (row.type_id == is_a) (counts_relationships concepts rows)
+counts_relationships concepts (of_concrete row ∷ rows) =
+    count_concrete concepts (attributes_in_force concepts rows) (relationship_rows rows) (concrete_rows rows) row
+    (is_listed concepts row) (counts_relationships concepts rows)
+counts_relationships concepts (of_member row ∷ rows) = counts_relationships concepts rows
 
--- of places without a fault, no two active concept rows have one identifier
-active_apart : (limits : Limits) (places : List Place) → first_fault limits [] places ≡ None
-    → IsDistinct nat_eq (map (λ (row : ConceptRow). row.id) (filter (λ (row : ConceptRow). row.active) (concept_rows places)))
-active_apart limits places clean =
-    active_apart-read limits (kept_of places) places
-    (read_all-is limits [] places ∙ ap (λ fault. kept_unless fault (kept_of places)) clean)
+-- the rows of the kinds are all rows
+all_kinds : (rows : List RowText)
+    → length (concept_rows rows) + length (description_rows rows) + length (relationship_rows rows) + length (concrete_rows rows) + length (member_rows rows) ≡ length rows
+all_kinds [] = refl
+all_kinds (of_concept row ∷ rows) = omega (arith, all_kinds rows)
+all_kinds (of_description row ∷ rows) = omega (arith, all_kinds rows)
+all_kinds (of_relationship row ∷ rows) = omega (arith, all_kinds rows)
+all_kinds (of_concrete row ∷ rows) = omega (arith, all_kinds rows)
+all_kinds (of_member row ∷ rows) = omega (arith, all_kinds rows)
+
+-- the rows that are chosen and those that are not are all rows
+choices_split : (rows earlier later : List RowAt) → length (marked (choices rows earlier later) later) + count_by not (choices rows earlier later) ≡ length later
+choices_split rows earlier [] = refl
+choices_split rows earlier (row ∷ later) =
+    by (is_chosen rows earlier row) (choices rows (earlier ++ row ∷ []) later) (choices_split rows (earlier ++ row ∷ []) later)
+  where
+    by : (mark : Bool) (marks : List Bool) → length (marked marks later) + count_by not marks ≡ length later
+        → length (cond mark (row ∷ marked marks later) (marked marks later)) + count_by not (mark ∷ marks) ≡ suc (length later)
+    by true marks rest = omega (arith, rest, sum_by-append (λ (b : Bool). cond (not b) 1 0) (true ∷ []) marks)
+    by false marks rest = omega (arith, rest, sum_by-append (λ (b : Bool). cond (not b) 1 0) (false ∷ []) marks)
+
+-- of rows of which no two active concepts have one identifier each is listed or passed over
+listed_or_passed : (rows : List RowText) → IsDistinct nat_eq (map (λ (row : ConceptRow). row.id) (filter (λ (row : ConceptRow). row.active) (concept_rows rows)))
+    → listed_count (release_of rows) + passed_texts rows ≡ length rows
+listed_or_passed rows apart =
+    let in_force : List ℕ = concepts_in_force rows in
+    let concepts : length in_force ≡ length (filter (λ (row : ConceptRow). row.active) (concept_rows rows)) =
+    length-rising (map (λ (row : ConceptRow). row.id) (filter (λ (row : ConceptRow). row.active) (concept_rows rows))) apart
+    ∙ length-map (filter (λ (row : ConceptRow). row.active) (concept_rows rows)) (λ (row : ConceptRow). row.id) in
+    let inactive = split (λ (row : ConceptRow). row.active) (concept_rows rows) in
+    let isa : length (isa_in_force in_force rows) ≡ isa_count in_force (relationship_rows rows) =
+    length-map (filter (λ (row : RelationshipRow). is_in_force in_force row && (row.type_id == is_a)) (relationship_rows rows)) (λ (row : RelationshipRow). (row.source_id, row.destination_id)) in
+    let relationships = counts_relationships in_force rows in
+    let members : length (members_in_force in_force rows) ≡ length (filter (λ (row : MemberRow). is_member_in_force in_force row) (member_rows rows)) =
+    length-map (filter (λ (row : MemberRow). is_member_in_force in_force row) (member_rows rows)) (λ (row : MemberRow). (row.refset_id, row.referenced_component_id)) in
+    let other_members = split (λ (row : MemberRow). is_member_in_force in_force row) (member_rows rows) in
+    let names : length (names_in_force in_force rows) ≡ length (filter (λ (row : DescriptionText). is_name row && has in_force row.concept_id) (description_rows rows)) =
+    length-map (filter (λ (row : DescriptionText). is_name row && has in_force row.concept_id) (description_rows rows)) name_on in
+    let other_descriptions = split (λ (row : DescriptionText). is_name row && has in_force row.concept_id) (description_rows rows) in
+    omega (arith, concepts, inactive, isa, relationships, members, other_members, names, other_descriptions, all_kinds rows)
 
 pub counts_passed_rows : CountsPassedRows
 counts_passed_rows limits language files places clean =
-    let concepts : length (concepts_in_force places) ≡ length (filter (λ (row : ConceptRow). row.active) (concept_rows places)) =
-    length-rising (map (λ (row : ConceptRow). row.id) (filter (λ (row : ConceptRow). row.active) (concept_rows places))) (active_apart limits places clean)
-    ∙ length-map (filter (λ (row : ConceptRow). row.active) (concept_rows places)) (λ (row : ConceptRow). row.id) in
-    let inactive = split (λ (row : ConceptRow). row.active) (concept_rows places) in
-    let isa : length (isa_in_force (concepts_in_force places) places) ≡ isa_count (concepts_in_force places) (relationship_rows places) =
-    length-map (filter (λ (row : RelationshipRow). is_in_force (concepts_in_force places) row && (row.type_id == is_a)) (relationship_rows places)) (λ (row : RelationshipRow). (row.source_id, row.destination_id)) in
-    let relationships = counts_relationships (concepts_in_force places) places in
-    let members : length (members_in_force (concepts_in_force places) places) ≡ length (filter (λ (row : MemberRow). is_member_in_force (concepts_in_force places) row) (member_rows places)) =
-    length-map (filter (λ (row : MemberRow). is_member_in_force (concepts_in_force places) row) (member_rows places)) (λ (row : MemberRow). (row.refset_id, row.referenced_component_id)) in
-    let other_members = split (λ (row : MemberRow). is_member_in_force (concepts_in_force places) row) (member_rows places) in
-    let names : length (names_in_force (concepts_in_force places) places) ≡ length (filter (λ (row : DescriptionText). is_name row && has (concepts_in_force places) row.concept_id) (description_rows places)) =
-    length-map (filter (λ (row : DescriptionText). is_name row && has (concepts_in_force places) row.concept_id) (description_rows places)) name_on in
-    let other_descriptions = split (λ (row : DescriptionText). is_name row && has (concepts_in_force places) row.concept_id) (description_rows places) in
-    omega (arith, concepts, inactive, isa, relationships, members, other_members, names, other_descriptions)
+    let rows : List RowAt = rows_of places in
+    let texts : List RowText = map text_of (chosen rows) in
+    let told : listed_count (release_of texts) + passed_texts texts ≡ length texts =
+    listed_or_passed texts (subst (λ (ids : List ℕ). IsDistinct nat_eq ids) (sym (concepts-listed texts)) (active-distinct rows)) in
+    let counted : length texts ≡ length (chosen rows) = length-map (chosen rows) text_of in
+    let split_rows : length (chosen rows) + superseded_rows rows ≡ length rows = choices_split rows [] rows in
+    less (length rows) (listed_count (release_of texts)) (passed_texts texts) (superseded_rows rows) (length texts) (length (chosen rows)) told counted split_rows
+  where
+    less : (all listed passed superseded texts chosen_count : ℕ) → listed + passed ≡ texts → texts ≡ chosen_count → chosen_count + superseded ≡ all → all - listed ≡ superseded + passed
+    less all listed passed superseded texts chosen_count told counted split_rows = omega arith
 
 -- a list of which each number is below all behind it is strictly rising
 increasing-from_Rises : (xs : List ℕ) → Rises xs → IsStrictlyIncreasing xs

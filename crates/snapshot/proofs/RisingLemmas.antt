@@ -66,3 +66,22 @@ has-searched xs rising id (Err i) found =
       | inl before ↦ let below = at.1 k (grind (arith, nat_tests, before)) in grind (arith, nat_tests, below)
       | inr behind ↦ let above = at.2 k (grind (arith, nat_tests, behind)) lt in grind (arith, nat_tests, above)
     ])))
+
+-- a number above the one before a place and below the one at it is not among them
+pub has-between : (xs : List ℕ) → IsStrictlyIncreasing xs → (id i : ℕ) → i ≤ length xs
+    → (0 < i → get_or xs (i - 1) 0 < id) → (i < length xs → id < get_or xs i 0) → has xs id ≡ false
+has-between xs rising id i within above below = list_any_none (nat_eq id) xs differs
+  where
+    differs : All (λ x. nat_eq id x ≡ false) xs
+    differs k d lt = rw (get_or_default xs k d 0 lt) (elim (cases_Bool (nat_lt k i)) [
+      | inl before ↦
+          let first : k < i = grind (arith, nat_tests, before) in
+          let most = not_falling xs rising k (i - 1) (omega (arith, first)) (omega (arith, first, within)) in
+          let less = above (omega (arith, first)) in
+          grind (arith, nat_tests, most, less)
+      | inr behind ↦
+          let last : i ≤ k = grind (arith, nat_tests, behind) in
+          let least = not_falling xs rising i k last lt in
+          let more = below (omega (arith, last, lt)) in
+          grind (arith, nat_tests, least, more)
+    ])

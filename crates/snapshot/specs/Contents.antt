@@ -1,16 +1,23 @@
 -- What a loaded release contains, and which fault a list of files has that is none.
-use Rattle.std.specs.Prelude.{◌↔◌, ◌<◌, Contains, ℕ, ◌-◌, ◌≡◌, ◌≢◌, if◌then◌else◌, List, [], length, filter, find, Option, None, Some, Result, Ok, Err}
+use Rattle.std.specs.Prelude.{◌↔◌, ◌<◌, Contains, ℕ, ◌-◌, ◌≡◌, ◌≢◌, if◌then◌else◌, List, [], length, map, filter, find, Option, None, Some, Result, Ok, Err}
 use Rattle.std.specs.List.{list_any}
 use Rattle.std.specs.List.Sorted.{IsStrictlyIncreasing}
 use Rattle.rf2_rows.specs.Hierarchy.{Reaches, reaches}
+use Rattle.release_files.specs.Source.{FileText}
 use Rattle.rf2_rows.specs.Release.{Release}
+use Rattle.rf2_rows.specs.RowTexts.{RowText, row_text}
 use Rattle.snapshot.specs.Faults.{first_fault}
-use Rattle.snapshot.specs.Files.{FileText, Place, places_from, is_concept_file, has_kind}
-use Rattle.snapshot.specs.InForce.{release_of, row_count, listed_count}
+use Rattle.snapshot.specs.Chosen.{chosen}
+use Rattle.snapshot.specs.Files.{Place, RowAt, places_from, rows_of, is_concept_file, has_kind}
+use Rattle.snapshot.specs.InForce.{release_of, listed_count}
 use Rattle.snapshot.specs.Limits.{limits_in_force}
 use Rattle.snapshot.specs.declared.fault.LoadFault.{LoadFault}
 use Rattle.snapshot.specs.declared.fault.LoadFault.TheVariants.{NoConceptFile, Cycle, Memory}
 use Rattle.snapshot.specs.declared.limits.Limits.{Limits}
+
+-- what a row says
+abbrev pub text_of : RowAt → RowText
+text_of row = row_text row.kind row.text
 
 -- what a snapshot is of: a release, the language whose names come first, how many files have a kind, and
 -- how many rows are in none of the release's lists
@@ -28,14 +35,16 @@ first_cyclic concepts isa = find (λ concept. reaches isa concept concept) conce
 abbrev pub least_cyclic : Release → Option ℕ
 least_cyclic release = first_cyclic release.concepts release.isa
 
--- what the places of files without a fault contain
-abbrev pub contents_of : List ℕ → List FileText → List Place → Contents
-contents_of language files places = record {
-  release = release_of places;
-  language = language;
-  files = length (filter has_kind files);
-  passed = row_count places - listed_count (release_of places);
-}
+-- what the places of so many files without a fault contain: the release that the chosen rows make
+abbrev pub contents_of : List ℕ → ℕ → List Place → Contents
+contents_of language count places =
+    let release = release_of (map text_of (chosen (rows_of places))) in
+    record {
+      release = release;
+      language = language;
+      files = count;
+      passed = length (rows_of places) - listed_count release;
+    }
 
 abbrev pub unless_cyclic : Contents → Option ℕ → Result Contents LoadFault
 unless_cyclic contents None = Ok contents
@@ -45,13 +54,16 @@ abbrev pub unless_faulty : Contents → Option LoadFault → Result Contents Loa
 unless_faulty contents None = unless_cyclic contents (least_cyclic contents.release)
 unless_faulty contents (Some fault) = Err fault
 
--- what a list of files contains, or its first fault: no file with the name of a Concept file; then by file
--- and line; then a cycle
+-- what the places of so many files contain, or their first fault: by file and line, then a cycle
+abbrev pub loaded_from : Limits → List ℕ → ℕ → List Place → Result Contents LoadFault
+loaded_from limits language count places = unless_faulty (contents_of language count places) (first_fault limits [] places)
+
+-- what a list of files contains, or its first fault: no file with the name of a Concept file, or that of
+-- their places
 abbrev pub load_of : Limits → List ℕ → List FileText → Result Contents LoadFault
 load_of limits language files =
-    let places = places_from 0 files in
     if list_any is_concept_file files
-    then unless_faulty (contents_of language files places) (first_fault (limits_in_force limits) [] places)
+    then loaded_from (limits_in_force limits) language (length (filter has_kind files)) (places_from 0 files)
     else Err NoConceptFile
 
 -- a fault that a load answers: the fault of the files, or the want of memory

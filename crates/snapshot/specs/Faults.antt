@@ -1,44 +1,16 @@
 -- The first fault of a list of files.
-use Rattle.std.specs.Prelude.{◌≡◌, ◌↔◌, ℕ, bytes_eq, nat_lt, nat_le, if◌then◌else◌, List, [], ◌∷◌, ◌++◌, length, Option, None, Some}
+use Rattle.std.specs.Prelude.{◌≡◌, ◌↔◌, ℕ, bytes_eq, count_by, nat_lt, nat_le, if◌then◌else◌, List, [], ◌∷◌, ◌++◌, Option, None, Some, option_and_then, option_map}
+use Rattle.std.specs.List.{list_any}
 use Rattle.rf2_rows.specs.Columns.{header_of}
-use Rattle.rf2_rows.specs.Rows.{row_fault, concept_row, concrete_row, description_row, member_row, relationship_row}
-use Rattle.rf2_rows.specs.declared.fault.RowFault.{RowFault}
+use Rattle.rf2_rows.specs.Rows.{row_fault}
 use Rattle.rf2_rows.specs.declared.kind.FileKind.{FileKind}
-use Rattle.rf2_rows.specs.declared.kind.FileKind.TheVariants.{Concept, Concrete, Description, Member, Relationship}
 use Rattle.release_files.specs.Lines.{LineText}
-use Rattle.snapshot.specs.Files.{Place, no_line, first_line, later_line}
-use Rattle.snapshot.specs.InForce.{has, ids_of, member_number}
+use Rattle.snapshot.specs.Chosen.{conflicts, same_kind}
+use Rattle.snapshot.specs.Files.{Place, RowAt, no_line, first_line, later_line, row_at, rows_of}
 use Rattle.snapshot.specs.Limits.{row_limit}
 use Rattle.snapshot.specs.declared.fault.LoadFault.{LoadFault}
-use Rattle.snapshot.specs.declared.fault.LoadFault.TheVariants.{Header, Row, Duplicate, TooMany}
+use Rattle.snapshot.specs.declared.fault.LoadFault.TheVariants.{Header, Row, Conflict, TooMany}
 use Rattle.snapshot.specs.declared.limits.Limits.{Limits}
-
--- the identifier of the row that an accepted line of a kind is
-abbrev pub id_on : FileKind → List ℕ → ℕ
-id_on Concept line = (concept_row line).id
-id_on Description line = (description_row line).id
-id_on Relationship line = (relationship_row line).id
-id_on Concrete line = (concrete_row line).id
-id_on Member line = member_number (member_row line)
-
--- the fault of a row by its identifier, where the earlier rows of its kind have these identifiers and so
--- many rows are allowed
-abbrev pub fault_of_id : ℕ → ℕ → List ℕ → ℕ → ℕ → Option LoadFault
-fault_of_id file line earlier limit id =
-    if has earlier id then Some (Duplicate file line)
-    else if nat_le limit (length earlier) then Some (TooMany file line)
-    else None
-
--- the fault of the row on a line, where the text may be no row of its kind
-abbrev pub fault_of_row : ℕ → ℕ → FileKind → List ℕ → ℕ → List ℕ → Option RowFault → Option LoadFault
-fault_of_row file line kind earlier limit text (Some fault) = Some (Row file line fault)
-fault_of_row file line kind earlier limit text None = fault_of_id file line earlier limit (id_on kind text)
-
--- the fault of a line behind the header that is within the limit of bytes: an empty one has none
-abbrev pub fault_of_later : ℕ → ℕ → FileKind → List ℕ → ℕ → List ℕ → Option LoadFault
-fault_of_later file line kind earlier limit [] = None
-fault_of_later file line kind earlier limit (byte ∷ bytes) =
-    fault_of_row file line kind earlier limit (byte ∷ bytes) (row_fault kind (byte ∷ bytes))
 
 -- the fault of a first line
 abbrev pub fault_of_first : Limits → ℕ → FileKind → LineText → Option LoadFault
@@ -47,21 +19,44 @@ fault_of_first limits file kind line =
     else if bytes_eq line.bytes (header_of kind) then None
     else Some (Header file)
 
--- the fault at a place, where the earlier rows of each kind have these identifiers
-abbrev pub fault_after : Limits → (FileKind → List ℕ) → Place → Option LoadFault
-fault_after limits earlier (no_line file kind) = Some (Header file)
-fault_after limits earlier (first_line file kind line) = fault_of_first limits file kind line
-fault_after limits earlier (later_line file kind line) =
-    if nat_lt limits.bytes line.end then Some (TooMany file line.number)
-    else fault_of_later file line.number kind (earlier kind) (row_limit limits kind) line.bytes
+-- the fault of a line behind the header by itself: an empty one has none but its length
+abbrev pub fault_of_text : ℕ → ℕ → FileKind → List ℕ → Option LoadFault
+fault_of_text file line kind [] = None
+fault_of_text file line kind (byte ∷ bytes) = option_map (λ fault. Row file line fault) (row_fault kind (byte ∷ bytes))
 
--- the fault at a place behind others
-abbrev pub fault_at : Limits → List Place → Place → Option LoadFault
-fault_at limits before place = fault_after limits (λ kind. ids_of kind before) place
+-- the fault that stands at a place, whatever stands before it
+abbrev pub fault_here : Limits → Place → Option LoadFault
+fault_here limits (no_line file kind) = Some (Header file)
+fault_here limits (first_line file kind line) = fault_of_first limits file kind line
+fault_here limits (later_line file kind line) =
+    if nat_lt limits.bytes line.end then Some (TooMany file line.number) else fault_of_text file line.number kind line.bytes
 
+-- how many rows are of a kind
+abbrev pub count_of_kind : FileKind → List RowAt → ℕ
+count_of_kind kind rows = count_by (λ row. same_kind row.kind kind) rows
+
+-- a row conflicts with an earlier one
+abbrev pub conflict_behind : List RowAt → RowAt → Option LoadFault
+conflict_behind earlier row = if list_any (λ other. conflicts other row) earlier then Some (Conflict row.file row.line) else None
+
+-- there are as many rows of its kind before it as may be
+abbrev pub crowd_behind : Limits → List RowAt → RowAt → Option LoadFault
+crowd_behind limits earlier row =
+    if nat_le (row_limit limits row.kind) (count_of_kind row.kind earlier) then Some (TooMany row.file row.line) else None
+
+-- a fault, or else a later one
 abbrev pub first_of : Option LoadFault → Option LoadFault → Option LoadFault
 first_of (Some fault) later = Some fault
 first_of None later = later
+
+-- the fault of a row behind the earlier ones
+abbrev pub fault_behind : Limits → List RowAt → RowAt → Option LoadFault
+fault_behind limits earlier row = first_of (conflict_behind earlier row) (crowd_behind limits earlier row)
+
+-- the fault at a place behind others
+abbrev pub fault_at : Limits → List Place → Place → Option LoadFault
+fault_at limits before place =
+    first_of (fault_here limits place) (option_and_then (fault_behind limits (rows_of before)) (row_at place))
 
 -- the fault of the first of the later places that has one
 abbrev pub first_fault : Limits → List Place → List Place → Option LoadFault

@@ -1,18 +1,11 @@
 -- The files of a release as one list of places, in the order of the files and their lines.
 use Rattle.std.specs.Prelude.{ℕ, ◌+◌, List, [], ◌∷◌, ◌++◌, map, Option, None, Some, Bool, true, false, is_some}
+use Rattle.std.specs.List.{filter_map}
 use Rattle.rf2_rows.specs.Files.{file_kind_of}
 use Rattle.rf2_rows.specs.declared.kind.FileKind.{FileKind}
 use Rattle.rf2_rows.specs.declared.kind.FileKind.TheVariants.{Concept}
 use Rattle.release_files.specs.Lines.{LineText, lines_of}
-use Rattle.release_files.specs.declared.NamedBytes.{NamedBytes}
-
--- a file: its name and what it holds
-pub record FileText : Type 0 where
-  pub name : List ℕ
-  pub bytes : List ℕ
-
-abbrev pub file_text : NamedBytes → FileText
-file_text file = record { name = file.name.now; bytes = file.bytes.now }
+use Rattle.release_files.specs.Source.{FileText}
 
 -- what is met in a file that has a kind: that it has no line, its first line, or a later one. A file is
 -- named by its place in the list, from 0
@@ -50,3 +43,24 @@ is_concept_file text = is_concept_kind (file_kind_of text.name)
 -- the file has the name of a file of some kind
 abbrev pub has_kind : FileText → Bool
 has_kind text = is_some (file_kind_of text.name)
+
+-- a row: the place of its file in the list, the number of its line, its kind and its line
+pub record RowAt : Type 0 where
+  pub file : ℕ
+  pub line : ℕ
+  pub kind : FileKind
+  pub text : List ℕ
+
+-- the row on a line behind the header: an empty line has none
+abbrev pub row_on : ℕ → FileKind → ℕ → List ℕ → Option RowAt
+row_on file kind line [] = None
+row_on file kind line (byte ∷ bytes) = Some (record { file = file; line = line; kind = kind; text = byte ∷ bytes })
+
+-- the row at a place
+abbrev pub row_at : Place → Option RowAt
+row_at (later_line file kind line) = row_on file kind line.number line.bytes
+row_at other = None
+
+-- the rows of all kinds, in the order of the files and their lines
+abbrev pub rows_of : List Place → List RowAt
+rows_of places = filter_map row_at places

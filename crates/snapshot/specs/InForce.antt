@@ -1,93 +1,57 @@
 -- The rows of a release that are in force (Release File Specification, "Concept file", "Description
 -- file", "Relationship file", "Relationship concrete values file" and "Simple reference set"; the
 -- inferred view).
-use Rattle.std.specs.Prelude.{◌↔◌, ℕ, ◌+◌, ◌==◌, ◌&&◌, Bool, not, nat_lt, if◌then◌else◌, List, [], ◌∷◌, length, map, filter, Option, None, Some, option_and_then}
-use Rattle.std.specs.Int.{w128, from_be_bytes}
+use Rattle.std.specs.Prelude.{◌↔◌, ℕ, ◌+◌, ◌==◌, ◌&&◌, Bool, not, nat_lt, if◌then◌else◌, List, [], ◌∷◌, length, map, filter, Option, None, Some}
 use Rattle.std.specs.List.{Contains, filter_map, list_any}
 use Rattle.std.specs.List.Sorted.{IsStrictlyIncreasing}
-use Rattle.std.specs.Option.{option_or}
-use Rattle.rf2_rows.specs.Rows.{ConcreteText, DescriptionText, concept_row, concrete_row, description_row, member_row, relationship_row}
+use Rattle.rf2_rows.specs.RowTexts.{RowText, of_concept, of_concrete, of_description, of_member, of_relationship}
+use Rattle.rf2_rows.specs.Rows.{ConcreteText, DescriptionText}
 use Rattle.rf2_rows.specs.Release.{Attribute, Name, Release, concept_value}
-use Rattle.rf2_rows.specs.declared.kind.FileKind.{FileKind}
-use Rattle.rf2_rows.specs.declared.kind.FileKind.TheVariants.{Concept, Concrete, Description, Member, Relationship}
 use Rattle.rf2_rows.specs.declared.row.ConceptRow.{ConceptRow}
 use Rattle.rf2_rows.specs.declared.row.MemberRow.{MemberRow}
 use Rattle.rf2_rows.specs.declared.row.RelationshipRow.{RelationshipRow}
-use Rattle.snapshot.specs.Files.{Place, later_line}
 use Rattle.snapshot.specs.Metadata.{fully_specified_name, inferred_relationship, is_a}
 
--- the concept row that stands at a place: behind the header, on a line that is not empty
-abbrev pub concept_row_at : Place → Option ConceptRow
-concept_row_at (later_line file Concept line) = row_on line.bytes
-  where
-    row_on : List ℕ → Option ConceptRow
-    row_on [] = None
-    row_on (byte ∷ bytes) = Some (concept_row (byte ∷ bytes))
-concept_row_at other = None
+-- the row of a concept, if it is one
+abbrev pub concept_in : RowText → Option ConceptRow
+concept_in (of_concept row) = Some row
+concept_in other = None
 
--- the description row that stands at a place
-abbrev pub description_row_at : Place → Option DescriptionText
-description_row_at (later_line file Description line) = row_on line.bytes
-  where
-    row_on : List ℕ → Option DescriptionText
-    row_on [] = None
-    row_on (byte ∷ bytes) = Some (description_row (byte ∷ bytes))
-description_row_at other = None
+-- the row of a description
+abbrev pub description_in : RowText → Option DescriptionText
+description_in (of_description row) = Some row
+description_in other = None
 
--- the relationship row that stands at a place
-abbrev pub relationship_row_at : Place → Option RelationshipRow
-relationship_row_at (later_line file Relationship line) = row_on line.bytes
-  where
-    row_on : List ℕ → Option RelationshipRow
-    row_on [] = None
-    row_on (byte ∷ bytes) = Some (relationship_row (byte ∷ bytes))
-relationship_row_at other = None
+-- the row of a relationship between concepts
+abbrev pub relationship_in : RowText → Option RelationshipRow
+relationship_in (of_relationship row) = Some row
+relationship_in other = None
 
--- the row of a concrete value that stands at a place
-abbrev pub concrete_row_at : Place → Option ConcreteText
-concrete_row_at (later_line file Concrete line) = row_on line.bytes
-  where
-    row_on : List ℕ → Option ConcreteText
-    row_on [] = None
-    row_on (byte ∷ bytes) = Some (concrete_row (byte ∷ bytes))
-concrete_row_at other = None
+-- the row of a concrete value
+abbrev pub concrete_in : RowText → Option ConcreteText
+concrete_in (of_concrete row) = Some row
+concrete_in other = None
 
--- the member row that stands at a place
-abbrev pub member_row_at : Place → Option MemberRow
-member_row_at (later_line file Member line) = row_on line.bytes
-  where
-    row_on : List ℕ → Option MemberRow
-    row_on [] = None
-    row_on (byte ∷ bytes) = Some (member_row (byte ∷ bytes))
-member_row_at other = None
+-- the row of a member
+abbrev pub member_in : RowText → Option MemberRow
+member_in (of_member row) = Some row
+member_in other = None
 
 -- all rows of a kind, in force or not
-abbrev pub concept_rows : List Place → List ConceptRow
-concept_rows places = filter_map concept_row_at places
+abbrev pub concept_rows : List RowText → List ConceptRow
+concept_rows rows = filter_map concept_in rows
 
-abbrev pub description_rows : List Place → List DescriptionText
-description_rows places = filter_map description_row_at places
+abbrev pub description_rows : List RowText → List DescriptionText
+description_rows rows = filter_map description_in rows
 
-abbrev pub relationship_rows : List Place → List RelationshipRow
-relationship_rows places = filter_map relationship_row_at places
+abbrev pub relationship_rows : List RowText → List RelationshipRow
+relationship_rows rows = filter_map relationship_in rows
 
-abbrev pub concrete_rows : List Place → List ConcreteText
-concrete_rows places = filter_map concrete_row_at places
+abbrev pub concrete_rows : List RowText → List ConcreteText
+concrete_rows rows = filter_map concrete_in rows
 
-abbrev pub member_rows : List Place → List MemberRow
-member_rows places = filter_map member_row_at places
-
--- the identifier of a member row, a UUID, read as a number
-abbrev pub member_number : MemberRow → ℕ
-member_number row = from_be_bytes w128 row.id
-
--- the identifiers of all rows of a kind
-abbrev pub ids_of : FileKind → List Place → List ℕ
-ids_of Concept places = map (λ (row : ConceptRow). row.id) (concept_rows places)
-ids_of Description places = map (λ (row : DescriptionText). row.id) (description_rows places)
-ids_of Relationship places = map (λ (row : RelationshipRow). row.id) (relationship_rows places)
-ids_of Concrete places = map (λ (row : ConcreteText). row.id) (concrete_rows places)
-ids_of Member places = map member_number (member_rows places)
+abbrev pub member_rows : List RowText → List MemberRow
+member_rows rows = filter_map member_in rows
 
 -- a number is among others
 abbrev pub has : List ℕ → ℕ → Bool
@@ -114,8 +78,8 @@ abbrev pub rows_among : List ℕ → List (ℕ × ℕ) → List (ℕ × ℕ)
 rows_among concepts rows = filter (λ (row : ℕ × ℕ). has concepts row.0 && has concepts row.1) rows
 
 -- a concept row is in force where it is active
-abbrev pub concepts_in_force : List Place → List ℕ
-concepts_in_force places = rising (map (λ (row : ConceptRow). row.id) (filter (λ (row : ConceptRow). row.active) (concept_rows places)))
+abbrev pub concepts_in_force : List RowText → List ℕ
+concepts_in_force rows = rising (map (λ (row : ConceptRow). row.id) (filter (λ (row : ConceptRow). row.active) (concept_rows rows)))
 
 -- a relationship row is in force where it is active and inferred and both its ends are concepts in force
 abbrev pub is_in_force : List ℕ → RelationshipRow → Bool
@@ -123,10 +87,10 @@ is_in_force concepts row =
     row.active && (row.characteristic_type_id == inferred_relationship) && has concepts row.source_id && has concepts row.destination_id
 
 -- the is-a rows: the rows in force whose type is |Is a|
-abbrev pub isa_in_force : List ℕ → List Place → List (ℕ × ℕ)
-isa_in_force concepts places =
+abbrev pub isa_in_force : List ℕ → List RowText → List (ℕ × ℕ)
+isa_in_force concepts rows =
     map (λ (row : RelationshipRow). (row.source_id, row.destination_id))
-    (filter (λ (row : RelationshipRow). is_in_force concepts row && (row.type_id == is_a)) (relationship_rows places))
+    (filter (λ (row : RelationshipRow). is_in_force concepts row && (row.type_id == is_a)) (relationship_rows rows))
 
 -- a row of a concrete value is in force where it is active and inferred and its source is a concept in force
 abbrev pub is_concrete_in_force : List ℕ → ConcreteText → Bool
@@ -159,24 +123,24 @@ abbrev pub attribute_of_concrete : List ℕ → ConcreteText → Option Attribut
 attribute_of_concrete concepts row =
     if is_concrete_in_force concepts row && not (row.type_id == is_a) then Some (concrete_attribute row) else None
 
--- the attribute row in force that stands at a place, of either kind
-abbrev pub attribute_at : List ℕ → Place → Option Attribute
-attribute_at concepts place =
-    option_or (option_and_then (attribute_of_relationship concepts) (relationship_row_at place))
-    (option_and_then (attribute_of_concrete concepts) (concrete_row_at place))
+-- the attribute row in force that a row of either kind is
+abbrev pub attribute_in : List ℕ → RowText → Option Attribute
+attribute_in concepts (of_relationship row) = attribute_of_relationship concepts row
+attribute_in concepts (of_concrete row) = attribute_of_concrete concepts row
+attribute_in concepts other = None
 
 -- the attribute rows
-abbrev pub attributes_in_force : List ℕ → List Place → List Attribute
-attributes_in_force concepts places = filter_map (attribute_at concepts) places
+abbrev pub attributes_in_force : List ℕ → List RowText → List Attribute
+attributes_in_force concepts rows = filter_map (attribute_in concepts) rows
 
 -- a member row is in force where it is active and both its reference set and its component are concepts in force
 abbrev pub is_member_in_force : List ℕ → MemberRow → Bool
 is_member_in_force concepts row = row.active && has concepts row.refset_id && has concepts row.referenced_component_id
 
-abbrev pub members_in_force : List ℕ → List Place → List (ℕ × ℕ)
-members_in_force concepts places =
+abbrev pub members_in_force : List ℕ → List RowText → List (ℕ × ℕ)
+members_in_force concepts rows =
     map (λ (row : MemberRow). (row.refset_id, row.referenced_component_id))
-    (filter (λ (row : MemberRow). is_member_in_force concepts row) (member_rows places))
+    (filter (λ (row : MemberRow). is_member_in_force concepts row) (member_rows rows))
 
 -- the name row that a description row is
 abbrev pub name_on : DescriptionText → Name
@@ -187,27 +151,21 @@ abbrev pub is_name : DescriptionText → Bool
 is_name row = row.active && (row.type_id == fully_specified_name)
 
 -- it is in force where its concept is, too
-abbrev pub names_in_force : List ℕ → List Place → List Name
-names_in_force concepts places =
-    map name_on (filter (λ (row : DescriptionText). is_name row && has concepts row.concept_id) (description_rows places))
+abbrev pub names_in_force : List ℕ → List RowText → List Name
+names_in_force concepts rows =
+    map name_on (filter (λ (row : DescriptionText). is_name row && has concepts row.concept_id) (description_rows rows))
 
--- the release that the places hold
-abbrev pub release_of : List Place → Release
-release_of places =
-    let concepts = concepts_in_force places in
+-- the release that rows make
+abbrev pub release_of : List RowText → Release
+release_of rows =
+    let concepts = concepts_in_force rows in
     record {
       concepts = concepts;
-      isa = isa_in_force concepts places;
-      attributes = attributes_in_force concepts places;
-      members = members_in_force concepts places;
-      names = names_in_force concepts places;
+      isa = isa_in_force concepts rows;
+      attributes = attributes_in_force concepts rows;
+      members = members_in_force concepts rows;
+      names = names_in_force concepts rows;
     }
-
--- how many rows there are, in force or not
-abbrev pub row_count : List Place → ℕ
-row_count places =
-    length (concept_rows places) + length (description_rows places) + length (relationship_rows places)
-    + length (concrete_rows places) + length (member_rows places)
 
 -- how many rows the lists of a release have
 abbrev pub listed_count : Release → ℕ

@@ -1,5 +1,5 @@
 -- How much a load takes in at the most.
-use Rattle.std.specs.Prelude.{ℕ, min, max}
+use Rattle.std.specs.Prelude.{ℕ, ◌-◌, min, max}
 use Rattle.rf2_rows.specs.declared.kind.FileKind.{FileKind}
 use Rattle.rf2_rows.specs.declared.kind.FileKind.TheVariants.{Concept, Concrete, Description, Member, Relationship}
 use Rattle.snapshot.specs.declared.limits.Limits.{Limits}
@@ -34,3 +34,11 @@ row_limit limits Description = limits.descriptions
 row_limit limits Relationship = limits.relationships
 row_limit limits Concrete = limits.concrete
 row_limit limits Member = limits.members
+
+-- how many rows may come behind one of a kind
+abbrev pub left_behind : Limits → FileKind → Limits
+left_behind left Concept = record left { concepts = left.concepts - 1 }
+left_behind left Description = record left { descriptions = left.descriptions - 1 }
+left_behind left Relationship = record left { relationships = left.relationships - 1 }
+left_behind left Concrete = record left { concrete = left.concrete - 1 }
+left_behind left Member = record left { members = left.members - 1 }

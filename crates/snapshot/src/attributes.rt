@@ -5,7 +5,9 @@ ghost use Rattle.rf2_rows.specs.Rows.{value_lent};
 ghost use Rattle.snapshot.specs.AttributesInside.{IsWithinTexts, attribute_read, value_in};
 ghost use Rattle.snapshot.specs.InForce.{has};
 ghost use Rattle.snapshot.specs.Kept.{attributes_among, is_value_among};
+ghost use Rattle.snapshot.specs.Listed.{in_list, items_chosen};
 
+use crate::row_lists::{Listing, chosen_items};
 use indexmap::IndexSet;
 use rf2_rows::{Decimal, Value};
 use sctid::SctId;
@@ -107,6 +109,26 @@ impl Attributes {
             group,
             value: kept,
         })?;
+        Ok(())
+    }
+
+    /// Leaves the rows that are made of chosen rows of the release, where for each of these it is told
+    /// which list it is in and whether it is chosen.
+    pub fn choose(
+        &mut self,
+        alloc: Global,
+        marks: &[Listing],
+        choices: &[bool],
+    ) -> Result<(), AllocError>
+        ensures { OnOk result (self.new ≡ items_chosen (in_list Listing.Attribute marks.now) choices.now self.old) }
+    {
+        self.rows = chosen_items(
+            alloc,
+            self.rows.as_slice(),
+            marks,
+            Listing::Attribute,
+            choices,
+        )?;
         Ok(())
     }
 

@@ -27,9 +27,10 @@ pub enum LoadFault {
         /// What is wrong with it.
         fault: RowFault,
     },
-    /// An earlier row of the same kind, active or not, has the same identifier.
-    #[error("file {file}, line {line}: the identifier stands in an earlier row")]
-    Duplicate {
+    /// An earlier row of the same kind, active or not, has the same identifier and the same effective
+    /// time, and differs in another column.
+    #[error("file {file}, line {line}: the row conflicts with an earlier one")]
+    Conflict {
         /// The file.
         file: usize,
         /// The line of the later row.
@@ -46,6 +47,12 @@ pub enum LoadFault {
     /// This concept, the least such, reaches itself by is-a rows. This is looked for last.
     #[error("concept {} is its own descendant", .0.number())]
     Cycle(SctId),
+    /// The device failed: at the file, or where the files were listed.
+    #[error("a file could not be read")]
+    Device {
+        /// The file.
+        file: Option<usize>,
+    },
     /// A growth of memory was refused.
     #[error("out of memory")]
     Memory,
@@ -55,7 +62,7 @@ impl LoadFault {
     ghost use Rattle.std.specs.Prelude.{◌≡◌};
     ghost use Rattle.snapshot.specs.FaultNumbers.{fault_number};
 
-    /// The number of the fault, from 1. 7 is kept for the failure of a device.
+    /// The number of the fault, from 1.
     pub fn number(self) -> u8
         ensures { result ≡ fault_number self }
     {
@@ -63,9 +70,10 @@ impl LoadFault {
             LoadFault::NoConceptFile => 1,
             LoadFault::Header { .. } => 2,
             LoadFault::Row { .. } => 3,
-            LoadFault::Duplicate { .. } => 4,
+            LoadFault::Conflict { .. } => 4,
             LoadFault::TooMany { .. } => 5,
             LoadFault::Cycle(_) => 6,
+            LoadFault::Device { .. } => 7,
             LoadFault::Memory => 8,
         }
     }

@@ -2,12 +2,14 @@
 #![tactic(auto)]
 
 mod attributes;
+mod choosing;
+mod comparing;
 mod components;
 mod cycle;
 mod fault;
-mod identifiers;
 mod kept_names;
 mod keyed_lists;
+mod keys;
 mod laws;
 mod limits;
 mod lines;
@@ -15,9 +17,14 @@ mod load;
 mod names;
 mod numbering;
 mod order;
+mod pieces;
+mod places;
+mod repeated;
 mod report;
+mod row_lists;
 mod rows;
 mod sorted_attributes;
+mod versions;
 
 pub use crate::fault::LoadFault;
 pub use crate::keyed_lists::KeyedLists;

@@ -1,4 +1,7 @@
 //! How much a load takes in at the most.
+ghost use Rattle.std.specs.Prelude.{◌≡◌, ◌-◌, nat_le, not};
+
+use rf2_rows::FileKind;
 
 /// Limits of a load: numbers of rows, all files of a kind together, and bytes of a file. A field
 /// above its value in `standard` counts as that value, and `bytes` below 3 as 3.
@@ -31,8 +34,7 @@ const STANDARD: Limits = Limits {
 const LEAST_BYTES: u64 = 3;
 
 impl Limits {
-    ghost use Rattle.std.specs.Prelude.{◌≡◌};
-    ghost use Rattle.snapshot.specs.Limits.{limits_in_force, standard_limits};
+    ghost use Rattle.snapshot.specs.Limits.{left_behind, limits_in_force, row_limit, standard_limits};
 
     /// The limits that a load has by itself: 4,000,000 concept rows, 20,000,000 description rows,
     /// 20,000,000 relationship rows, 4,000,000 rows of concrete values, 20,000,000 member rows and
@@ -56,4 +58,30 @@ impl Limits {
             bytes: self.bytes.min(STANDARD.bytes).max(LEAST_BYTES),
         }
     }
+
+    /// Takes one from the rows of a kind, and tells whether there was one.
+    pub(crate) fn take(&mut self, kind: FileKind) -> bool
+        ensures room { result ≡ not (nat_le (row_limit self.old kind) 0) }
+        ensures left { self.new ≡ left_behind self.old kind }
+    {
+        match kind {
+            FileKind::Concept => take_one(&mut self.concepts),
+            FileKind::Description => take_one(&mut self.descriptions),
+            FileKind::Relationship => take_one(&mut self.relationships),
+            FileKind::Concrete => take_one(&mut self.concrete),
+            FileKind::Member => take_one(&mut self.members),
+        }
+    }
+}
+
+// Takes one from a count, and tells whether there was one.
+fn take_one(count: &mut u64) -> bool
+    ensures room { result ≡ not (nat_le count.old 0) }
+    ensures left { count.new ≡ count.old - 1 }
+{
+    if *count == 0 {
+        return false;
+    }
+    *count -= 1;
+    true
 }

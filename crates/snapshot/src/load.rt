@@ -1,23 +1,29 @@
 //! Loading a release, and reading it.
-ghost use Rattle.std.specs.Prelude.{◌≡◌, ◌<◌, ◌^◌, ℕ, List, Err, None, Some, Ok, false, true, IfOk, IfErr, OnOk, map, length, slice_index, string_bytes, count_by, nat_eq};
-ghost use Rattle.std.specs.List.{filter_map, list_any, slice_get, IsDistinct};
+ghost use Rattle.std.specs.Prelude.{◌≡◌, ◌<◌, ◌≤◌, ◌^◌, ◌⊎◌, ℕ, List, Err, None, Some, Ok, false, true, IfOk, IfErr, IfSome, OnOk, is_some, map, length, slice_index, string_bytes, count_by};
+ghost use Rattle.std.specs.List.{filter_map, list_any, slice_get};
 ghost use Rattle.std.specs.List.Sorted.{IsStrictlyIncreasing};
 ghost use Rattle.snapshot.specs.AttributesBySource.{attribute_of, attributes_by_source, with_source};
-ghost use Rattle.snapshot.specs.Contents.{IsFaultOf, first_cyclic, load_of};
-ghost use Rattle.snapshot.specs.Files.{file_text, has_kind as has_kind_of, is_concept_file as is_concept_file_of, places_from};
+ghost use Rattle.snapshot.specs.Contents.{IsFaultOf, first_cyclic, load_of, loaded_from};
+ghost use Rattle.release_files.specs.Source.{file_text};
+ghost use Rattle.snapshot.specs.Files.{has_kind as has_kind_of, is_concept_file as is_concept_file_of, is_concept_kind};
+ghost use Rattle.snapshot.specs.Pieces.{AreInOrder, FailsToList, IsUnlisted, listed, listing_fault};
+ghost use Rattle.snapshot.specs.Seen.{row_total};
+ghost use Rattle.snapshot.specs.Taking.{FailsBelow, is_device};
+ghost use Rattle.rf2_rows.specs.Files.{file_kind_of};
 ghost use Rattle.snapshot.specs.InForce.{rising as rising_of, rows_among};
-ghost use Rattle.snapshot.specs.Kept.{AreValuesInForce, IsApart, attributes_among, is_value_among, names_among, IsCycle, IsFaultIn, finished, nothing_kept, read_all};
+ghost use Rattle.snapshot.specs.Kept.{AreFew, AreValuesInForce, attributes_among, is_value_among, names_among, IsCycle, finished};
+ghost use Rattle.snapshot.specs.ListsInside.{listed_in};
 ghost use Rattle.snapshot.specs.Line.{concept_line};
 ghost use Rattle.snapshot.specs.Name.{name_among, name_of, text_lent};
 ghost use Rattle.snapshot.specs.Numbering.{number_of, numbered_row, row_of_numbers};
 ghost use Rattle.rf2_rows.specs.Hierarchy.{Reaches};
 ghost use Rattle.rf2_rows.specs.Rows.{value_lent};
 ghost use Rattle.snapshot.specs.ParentsFirst.{IsParentsFirst};
-ghost use Rattle.snapshot.specs.RowsKept.{kept_in};
 ghost use Rattle.snapshot.specs.Search.{IsLeastCycle, IsWithin};
 ghost use Rattle.snapshot.specs.Sorted.{IsSortedBySource, in_file_order};
 
 use crate::attributes::Attributes;
+use crate::choosing::{ReadRows, TOO_MANY_ROWS, read_rows};
 use crate::cycle::least_cyclic;
 use crate::fault::LoadFault;
 use crate::limits::Limits;
@@ -25,11 +31,13 @@ use crate::lines::{ConceptLines, lines_among};
 use crate::names::Names;
 use crate::numbering::{number_concepts, number_of, number_rows};
 use crate::order::parents_first;
+use crate::pieces::PiecePlaces;
+use crate::places::{MemoryPlaces, PlaceSource};
 use crate::report::Report;
-use crate::rows::{ActiveRows, Rows};
+use crate::row_lists::RowLists;
 use crate::sorted_attributes::{AttributeRow, SortedAttributes, sort_by_source};
 use indexmap::IndexSet;
-use release_files::NamedBytes;
+use release_files::{FileSource, NamedBytes, SourceFault};
 use rf2_rows::{FileKind, file_kind};
 use sctid::SctId;
 use std::alloc::{AllocError, Global};
@@ -78,7 +86,7 @@ impl Snapshot {
     /// Loads the Snapshot files of a list, and passes over the others. The faults, of which the
     /// first is answered, are looked for in this order: `NoConceptFile` on the names alone; then
     /// file by file and line by line `TooMany` by bytes, `Header` on line 1 or in a file without
-    /// lines, `Row`, `Duplicate`, `TooMany` by rows; last `Cycle`. `Memory` is answered where a
+    /// lines, `Row`, `Conflict`, `TooMany` by rows; last `Cycle`. `Memory` is answered where a
     /// growth is refused, and never where no file has the name of a Concept file. `lang` is the
     /// language code whose names come first.
     pub fn load(
@@ -94,14 +102,44 @@ impl Snapshot {
         if !has_concept_file(files) {
             return Err(LoadFault::NoConceptFile);
         }
-        let limits = limits.in_force();
-        match read_files(alloc, files, &limits) {
-            Ok(rows) => {
-                let language = String::from_str(alloc, lang)?;
-                finish(alloc, rows, language, kind_count(files))
-            }
-            Err(fault) => Err(fault),
+        let mut places = MemoryPlaces { files };
+        load_places(
+            alloc,
+            &mut places,
+            lang,
+            limits.in_force(),
+            kind_count(files),
+        )
+    }
+
+    /// Loads the files that a source lists, in the byte order of their names, as `load` does, each
+    /// read in pieces and no further than one byte past the limit. `names` is left with the names in
+    /// that order, by which a fault names a file: with none where the source doesn't list them.
+    ///
+    /// Where the source fails, that is answered as `Device`, and nothing is left behind. A source
+    /// that lists a name twice has the first file of that name twice.
+    pub fn load_from<S: FileSource>(
+        alloc: Global,
+        source: &mut S,
+        names: &mut Vec<String>,
+        lang: &str,
+        limits: Limits,
+    ) -> Result<Snapshot, LoadFault>
+        ensures ok { IfSome (S.files source.old) (λ known. IfOk result (λ snapshot. load_of limits lang.now (listed known (map string_bytes names.new.items)) ≡ Ok snapshot)) }
+        ensures err { IfSome (S.files source.old) (λ known. IfErr result (λ fault. is_device fault ≡ false → IsFaultOf fault (load_of limits lang.now (listed known (map string_bytes names.new.items))))) }
+        ensures names { IfSome (S.files source.old) (λ known. AreInOrder known (map string_bytes names.new.items) ⊎ IsUnlisted result (map string_bytes names.new.items)) }
+        ensures device { IfErr result (λ fault. is_device fault ≡ true
+            → FailsToList (S.failure_count source.old) (S.failure_count source.new) (map string_bytes names.new.items) fault
+            ⊎ FailsBelow (length names.new.items) (S.failure_count source.old) (S.failure_count source.new) fault) }
+        ensures failures { S.failure_count source.old ≤ S.failure_count source.new }
+    {
+        names.clear();
+        match source.list() {
+            Ok(listed) => *names = listed,
+            Err(fault) => return Err(listing_fault(fault)),
         }
+        names.sort_unstable();
+        load_named(alloc, source, names.as_slice(), lang, limits)
     }
 
     /// How many concepts are in force: fewer than 2^31.
@@ -221,6 +259,70 @@ impl Snapshot {
     }
 }
 
+// Loads the files of these names, each of which a source reads in pieces.
+fn load_named<S: FileSource>(
+    alloc: Global,
+    source: &mut S,
+    names: &[String],
+    lang: &str,
+    limits: Limits,
+) -> Result<Snapshot, LoadFault>
+    ensures ok { IfSome (S.files source.old) (λ known. IfOk result (λ snapshot. load_of limits lang.now (listed known (map string_bytes names.now)) ≡ Ok snapshot)) }
+    ensures err { IfSome (S.files source.old) (λ known. IfErr result (λ fault. is_device fault ≡ false → IsFaultOf fault (load_of limits lang.now (listed known (map string_bytes names.now))))) }
+    ensures device { IfErr result (λ fault. is_device fault ≡ true → FailsBelow (length names.now) (S.failure_count source.old) (S.failure_count source.new) fault) }
+    ensures failures { S.failure_count source.old ≤ S.failure_count source.new }
+{
+    if !name_concept_file(names) {
+        return Err(LoadFault::NoConceptFile);
+    }
+    let kinds = named_kind_count(names);
+    let limits = limits.in_force();
+    let mut places = PiecePlaces {
+        alloc,
+        source,
+        names,
+        byte_limit: limits.bytes,
+    };
+    load_places(alloc, &mut places, lang, limits, kinds)
+}
+
+// What a fault of a source that was to list its files is to a load.
+fn listing_fault(fault: SourceFault) -> LoadFault
+    ensures { result ≡ listing_fault fault }
+{
+    match fault {
+        SourceFault::Device => LoadFault::Device { file: None },
+        SourceFault::Memory => LoadFault::Memory,
+    }
+}
+
+// Loads files that are gone over place by place, so many of which have a kind.
+fn load_places<P: PlaceSource>(
+    alloc: Global,
+    files: &mut P,
+    lang: &str,
+    limits: Limits,
+    kinds: u64,
+) -> Result<Snapshot, LoadFault>
+    requires { row_total limits ≤ 68000000 }
+    ensures ok { IfSome (P.places files.old) (λ known. IfOk result (λ snapshot. loaded_from limits lang.now kinds known ≡ Ok snapshot)) }
+    ensures err { IfSome (P.places files.old) (λ known. IfErr result (λ fault. is_device fault ≡ false → IsFaultOf fault (loaded_from limits lang.now kinds known))) }
+    ensures device { IfErr result (λ fault. is_device fault ≡ true → FailsBelow (P.file_count files.old) (P.failure_count files.old) (P.failure_count files.new) fault) }
+    ensures failures { P.failure_count files.old ≤ P.failure_count files.new }
+    ensures reference { P.reference files.new ≡ P.reference files.old }
+{
+    match read_rows(alloc, files, limits) {
+        Ok(read) => {
+            if !read.are_few() {
+                return Err(TOO_MANY_ROWS);
+            }
+            let language = String::from_str(alloc, lang)?;
+            finish(alloc, read, language, kinds)
+        }
+        Err(fault) => Err(fault),
+    }
+}
+
 // Whether a file of the list has the name of a Concept file.
 fn has_concept_file(files: &[NamedBytes<'_>]) -> bool
     ensures { result ≡ list_any (λ file. is_concept_file_of (file_text file)) files.now }
@@ -247,35 +349,54 @@ fn has_kind(file: &NamedBytes<'_>) -> bool
     file_kind(file.name).is_some()
 }
 
-// The rows of all files that have a kind, in turn.
-fn read_files(alloc: Global, files: &[NamedBytes<'_>], limits: &Limits) -> Result<Rows, LoadFault>
-    ensures ok { IfOk result (λ rows. read_all limits.now nothing_kept (places_from 0 (map file_text files.now)) ≡ Ok (kept_in rows)) }
-    ensures err { IfErr result (λ fault. IsFaultIn fault (read_all limits.now nothing_kept (places_from 0 (map file_text files.now)))) }
+// Whether one of the names is that of a Concept file.
+fn name_concept_file(names: &[String]) -> bool
+    ensures { result ≡ list_any (λ name. is_concept_kind (file_kind_of (string_bytes name))) names.now }
 {
-    let mut rows = Rows::new(alloc);
-    for (file, named) in files.iter().enumerate() {
-        match rows.read_named(file, named, limits) {
-            Ok(()) => {}
-            Err(fault) => return Err(fault),
-        }
-    }
-    Ok(rows)
+    names.iter().any(names_concept_file)
+}
+
+// Whether a name is that of a Concept file.
+fn names_concept_file(name: &String) -> bool
+    ensures { result ≡ is_concept_kind (file_kind_of (string_bytes name.now)) }
+{
+    matches!(file_kind(name.as_str()), Some(FileKind::Concept))
+}
+
+// How many of the names are those of files of some kind.
+fn named_kind_count(names: &[String]) -> u64
+    ensures { result ≡ count_by (λ name. is_some (file_kind_of (string_bytes name))) names.now }
+{
+    names.iter().filter(|name| names_kind(name)).count() as u64
+}
+
+// Whether a name is that of a file of some kind.
+fn names_kind(name: &String) -> bool
+    ensures { result ≡ is_some (file_kind_of (string_bytes name.now)) }
+{
+    file_kind(name.as_str()).is_some()
 }
 
 // Numbers the concepts in force in rising order, and the is-a rows between them.
-fn finish(alloc: Global, rows: Rows, language: String, files: u64) -> Result<Snapshot, LoadFault>
-    requires { IsApart (kept_in rows) }
-    ensures ok { IfOk result (λ snapshot. finished (string_bytes language) files (kept_in rows) ≡ Ok snapshot) }
-    ensures err { IfErr result (λ fault. IsFaultOf fault (finished (string_bytes language) files (kept_in rows))) }
+fn finish(
+    alloc: Global,
+    read: ReadRows,
+    language: String,
+    files: u64,
+) -> Result<Snapshot, LoadFault>
+    requires { AreFew read.count (listed_in read.lists) }
+    ensures ok { IfOk result (λ snapshot. finished (string_bytes language) files read.count (listed_in read.lists) ≡ Ok snapshot) }
+    ensures err { IfErr result (λ fault. IsFaultOf fault (finished (string_bytes language) files read.count (listed_in read.lists))) }
 {
-    let row_count = rows.row_count();
-    let ActiveRows {
+    let ReadRows { lists, count } = read;
+    let RowLists {
         concepts,
         names,
         isa_ends,
         attributes,
         member_ends,
-    } = rows.into_active();
+        ..
+    } = lists;
     let concepts = rising(concepts);
     match number_hierarchy(alloc, concepts.as_slice(), isa_ends.as_slice()) {
         Ok(hierarchy) => {
@@ -313,7 +434,7 @@ fn finish(alloc: Global, rows: Rows, language: String, files: u64) -> Result<Sna
                 lines,
                 language,
                 files,
-                passed: row_count.saturating_sub(listed),
+                passed: count.saturating_sub(listed),
             })
         }
         Err(fault) => Err(fault),
@@ -412,12 +533,12 @@ fn cycle_fault(alloc: Global, concepts: &[SctId], rows: &[(u32, u32)]) -> LoadFa
     }
 }
 
-// Concepts, each of which stands there once, in rising order.
+// Concepts in rising order, each once.
 fn rising(mut concepts: Vec<SctId>) -> Vec<SctId>
-    requires { IsDistinct nat_eq concepts.items }
     ensures rising { result.items ≡ rising_of concepts.items }
     ensures increasing { IsStrictlyIncreasing result.items }
 {
-    concepts.as_mut_slice().sort_unstable();
+    concepts.sort_unstable();
+    concepts.dedup();
     concepts
 }

@@ -5,10 +5,12 @@ ghost use Rattle.rf2_rows.specs.Release.{Name};
 ghost use Rattle.snapshot.specs.FirstRows.{AreFirstPlaces, IsFirstOfTwo};
 ghost use Rattle.snapshot.specs.InForce.{has};
 ghost use Rattle.snapshot.specs.Kept.{names_among};
+ghost use Rattle.snapshot.specs.Listed.{in_list, items_chosen};
 ghost use Rattle.snapshot.specs.Name.{comes_before as comes_before_of};
 ghost use Rattle.snapshot.specs.NamesInside.{IsPlaced, name_in, name_read};
 
 use crate::numbering::number_of;
+use crate::row_lists::{Listing, chosen_items};
 use indexmap::IndexSet;
 use sctid::SctId;
 use std::alloc::{AllocError, Global};
@@ -93,6 +95,20 @@ impl Names {
             term_start,
             term_end,
         })?;
+        Ok(())
+    }
+
+    /// Leaves the rows that are made of chosen rows of the release, where for each of these it is told
+    /// which list it is in and whether it is chosen.
+    pub fn choose(
+        &mut self,
+        alloc: Global,
+        marks: &[Listing],
+        choices: &[bool],
+    ) -> Result<(), AllocError>
+        ensures { OnOk result (self.new ≡ items_chosen (in_list Listing.Name marks.now) choices.now self.old) }
+    {
+        self.rows = chosen_items(alloc, self.rows.as_slice(), marks, Listing::Name, choices)?;
         Ok(())
     }
 

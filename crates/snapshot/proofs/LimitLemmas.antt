@@ -1,0 +1,168 @@
+-- Cutting files one byte past the limit keeps their first fault and, where there is none, their places.
+use Rattle.std.proofs.Common.{All, ◌≡◌, ℕ, zero, suc, ◌+◌, ◌-◌, ◌<◌, ◌≤◌, Bool, true, false, eqb, List, [], ◌∷◌, ◌++◌, length, map, take, drop, refl, sym, ap, ◌∙◌, inl, inr, arith, Option, None, Some, if◌then◌else◌, bytes_eq}
+use Rattle.std.proofs.lemmas.Bool.{cases_eq, eq-eqb, eqb-true, false_from_ne_true, lt-ltb}
+use Rattle.std.proofs.lemmas.List.{drop-take, take-take, take_all}
+use Rattle.std.proofs.lemmas.List.Elements.{All-head, All-tail}
+use Rattle.std.specs.List.{onto_first}
+use Rattle.release_files.specs.Lines.{LineText, byte_order_mark, lines_of, mark_length, numbered, parts, text_of}
+use Rattle.release_files.specs.Source.{FileText}
+use Rattle.rf2_rows.specs.Files.{file_kind_of}
+use Rattle.rf2_rows.specs.declared.kind.FileKind.{FileKind}
+use Rattle.snapshot.specs.Faults.{fault_at, fault_here, first_fault, first_of}
+use Rattle.snapshot.specs.Files.{Place, first_line, later_line, no_line, places_from, places_of_file, places_of_kind, places_of_lines}
+use Rattle.snapshot.specs.Pieces.{cut_file}
+use Rattle.snapshot.specs.declared.fault.LoadFault.{LoadFault}
+use Rattle.snapshot.specs.declared.fault.LoadFault.TheVariants.{TooMany}
+use Rattle.snapshot.specs.declared.limits.Limits.{Limits}
+
+-- the parts of the first bytes of a text and those of the text: the same up to one that reaches the cut in both
+data PartsAgree : ℕ → List (List ℕ) → List (List ℕ) → Type 0 where
+  no_part : (left : ℕ) → PartsAgree left [] []
+  same_part : (left later : ℕ) (part : List ℕ) (short long : List (List ℕ)) → left ≡ length part + later → PartsAgree later short long → PartsAgree left (part ∷ short) (part ∷ long)
+  past_cut : (left : ℕ) (front whole : List ℕ) (short long : List (List ℕ)) → left ≤ length front → left ≤ length whole → PartsAgree left (front ∷ short) (whole ∷ long)
+
+-- with a byte before them
+parts_onto : (left byte : ℕ) (short long : List (List ℕ)) → PartsAgree left short long → PartsAgree (suc left) (onto_first byte short) (onto_first byte long)
+parts_onto left byte short long (no_part now) = same_part (suc now) now (byte ∷ []) [] [] (omega arith) (no_part now)
+parts_onto left byte short long (same_part now later part xs ys is agree) = same_part (suc now) later (byte ∷ part) xs ys (omega arith) agree
+parts_onto left byte short long (past_cut now front whole xs ys here there) = past_cut (suc now) (byte ∷ front) (byte ∷ whole) xs ys (omega arith) (omega arith)
+
+-- a byte at which the text is cut
+part_at_cut : (byte : ℕ) (long : List (List ℕ)) → PartsAgree 1 ((byte ∷ []) ∷ []) (onto_first byte long)
+part_at_cut byte [] = past_cut 1 (byte ∷ []) (byte ∷ []) [] [] (omega arith) (omega arith)
+part_at_cut byte (part ∷ long) = past_cut 1 (byte ∷ []) (byte ∷ part) [] long (omega arith) (omega arith)
+
+parts_agree : (left : ℕ) (bytes : List ℕ) → PartsAgree (suc left) (parts (take (suc left) bytes)) (parts bytes)
+parts_agree left [] = no_part (suc left)
+parts_agree zero (byte ∷ bytes) = elim (cases_eq byte 10) [
+  | inl is ↦ rw (eq-eqb byte 10 is) (past_cut 1 (byte ∷ []) (byte ∷ []) [] (parts bytes) (omega arith) (omega arith))
+  | inr other ↦ rw (false_from_ne_true (eqb byte 10) (λ is. other (eqb-true byte 10 is))) (part_at_cut byte (parts bytes))
+]
+parts_agree (suc left) (byte ∷ bytes) = elim (cases_eq byte 10) [
+  | inl is ↦ rw (eq-eqb byte 10 is) (same_part (suc (suc left)) (suc left) (byte ∷ []) (parts (take (suc left) bytes)) (parts bytes) (omega arith) (parts_agree left bytes))
+  | inr other ↦ rw (false_from_ne_true (eqb byte 10) (λ is. other (eqb-true byte 10 is))) (parts_onto (suc left) byte (parts (take (suc left) bytes)) (parts bytes) (parts_agree left bytes))
+]
+
+-- the lines of a file that is cut and those of the file: the same up to one that ends past the limit in both
+data LinesAgree (limit : ℕ) : List LineText → List LineText → Type 0 where
+  no_more : LinesAgree limit [] []
+  same_line : (line : LineText) (short long : List LineText) → LinesAgree limit short long → LinesAgree limit (line ∷ short) (line ∷ long)
+  past_limit : (one other : LineText) (short long : List LineText) → one.number ≡ other.number → limit < one.end → limit < other.end → LinesAgree limit (one ∷ short) (other ∷ long)
+
+numbered_agree : (limit number end left : ℕ) (short long : List (List ℕ)) → PartsAgree left short long → end + left ≡ limit + 1
+    → LinesAgree limit (numbered number end short) (numbered number end long)
+numbered_agree limit number end left short long (no_part now) is = no_more
+numbered_agree limit number end left short long (same_part now later part xs ys cut agree) is =
+    same_line (record { number = number + 1; end = end + length part; bytes = text_of part })
+    (numbered (number + 1) (end + length part) xs) (numbered (number + 1) (end + length part) ys)
+    (numbered_agree limit (number + 1) (end + length part) later xs ys agree (omega arith))
+numbered_agree limit number end left short long (past_cut now front whole xs ys here there) is =
+    past_limit (record { number = number + 1; end = end + length front; bytes = text_of front }) (record { number = number + 1; end = end + length whole; bytes = text_of whole })
+    (numbered (number + 1) (end + length front) xs) (numbered (number + 1) (end + length whole) ys)
+    refl (omega arith) (omega arith)
+
+mark_of-le : (has : Bool) → (if has then 3 else 0) ≤ 3
+mark_of-le true = omega arith
+mark_of-le false = omega arith
+
+lines_agree : (limit : ℕ) (bytes : List ℕ) → 3 ≤ limit → LinesAgree limit (lines_of (take (limit + 1) bytes)) (lines_of bytes)
+unfolding lines_of
+lines_agree limit bytes room =
+    let mark = mark_length bytes in
+    let low : mark ≤ 3 = mark_of-le (bytes_eq (take 3 bytes) byte_order_mark) in
+    let whole : limit + 1 ≡ mark + suc (limit - mark) = omega arith in
+    let same : mark_length (take (limit + 1) bytes) ≡ mark =
+    ap (λ (front : List ℕ). if bytes_eq front byte_order_mark then 3 else 0) (take-take 3 (limit + 1) bytes (omega arith)) in
+    let rest : drop mark (take (limit + 1) bytes) ≡ take (suc (limit - mark)) (drop mark bytes) =
+    ap (λ (n : ℕ). drop mark (take n bytes)) whole ∙ drop-take mark (suc (limit - mark)) bytes in
+    rw (same, rest) (numbered_agree limit 0 mark (suc (limit - mark)) (parts (take (suc (limit - mark)) (drop mark bytes))) (parts (drop mark bytes))
+    (parts_agree (limit - mark) (drop mark bytes)) (sym whole))
+
+-- the places of files that are cut and those of the files: the same up to one that has the same fault in both
+data PlacesAgree (limits : Limits) : List Place → List Place → Type 0 where
+  no_place : PlacesAgree limits [] []
+  same_place : (place : Place) (short long : List Place) → PlacesAgree limits short long → PlacesAgree limits (place ∷ short) (place ∷ long)
+  both_faulty : (one other : Place) (short long : List Place) (fault : LoadFault) → fault_here limits one ≡ Some fault → fault_here limits other ≡ Some fault
+      → PlacesAgree limits (one ∷ short) (other ∷ long)
+
+agree_append : (limits : Limits) (short long others more : List Place) → PlacesAgree limits short long → PlacesAgree limits others more
+    → PlacesAgree limits (short ++ others) (long ++ more)
+agree_append limits short long others more no_place behind = behind
+agree_append limits short long others more (same_place place xs ys agree) behind = same_place place (xs ++ others) (ys ++ more) (agree_append limits xs ys others more agree behind)
+agree_append limits short long others more (both_faulty one other xs ys fault here there) behind = both_faulty one other (xs ++ others) (ys ++ more) fault here there
+
+module _ (limits : Limits) (file : ℕ) (kind : FileKind) where
+  first_too_long : (line : LineText) (number : ℕ) → number ≡ line.number → limits.bytes < line.end → fault_here limits (first_line file kind line) ≡ Some (TooMany file number)
+  first_too_long line number is long = rw (lt-ltb limits.bytes line.end long, is) refl
+
+  later_too_long : (line : LineText) (number : ℕ) → number ≡ line.number → limits.bytes < line.end → fault_here limits (later_line file kind line) ≡ Some (TooMany file number)
+  later_too_long line number is long = rw (lt-ltb limits.bytes line.end long, is) refl
+
+  later_agree : (short long : List LineText) → LinesAgree limits.bytes short long → PlacesAgree limits (map (later_line file kind) short) (map (later_line file kind) long)
+  later_agree short long no_more = no_place
+  later_agree short long (same_line line xs ys agree) = same_place (later_line file kind line) (map (later_line file kind) xs) (map (later_line file kind) ys) (later_agree xs ys agree)
+  later_agree short long (past_limit one other xs ys is here there) =
+      both_faulty (later_line file kind one) (later_line file kind other) (map (later_line file kind) xs) (map (later_line file kind) ys) (TooMany file one.number)
+      (later_too_long one one.number refl here) (later_too_long other one.number is there)
+
+  kind_agree : (short long : List LineText) → LinesAgree limits.bytes short long → PlacesAgree limits (places_of_lines file kind short) (places_of_lines file kind long)
+  kind_agree short long no_more = same_place (no_line file kind) [] [] no_place
+  kind_agree short long (same_line line xs ys agree) = same_place (first_line file kind line) (map (later_line file kind) xs) (map (later_line file kind) ys) (later_agree xs ys agree)
+  kind_agree short long (past_limit one other xs ys is here there) =
+      both_faulty (first_line file kind one) (first_line file kind other) (map (later_line file kind) xs) (map (later_line file kind) ys) (TooMany file one.number)
+      (first_too_long one one.number refl here) (first_too_long other one.number is there)
+
+file_agree : (limits : Limits) (file : ℕ) (kind : Option FileKind) (bytes : List ℕ) → 3 ≤ limits.bytes
+    → PlacesAgree limits (places_of_kind file kind (take (limits.bytes + 1) bytes)) (places_of_kind file kind bytes)
+file_agree limits file None bytes room = no_place
+file_agree limits file (Some kind) bytes room = kind_agree limits file kind (lines_of (take (limits.bytes + 1) bytes)) (lines_of bytes) (lines_agree limits.bytes bytes room)
+
+files_agree : (limits : Limits) (file : ℕ) (files : List FileText) → 3 ≤ limits.bytes → PlacesAgree limits (places_from file (map (cut_file limits.bytes) files)) (places_from file files)
+files_agree limits file [] room = no_place
+files_agree limits file (text ∷ texts) room =
+    agree_append limits (places_of_file file (cut_file limits.bytes text)) (places_of_file file text) (places_from (file + 1) (map (cut_file limits.bytes) texts)) (places_from (file + 1) texts)
+    (file_agree limits file (file_kind_of text.name) text.bytes room) (files_agree limits (file + 1) texts room)
+
+-- a place that has a fault by itself has it behind any others
+faulty_first : (limits : Limits) (before later : List Place) (place : Place) (fault : LoadFault) → fault_here limits place ≡ Some fault → first_fault limits before (place ∷ later) ≡ Some fault
+faulty_first limits before later place fault here = rw here refl
+
+agree_first_fault : (limits : Limits) (before short long : List Place) → PlacesAgree limits short long → first_fault limits before short ≡ first_fault limits before long
+agree_first_fault limits before short long no_place = refl
+agree_first_fault limits before short long (same_place place xs ys agree) = ap (first_of (fault_at limits before place)) (agree_first_fault limits (before ++ place ∷ []) xs ys agree)
+agree_first_fault limits before short long (both_faulty one other xs ys fault here there) =
+    faulty_first limits before xs one fault here ∙ sym (faulty_first limits before ys other fault there)
+
+later_none : (first later : Option LoadFault) → first_of first later ≡ None → later ≡ None
+later_none None later none = none
+later_none (Some fault) later none = cc
+
+agree_places : (limits : Limits) (before short long : List Place) → PlacesAgree limits short long → first_fault limits before short ≡ None → short ≡ long
+agree_places limits before short long no_place none = refl
+agree_places limits before short long (same_place place xs ys agree) none =
+    ap (λ (places : List Place). place ∷ places)
+    (agree_places limits (before ++ place ∷ []) xs ys agree (later_none (fault_at limits before place) (first_fault limits (before ++ place ∷ []) xs) none))
+agree_places limits before short long (both_faulty one other xs ys fault here there) none =
+    let some : first_fault limits before (one ∷ xs) ≡ Some fault = faulty_first limits before xs one fault here in
+    let not_none : Some fault ≡ None = sym some ∙ none in
+    cc
+
+-- files that are cut one byte past the limit have the first fault of the files
+pub cut_first_fault : (limits : Limits) (files : List FileText) → 3 ≤ limits.bytes
+    → first_fault limits [] (places_from 0 (map (cut_file limits.bytes) files)) ≡ first_fault limits [] (places_from 0 files)
+cut_first_fault limits files room = agree_first_fault limits [] (places_from 0 (map (cut_file limits.bytes) files)) (places_from 0 files) (files_agree limits 0 files room)
+
+-- and where there is none, they have the places of the files
+pub cut_places : (limits : Limits) (files : List FileText) → 3 ≤ limits.bytes → first_fault limits [] (places_from 0 files) ≡ None
+    → places_from 0 (map (cut_file limits.bytes) files) ≡ places_from 0 files
+cut_places limits files room none =
+    agree_places limits [] (places_from 0 (map (cut_file limits.bytes) files)) (places_from 0 files) (files_agree limits 0 files room) (cut_first_fault limits files room ∙ none)
+
+-- files that end within a byte past the limit are cut nowhere
+pub cut_within : (limit : ℕ) (files : List FileText) → All (λ (file : FileText). length file.bytes ≤ limit + 1) files → map (cut_file limit) files ≡ files
+cut_within limit [] within = refl
+cut_within limit (file ∷ files) within =
+    let whole : take (limit + 1) file.bytes ≡ file.bytes = take_all (limit + 1) file.bytes (All-head (λ (some : FileText). length some.bytes ≤ limit + 1) file files within) in
+    let others : map (cut_file limit) files ≡ files = cut_within limit files (All-tail (λ (some : FileText). length some.bytes ≤ limit + 1) file files within) in
+    let first : cut_file limit file ≡ file = ap (λ (bytes : List ℕ). record { name = file.name; bytes = bytes }) whole in
+    ap (λ (text : FileText). text ∷ map (cut_file limit) files) first ∙ ap (λ (texts : List FileText). file ∷ texts) others

@@ -1,0 +1,174 @@
+-- What is read of a release, where its rows were seen.
+use Rattle.std.proofs.Common.{ℕ, ◌≡◌, ◌≤◌, ◌∙◌, ◌&&◌, ◌==◌, List, [], ◌∷◌, length, true, false, Bool, Option, None, Some, ap, cond, map, not, refl, suc, sym, subst}
+use Rattle.std.specs.Prelude.{is_some}
+use Rattle.std.specs.List.{filter_map}
+use Rattle.rf2_rows.specs.RowTexts.{RowText, of_concept, of_concrete, of_description, of_member, of_relationship}
+use Rattle.snapshot.specs.Chosen.{choices, chosen, marked}
+use Rattle.snapshot.specs.Contents.{text_of}
+use Rattle.snapshot.specs.Faults.{first_fault, first_of}
+use Rattle.snapshot.specs.Files.{Place, RowAt}
+use Rattle.snapshot.specs.InForce.{concrete_attribute, is_name, name_on, relationship_attribute}
+use Rattle.snapshot.specs.Kept.{IsReadFrom, Kept, nothing_kept, unmarked}
+use Rattle.snapshot.specs.Keys.{uuids_behind}
+use Rattle.snapshot.specs.Listed.{Listed, attribute_listed, concept_listed, in_list, is_concrete_attribute, isa_listed, items_chosen, listed_chosen, listed_of, listing_of, member_listed, name_listed, same_listing}
+use Rattle.snapshot.specs.Metadata.{inferred_relationship, is_a}
+use Rattle.snapshot.specs.Seen.{AreSeen, IsSeen, first_conflict, kept_rows, keys_behind}
+use Rattle.snapshot.specs.declared.fault.LoadFault.{LoadFault}
+use Rattle.snapshot.specs.declared.limits.Limits.{Limits}
+use Rattle.snapshot.specs.declared.row_lists.Listing.{Listing}
+use Rattle.snapshot.specs.declared.row_lists.Listing.TheVariants as listing
+use Rattle.snapshot.proofs.ChosenItemLemmas.{chosen-picked, map-marked}
+use Rattle.snapshot.proofs.ListedLemmas.{listed-rows}
+use Rattle.snapshot.proofs.ReleaseLemmas.{times}
+use Rattle.snapshot.proofs.SingleLemmas.{no_conflict, single-choices, single-keys}
+use Rattle.snapshot.proofs.WentLemmas.{kept_rows-keys, kept_rows-uuids}
+
+-- ---- the lists of chosen rows
+module _ (list : Listing) {X : Type 0} (pick : RowText → Option X) (same : (row : RowText) → same_listing (listing_of row) list ≡ is_some (pick row)) where
+  heres-is : (rows : List RowText) → in_list list (map listing_of rows) ≡ map (λ row. is_some (pick row)) rows
+  heres-is [] = refl
+  heres-is (row ∷ rows) = (λ i. same row i ∷ heres-is rows i)
+
+  list-chosen : (rows : List RowText) (choices : List Bool) → items_chosen (in_list list (map listing_of rows)) choices (filter_map pick rows) ≡ filter_map pick (marked choices rows)
+  list-chosen rows choices = ap (λ (heres : List Bool). items_chosen heres choices (filter_map pick rows)) (heres-is rows) ∙ chosen-picked pick rows choices
+
+-- a row that one list may take is on that list where it takes it, and on no other
+here : {X : Type 0} (taken : Bool) (list : Listing) (item : X) → same_listing list list ≡ true → same_listing listing.Nowhere list ≡ false
+    → same_listing (cond taken list listing.Nowhere) list ≡ is_some (cond taken (Some item) None)
+here true list item same nowhere = same
+here false list item same nowhere = nowhere
+
+elsewhere : (taken : Bool) (list other : Listing) → same_listing list other ≡ false → same_listing listing.Nowhere other ≡ false
+    → same_listing (cond taken list listing.Nowhere) other ≡ false
+elsewhere true list other apart nowhere = apart
+elsewhere false list other apart nowhere = nowhere
+
+-- a relationship row is an is-a row or one of an attribute
+abbrev related : (inferred isa : Bool) → Listing
+related inferred isa = cond (inferred && isa) listing.IsA (cond (inferred && not isa) listing.Attribute listing.Nowhere)
+
+related-isa : {X : Type 0} (inferred isa : Bool) (item : X) → same_listing (related inferred isa) listing.IsA ≡ is_some (cond (inferred && isa) (Some item) None)
+related-isa true true item = refl
+related-isa true false item = refl
+related-isa false isa item = refl
+
+related-attribute : {X : Type 0} (inferred isa : Bool) (item : X) → same_listing (related inferred isa) listing.Attribute ≡ is_some (cond (inferred && not isa) (Some item) None)
+related-attribute true true item = refl
+related-attribute true false item = refl
+related-attribute false isa item = refl
+
+unrelated : (inferred isa : Bool) (other : Listing) → same_listing listing.IsA other ≡ false → same_listing listing.Attribute other ≡ false
+    → same_listing listing.Nowhere other ≡ false → same_listing (related inferred isa) other ≡ false
+unrelated true true other isa attribute nowhere = isa
+unrelated true false other isa attribute nowhere = attribute
+unrelated false isa other is attribute nowhere = nowhere
+
+concept-here : (row : RowText) → same_listing (listing_of row) listing.Concept ≡ is_some (concept_listed row)
+concept-here (of_concept row) = here (row.active) listing.Concept row.id refl refl
+concept-here (of_description row) = elsewhere (is_name row) listing.Name listing.Concept refl refl
+concept-here (of_concrete row) = elsewhere (is_concrete_attribute row) listing.Attribute listing.Concept refl refl
+concept-here (of_member row) = elsewhere (row.active) listing.Member listing.Concept refl refl
+concept-here (of_relationship row) = unrelated (row.active && (row.characteristic_type_id == inferred_relationship)) (row.type_id == is_a) listing.Concept refl refl refl
+
+name-here : (row : RowText) → same_listing (listing_of row) listing.Name ≡ is_some (name_listed row)
+name-here (of_concept row) = elsewhere (row.active) listing.Concept listing.Name refl refl
+name-here (of_description row) = here (is_name row) listing.Name (name_on row) refl refl
+name-here (of_concrete row) = elsewhere (is_concrete_attribute row) listing.Attribute listing.Name refl refl
+name-here (of_member row) = elsewhere (row.active) listing.Member listing.Name refl refl
+name-here (of_relationship row) = unrelated (row.active && (row.characteristic_type_id == inferred_relationship)) (row.type_id == is_a) listing.Name refl refl refl
+
+isa-here : (row : RowText) → same_listing (listing_of row) listing.IsA ≡ is_some (isa_listed row)
+isa-here (of_concept row) = elsewhere (row.active) listing.Concept listing.IsA refl refl
+isa-here (of_description row) = elsewhere (is_name row) listing.Name listing.IsA refl refl
+isa-here (of_concrete row) = elsewhere (is_concrete_attribute row) listing.Attribute listing.IsA refl refl
+isa-here (of_member row) = elsewhere (row.active) listing.Member listing.IsA refl refl
+isa-here (of_relationship row) = related-isa (row.active && (row.characteristic_type_id == inferred_relationship)) (row.type_id == is_a) (row.source_id, row.destination_id)
+
+attribute-here : (row : RowText) → same_listing (listing_of row) listing.Attribute ≡ is_some (attribute_listed row)
+attribute-here (of_concept row) = elsewhere (row.active) listing.Concept listing.Attribute refl refl
+attribute-here (of_description row) = elsewhere (is_name row) listing.Name listing.Attribute refl refl
+attribute-here (of_concrete row) = here (is_concrete_attribute row) listing.Attribute (concrete_attribute row) refl refl
+attribute-here (of_member row) = elsewhere (row.active) listing.Member listing.Attribute refl refl
+attribute-here (of_relationship row) = related-attribute (row.active && (row.characteristic_type_id == inferred_relationship)) (row.type_id == is_a) (relationship_attribute row)
+
+member-here : (row : RowText) → same_listing (listing_of row) listing.Member ≡ is_some (member_listed row)
+member-here (of_concept row) = elsewhere (row.active) listing.Concept listing.Member refl refl
+member-here (of_description row) = elsewhere (is_name row) listing.Name listing.Member refl refl
+member-here (of_concrete row) = elsewhere (is_concrete_attribute row) listing.Attribute listing.Member refl refl
+member-here (of_member row) = here (row.active) listing.Member (row.refset_id, row.referenced_component_id) refl refl
+member-here (of_relationship row) = unrelated (row.active && (row.characteristic_type_id == inferred_relationship)) (row.type_id == is_a) listing.Member refl refl refl
+
+lists-chosen : (rows : List RowText) (choices : List Bool) → unmarked (listed_chosen (listed_of rows) choices) ≡ unmarked (listed_of (marked choices rows))
+lists-chosen rows choices = (λ i. record {
+  marks = [];
+  active_concepts = list-chosen listing.Concept concept_listed concept-here rows choices i;
+  names = list-chosen listing.Name name_listed name-here rows choices i;
+  isa_ends = list-chosen listing.IsA isa_listed isa-here rows choices i;
+  attributes = list-chosen listing.Attribute attribute_listed attribute-here rows choices i;
+  member_ends = list-chosen listing.Member member_listed member-here rows choices i;
+})
+
+-- ---- what was seen
+keyed-seen : (limits : Limits) (kept : Kept) (rows : List RowAt) → kept ≡ kept_rows (nothing_kept limits) rows → kept.keyed.keys ≡ keys_behind [] rows
+keyed-seen limits kept rows same = ap (λ (k : Kept). k.keyed.keys) same ∙ kept_rows-keys (nothing_kept limits) rows
+
+pub are-seen : (limits : Limits) (places : List Place) (kept : Kept) (fault : Option LoadFault) → (all : IsSeen limits places kept fault) → AreSeen kept.keyed places all.seen all.beyond
+are-seen limits places kept fault all = record {
+  front = all.front;
+  uuids = ap (λ (k : Kept). k.keyed.uuids) all.kept_is ∙ kept_rows-uuids (nothing_kept limits) all.seen;
+  keys = keyed-seen limits kept all.seen all.kept_is;
+  short = all.short;
+}
+
+length-keys : (uuids : List ℕ) (rows : List RowAt) → length (keys_behind uuids rows) ≡ length rows
+length-keys uuids [] = refl
+length-keys uuids (row ∷ rows) = ap suc (length-keys (uuids_behind uuids (text_of row)) rows)
+
+pub count-seen : (limits : Limits) (places : List Place) (kept : Kept) (fault : Option LoadFault) → (all : IsSeen limits places kept fault) → length kept.keyed.keys ≡ length all.seen
+count-seen limits places kept fault all = ap length (keyed-seen limits kept all.seen all.kept_is) ∙ length-keys [] all.seen
+
+-- where no key stands twice no row conflicts
+pub no_conflict-seen : (keyed : List ℕ) (seen : List RowAt) → keyed ≡ keys_behind [] seen → ((key : ℕ) → times key keyed ≤ 1) → first_conflict [] seen ≡ None
+no_conflict-seen keyed seen same few =
+    no_conflict [] seen (single-keys [] seen (subst (λ (keys : List ℕ). (key : ℕ) → times key keys ≤ 1) same few))
+
+first_of-none : (fault : Option LoadFault) → first_of fault None ≡ fault
+first_of-none None = refl
+first_of-none (Some fault) = refl
+
+-- all rows are chosen
+pub read-single : (limits : Limits) (places : List Place) (kept : Kept) (count : ℕ) → IsSeen limits places kept None → count ≡ length kept.keyed.keys
+    → ((key : ℕ) → times key kept.keyed.keys ≤ 1) → IsReadFrom limits places count kept.listed
+read-single limits places kept count all counted few =
+    let single = single-keys [] all.seen (subst (λ (keys : List ℕ). (key : ℕ) → times key keys ≤ 1) (keyed-seen limits kept all.seen all.kept_is) few) in
+    record {
+      clean = all.first ∙ first_of-none (first_conflict [] all.seen) ∙ no_conflict [] all.seen single;
+      count_is = counted ∙ count-seen limits places kept None all ∙ ap length (all.whole refl);
+      lists = ap (λ (k : Kept). unmarked k.listed) all.kept_is ∙ ap (λ (listed : Listed). unmarked listed) (listed-rows limits all.seen)
+          ∙ ap (λ (rows : List RowAt). unmarked (listed_of (map text_of rows))) (sym (single-choices [] all.seen single) ∙ ap chosen (all.whole refl));
+    }
+
+-- some rows are chosen
+pub read-chosen : (limits : Limits) (places : List Place) (kept : Kept) (count : ℕ) (all : IsSeen limits places kept None) → count ≡ length kept.keyed.keys
+    → first_conflict [] all.seen ≡ None → (marks : List Bool) → marks ≡ choices all.seen [] all.seen → (listed : Listed) → listed ≡ listed_chosen kept.listed marks
+    → IsReadFrom limits places count listed
+read-chosen limits places kept count all counted none marks told listed same = record {
+  clean = all.first ∙ first_of-none (first_conflict [] all.seen) ∙ none;
+  count_is = counted ∙ count-seen limits places kept None all ∙ ap length (all.whole refl);
+  lists = ap (λ (l : Listed). unmarked l) same
+      ∙ ap (λ (l : Listed). unmarked (listed_chosen l marks)) (ap (λ (k : Kept). k.listed) all.kept_is ∙ listed-rows limits all.seen)
+      ∙ lists-chosen (map text_of all.seen) marks
+      ∙ ap (λ (rows : List RowText). unmarked (listed_of rows)) (sym (map-marked text_of marks all.seen))
+      ∙ ap (λ (m : List Bool). unmarked (listed_of (map text_of (marked m all.seen)))) told
+      ∙ ap (λ (rows : List RowAt). unmarked (listed_of (map text_of (chosen rows)))) (all.whole refl);
+}
+
+-- the fault at which the first pass ended is the first, where no row conflicts
+pub fault-seen : (limits : Limits) (places : List Place) (kept : Kept) (fault : LoadFault) (all : IsSeen limits places kept (Some fault))
+    → first_conflict [] all.seen ≡ None → first_fault limits [] places ≡ Some fault
+fault-seen limits places kept fault all none = all.first ∙ ap (λ (first : Option LoadFault). first_of first (Some fault)) none
+
+-- a conflict is the first fault
+pub conflict-seen : (limits : Limits) (places : List Place) (kept : Kept) (end : Option LoadFault) (fault : LoadFault) (all : IsSeen limits places kept end)
+    → first_conflict [] all.seen ≡ Some fault → first_fault limits [] places ≡ Some fault
+conflict-seen limits places kept end fault all there = all.first ∙ ap (λ (first : Option LoadFault). first_of first end) there

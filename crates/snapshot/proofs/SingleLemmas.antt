@@ -1,0 +1,303 @@
+-- Where no key stands twice no row conflicts with another, and each is chosen.
+use Rattle.std.proofs.Common.{ℕ, ◌≡◌, ◌+◌, ◌≤◌, ◌∙◌, ◌&&◌, ◌||◌, ◌==◌, List, [], ◌∷◌, ◌++◌, true, false, Bool, Option, None, Some, ◌*◌, ◌^◌, append_assoc, ap, arith, nat_lt, refl, not, sym, subst, cond}
+use Rattle.std.specs.Prelude.{⊤}
+use Rattle.std.specs.List.{list_any, position_or_len}
+use Rattle.std.proofs.lemmas.Bool.{eq-eqb, eqb-true}
+use Rattle.std.proofs.lemmas.Bool.Decides.{nat_tests}
+use Rattle.std.proofs.lemmas.List.{append-nil}
+use Rattle.rf2_rows.specs.RowTexts.{RowText, of_concept, of_concrete, of_description, of_member, of_relationship, row_text}
+use Rattle.rf2_rows.specs.Versions.{id_on, member_number, same_time}
+use Rattle.rf2_rows.specs.declared.kind.FileKind.{FileKind}
+use Rattle.rf2_rows.specs.declared.kind.FileKind.TheVariants.{Concept, Concrete, Description, Member, Relationship}
+use Rattle.snapshot.specs.Chosen.{choices, conflicts, is_later, is_repeated, is_superseded, marked, same_component, same_kind, same_version, time_of, id_of}
+use Rattle.snapshot.specs.Contents.{text_of}
+use Rattle.snapshot.specs.Files.{RowAt}
+use Rattle.snapshot.specs.InForce.{has}
+use Rattle.snapshot.specs.Keys.{key_in, uuids_behind}
+use Rattle.snapshot.specs.Seen.{first_conflict, keys_behind, uuids_after}
+use Rattle.snapshot.proofs.ReleaseLemmas.{times, times-append, times-own}
+
+-- UUIDs that were met stay at their places
+pos-kept : (n : ℕ) (uuids more : List ℕ) → has uuids n ≡ true → position_or_len (λ other. n == other) (uuids ++ more) ≡ position_or_len (λ other. n == other) uuids
+pos-kept n [] more there = absurd (cc)
+pos-kept n (other ∷ uuids) more there = by (n == other) (pos-kept n uuids more) there
+  where
+    by : (same : Bool) → (has uuids n ≡ true → position_or_len (λ other. n == other) (uuids ++ more) ≡ position_or_len (λ other. n == other) uuids)
+        → (same || has uuids n) ≡ true
+        → cond (not same) (1 + position_or_len (λ other. n == other) (uuids ++ more)) 0 ≡ cond (not same) (1 + position_or_len (λ other. n == other) uuids) 0
+    by true rest there = refl
+    by false rest there = ap (λ (place : ℕ). 1 + place) (rest there)
+
+pos-new : (n : ℕ) (uuids : List ℕ) → has uuids n ≡ false → position_or_len (λ other. n == other) (uuids ++ n ∷ []) ≡ position_or_len (λ other. n == other) uuids
+pos-new n [] none = ap (λ (same : Bool). cond (not same) 1 0) (eq-eqb n n refl)
+pos-new n (other ∷ uuids) none = by (n == other) (λ rest. pos-new n uuids rest) none
+  where
+    by : (same : Bool) → (has uuids n ≡ false → position_or_len (λ other. n == other) (uuids ++ n ∷ []) ≡ position_or_len (λ other. n == other) uuids)
+        → (same || has uuids n) ≡ false
+        → cond (not same) (1 + position_or_len (λ other. n == other) (uuids ++ n ∷ [])) 0 ≡ cond (not same) (1 + position_or_len (λ other. n == other) uuids) 0
+    by true rest none = (cc)
+    by false rest none = ap (λ (place : ℕ). 1 + place) (rest none)
+
+pub had-push : (n : ℕ) (uuids : List ℕ) → has (uuids ++ n ∷ []) n ≡ true
+had-push n [] = ap (λ (same : Bool). same || false) (eq-eqb n n refl)
+had-push n (other ∷ uuids) = ap (λ (rest : Bool). (n == other) || rest) (had-push n uuids) ∙ always (n == other)
+  where
+    always : (b : Bool) → (b || true) ≡ true
+    always true = refl
+    always false = refl
+
+-- the UUIDs behind a member have its own, at the place of its key
+module _ (n : ℕ) (uuids : List ℕ) where
+  abbrev met : Bool → List ℕ
+  met there = cond there uuids (uuids ++ n ∷ [])
+
+  pub met-has : has (met (has uuids n)) n ≡ true
+  met-has = by (has uuids n) refl
+    where
+      by : (there : Bool) → has uuids n ≡ there → has (met there) n ≡ true
+      by true told = told
+      by false told = had-push n uuids
+
+  met-place : position_or_len (λ other. n == other) (met (has uuids n)) ≡ position_or_len (λ other. n == other) uuids
+  met-place = by (has uuids n) refl
+    where
+      by : (there : Bool) → has uuids n ≡ there → position_or_len (λ other. n == other) (met there) ≡ position_or_len (λ other. n == other) uuids
+      by true told = refl
+      by false told = pos-new n uuids told
+
+-- later rows only add UUIDs
+uuids_behind-more : (uuids : List ℕ) (text : RowText) → (more : List ℕ) × (uuids_behind uuids text ≡ uuids ++ more)
+uuids_behind-more uuids (of_concept row) = ([], sym (append-nil uuids))
+uuids_behind-more uuids (of_description row) = ([], sym (append-nil uuids))
+uuids_behind-more uuids (of_relationship row) = ([], sym (append-nil uuids))
+uuids_behind-more uuids (of_concrete row) = ([], sym (append-nil uuids))
+uuids_behind-more uuids (of_member row) = by (has uuids (member_number row))
+  where
+    by : (there : Bool) → (more : List ℕ) × (cond there uuids (uuids ++ member_number row ∷ []) ≡ uuids ++ more)
+    by true = ([], sym (append-nil uuids))
+    by false = (member_number row ∷ [], refl)
+
+pub uuids_after-more : (uuids : List ℕ) (rows : List RowAt) → (more : List ℕ) × (uuids_after uuids rows ≡ uuids ++ more)
+uuids_after-more uuids [] = ([], sym (append-nil uuids))
+uuids_after-more uuids (row ∷ rows) =
+    let one = uuids_behind-more uuids (text_of row) in
+    let others = uuids_after-more (uuids_behind uuids (text_of row)) rows in
+    (one.0 ++ others.0, others.1 ∙ ap (λ (front : List ℕ). front ++ others.0) one.1 ∙ append_assoc uuids one.0 others.0)
+
+-- a later row of one component has the key of the earlier one
+pub key-later : (uuids : List ℕ) (rows : List RowAt) (one other : RowAt) → same_component one other ≡ true
+    → key_in (uuids_after (uuids_behind uuids (text_of one)) rows) (text_of other) ≡ key_in uuids (text_of one)
+key-later uuids rows one other same = by one.kind other.kind one.text other.text same
+  where
+    by : (kind kind' : FileKind) (text text' : List ℕ) → (same_kind kind kind' && (id_on kind text == id_on kind' text')) ≡ true
+        → key_in (uuids_after (uuids_behind uuids (row_text kind text)) rows) (row_text kind' text') ≡ key_in uuids (row_text kind text)
+    by Concept Concept text text' told = ap (λ (id : ℕ). 2 ^ 63 + id) (sym (eqb-true (id_on Concept text) (id_on Concept text') told))
+    by Description Description text text' told = ap (λ (id : ℕ). 2 ^ 63 + 10 ^ 18 + id) (sym (eqb-true (id_on Description text) (id_on Description text') told))
+    by Relationship Relationship text text' told = ap (λ (id : ℕ). 2 ^ 63 + 3 * 10 ^ 18 + id) (sym (eqb-true (id_on Relationship text) (id_on Relationship text') told))
+    by Concrete Concrete text text' told = ap (λ (id : ℕ). 2 ^ 63 + 2 * 10 ^ 18 + id) (sym (eqb-true (id_on Concrete text) (id_on Concrete text') told))
+    by Member Member text text' told =
+        let n = id_on Member text in
+        let same_id : id_on Member text' ≡ n = sym (eqb-true n (id_on Member text') told) in
+        let now : List ℕ = uuids_behind uuids (row_text Member text) in
+        let grown = uuids_after-more now rows in
+        (λ i. position_or_len (λ other. same_id i == other) (grown.1 i))
+        ∙ pos-kept n now grown.0 (met-has n uuids)
+        ∙ met-place n uuids
+    by Concept Description text text' told = (cc)
+    by Concept Relationship text text' told = (cc)
+    by Concept Concrete text text' told = (cc)
+    by Concept Member text text' told = (cc)
+    by Description Concept text text' told = (cc)
+    by Description Relationship text text' told = (cc)
+    by Description Concrete text text' told = (cc)
+    by Description Member text text' told = (cc)
+    by Relationship Concept text text' told = (cc)
+    by Relationship Description text text' told = (cc)
+    by Relationship Concrete text text' told = (cc)
+    by Relationship Member text text' told = (cc)
+    by Concrete Concept text text' told = (cc)
+    by Concrete Description text text' told = (cc)
+    by Concrete Relationship text text' told = (cc)
+    by Concrete Member text text' told = (cc)
+    by Member Concept text text' told = (cc)
+    by Member Description text text' told = (cc)
+    by Member Relationship text text' told = (cc)
+    by Member Concrete text text' told = (cc)
+
+-- a number is once in the list of it alone
+pub times-one : (number : ℕ) → times number (number ∷ []) ≡ 1
+times-one number = times-own (number ∷ []) 0 (omega arith)
+
+-- where an earlier row is of its component, the key of a row is among the earlier ones
+pub key-among : (uuids : List ℕ) (rows : List RowAt) (row : RowAt) → list_any (λ other. same_component other row) rows ≡ true
+    → 1 ≤ times (key_in (uuids_after uuids rows) (text_of row)) (keys_behind uuids rows)
+key-among uuids [] row there = absurd (cc)
+key-among uuids (first ∷ rows) row there = by (same_component first row) refl there (key-among (uuids_behind uuids (text_of first)) rows row)
+  where
+    by : (same : Bool) → same_component first row ≡ same → (same || list_any (λ other. same_component other row) rows) ≡ true
+        → (list_any (λ other. same_component other row) rows ≡ true → 1 ≤ times (key_in (uuids_after (uuids_behind uuids (text_of first)) rows) (text_of row)) (keys_behind (uuids_behind uuids (text_of first)) rows))
+        → 1 ≤ times (key_in (uuids_after (uuids_behind uuids (text_of first)) rows) (text_of row)) (key_in uuids (text_of first) ∷ keys_behind (uuids_behind uuids (text_of first)) rows)
+    by true same there rest =
+        let own : times (key_in (uuids_after (uuids_behind uuids (text_of first)) rows) (text_of row)) (key_in uuids (text_of first) ∷ []) ≡ 1 =
+        ap (λ (number : ℕ). times number (key_in uuids (text_of first) ∷ [])) (key-later uuids rows first row same) ∙ times-one (key_in uuids (text_of first)) in
+        omega (arith, own, times-append (key_in (uuids_after (uuids_behind uuids (text_of first)) rows) (text_of row)) (key_in uuids (text_of first) ∷ []) (keys_behind (uuids_behind uuids (text_of first)) rows))
+    by false same there rest =
+        omega (arith, rest there, times-append (key_in (uuids_after (uuids_behind uuids (text_of first)) rows) (text_of row)) (key_in uuids (text_of first) ∷ []) (keys_behind (uuids_behind uuids (text_of first)) rows))
+
+pub keys_behind-append : (uuids : List ℕ) (front rows : List RowAt) → keys_behind uuids (front ++ rows) ≡ keys_behind uuids front ++ keys_behind (uuids_after uuids front) rows
+keys_behind-append uuids [] rows = refl
+keys_behind-append uuids (row ∷ front) rows = ap (λ (rest : List ℕ). key_in uuids (text_of row) ∷ rest) (keys_behind-append (uuids_behind uuids (text_of row)) front rows)
+
+-- no row is of the component of an earlier one
+abbrev pub AreSingle : List RowAt → List RowAt → Type 0
+AreSingle earlier [] = ⊤
+AreSingle earlier (row ∷ rows) = (list_any (λ other. same_component other row) earlier ≡ false) × AreSingle (earlier ++ row ∷ []) rows
+
+-- so it is where no key stands twice
+pub single-keys : (earlier rows : List RowAt) → ((key : ℕ) → times key (keys_behind [] (earlier ++ rows)) ≤ 1) → AreSingle earlier rows
+single-keys earlier [] few = tt
+single-keys earlier (row ∷ rows) few =
+    let cut : (earlier ++ row ∷ []) ++ rows ≡ earlier ++ row ∷ rows = append_assoc earlier (row ∷ []) rows in (
+      by (list_any (λ other. same_component other row) earlier) refl,
+      single-keys (earlier ++ row ∷ []) rows (λ key. subst (λ (all : List RowAt). times key (keys_behind [] all) ≤ 1) (sym cut) (few key)),
+    )
+  where
+    by : (found : Bool) → list_any (λ other. same_component other row) earlier ≡ found → list_any (λ other. same_component other row) earlier ≡ false
+    by false told = told
+    by true told =
+        let key = key_in (uuids_after [] earlier) (text_of row) in
+        let among : 1 ≤ times key (keys_behind [] earlier) = key-among [] earlier row told in
+        let later = keys_behind (uuids_behind (uuids_after [] earlier) (text_of row)) rows in
+        let all : times key (keys_behind [] (earlier ++ row ∷ rows)) ≡ times key (keys_behind [] earlier) + times key (key ∷ later) =
+        ap (times key) (keys_behind-append [] earlier (row ∷ rows)) ∙ times-append key (keys_behind [] earlier) (key ∷ later) in
+        let own : times key (key ∷ later) ≡ times key (key ∷ []) + times key later = times-append key (key ∷ []) later in
+        let one : times key (key ∷ []) ≡ 1 = times-one key in
+        absurd (omega (arith, among, all, own, one, few key))
+
+-- ---- what passes no weaker test passes none
+pub any-none : {X : Type 0} (p q : X → Bool) (xs : List X) → ((x : X) → p x ≡ false → q x ≡ false) → list_any p xs ≡ false → list_any q xs ≡ false
+any-none p q [] weaker none = refl
+any-none p q (x ∷ xs) weaker none = by (p x) refl none (any-none p q xs weaker)
+  where
+    by : (b : Bool) → p x ≡ b → (b || list_any p xs) ≡ false → (list_any p xs ≡ false → list_any q xs ≡ false) → (q x || list_any q xs) ≡ false
+    by true told none rest = (cc)
+    by false told none rest = rw (weaker x told) (rest none)
+
+and_left : (p q : Bool) → p ≡ false → (p && q) ≡ false
+and_left p q told = rw told refl
+
+-- so no row conflicts with an earlier one
+pub no_conflict : (earlier rows : List RowAt) → AreSingle earlier rows → first_conflict earlier rows ≡ None
+no_conflict earlier [] single = refl
+no_conflict earlier (row ∷ rows) single =
+    let none : list_any (λ other. conflicts other row) earlier ≡ false =
+    any-none (λ other. same_component other row) (λ other. conflicts other row) earlier (λ other apart. rw apart refl) single.0 in
+    rw none (no_conflict (earlier ++ row ∷ []) rows single.1)
+
+-- ---- and each is chosen
+any-append : {X : Type 0} (p : X → Bool) (xs ys : List X) → list_any p xs ≡ false → list_any p ys ≡ false → list_any p (xs ++ ys) ≡ false
+any-append p [] ys none others = others
+any-append p (x ∷ xs) ys none others = by (p x) none (λ left. any-append p xs ys left others)
+  where
+    by : (b : Bool) → (b || list_any p xs) ≡ false → (list_any p xs ≡ false → list_any p (xs ++ ys) ≡ false) → (b || list_any p (xs ++ ys)) ≡ false
+    by true none rest = (cc)
+    by false none rest = rest none
+
+any-at : {X : Type 0} (p : X → Bool) (xs ys : List X) (x : X) → list_any p (xs ++ x ∷ ys) ≡ false → p x ≡ false
+any-at p [] ys x none = by (p x) none
+  where
+    by : (b : Bool) → (b || list_any p ys) ≡ false → b ≡ false
+    by true none = none
+    by false none = refl
+any-at p (y ∷ xs) ys x none = by (p y) none (any-at p xs ys x)
+  where
+    by : (b : Bool) → (b || list_any p (xs ++ x ∷ ys)) ≡ false → (list_any p (xs ++ x ∷ ys) ≡ false → p x ≡ false) → p x ≡ false
+    by true none rest = (cc)
+    by false none rest = rest none
+
+same_kind-sym : (one other : FileKind) → same_kind one other ≡ same_kind other one
+same_kind-sym Concept Concept = refl
+same_kind-sym Concept Description = refl
+same_kind-sym Concept Relationship = refl
+same_kind-sym Concept Concrete = refl
+same_kind-sym Concept Member = refl
+same_kind-sym Description Concept = refl
+same_kind-sym Description Description = refl
+same_kind-sym Description Relationship = refl
+same_kind-sym Description Concrete = refl
+same_kind-sym Description Member = refl
+same_kind-sym Relationship Concept = refl
+same_kind-sym Relationship Description = refl
+same_kind-sym Relationship Relationship = refl
+same_kind-sym Relationship Concrete = refl
+same_kind-sym Relationship Member = refl
+same_kind-sym Concrete Concept = refl
+same_kind-sym Concrete Description = refl
+same_kind-sym Concrete Relationship = refl
+same_kind-sym Concrete Concrete = refl
+same_kind-sym Concrete Member = refl
+same_kind-sym Member Concept = refl
+same_kind-sym Member Description = refl
+same_kind-sym Member Relationship = refl
+same_kind-sym Member Concrete = refl
+same_kind-sym Member Member = refl
+
+eqb-sym : (a b : ℕ) → (a == b) ≡ (b == a)
+eqb-sym a b = by (a == b) refl
+  where
+    by : (test : Bool) → (a == b) ≡ test → test ≡ (b == a)
+    by true told = sym (eq-eqb b a (sym (eqb-true a b told)))
+    by false told = other (b == a) refl
+      where
+        other : (test : Bool) → (b == a) ≡ test → false ≡ test
+        other false is = refl
+        other true is = cc (told, eq-eqb a b (sym (eqb-true b a is)))
+
+pub same_component-sym : (one other : RowAt) → same_component one other ≡ same_component other one
+same_component-sym one other = (λ i. same_kind-sym one.kind other.kind i && eqb-sym (id_of one) (id_of other) i)
+
+-- a row behind others is of the component of none of them
+apart-later : (earlier more rows : List RowAt) (row : RowAt) → AreSingle (earlier ++ row ∷ more) rows → list_any (λ other. same_component other row) rows ≡ false
+apart-later earlier more [] row single = refl
+apart-later earlier more (next ∷ rows) row single =
+    let apart : same_component row next ≡ false = any-at (λ other. same_component other next) earlier more row single.0 in
+    let cut : (earlier ++ row ∷ more) ++ next ∷ [] ≡ earlier ++ row ∷ (more ++ next ∷ []) = append_assoc earlier (row ∷ more) (next ∷ []) in
+    let rest : list_any (λ other. same_component other row) rows ≡ false =
+    apart-later earlier (more ++ next ∷ []) rows row (subst (λ (all : List RowAt). AreSingle all rows) cut single.1) in
+    rw (same_component-sym next row ∙ apart) rest
+
+is_later-itself : (time : Option ℕ) → is_later time time ≡ false
+is_later-itself None = refl
+is_later-itself (Some time) = by (nat_lt time time) refl
+  where
+    by : (b : Bool) → nat_lt time time ≡ b → b ≡ false
+    by false told = refl
+    by true told = absurd (grind (arith, nat_tests, told))
+
+pub single-choices : (earlier rows : List RowAt) → AreSingle earlier rows → marked (choices (earlier ++ rows) earlier rows) rows ≡ rows
+single-choices earlier [] single = refl
+single-choices earlier (row ∷ rows) single =
+    let all : List RowAt = earlier ++ row ∷ rows in
+    let cut : (earlier ++ row ∷ []) ++ rows ≡ all = append_assoc earlier (row ∷ []) rows in
+    let own : list_any (λ other. same_component other row && is_later (time_of other) (time_of row)) (row ∷ rows) ≡ false =
+    rw (is_later-itself (time_of row)) (none_later (same_component row row)) in
+    let alone : is_superseded all row ≡ false =
+    any-append (λ other. same_component other row && is_later (time_of other) (time_of row)) earlier (row ∷ rows)
+    (any-none (λ other. same_component other row) (λ other. same_component other row && is_later (time_of other) (time_of row)) earlier (λ other apart. and_left (same_component other row) (is_later (time_of other) (time_of row)) apart) single.0)
+    own in
+    let first : is_repeated earlier row ≡ false =
+    any-none (λ other. same_component other row) (λ other. same_version other row) earlier (λ other apart. and_left (same_component other row) (same_time (time_of other) (time_of row)) apart) single.0 in
+    let rest : marked (choices all (earlier ++ row ∷ []) rows) rows ≡ rows =
+    subst (λ (whole : List RowAt). marked (choices whole (earlier ++ row ∷ []) rows) rows ≡ rows) cut (single-choices (earlier ++ row ∷ []) rows single.1) in
+    rw alone (rw first (ap (λ (others : List RowAt). row ∷ others) rest))
+  where
+    none_later : (b : Bool) → ((b && false) || list_any (λ other. same_component other row && is_later (time_of other) (time_of row)) rows) ≡ false
+    none_later b =
+        let later : list_any (λ other. same_component other row && is_later (time_of other) (time_of row)) rows ≡ false =
+        any-none (λ other. same_component other row) (λ other. same_component other row && is_later (time_of other) (time_of row)) rows
+        (λ other apart. and_left (same_component other row) (is_later (time_of other) (time_of row)) apart) (apart-later earlier [] rows row single.1) in
+        by b later
+      where
+        by : (b : Bool) → list_any (λ other. same_component other row && is_later (time_of other) (time_of row)) rows ≡ false → ((b && false) || list_any (λ other. same_component other row && is_later (time_of other) (time_of row)) rows) ≡ false
+        by true later = later
+        by false later = later

@@ -1,0 +1,258 @@
+-- Rows taken one after another: what a further one changes, and whether it conflicts with one before it.
+use Rattle.std.proofs.Common.{ℕ, ◌≡◌, ◌<◌, ◌&&◌, ◌==◌, inl, inr, List, [], ◌∷◌, ◌++◌, length, get_or, map, Bool, true, false, not, cond, nat_eq, None, Some, position, sym, ◌∙◌, ap, subst, refl, arith, append_assoc, append-nil}
+use Rattle.std.specs.Prelude.{All, Contains}
+use Rattle.std.specs.List.{list_any}
+use Rattle.std.specs.List.Sorted.{IsStrictlyIncreasing}
+use Rattle.std.proofs.lemmas.Bool.{cases_Bool, eqb-true, eq-eqb, false≢true, and_parts, and_from, and_left}
+use Rattle.std.proofs.lemmas.List.{length-map, get_or-map, map_push}
+use Rattle.std.proofs.lemmas.List.Elements.{All-contains, All-nil, All-push, All-weaker, Contains-append_left, Contains-get_or, Contains-push}
+use Rattle.std.proofs.lemmas.List.Folds.{list_any_none}
+use Rattle.std.proofs.lemmas.List.Quantifiers.{position-Some}
+use Rattle.indexmap.specs.IndexSet.{insert_key}
+use Rattle.rf2_rows.specs.Rows.{row_fault}
+use Rattle.rf2_rows.specs.Versions.{same_row}
+use Rattle.rf2_rows.proofs.VersionLemmas.{same_row-refl, same_row-sym, same_row-trans}
+use Rattle.rf2_rows.specs.declared.kind.FileKind.{FileKind}
+use Rattle.snapshot.specs.InForce.{has}
+use Rattle.snapshot.specs.Noted.{AreOfItsKind, Noted, conflicts, is_repeated, same_version}
+use Rattle.snapshot.specs.Taken.{AgreesWith, HasTaken, IsCodeOf, IsOfVersion, IsVersionAmong, Taken, Version, firsts}
+use Rattle.snapshot.proofs.CodeLemmas.{has-code, same_version-code}
+use Rattle.snapshot.proofs.SplitLemmas.{Contains-cut, any_of, one_first}
+
+-- nothing is taken
+pub taken_none : (repeated : List ℕ) → HasTaken (record { repeated = repeated; codes = []; versions = []; chosen = [] }) []
+taken_none repeated = record {
+  codes = refl;
+  versions = All-nil (IsVersionAmong repeated []);
+  agree = All-nil (IsOfVersion repeated []);
+  chosen = refl;
+}
+
+-- of one row more, which is the first of its version
+firsts-push : (repeated : List ℕ) (earlier later : List Noted) (row : Noted)
+    → firsts repeated earlier (later ++ row ∷ []) ≡ firsts repeated earlier later ++ not (has repeated row.key && is_repeated (earlier ++ later) row) ∷ []
+firsts-push repeated earlier [] row = ap (λ (rows : List Noted). not (has repeated row.key && is_repeated rows row) ∷ []) (sym (append-nil earlier))
+firsts-push repeated earlier (first ∷ later) row =
+    ap (λ (marks : List Bool). not (has repeated first.key && is_repeated earlier first) ∷ marks)
+    (firsts-push repeated (earlier ++ first ∷ []) later row
+    ∙ ap (λ (rows : List Noted). firsts repeated (earlier ++ first ∷ []) later ++ not (has repeated row.key && is_repeated rows row) ∷ []) (append_assoc earlier (first ∷ []) later))
+
+length-firsts : (repeated : List ℕ) (earlier later : List Noted) → length (firsts repeated earlier later) ≡ length later
+length-firsts repeated earlier [] = refl
+length-firsts repeated earlier (row ∷ later) = let rest = length-firsts repeated (earlier ++ row ∷ []) later in omega arith
+
+-- as many marks as rows
+pub length-chosen : (taken : Taken) (rows : List Noted) → HasTaken taken rows → length taken.chosen ≡ length rows
+length-chosen taken rows has_taken = ap length has_taken.chosen ∙ length-firsts taken.repeated [] rows
+
+-- a version stays that of its row
+among-push : (repeated : List ℕ) (rows : List Noted) (row : Noted) (version : Version)
+    → IsVersionAmong repeated rows version → IsVersionAmong repeated (rows ++ row ∷ []) version
+among-push repeated rows row version is = record {
+  before = is.before;
+  row = is.row;
+  behind = is.behind ++ row ∷ [];
+  stands = ap (λ (rows : List Noted). rows ++ row ∷ []) is.stands ∙ append_assoc is.before (is.row ∷ is.behind) (row ∷ []);
+  place = is.place;
+  code = is.code;
+  kind = is.kind;
+  text = is.text;
+  first = is.first;
+}
+
+-- the mark of one row more
+marks-push : (repeated : List ℕ) (rows : List Noted) (row : Noted) (marks new : List Bool) (mark : Bool)
+    → marks ≡ firsts repeated [] rows → new ≡ marks ++ mark ∷ [] → mark ≡ not (has repeated row.key && is_repeated rows row)
+    → new ≡ firsts repeated [] (rows ++ row ∷ [])
+marks-push repeated rows row marks new mark were are is =
+    are ∙ ap (λ (marks : List Bool). marks ++ mark ∷ []) were ∙ ap (λ (mark : Bool). firsts repeated [] rows ++ mark ∷ []) is ∙ sym (firsts-push repeated [] rows row)
+
+-- a row whose key is not repeated is taken
+pub taken_skip : (taken : Taken) (chosen : List Bool) (rows : List Noted) (row : Noted)
+    → chosen ≡ taken.chosen ++ true ∷ [] → has taken.repeated row.key ≡ false → HasTaken taken rows
+    → HasTaken (record { repeated = taken.repeated; codes = taken.codes; versions = taken.versions; chosen = chosen }) (rows ++ row ∷ [])
+taken_skip taken chosen rows row are alone before = record {
+  codes = before.codes;
+  versions = All-weaker (IsVersionAmong taken.repeated rows) (IsVersionAmong taken.repeated (rows ++ row ∷ [])) (λ version is. among-push taken.repeated rows row version is) taken.versions before.versions;
+  agree = All-push (IsOfVersion taken.repeated taken.versions) rows row before.agree (λ repeated. absurd (false≢true (sym alone ∙ repeated)));
+  chosen = marks-push taken.repeated rows row taken.chosen chosen true before.chosen are (sym (ap not (and_left (has taken.repeated row.key) (is_repeated rows row) alone)));
+}
+
+module _ (repeated : List ℕ) (rising : IsStrictlyIncreasing repeated) (rows : List Noted) where
+  -- a row of a version's code is of one component and time with its first row
+  first_is_same : (version : Version) (is : IsVersionAmong repeated rows version) (row : Noted) → IsCodeOf repeated row version.code
+      → (same_version is.row row ≡ true) × (same_version row is.row ≡ true)
+  first_is_same version is row code = (
+    same_version-code repeated rising is.row row version.code version.code is.code code ∙ eq-eqb version.code version.code refl,
+    same_version-code repeated rising row is.row version.code version.code code is.code ∙ eq-eqb version.code version.code refl,
+  )
+
+  -- two versions with one code have one first row
+  one_version : (version other : Version) (is : IsVersionAmong repeated rows version) (is' : IsVersionAmong repeated rows other)
+      → version.code ≡ other.code → is.row ≡ is'.row
+  one_version version other is is' same =
+      let code : IsCodeOf repeated is'.row version.code = subst (IsCodeOf repeated is'.row) (sym same) is'.code in
+      let both = first_is_same version is is'.row code in
+      (one_first is.before is.row is.behind is'.before is'.row is'.behind (sym is.stands ∙ is'.stands) is.first is'.first both.0 both.1).0
+
+  -- the first row of a version is among the rows
+  Contains-first : (version : Version) (is : IsVersionAmong repeated rows version) → Contains rows is.row
+  Contains-first version is = subst (λ (rows : List Noted). Contains rows is.row) (sym is.stands) (Contains-cut is.before is.row is.behind)
+
+  -- a row of one of the versions is of one component and time with an earlier one
+  pub repeats : (version : Version) → IsVersionAmong repeated rows version → (row : Noted) → IsCodeOf repeated row version.code → is_repeated rows row ≡ true
+  repeats version is row code =
+      any_of (λ other. same_version other row) rows is.row (Contains-first version is) (first_is_same version is row code).0
+
+module _ (taken : Taken) (rising : IsStrictlyIncreasing taken.repeated) (rows : List Noted) (before : HasTaken taken rows) (row : Noted) where
+  -- the version of an earlier row of its component and time
+  version_before : (other : Noted) → Contains rows other → (code : ℕ) → IsCodeOf taken.repeated row code → same_version other row ≡ true
+      → (version : Version) × Contains taken.versions version × AgreesWith taken.repeated other version × (version.code ≡ code)
+  version_before other there code is same =
+      let key : other.key ≡ row.key = eqb-true other.key row.key (and_parts (other.key == row.key) _ same).0 in
+      let is_repeated_key : has taken.repeated other.key ≡ true = ap (has taken.repeated) key ∙ has-code taken.repeated row code is in
+      let of = All-contains (IsOfVersion taken.repeated taken.versions) rows other before.agree there is_repeated_key in
+      (of.0, of.1, of.2, eqb-true of.0.code code (sym (same_version-code taken.repeated rising other row of.0.code code of.2.code is) ∙ same))
+
+  -- among the versions the code of each stands
+  has-version : (version : Version) → Contains taken.versions version → has taken.codes version.code ≡ true
+  has-version version there =
+      any_of (λ other. version.code == other) taken.codes version.code
+      (subst (λ (codes : List ℕ). Contains codes version.code) (sym before.codes) (Contains-map (λ (version : Version). version.code) taken.versions version there))
+      (eq-eqb version.code version.code refl)
+    where
+      Contains-map : {X Y : Type 0} (f : X → Y) (xs : List X) (x : X) → Contains xs x → Contains (map f xs) (f x)
+      Contains-map f xs x there = (there.0, rw length-map there.1, get_or-map f xs there.0 x (f x) there.1 ∙ ap f there.2)
+
+  module _ (code : ℕ) (is : IsCodeOf taken.repeated row code) where
+    -- of a version that was not seen no row is before it
+    pub new_version : has taken.codes code ≡ false → (other : Noted) → Contains rows other → same_version other row ≡ false
+    new_version new other there = elim (cases_Bool (same_version other row)) [
+      | inl same ↦
+          let of = version_before other there code is same in
+          absurd (false≢true (sym new ∙ ap (has taken.codes) (sym of.3) ∙ has-version of.0 of.1))
+      | inr apart ↦ apart
+    ]
+
+    pub new_not_repeated : has taken.codes code ≡ false → is_repeated rows row ≡ false
+    new_not_repeated new = list_any_none (λ other. same_version other row) rows
+        (λ k d within. new_version new (get_or rows k d) (Contains-get_or rows k d within))
+
+    pub new_conflicts : has taken.codes code ≡ false → list_any (λ earlier. conflicts earlier row) rows ≡ false
+    new_conflicts new = list_any_none (λ earlier. conflicts earlier row) rows
+        (λ k d within. and_left (same_version (get_or rows k d) row) _ (new_version new (get_or rows k d) (Contains-get_or rows k d within)))
+
+    -- the version at the number of its code
+    module _ (number : ℕ) (found : position (λ other. code == other) taken.codes ≡ Some number) (default : Version) where
+      pub number_within : number < length taken.versions
+      number_within =
+          let at = position-Some (λ other. code == other) taken.codes number 0 found in
+          omega (arith, at.0, ap length before.codes, length-map taken.versions (λ (version : Version). version.code))
+
+      pub version_code : (get_or taken.versions number default).code ≡ code
+      version_code =
+          let at = position-Some (λ other. code == other) taken.codes number 0 found in
+          sym (get_or-map (λ (version : Version). version.code) taken.versions number default 0 number_within)
+          ∙ ap (λ (codes : List ℕ). get_or codes number 0) (sym before.codes)
+          ∙ sym (eqb-true code (get_or taken.codes number 0) at.1)
+
+      pub version_at : IsVersionAmong taken.repeated rows (get_or taken.versions number default)
+      version_at = before.versions number default number_within
+
+      row_code : IsCodeOf taken.repeated row (get_or taken.versions number default).code
+      row_code = subst (IsCodeOf taken.repeated row) (sym version_code) is
+
+      -- its first row is of the kind
+      pub version_kind : AreOfItsKind rows row → (get_or taken.versions number default).kind ≡ row.kind
+      version_kind kinds =
+          let version = get_or taken.versions number default in
+          let same = first_is_same taken.repeated rising rows version version_at row row_code in
+          version_at.kind ∙ kinds version_at.row (Contains-first taken.repeated rising rows version version_at)
+          (eqb-true version_at.row.key row.key (and_parts (version_at.row.key == row.key) _ same.0).0)
+
+      -- where the row is the same as the first of its version, it conflicts with none
+      pub same_conflicts : AreOfItsKind rows row → same_row row.kind (get_or taken.versions number default).text row.text ≡ true
+          → list_any (λ earlier. conflicts earlier row) rows ≡ false
+      same_conflicts kinds same = list_any_none (λ earlier. conflicts earlier row) rows
+          (λ k d within. agrees (get_or rows k d) (Contains-get_or rows k d within))
+        where
+          and_false : (b : Bool) → (b && false) ≡ false
+          and_false true = refl
+          and_false false = refl
+
+          agrees : (other : Noted) → Contains rows other → conflicts other row ≡ false
+          agrees other there = elim (cases_Bool (same_version other row)) [
+            | inr apart ↦ and_left (same_version other row) _ apart
+            | inl one ↦
+                let version = get_or taken.versions number default in
+                let of = version_before other there code is one in
+                let among = All-contains (IsVersionAmong taken.repeated rows) taken.versions of.0 before.versions of.1 in
+                let kind : other.kind ≡ row.kind = kinds other there (eqb-true other.key row.key (and_parts (other.key == row.key) _ one).0) in
+                let text : of.0.text ≡ version.text =
+                among.text ∙ ap (λ (row : Noted). row.text) (one_version taken.repeated rising rows of.0 version among version_at (of.3 ∙ sym version_code)) ∙ sym version_at.text in
+                let before_it : same_row row.kind version.text other.text ≡ true =
+                subst (λ (text : List ℕ). same_row row.kind text other.text ≡ true) text
+                (subst (λ (kind : FileKind). same_row kind of.0.text other.text ≡ true) kind of.2.same) in
+                let as_it : same_row other.kind other.text row.text ≡ true =
+                subst (λ (kind : FileKind). same_row kind other.text row.text ≡ true) (sym kind)
+                (same_row-trans row.kind other.text version.text row.text (same_row-sym row.kind version.text other.text before_it) same) in
+                ap (λ (same : Bool). same_version other row && not same) as_it ∙ and_false (same_version other row)
+          ]
+
+      -- where it is not, it conflicts with that row
+      pub other_conflicts : AreOfItsKind rows row → same_row row.kind (get_or taken.versions number default).text row.text ≡ false
+          → list_any (λ earlier. conflicts earlier row) rows ≡ true
+      other_conflicts kinds apart =
+          let version = get_or taken.versions number default in
+          let same = first_is_same taken.repeated rising rows version version_at row row_code in
+          let differs : same_row version_at.row.kind version_at.row.text row.text ≡ false =
+          subst (λ (kind : FileKind). same_row kind version_at.row.text row.text ≡ false) (sym (version_kind kinds) ∙ version_at.kind)
+          (subst (λ (text : List ℕ). same_row row.kind text row.text ≡ false) version_at.text apart) in
+          any_of (λ earlier. conflicts earlier row) rows version_at.row (Contains-first taken.repeated rising rows version version_at)
+          (and_from (same_version version_at.row row) _ same.0 (ap not differs))
+
+      -- and it is taken where it is the same
+      pub taken_again : (chosen : List Bool) → chosen ≡ taken.chosen ++ false ∷ []
+          → same_row row.kind (get_or taken.versions number default).text row.text ≡ true
+          → HasTaken (record { repeated = taken.repeated; codes = taken.codes; versions = taken.versions; chosen = chosen }) (rows ++ row ∷ [])
+      taken_again chosen are same =
+          let version = get_or taken.versions number default in
+          record {
+            codes = before.codes;
+            versions = All-weaker (IsVersionAmong taken.repeated rows) (IsVersionAmong taken.repeated (rows ++ row ∷ [])) (λ version is. among-push taken.repeated rows row version is) taken.versions before.versions;
+            agree = All-push (IsOfVersion taken.repeated taken.versions) rows row before.agree
+                (λ repeated. (version, Contains-get_or taken.versions number default number_within, record { code = row_code; same = same }));
+            chosen = marks-push taken.repeated rows row taken.chosen chosen false before.chosen are
+                (sym (ap not (and_from (has taken.repeated row.key) (is_repeated rows row) (has-code taken.repeated row code is) (repeats taken.repeated rising rows version version_at row row_code))));
+          }
+
+    -- the first row of a version is taken
+    pub taken_first : (codes : List ℕ) (versions : List Version) (chosen : List Bool) → has taken.codes code ≡ false → row_fault row.kind row.text ≡ None
+        → codes ≡ insert_key nat_eq taken.codes code
+        → versions ≡ taken.versions ++ record { code = code; place = length taken.chosen; kind = row.kind; text = row.text } ∷ []
+        → chosen ≡ taken.chosen ++ true ∷ []
+        → HasTaken (record { repeated = taken.repeated; codes = codes; versions = versions; chosen = chosen }) (rows ++ row ∷ [])
+    taken_first codes versions chosen new accepted codes_are versions_are chosen_are =
+        let version : Version = record { code = code; place = length taken.chosen; kind = row.kind; text = row.text } in
+        let added = taken.versions ++ version ∷ [] in
+        record {
+          codes = codes_are ∙ ap (λ (seen : Bool). cond seen taken.codes (taken.codes ++ code ∷ [])) new
+              ∙ ap (λ (codes : List ℕ). codes ++ code ∷ []) before.codes
+              ∙ sym (map_push (λ (version : Version). version.code) taken.versions version)
+              ∙ ap (map (λ (version : Version). version.code)) (sym versions_are);
+          versions = subst (All (IsVersionAmong taken.repeated (rows ++ row ∷ []))) (sym versions_are)
+              (All-push (IsVersionAmong taken.repeated (rows ++ row ∷ [])) taken.versions version
+              (All-weaker (IsVersionAmong taken.repeated rows) (IsVersionAmong taken.repeated (rows ++ row ∷ [])) (λ version is. among-push taken.repeated rows row version is) taken.versions before.versions)
+              (record { before = rows; row = row; behind = []; stands = refl; place = length-chosen taken rows before; code = is; kind = refl; text = refl; first = new_not_repeated new }));
+          agree = subst (λ (versions : List Version). All (IsOfVersion taken.repeated versions) (rows ++ row ∷ [])) (sym versions_are)
+              (All-push (IsOfVersion taken.repeated added) rows row
+              (All-weaker (IsOfVersion taken.repeated taken.versions) (IsOfVersion taken.repeated added)
+              (λ other of repeated. let found = of repeated in (found.0, Contains-append_left taken.versions (version ∷ []) found.0 found.1, found.2)) rows before.agree)
+              (λ repeated. (version, Contains-push taken.versions version, record { code = is; same = same_row-refl row.kind row.text accepted })));
+          chosen = marks-push taken.repeated rows row taken.chosen chosen true before.chosen chosen_are
+              (ap not (sym (and_right_false (has taken.repeated row.key) (is_repeated rows row) (new_not_repeated new))));
+        }
+      where
+        and_right_false : (a b : Bool) → b ≡ false → (a && b) ≡ false
+        and_right_false true b is_false = is_false
+        and_right_false false b is_false = refl

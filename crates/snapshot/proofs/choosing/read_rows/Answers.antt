@@ -1,0 +1,36 @@
+use Rattle.std.proofs.Common.{ℕ, ◌∙◌, arith, inl, inr, refl, subst, sym}
+use Rattle.std.proofs.lemmas.Bool.{cases_Bool}
+use Rattle.snapshot.specs.RowsKept.{kept_in}
+use Rattle.snapshot.specs.Taking.{FailsBelow, is_device}
+use Rattle.snapshot.specs.declared.fault.LoadFault.{LoadFault}
+use Rattle.snapshot.proofs.TakingLemmas.{at_told, fails_since, if_err, if_ok, if_told}
+use Rattle.snapshot.proofs.WentLemmas.{seen-stopped, seen-whole}
+use Rattle.snapshot.proofs.choosing.read_rows.Goals as goal
+
+pub returns-in-Ok-clause-ok : goal.returns-in-Ok-clause-ok
+returns-in-Ok-clause-ok g c = if_told _ (g.P.PlaceSource.places c.args.files.now) (λ places told.
+    if_ok _ _ c.choose_rows.result (λ read said. said c.args.limits (seen-whole c.args.limits c.new-rows.result c.take_places.new.taker places c.new-rows.ensures (at_told _ _ places told c.in-Ok.ensures.ok)))
+    (at_told _ _ places (c.in-Ok.ensures.places ∙ told) c.choose_rows.ensures.ok))
+
+pub returns-in-Ok-clause-err : goal.returns-in-Ok-clause-err
+returns-in-Ok-clause-err g c = if_told _ (g.P.PlaceSource.places c.args.files.now) (λ places told.
+    if_err _ _ c.choose_rows.result (λ fault said other own. said other own c.args.limits c.requires (seen-whole c.args.limits c.new-rows.result c.take_places.new.taker places c.new-rows.ensures (at_told _ _ places told c.in-Ok.ensures.ok)))
+    (at_told _ _ places (c.in-Ok.ensures.places ∙ told) c.choose_rows.ensures.err))
+
+pub returns-in-Err-clause-err : goal.returns-in-Err-clause-err
+returns-in-Err-clause-err g c = if_told _ (g.P.PlaceSource.places c.args.files.now) (λ places told other own.
+    at_told _ _ places (c.in-Err.ensures.places ∙ told) (c.first_of_faults.ensures.first other own) c.args.limits (kept_in c.take_places.new.taker) c.requires refl
+    (λ known mine. seen-stopped c.args.limits c.new-rows.result c.take_places.new.taker places c.in-Err.fault c.new-rows.ensures (at_told _ _ places told c.in-Err.ensures.err known mine)))
+
+pub returns-in-Err-clause-device : goal.returns-in-Err-clause-device
+returns-in-Err-clause-device g c device = elim (cases_Bool (is_device c.in-Err.fault)) [
+  | inl own ↦
+      let stays = c.first_of_faults.ensures.stays own in
+      let count = g.P.PlaceSource.file_count c.args.files.now in
+      let old = g.P.PlaceSource.failure_count c.args.files.now in
+      subst (λ (fault : LoadFault). FailsBelow count old (g.P.PlaceSource.failure_count c.first_of_faults.new.files) fault) (sym stays.0)
+      (subst (λ (new : ℕ). FailsBelow count old new c.in-Err.fault) (sym stays.1) (c.in-Err.ensures.device own))
+  | inr other ↦
+      fails_since (g.P.PlaceSource.file_count c.args.files.now) (g.P.PlaceSource.file_count c.take_places.new.self) (g.P.PlaceSource.failure_count c.args.files.now) (g.P.PlaceSource.failure_count c.take_places.new.self)
+      (g.P.PlaceSource.failure_count c.first_of_faults.new.files) c.first_of_faults.result c.in-Err.ensures.files (omega (arith, c.in-Err.ensures.failures)) (c.first_of_faults.ensures.device other device)
+]

@@ -1,0 +1,16 @@
+use Rattle.std.proofs.Common.{◌≡◌, ◌∙◌, Global, List, Ok, String, inl, map, string_bytes, subst}
+use Rattle.std.specs.Prelude.{IfOk}
+use Rattle.snapshot.specs.Contents.{load_of}
+use Rattle.snapshot.specs.Pieces.{listed}
+use Rattle.snapshot.proofs.PiecesLemmas.{in_order}
+use Rattle.snapshot.proofs.TakingLemmas.{at_told, if_told}
+use Rattle.snapshot.proofs.load.Snapshot.load_from.Goals as goal
+
+pub returns-clause-ok : goal.returns-clause-ok
+returns-clause-ok g c = if_told _ (g.S.FileSource.files c.args.source.now) (λ known told.
+    subst (λ (names : List (String Global)). IfOk c.load_named.result (λ snapshot. load_of c.args.limits c.args.lang.now (listed known (map string_bytes names)) ≡ Ok snapshot))
+    c.as_slice.ensures.value (at_told _ _ known (c.in-Ok.ensures.files ∙ told) c.load_named.ensures.ok))
+
+pub returns-clause-names : goal.returns-clause-names
+returns-clause-names g c = if_told _ (g.S.FileSource.files c.args.source.now) (λ known told.
+    inl (in_order known c.in-Ok.listed.items c.sort_unstable.new.self.items (at_told _ _ known told c.in-Ok.ensures.names) c.sort_unstable.ensures.permutation c.sort_unstable.ensures.sorted))

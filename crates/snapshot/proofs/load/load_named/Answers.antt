@@ -1,0 +1,22 @@
+use Rattle.std.proofs.Common.{◌≡◌, ap, map, Ok, Result, string_bytes, subst, sym, ◌∙◌}
+use Rattle.std.specs.Prelude.{IfOk, option_map}
+use Rattle.snapshot.specs.Contents.{Contents, IsFaultOf}
+use Rattle.snapshot.specs.Pieces.{listed}
+use Rattle.snapshot.specs.declared.fault.LoadFault.{LoadFault}
+use Rattle.snapshot.proofs.LoadLemmas.{load_named-is, load_of-none, names_concepts-listed}
+use Rattle.snapshot.proofs.TakingLemmas.{at_told, if_err, if_told}
+use Rattle.snapshot.proofs.load.load_named.Goals as goal
+
+pub returns-then-not-name_concept_file-clause-err : goal.returns-then-not-name_concept_file-clause-err
+returns-then-not-name_concept_file-clause-err g c = if_told _ (g.S.FileSource.files c.args.source.now) (λ known told own other.
+    load_of-none c.args.limits c.args.lang.now (listed known (map string_bytes c.args.names.now)) (names_concepts-listed known string_bytes c.args.names.now ∙ sym c.if-not-name_concept_file.ensures))
+
+pub returns-clause-ok : goal.returns-clause-ok
+returns-clause-ok g c = if_told _ (g.S.FileSource.files c.args.source.now) (λ known told.
+    let loaded = load_named-is c.args.limits c.in_force-limits.result c.args.lang.now known string_bytes c.args.names.now c.named_kind_count-kinds.result c.in_force-limits.ensures (sym c.if-not-name_concept_file.ensures) c.named_kind_count-kinds.ensures in
+    subst (λ (r : Result Contents LoadFault). IfOk c.load_places.result (λ snapshot. r ≡ Ok snapshot)) loaded (at_told _ _ _ (ap (option_map _) told) c.load_places.ensures.ok))
+
+pub returns-clause-err : goal.returns-clause-err
+returns-clause-err g c = if_told _ (g.S.FileSource.files c.args.source.now) (λ known told.
+    let loaded = load_named-is c.args.limits c.in_force-limits.result c.args.lang.now known string_bytes c.args.names.now c.named_kind_count-kinds.result c.in_force-limits.ensures (sym c.if-not-name_concept_file.ensures) c.named_kind_count-kinds.ensures in
+    if_err _ _ c.load_places.result (λ fault said own. subst (λ (r : Result Contents LoadFault). IsFaultOf fault r) loaded (said own)) (at_told _ _ _ (ap (option_map _) told) c.load_places.ensures.err))

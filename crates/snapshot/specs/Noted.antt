@@ -1,0 +1,50 @@
+-- The rows of components that have several: which of them conflict, and which is chosen of each component
+-- (Release File Specification, "effectiveTime").
+use Rattle.std.specs.Prelude.{◌≡◌, ◌≤◌, ℕ, Bool, false, not, nat_lt, ◌==◌, ◌&&◌, ◌||◌, List, [], ◌∷◌, ◌++◌, Contains, count_by, Option, None, Some, true}
+use Rattle.std.specs.List.{list_any}
+use Rattle.rf2_rows.specs.Versions.{same_row, same_time}
+use Rattle.rf2_rows.specs.declared.kind.FileKind.{FileKind}
+
+-- a row: the key of its component, its effective time, its kind and its line
+pub record Noted : Type 0 where
+  pub key : ℕ
+  pub time : Option ℕ
+  pub kind : FileKind
+  pub text : List ℕ
+
+-- one effective time is later than another: none at all, of a row that is not published yet, is the latest
+abbrev pub is_later : Option ℕ → Option ℕ → Bool
+is_later None None = false
+is_later None (Some other) = true
+is_later (Some one) None = false
+is_later (Some one) (Some other) = nat_lt other one
+
+-- two rows are of one component and one time
+abbrev pub same_version : Noted → Noted → Bool
+same_version one other = (one.key == other.key) && same_time one.time other.time
+
+-- two rows of one component and one time differ
+abbrev pub conflicts : Noted → Noted → Bool
+conflicts one other = same_version one other && not (same_row one.kind one.text other.text)
+
+-- among the rows one of the same component has a later time
+abbrev pub is_superseded : List Noted → Noted → Bool
+is_superseded rows row = list_any (λ other. (other.key == row.key) && is_later other.time row.time) rows
+
+-- an earlier row is of the same component and time
+abbrev pub is_repeated : List Noted → Noted → Bool
+is_repeated earlier row = list_any (λ other. same_version other row) earlier
+
+-- of some rows, which of the last ones, behind the earlier ones, are chosen: those with the latest time of their
+-- component, and of equal ones the first
+abbrev pub choices : List Noted → List Noted → List Noted → List Bool
+choices rows earlier [] = []
+choices rows earlier (row ∷ later) = not (is_superseded rows row || is_repeated earlier row) ∷ choices rows (earlier ++ row ∷ []) later
+
+-- the keys that stand in a list at least twice are among some
+abbrev pub Covers : List ℕ → List ℕ → Type 0
+Covers repeated keys = (key : ℕ) → 2 ≤ count_by (λ other. other == key) keys → Contains repeated key
+
+-- the earlier rows of the component of a row are of its kind
+abbrev pub AreOfItsKind : List Noted → Noted → Type 0
+AreOfItsKind earlier row = (other : Noted) → Contains earlier other → other.key ≡ row.key → other.kind ≡ row.kind

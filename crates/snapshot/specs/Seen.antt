@@ -1,0 +1,57 @@
+-- The rows that a load has seen, and what it knows of their first fault.
+use Rattle.std.specs.Prelude.{◌≡◌, ◌≤◌, ◌+◌, ⊤, ℕ, List, [], ◌∷◌, ◌++◌, length, Option, None}
+use Rattle.rf2_rows.specs.Rows.{row_fault}
+use Rattle.snapshot.specs.Contents.{text_of}
+use Rattle.snapshot.specs.Faults.{conflict_behind, first_fault, first_of}
+use Rattle.snapshot.specs.Files.{Place, RowAt, rows_of}
+use Rattle.snapshot.specs.Kept.{Kept, kept_behind, nothing_kept}
+use Rattle.snapshot.specs.Keys.{IsShort, Keyed, key_in, uuids_behind}
+use Rattle.snapshot.specs.declared.fault.LoadFault.{LoadFault}
+use Rattle.snapshot.specs.declared.limits.Limits.{Limits}
+
+-- the UUIDs that were met behind rows, and the keys of the rows
+abbrev pub uuids_after : List ℕ → List RowAt → List ℕ
+uuids_after uuids [] = uuids
+uuids_after uuids (row ∷ rows) = uuids_after (uuids_behind uuids (text_of row)) rows
+
+abbrev pub keys_behind : List ℕ → List RowAt → List ℕ
+keys_behind uuids [] = []
+keys_behind uuids (row ∷ rows) = key_in uuids (text_of row) ∷ keys_behind (uuids_behind uuids (text_of row)) rows
+
+-- what is kept behind rows
+abbrev pub kept_rows : Kept → List RowAt → Kept
+kept_rows kept [] = kept
+kept_rows kept (row ∷ rows) = kept_rows (kept_behind kept row) rows
+
+-- each row has an identifier of at most 18 digits, and no fault by itself
+abbrev pub AreShort : List RowAt → Type 0
+AreShort [] = ⊤
+AreShort (row ∷ rows) = (IsShort (text_of row) × (row_fault row.kind row.text ≡ None)) × AreShort rows
+
+-- the first of some rows that conflicts with an earlier one
+abbrev pub first_conflict : List RowAt → List RowAt → Option LoadFault
+first_conflict earlier [] = None
+first_conflict earlier (row ∷ rows) = first_of (conflict_behind earlier row) (first_conflict (earlier ++ row ∷ []) rows)
+
+-- how many rows of all kinds there may be
+abbrev pub row_total : Limits → ℕ
+row_total limits = limits.concepts + limits.descriptions + limits.relationships + limits.concrete + limits.members
+
+-- what the first pass over places says of their first fault: it is the first conflict of the rows that were seen, or
+-- else the fault at which the pass ended, if it did
+pub record IsSeen (limits : Limits) (places : List Place) (kept : Kept) (fault : Option LoadFault) : Type 0 where
+  pub seen : List RowAt
+  pub kept_is : kept ≡ kept_rows (nothing_kept limits) seen
+  pub short : AreShort seen
+  pub first : first_fault limits [] places ≡ first_of (first_conflict [] seen) fault
+  pub beyond : List RowAt
+  pub front : rows_of places ≡ seen ++ beyond
+  pub whole : fault ≡ None → seen ≡ rows_of places
+  pub few : length seen ≤ row_total limits + 1
+
+-- the rows at the front of places were seen and have these keys
+pub record AreSeen (keyed : Keyed) (places : List Place) (seen beyond : List RowAt) : Type 0 where
+  pub front : rows_of places ≡ seen ++ beyond
+  pub uuids : keyed.uuids ≡ uuids_after [] seen
+  pub keys : keyed.keys ≡ keys_behind [] seen
+  pub short : AreShort seen

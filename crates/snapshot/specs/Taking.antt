@@ -1,0 +1,40 @@
+-- Going over places one after another.
+use Rattle.std.specs.Prelude.{◌≡◌, ◌<◌, ℕ, Bool, true, false, List, [], ◌∷◌, ◌++◌, Some}
+use Rattle.release_files.specs.Lines.{line_text}
+use Rattle.release_files.specs.Source.{IsRaised}
+use Rattle.rf2_rows.specs.declared.kind.FileKind.{FileKind}
+use Rattle.snapshot.specs.Files.{Place, first_line, later_line, no_line}
+use Rattle.snapshot.specs.declared.fault.LoadFault.{LoadFault}
+use Rattle.snapshot.specs.declared.fault.LoadFault.TheVariants.{Device}
+use Rattle.snapshot.specs.declared.places.Met.{Met}
+use Rattle.snapshot.specs.declared.places.Met.TheVariants.{NoLine, First, Later}
+
+-- the place in a file where something is met
+abbrev pub place_of : ℕ → FileKind → Met → Place
+place_of file kind NoLine = no_line file kind
+place_of file kind (First line) = first_line file kind (line_text line)
+place_of file kind (Later line) = later_line file kind (line_text line)
+
+-- places are taken in turn, by a relation between what is held before and behind each of them
+pub data TakesAll {Held : Type 0} (takes : Held → Place → Held → Type 0) : Held → List Place → Held → Type 0 where
+  taken : (held : Held) → TakesAll takes held [] held
+  next : (old middle new : Held) (place : Place) (places : List Place) → takes old place middle → TakesAll takes middle places new → TakesAll takes old (place ∷ places) new
+
+-- places are taken in turn up to one that is refused
+pub record StopsAt {Held : Type 0} (takes : Held → Place → Held → Type 0) (refuses : Held → Place → Held → LoadFault → Type 0) (old : Held) (places : List Place) (new : Held) (fault : LoadFault) : Type 0 where
+  pub before : List Place
+  pub place : Place
+  pub later : List Place
+  pub middle : Held
+  pub cut : places ≡ before ++ place ∷ later
+  pub taken_before : TakesAll takes old before middle
+  pub refused : refuses middle place new fault
+
+-- the fault is the device's
+abbrev pub is_device : LoadFault → Bool
+is_device (Device file) = true
+is_device other = false
+
+-- the device failed at one of so many files, and this was counted
+abbrev pub FailsBelow : ℕ → ℕ → ℕ → LoadFault → Type 0
+FailsBelow count old new fault = (file : ℕ) × (file < count) × (fault ≡ Device (Some file)) × IsRaised old new

@@ -1,0 +1,227 @@
+//! Reading the rows of a release, and choosing among those of components that have several.
+ghost use Rattle.std.specs.Prelude.{◌≡◌, ◌≢◌, ◌≤◌, ◌<◌, ◌^◌, [], ℕ, IfErr, IfOk, IfSome, OnOk, List, None, Some, false, true, length};
+ghost use Rattle.std.specs.List.Sorted.{IsStrictlyIncreasing};
+ghost use Rattle.snapshot.specs.Chosen.{choices};
+ghost use Rattle.snapshot.specs.Faults.{first_fault};
+ghost use Rattle.snapshot.specs.Files.{RowAt};
+ghost use Rattle.snapshot.specs.Kept.{AreFew, IsReadFrom, Kept};
+ghost use Rattle.snapshot.specs.ListsInside.{listed_in};
+ghost use Rattle.snapshot.specs.Noted.{Covers};
+ghost use Rattle.snapshot.specs.RowsKept.{kept_in};
+ghost use Rattle.snapshot.specs.Seen.{AreSeen, IsSeen, first_conflict, row_total};
+ghost use Rattle.snapshot.specs.Taking.{FailsBelow, is_device as is_device_of};
+ghost use Rattle.snapshot.specs.declared.limits.Limits.{Limits};
+
+use crate::comparing::Comparing;
+use crate::fault::LoadFault;
+use crate::keys::RowKeys;
+use crate::limits::Limits;
+use crate::places::PlaceSource;
+use crate::repeated::repeated_keys;
+use crate::row_lists::RowLists;
+use crate::rows::Rows;
+use crate::versions::Versions;
+use std::alloc::Global;
+
+// No list of files that is told has more rows within the limits. Of one that is not told nothing is
+// known, so the rows are counted before they are numbered.
+const MOST_ROWS: u64 = 68_000_000;
+
+/// The fault of files that have more rows than that.
+pub const TOO_MANY_ROWS: LoadFault = LoadFault::TooMany { file: 0, line: 0 };
+
+/// What the chosen rows of files are made of, and how many rows there are, chosen or not.
+#[derive(Drop)]
+pub struct ReadRows {
+    /// What the chosen rows are made of.
+    pub lists: RowLists,
+    /// How many rows there are.
+    pub count: u64,
+}
+
+impl ReadRows {
+    /// Whether the rows, and what they are made of, are few enough to number.
+    pub fn are_few(&self) -> bool
+        ensures few { result ≡ true → AreFew self.now.count (listed_in self.now.lists) }
+        ensures told { AreFew self.now.count (listed_in self.now.lists) → result ≡ true }
+    {
+        let lists = &self.lists;
+        let most = lists
+            .concepts
+            .len()
+            .max(lists.names.len())
+            .max(lists.isa_ends.len())
+            .max(lists.attributes.len())
+            .max(lists.member_ends.len());
+        most as u64 <= self.count && self.count <= MOST_ROWS
+    }
+}
+
+/// Reads the rows of all files that have a kind. Where rows have one key, the files are gone over once
+/// more, so that these rows are compared.
+pub fn read_rows<P: PlaceSource>(
+    alloc: Global,
+    files: &mut P,
+    limits: Limits,
+) -> Result<ReadRows, LoadFault>
+    requires { row_total limits ≤ 68000000 }
+    ensures ok { IfSome (P.places files.old) (λ known. IfOk result (λ read. IsReadFrom limits known read.count (listed_in read.lists))) }
+    ensures err { IfSome (P.places files.old) (λ known. IfErr result (λ fault. fault ≢ LoadFault.Memory → is_device_of fault ≡ false → first_fault limits [] known ≡ Some fault)) }
+    ensures device { IfErr result (λ fault. is_device_of fault ≡ true → FailsBelow (P.file_count files.old) (P.failure_count files.old) (P.failure_count files.new) fault) }
+    ensures failures { P.failure_count files.old ≤ P.failure_count files.new }
+    ensures reference { P.reference files.new ≡ P.reference files.old }
+{
+    let mut rows = Rows::new(alloc, limits);
+    match files.take_places(&mut rows) {
+        Ok(()) => choose_rows(alloc, files, rows),
+        Err(fault) => Err(first_of_faults(alloc, files, &rows.keys, fault)),
+    }
+}
+
+// The first fault where the first pass over the files ended at one: a row that was read may conflict
+// with an earlier one. Where the device failed, or memory was refused, it stays at that.
+fn first_of_faults<P: PlaceSource>(
+    alloc: Global,
+    files: &mut P,
+    keys: &RowKeys,
+    fault: LoadFault,
+) -> LoadFault
+    ensures first { result ≢ LoadFault.Memory → is_device_of result ≡ false → IfSome (P.places files.old) (λ known. (limits : Limits) (kept : Kept) → row_total limits ≤ 68000000 → kept.keyed ≡ keys.now
+        → (fault ≢ LoadFault.Memory → is_device_of fault ≡ false → IsSeen limits known kept (Some fault))
+        → first_fault limits [] known ≡ Some result) }
+    ensures stays { is_device_of fault ≡ true → (result ≡ fault) × (P.failure_count files.new ≡ P.failure_count files.old) }
+    ensures device { is_device_of fault ≡ false → is_device_of result ≡ true → FailsBelow (P.file_count files.old) (P.failure_count files.old) (P.failure_count files.new) result }
+    ensures failures { P.failure_count files.old ≤ P.failure_count files.new }
+    ensures reference { P.reference files.new ≡ P.reference files.old }
+{
+    if is_memory(&fault) || is_device(&fault) {
+        return fault;
+    }
+    if keys.keys().len() as u64 > MOST_ROWS + 1 {
+        return TOO_MANY_ROWS;
+    }
+    if let Err(conflict) = check_conflicts(alloc, files, keys) {
+        return conflict;
+    }
+    fault
+}
+
+// Chooses among the rows that were all read, if some have one key.
+fn choose_rows<P: PlaceSource>(
+    alloc: Global,
+    files: &mut P,
+    rows: Rows,
+) -> Result<ReadRows, LoadFault>
+    ensures ok { IfSome (P.places files.old) (λ known. IfOk result (λ read. (limits : Limits) → IsSeen limits known (kept_in rows) None
+        → IsReadFrom limits known read.count (listed_in read.lists))) }
+    ensures err { IfSome (P.places files.old) (λ known. IfErr result (λ fault. fault ≢ LoadFault.Memory → is_device_of fault ≡ false
+        → (limits : Limits) → row_total limits ≤ 68000000 → IsSeen limits known (kept_in rows) None
+        → first_fault limits [] known ≡ Some fault)) }
+    ensures device { IfErr result (λ fault. is_device_of fault ≡ true → FailsBelow (P.file_count files.old) (P.failure_count files.old) (P.failure_count files.new) fault) }
+    ensures failures { P.failure_count files.old ≤ P.failure_count files.new }
+    ensures reference { P.reference files.new ≡ P.reference files.old }
+{
+    let Rows {
+        keys,
+        mut lists,
+        ..
+    } = rows;
+    let count = keys.keys().len() as u64;
+    if count > MOST_ROWS + 1 {
+        return Err(TOO_MANY_ROWS);
+    }
+    let repeated = repeated_keys(alloc, keys.keys())?;
+    if repeated.is_empty() {
+        return Ok(ReadRows { lists, count });
+    }
+    match compare(alloc, files, &keys, repeated) {
+        Ok(choices) => {
+            lists.choose(alloc, choices.as_slice())?;
+            Ok(ReadRows { lists, count })
+        }
+        Err(fault) => Err(fault),
+    }
+}
+
+// Whether none of the rows that were read, as far as they were, conflicts with an earlier one.
+fn check_conflicts<P: PlaceSource>(
+    alloc: Global,
+    files: &mut P,
+    keys: &RowKeys,
+) -> Result<(), LoadFault>
+    requires { length keys.now.keys < 2 ^ 32 }
+    ensures ok { IfSome (P.places files.old) (λ known. OnOk result ((seen beyond : List RowAt) → AreSeen keys.now known seen beyond → first_conflict [] seen ≡ None)) }
+    ensures err { IfSome (P.places files.old) (λ known. IfErr result (λ fault. fault ≢ LoadFault.Memory → is_device_of fault ≡ false → (seen beyond : List RowAt) → AreSeen keys.now known seen beyond
+        → first_conflict [] seen ≡ Some fault)) }
+    ensures device { IfErr result (λ fault. is_device_of fault ≡ true → FailsBelow (P.file_count files.old) (P.failure_count files.old) (P.failure_count files.new) fault) }
+    ensures failures { P.failure_count files.old ≤ P.failure_count files.new }
+    ensures reference { P.reference files.new ≡ P.reference files.old }
+{
+    let repeated = repeated_keys(alloc, keys.keys())?;
+    if repeated.is_empty() {
+        return Ok(());
+    }
+    match compare(alloc, files, keys, repeated) {
+        Ok(_choices) => Ok(()),
+        Err(fault) => Err(fault),
+    }
+}
+
+// Compares the rows that were read, of which some keys are repeated: tells of each whether it is
+// chosen, or answers the first conflict. Files that have changed since the first pass, and have fewer
+// rows, conflict with what was read.
+fn compare<P: PlaceSource>(
+    alloc: Global,
+    files: &mut P,
+    keys: &RowKeys,
+    repeated: Vec<u64>,
+) -> Result<Vec<bool>, LoadFault>
+    requires rising { IsStrictlyIncreasing repeated.items }
+    requires few { length repeated.items < 2 ^ 32 }
+    requires covers { Covers repeated.items keys.now.keys }
+    ensures ok { IfSome (P.places files.old) (λ known. IfOk result (λ chosen. (seen beyond : List RowAt) → AreSeen keys.now known seen beyond
+        → (first_conflict [] seen ≡ None) × (chosen.items ≡ choices seen [] seen))) }
+    ensures err { IfSome (P.places files.old) (λ known. IfErr result (λ fault. fault ≢ LoadFault.Memory → is_device_of fault ≡ false → (seen beyond : List RowAt) → AreSeen keys.now known seen beyond
+        → first_conflict [] seen ≡ Some fault)) }
+    ensures device { IfErr result (λ fault. is_device_of fault ≡ true → FailsBelow (P.file_count files.old) (P.failure_count files.old) (P.failure_count files.new) fault) }
+    ensures failures { P.failure_count files.old ≤ P.failure_count files.new }
+    ensures reference { P.reference files.new ≡ P.reference files.old }
+{
+    let versions = Versions::new(alloc, repeated);
+    let mut comparing = Comparing::new(keys, versions);
+    match files.take_places(&mut comparing) {
+        Ok(()) => {
+            if !comparing.left.is_empty() {
+                return Err(behind(comparing.last));
+            }
+            Ok(comparing.versions.chosen())
+        }
+        Err(fault) => Err(fault),
+    }
+}
+
+// The fault of a file that has fewer rows than it had before: at the line behind its last one.
+fn behind(last: (usize, u64)) -> LoadFault
+    ensures { is_device_of result ≡ false }
+{
+    let (file, line) = last;
+    LoadFault::Conflict {
+        file,
+        line: line.saturating_add(1),
+    }
+}
+
+// Whether a fault is the want of memory.
+fn is_memory(fault: &LoadFault) -> bool
+    ensures other { result ≡ false → fault.now ≢ LoadFault.Memory }
+    ensures memory { result ≡ true → fault.now ≡ LoadFault.Memory }
+{
+    matches!(fault, LoadFault::Memory)
+}
+
+// Whether a fault is the device's.
+fn is_device(fault: &LoadFault) -> bool
+    ensures { result ≡ is_device_of fault.now }
+{
+    matches!(fault, LoadFault::Device { .. })
+}
