@@ -13,9 +13,8 @@ use Rattle.rf2_rows.proofs.HierarchyLemmas.{chain_from_test, test_from_chain}
 use Rattle.idset.specs.Sets.{has_item, listed_numbers, numbers_where}
 use Rattle.idset.proofs.Normal.{numbers_where-agree}
 use Rattle.snapshot.specs.KeyedLists.{AreItemsBelow, items_of, lists_by, list_of, turned, turned_from, with_key}
-use Rattle.snapshot.specs.Numbering.{row_of_numbers}
+use Rattle.snapshot.specs.Numbering.{IsWithin, row_of_numbers}
 use Rattle.snapshot.specs.ParentsFirst.{IsParentsFirst}
-use Rattle.snapshot.specs.Search.{IsWithin}
 use Rattle.snapshot.proofs.CutLemmas.{same_maps}
 use Rattle.snapshot.proofs.KeyedLemmas.{items_of-append}
 use Rattle.snapshot.proofs.NumberingLemmas.{Reaches-map, contains_map, numbers_again, place_of, place_of-get_or, row_by}

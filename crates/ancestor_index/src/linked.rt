@@ -1,6 +1,6 @@
 //! What rows between concepts lead to, as lists.
 ghost use Rattle.std.specs.Prelude.{◌≡◌, IfOk};
-ghost use Rattle.snapshot.specs.Search.{IsWithin};
+ghost use Rattle.snapshot.specs.Numbering.{IsWithin};
 ghost use Rattle.ancestor_index.specs.HierarchyLists.{is_child, lists_where};
 
 use crate::rising::rising_lists;

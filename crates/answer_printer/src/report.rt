@@ -15,12 +15,12 @@ pub fn print_report(alloc: Global, report: &Report, output: &mut Vec<u8>) -> Res
     ensures ok { OnOk result (output.new.items ≡ output.old.items ++ report_text report.now) }
     ensures err { OnErr result (output.new.items ≡ output.old.items) }
 {
-    let text = text_of(alloc, report)?;
+    let text = report_bytes(alloc, report)?;
     output.extend_from_slice(text.as_slice())
 }
 
 // The text of a report, apart, so that a growth that is refused leaves no part of it behind.
-fn text_of(alloc: Global, report: &Report) -> Result<Vec<u8>, AllocError>
+fn report_bytes(alloc: Global, report: &Report) -> Result<Vec<u8>, AllocError>
     ensures { IfOk result (λ text. text.items ≡ report_text report.now) }
 {
     let mut text = Vec::new(alloc);

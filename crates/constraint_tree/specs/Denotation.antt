@@ -7,19 +7,19 @@ use Rattle.rf2_rows.specs.Pairs.{Pair, value_eq, out_pairs, in_pairs}
 use Rattle.rf2_rows.specs.Groups.{groups_of}
 use Rattle.constraint_tree.specs.Passing.{is_within, is_outside, is_number_that, lies_in}
 use Rattle.constraint_tree.specs.Tree.{Tree, concept_tree, any_tree, walk_tree, member_tree, and_tree, or_tree, minus_tree, dotted_tree, refined_tree, Trees, no_trees, tree_then, RefinementTree, one_refinement, group_refinement, and_refinement, or_refinement, RefinementTrees, no_refinements, refinement_then, AttributeSetTree, one_set, and_set, or_set, AttributeSetTrees, no_sets, set_then, AttributeTree, attribute_tree, TestTree, within_test, outside_test, number_test}
-use Rattle.constraint_tree.specs.Walks.{is_in_force, walks}
+use Rattle.constraint_tree.specs.Walks.{has_concept, walks}
 
 -- whether a concept in force is a component of a reference set in the set ("Simple Expression
 -- Constraints", memberOf)
 abbrev pub is_component : Release → (ℕ → Bool) → ℕ → Bool
 is_component release set concept =
-    is_in_force release concept && list_any (λ row. set row.0 && (row.1 == concept)) release.members
+    has_concept release concept && list_any (λ row. set row.0 && (row.1 == concept)) release.members
 
 -- whether a concept in force is the value of an attribute whose source is in the one set and whose type
 -- is in the other ("Refinements", dotted attributes)
 abbrev pub is_value : Release → (ℕ → Bool) → (ℕ → Bool) → ℕ → Bool
 is_value release sources types concept =
-    is_in_force release concept
+    has_concept release concept
     && list_any
     (λ row. (sources row.source && types row.type_id) && value_eq row.value (concept_value concept))
     release.attributes
@@ -33,14 +33,14 @@ counted_pairs release (attribute_tree count reverse name test) concept =
 abbrev mutual
   -- whether a concept is in what a constraint denotes
   pub denotes : Release → Tree → ℕ → Bool
-  denotes release (concept_tree number) concept = is_in_force release concept && (concept == number)
-  denotes release any_tree concept = is_in_force release concept
+  denotes release (concept_tree number) concept = has_concept release concept && (concept == number)
+  denotes release any_tree concept = has_concept release concept
   denotes release (walk_tree operator operand) concept =
-      is_in_force release concept && walks release operator (denotes release operand) concept
+      has_concept release concept && walks release operator (denotes release operand) concept
   denotes release (member_tree operand) concept =
       is_component release (denotes release operand) concept
   denotes release (and_tree parts) concept =
-      is_in_force release concept && all_denote release parts concept
+      has_concept release concept && all_denote release parts concept
   denotes release (or_tree parts) concept = some_denotes release parts concept
   denotes release (minus_tree first second) concept =
       denotes release first concept && not (denotes release second concept)

@@ -7,9 +7,9 @@ use Rattle.rf2_rows.specs.Hierarchy.{Reaches, reaches}
 use Rattle.constraint_tree.specs.declared.operator.Operator.{Operator}
 use Rattle.constraint_tree.specs.declared.operator.Operator.TheVariants.{Descendants, DescendantsOrSelf, Children, ChildrenOrSelf, Ancestors, AncestorsOrSelf, Parents, ParentsOrSelf, Top, Bottom}
 
--- whether a concept in force is in the release
-abbrev pub is_in_force : Release → ℕ → Bool
-is_in_force release concept = list_any (λ found. found == concept) release.concepts
+-- whether the release has the concept in force
+abbrev pub has_concept : Release → ℕ → Bool
+has_concept release concept = list_any (λ found. found == concept) release.concepts
 
 -- whether there is an is-a row from the child to the parent
 abbrev pub is_child : Release → ℕ → ℕ → Bool
@@ -50,7 +50,7 @@ walks release Bottom set concept = set concept && not (is_above release set conc
 
 -- the tests tell where chains of is-a rows lead, and where one row does
 abbrev pub TellsInForce : Type 0
-TellsInForce = (release : Release) (concept : ℕ) → IsTrue (is_in_force release concept) ↔ Contains release.concepts concept
+TellsInForce = (release : Release) (concept : ℕ) → IsTrue (has_concept release concept) ↔ Contains release.concepts concept
 
 abbrev pub TellsBelow : Type 0
 TellsBelow =

@@ -11,7 +11,7 @@ use Rattle.ecl_lexer.specs.declared.token.TokenKind.{TokenKind}
 use Rattle.ecl_lexer.specs.declared.token.TokenKind.TheVariants.{Reverse}
 use Rattle.ecl_lexer.specs.Bytes.{begins, begins_with, is_space, is_term_byte, IsRun}
 use Rattle.ecl_lexer.specs.Pieces.{Piece, space, comment, symbol, word, digits, number, term, Sign, is_plain, sign_text, fraction_text, piece_text, word_kind, BeginsBlank, BeginsComment, FollowsWord, FollowsWhole, Stands}
-use Rattle.ecl_lexer.specs.Reading.{begins_blank, close_place, comment_at, comment_inside, digits_at, follows_word, fraction_at, number_at, number_of, piece_at, piece_by, plain_at, sign_at, sign_length, symbol_at, term_at, word_at, word_before}
+use Rattle.ecl_lexer.specs.Reading.{begins_blank, close_place, comment_at, comment_inside, digits_at, follows_word, fraction_at, number_at, number_piece, piece_at, piece_by, plain_at, sign_at, sign_length, symbol_at, term_at, word_at, word_before}
 use Rattle.ecl_lexer.proofs.CommentLemmas.{close_place-found, option_map-Some}
 use Rattle.ecl_lexer.proofs.RunLemmas.{prefix_len-each, prefix_len-ended}
 use Rattle.ecl_lexer.proofs.SymbolLemmas.{symbol_at-found}
@@ -164,10 +164,10 @@ fraction_at-IsFraction text = elim (cases_Bool (begins_with 46 text)) [
       subst (λ (run : List ℕ). IsRun is_ascii_digit run after) is (take_while-IsRun is_ascii_digit (drop 1 text) (rw is (omega arith))) in
       record { rest = after; is = front ∙ ap (λ (behind : List ℕ). 46 ∷ behind) whole; follows = run }
 
-number_of-stands : (text : List ℕ) (sign : Sign) (behind : List ℕ) (piece : Piece) → text ≡ sign_text sign behind
-    → (o : Option (List ℕ)) → plain_at behind ≡ o → number_of sign behind o ≡ Some piece → StandsIn (35 ∷ text) piece
-number_of-stands text sign behind piece signed None is found = absurd cc
-number_of-stands text sign behind piece signed (Some whole) is found =
+number_piece-stands : (text : List ℕ) (sign : Sign) (behind : List ℕ) (piece : Piece) → text ≡ sign_text sign behind
+    → (o : Option (List ℕ)) → plain_at behind ≡ o → number_piece sign behind o ≡ Some piece → StandsIn (35 ∷ text) piece
+number_piece-stands text sign behind piece signed None is found = absurd cc
+number_piece-stands text sign behind piece signed (Some whole) is found =
     let run = plain_at-IsPlainRun behind whole is in
     let back : drop (length whole) behind ≡ run.rest = ap (drop (length whole)) run.is ∙ drop_at whole run.rest (length whole) refl in
     let read = fraction_at-IsFraction run.rest in
@@ -185,7 +185,7 @@ number_of-stands text sign behind piece signed (Some whole) is found =
 number_at-stands : (text : List ℕ) (piece : Piece) → number_at text ≡ Some piece → StandsIn (35 ∷ text) piece
 number_at-stands text piece found =
     let behind : List ℕ = drop (sign_length (sign_at text)) text in
-    number_of-stands text (sign_at text) behind piece (sign_at-is text) (plain_at behind) refl found
+    number_piece-stands text (sign_at text) behind piece (sign_at-is text) (plain_at behind) refl found
 
 term_at-stands : (text : List ℕ) (piece : Piece) → term_at text ≡ Some piece → StandsIn (124 ∷ text) piece
 term_at-stands text piece found = elim (cases_Bool (nat_lt (prefix_len is_term_byte text) (length text))) [

@@ -5,7 +5,7 @@ use Rattle.std.proofs.lemmas.List.{length-append}
 use Rattle.ecl_lexer.specs.declared.pieces.Piece.{Piece as Found}
 use Rattle.ecl_lexer.specs.declared.token.TokenKind.TheVariants.{Number}
 use Rattle.ecl_lexer.specs.Pieces.{Sign, unsigned, plus, minus, number, fraction_text, sign_text, bytes_of}
-use Rattle.ecl_lexer.specs.Reading.{found, fraction_at, number_at, number_of, plain_at, sign_at, sign_length}
+use Rattle.ecl_lexer.specs.Reading.{found, fraction_at, number_at, number_piece, plain_at, sign_at, sign_length}
 use Rattle.ecl_lexer.proofs.CommentLemmas.{option_map-Some}
 
 -- how many bytes the point in front of a fraction has
@@ -57,5 +57,5 @@ number_is text sign whole point fraction within sign_is whole_is fraction_is poi
     within_is ∙ ap (λ (n : ℕ). nat_le n 18 && nat_le fraction 18) (sym plain.2) ∙ ap (λ (n : ℕ). nat_le (length plain.0) 18 && nat_le n 18) counted in
     ap (λ (n : ℕ). number_found n within) size
     ∙ ap (number_found (length (bytes_of (number (sign_at text) plain.0 parts)))) limit
-    ∙ ap (λ (o : Option (List ℕ)). option_map found (number_of (sign_at text) behind o)) (sym plain.1)
-    ∙ ap (λ (n : ℕ). option_map found (number_of (sign_at text) (drop n text) (plain_at (drop n text)))) sign_is
+    ∙ ap (λ (o : Option (List ℕ)). option_map found (number_piece (sign_at text) behind o)) (sym plain.1)
+    ∙ ap (λ (n : ℕ). option_map found (number_piece (sign_at text) (drop n text) (plain_at (drop n text)))) sign_is

@@ -9,7 +9,7 @@ use Rattle.ecl_lexer.specs.declared.token.TokenKind.{TokenKind}
 use Rattle.ecl_lexer.specs.declared.token.TokenKind.TheVariants.{Reverse}
 use Rattle.ecl_lexer.specs.Bytes.{begins, begins_with, is_space, is_term_byte, IsRun}
 use Rattle.ecl_lexer.specs.Pieces.{Piece, space, comment, symbol, word, digits, number, term, Sign, unsigned, plus, minus, is_plain, sign_text, fraction_text, piece_text, word_kind, BeginsBlank, FollowsWord, FollowsWhole, Stands}
-use Rattle.ecl_lexer.specs.Reading.{begins_blank, close_place, digits_at, follows_word, fraction_at, number_of, piece_at, plain_at, sign_at, sign_length, word_at, word_before}
+use Rattle.ecl_lexer.specs.Reading.{begins_blank, close_place, digits_at, follows_word, fraction_at, number_piece, piece_at, plain_at, sign_at, sign_length, word_at, word_before}
 use Rattle.ecl_lexer.proofs.ByteLemmas.{digit-not, letter-not_digit, space_cases}
 use Rattle.ecl_lexer.proofs.CommentLemmas.{close_place-read}
 use Rattle.ecl_lexer.proofs.RunLemmas.{prefix_len-run}
@@ -124,9 +124,9 @@ number-found sign whole fraction rest stands =
     let text : List ℕ = sign_text sign (whole ++ behind) in
     let run = stands.0 in
     let signed = sign_at-found sign whole behind run.some run.each in
-    ap (λ (s : Sign). number_of s (drop (sign_length s) text) (plain_at (drop (sign_length s) text))) signed
-    ∙ ap (λ (after : List ℕ). number_of sign after (plain_at after)) (drop-sign sign (whole ++ behind))
-    ∙ ap (number_of sign (whole ++ behind)) (plain_at-found whole behind run stands.1)
+    ap (λ (s : Sign). number_piece s (drop (sign_length s) text) (plain_at (drop (sign_length s) text))) signed
+    ∙ ap (λ (after : List ℕ). number_piece sign after (plain_at after)) (drop-sign sign (whole ++ behind))
+    ∙ ap (number_piece sign (whole ++ behind)) (plain_at-found whole behind run stands.1)
     ∙ ap (λ (after : List ℕ). Some (number sign whole (fraction_at after))) (drop_at whole behind (length whole) refl)
     ∙ ap (λ (fraction : List ℕ). Some (number sign whole fraction)) (fraction_at-found fraction rest stands.2)
 

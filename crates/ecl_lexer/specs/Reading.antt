@@ -67,16 +67,16 @@ abbrev pub fraction_at : List ℕ → List ℕ
 fraction_at text = if begins_with 46 text then take_while is_ascii_digit (drop 1 text) else []
 
 -- a number of a sign and digits, which begin a text
-abbrev pub number_of : Sign → List ℕ → Option (List ℕ) → Option Piece
-number_of sign text None = None
-number_of sign text (Some whole) = Some (number sign whole (fraction_at (drop (length whole) text)))
+abbrev pub number_piece : Sign → List ℕ → Option (List ℕ) → Option Piece
+number_piece sign text None = None
+number_piece sign text (Some whole) = Some (number sign whole (fraction_at (drop (length whole) text)))
 
 -- the number whose `#` stands in front of a text
 abbrev pub number_at : List ℕ → Option Piece
 number_at text =
     let sign = sign_at text in
     let behind = drop (sign_length sign) text in
-    number_of sign behind (plain_at behind)
+    number_piece sign behind (plain_at behind)
 
 -- the term whose first `|` stands in front of a text
 abbrev pub term_at : List ℕ → Option Piece

@@ -7,7 +7,7 @@ use Rattle.std.proofs.lemmas.List.{get_or_default}
 use Rattle.std.proofs.lemmas.List.Elements.{All-append, All-nil, All-tail}
 use Rattle.rf2_rows.specs.Release.{Release}
 use Rattle.constraint_tree.specs.Denotation.{is_component}
-use Rattle.constraint_tree.specs.Walks.{is_in_force}
+use Rattle.constraint_tree.specs.Walks.{has_concept}
 use Rattle.constraint_tree.proofs.WalkLemmas.{passing_item, some_item_passes, tells_in_force}
 use Rattle.idset.specs.Sets.{has_item, listed_numbers, numbers_where}
 use Rattle.idset.proofs.Normal.{has_item-numbers_where, numbers_where-agree}
@@ -109,7 +109,7 @@ members_below release (item ∷ items) below =
     (members_below release items (All-tail (λ item. item < length release.concepts) item items below))
 
 -- a concept is one of those in a set where it is in it
-pub one_of_set : (release : Release) (set : ℕ → Bool) (items : List ℕ) → items ≡ numbers_in release set → ((concept : ℕ) → set concept ≡ true → is_in_force release concept ≡ true)
+pub one_of_set : (release : Release) (set : ℕ → Bool) (items : List ℕ) → items ≡ numbers_in release set → ((concept : ℕ) → set concept ≡ true → has_concept release concept ≡ true)
     → (id : ℕ) → is_one_of release.concepts items id ≡ set id
 one_of_set release set items is forced id = both_ways (is_one_of release.concepts items id) (set id) there back
   where
@@ -129,7 +129,7 @@ one_of_set release set items is forced id = both_ways (is_one_of release.concept
         (eq-eqb (get_or release.concepts k 0) id at)
 
 -- and these are the components of the reference sets in the set
-pub components_in : (release : Release) (set : ℕ → Bool) (items : List ℕ) → items ≡ numbers_in release set → ((concept : ℕ) → set concept ≡ true → is_in_force release concept ≡ true)
+pub components_in : (release : Release) (set : ℕ → Bool) (items : List ℕ) → items ≡ numbers_in release set → ((concept : ℕ) → set concept ≡ true → has_concept release concept ≡ true)
     → components_of release items ≡ numbers_in release (is_component release set)
 components_in release set items is forced =
     numbers_in-agree release

@@ -6,7 +6,7 @@ use Rattle.rf2_rows.specs.Release.{Release}
 use Rattle.constraint_tree.specs.declared.operator.Operator.{Operator}
 use Rattle.constraint_tree.specs.Denotation.{is_value}
 use Rattle.constraint_tree.specs.Passing.{is_outside, is_within}
-use Rattle.constraint_tree.specs.Walks.{is_in_force, walks}
+use Rattle.constraint_tree.specs.Walks.{has_concept, walks}
 use Rattle.constraint_tree.specs.declared.operator.Cardinality.{Cardinality}
 use Rattle.idset.specs.Sets.{all_items, common_items, other_items}
 use Rattle.ancestor_index.specs.HierarchyLists.{Hierarchy, hierarchy_of}
@@ -35,7 +35,7 @@ module _ (release : Release) (plan : Plan) (found : List ℕ) where
   pub all_node : plan ≡ all_plan → found ≡ range_with_len 0 (length release.concepts) → found ≡ numbers_in release (means release plan)
   all_node is found_is = found_is ∙ each_in_force release ∙ meant release plan all_plan is
 
-  pub one_node : (id : ℕ) → plan ≡ one_plan id → found ≡ numbers_in release (λ concept. is_in_force release concept && (concept == id)) → found ≡ numbers_in release (means release plan)
+  pub one_node : (id : ℕ) → plan ≡ one_plan id → found ≡ numbers_in release (λ concept. has_concept release concept && (concept == id)) → found ≡ numbers_in release (means release plan)
   one_node id is found_is = found_is ∙ meant release plan (one_plan id) is
 
   pub walk_node : (child : Plan) (operator : Operator) (hierarchy : Hierarchy) (count : ℕ) (from : List ℕ) → plan ≡ walk_plan operator child
@@ -57,8 +57,8 @@ module _ (release : Release) (plan : Plan) (found : List ℕ) where
       → found ≡ numbers_in release (means release plan)
   and_node parts is found_is =
       found_is ∙ in_force_kept release (λ concept. list_all (λ part. means release (plan_of part) concept) parts)
-      ∙ numbers_in-agree release (λ concept. is_in_force release concept && list_all (λ part. means release (plan_of part) concept) parts) (λ concept. is_in_force release concept && all_mean release (plans_of parts) concept)
-      (λ n _. ap (λ (b : Bool). is_in_force release (get_or release.concepts n 0) && b) (all_listed parts (get_or release.concepts n 0)))
+      ∙ numbers_in-agree release (λ concept. has_concept release concept && list_all (λ part. means release (plan_of part) concept) parts) (λ concept. has_concept release concept && all_mean release (plans_of parts) concept)
+      (λ n _. ap (λ (b : Bool). has_concept release (get_or release.concepts n 0) && b) (all_listed parts (get_or release.concepts n 0)))
       ∙ meant release plan (and_plan (plans_of parts)) is
     where
       all_listed : (some : List ConceptPlan) (concept : ℕ) → list_all (λ part. means release (plan_of part) concept) some ≡ all_mean release (plans_of some) concept
@@ -119,12 +119,12 @@ leads_further release (name ∷ names) (suc k) d within set =
     leads_further release names k d (omega (arith, within)) (is_value release set (means release (plan_of name)))
 
 -- the concepts that the names so far lead to are in force
-led_in_force : (release : Release) (names : Plans) (set : ℕ → Bool) → ((concept : ℕ) → set concept ≡ true → is_in_force release concept ≡ true)
-    → (concept : ℕ) → leads release set names concept ≡ true → is_in_force release concept ≡ true
+led_in_force : (release : Release) (names : Plans) (set : ℕ → Bool) → ((concept : ℕ) → set concept ≡ true → has_concept release concept ≡ true)
+    → (concept : ℕ) → leads release set names concept ≡ true → has_concept release concept ≡ true
 led_in_force release no_plans set forced concept led = forced concept led
 led_in_force release (plan_then name names) set forced concept led =
     led_in_force release names (is_value release set (means release name))
-    (λ value holds. (and_parts (is_in_force release value) _ holds).0) concept led
+    (λ value holds. (and_parts (has_concept release value) _ holds).0) concept led
 
 pub name_step : (release : Release) (plan : Plan) (names : List ConceptPlan) (k : ℕ) (name : ConceptPlan) → k < length names → name ≡ get_or names k name
     → (concepts found types led : List ℕ) → concepts ≡ release.concepts

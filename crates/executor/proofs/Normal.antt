@@ -9,13 +9,13 @@ use Rattle.std.proofs.lemmas.List.FromFn.{fill_by_all}
 use Rattle.std.proofs.lemmas.List.Quantifiers.{position-Some}
 use Rattle.std.proofs.lemmas.List.Sums.{prefix_len_passes}
 use Rattle.rf2_rows.specs.Release.{Release}
-use Rattle.constraint_tree.specs.Walks.{is_in_force}
+use Rattle.constraint_tree.specs.Walks.{has_concept}
 use Rattle.constraint_tree.proofs.WalkLemmas.{tells_in_force}
 use Rattle.idset.specs.Sets.{all_items, common_items, has_item, other_items}
 use Rattle.idset.specs.Sets.{IsRisingBelow}
 use Rattle.idset.proofs.Rising.{rises_from_on, rising_is_where}
 use Rattle.idset.proofs.Normal.{all_items-numbers_where, common_items-numbers_where, has_item-numbers_where_any, numbers_where-agree, numbers_where-all, numbers_where-none, other_items-numbers_where}
-use Rattle.snapshot.specs.Numbering.{number_of}
+use Rattle.snapshot.specs.Numbering.{concept_number}
 use Rattle.snapshot.proofs.NumberingLemmas.{place_of}
 use Rattle.snapshot.proofs.RisingLemmas.{earlier_below}
 use Rattle.ancestor_index.proofs.ClosureLemmas.{both_ways}
@@ -29,22 +29,22 @@ numbers_in-agree release p q agree =
     numbers_where-agree (length release.concepts) (λ n. p (get_or release.concepts n 0)) (λ n. q (get_or release.concepts n 0)) agree
 
 -- the concepts of a release are in force
-pub in_force_at : (release : Release) (n : ℕ) → n < length release.concepts → is_in_force release (get_or release.concepts n 0) ≡ true
+pub in_force_at : (release : Release) (n : ℕ) → n < length release.concepts → has_concept release (get_or release.concepts n 0) ≡ true
 in_force_at release n within = (tells_in_force release (get_or release.concepts n 0)).1 (Contains-get_or release.concepts n 0 within)
 
 -- so that they are need not be asked
-pub in_force_kept : (release : Release) (set : ℕ → Bool) → numbers_in release set ≡ numbers_in release (λ concept. is_in_force release concept && set concept)
+pub in_force_kept : (release : Release) (set : ℕ → Bool) → numbers_in release set ≡ numbers_in release (λ concept. has_concept release concept && set concept)
 in_force_kept release set =
-    numbers_in-agree release set (λ concept. is_in_force release concept && set concept)
+    numbers_in-agree release set (λ concept. has_concept release concept && set concept)
     (λ n within i. sym (in_force_at release n within) i && set (get_or release.concepts n 0))
 
 -- all numbers, and none
 pub each_in : (release : Release) → range_with_len 0 (length release.concepts) ≡ numbers_in release (λ _. true)
 each_in release = sym (numbers_where-all (length release.concepts))
 
-pub each_in_force : (release : Release) → range_with_len 0 (length release.concepts) ≡ numbers_in release (is_in_force release)
+pub each_in_force : (release : Release) → range_with_len 0 (length release.concepts) ≡ numbers_in release (has_concept release)
 each_in_force release =
-    each_in release ∙ numbers_in-agree release (λ _. true) (is_in_force release) (λ n within. sym (in_force_at release n within))
+    each_in release ∙ numbers_in-agree release (λ _. true) (has_concept release) (λ n within. sym (in_force_at release n within))
 
 pub none_in : (release : Release) → [] ≡ numbers_in release (λ _. false)
 none_in release = sym (numbers_where-none (length release.concepts))
@@ -88,14 +88,14 @@ same_by_number xs rising i j i_within j_within =
     (λ told. eq-eqb (get_or xs i 0) (get_or xs j 0) (ap (λ (k : ℕ). get_or xs k 0) (eqb-true i j told)))
 
 -- the number of a concept is its place
-pub number_of-Some : (xs : List ℕ) (id place : ℕ) → number_of xs id ≡ Some place → (place < length xs) × (get_or xs place 0 ≡ id)
-number_of-Some xs id place at =
+pub concept_number-Some : (xs : List ℕ) (id place : ℕ) → concept_number xs id ≡ Some place → (place < length xs) × (get_or xs place 0 ≡ id)
+concept_number-Some xs id place at =
     let found = position-Some (λ other. id == other) xs place 0 at in
     (found.0, sym (eqb-true id (get_or xs place 0) found.1))
 
 -- and where it has none it is at no place
-pub number_of-None : (xs : List ℕ) (id : ℕ) → number_of xs id ≡ None → (i : ℕ) → i < length xs → get_or xs i 0 ≡ id → ⊥
-number_of-None xs id at i within same = elim (cases_Bool (ltb (place_of xs id) (length xs))) [
+pub concept_number-None : (xs : List ℕ) (id : ℕ) → concept_number xs id ≡ None → (i : ℕ) → i < length xs → get_or xs i 0 ≡ id → ⊥
+concept_number-None xs id at i within same = elim (cases_Bool (ltb (place_of xs id) (length xs))) [
   | inl there ↦ let found : Some (place_of xs id) ≡ None = rw there at at in absurd cc
   | inr past ↦
       let before : i < place_of xs id = omega (arith, ltb-false (place_of xs id) (length xs) past) in
@@ -108,15 +108,15 @@ abbrev pub as_list : Option ℕ → List ℕ
 as_list None = []
 as_list (Some number) = number ∷ []
 
-pub one_in : (release : Release) → IsStrictlyIncreasing release.concepts → (id : ℕ) (number : Option ℕ) → number_of release.concepts id ≡ number
-    → as_list number ≡ numbers_in release (λ concept. is_in_force release concept && (concept == id))
+pub one_in : (release : Release) → IsStrictlyIncreasing release.concepts → (id : ℕ) (number : Option ℕ) → concept_number release.concepts id ≡ number
+    → as_list number ≡ numbers_in release (λ concept. has_concept release concept && (concept == id))
 one_in release rising id None at =
     none_in release
-    ∙ numbers_in-agree release (λ _. false) (λ concept. is_in_force release concept && (concept == id))
+    ∙ numbers_in-agree release (λ _. false) (λ concept. has_concept release concept && (concept == id))
     (λ n within. both_ways false _ (λ told. absurd (false≢true told))
-    (λ told. absurd (number_of-None release.concepts id at n within (eqb-true (get_or release.concepts n 0) id (and_parts (is_in_force release (get_or release.concepts n 0)) _ told).1))))
+    (λ told. absurd (concept_number-None release.concepts id at n within (eqb-true (get_or release.concepts n 0) id (and_parts (has_concept release (get_or release.concepts n 0)) _ told).1))))
 one_in release rising id (Some place) at =
-    let found = number_of-Some release.concepts id place at in
+    let found = concept_number-Some release.concepts id place at in
     rising_is_where (length release.concepts) (place ∷ []) _ (alone place (length release.concepts) found.0)
     (λ n within.
     or_nothing (place == n)

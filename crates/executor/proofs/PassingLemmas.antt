@@ -10,14 +10,14 @@ use Rattle.idset.specs.Sets.{has_item, missing_numbers}
 use Rattle.idset.proofs.Normal.{has_item-numbers_where, has_item-numbers_where_past}
 use Rattle.constraint_tree.specs.Passing.{is_outside, is_within}
 use Rattle.rf2_rows.specs.Release.{Value, concept_value, number_value, text_value}
-use Rattle.snapshot.specs.Numbering.{number_of}
+use Rattle.snapshot.specs.Numbering.{concept_number}
 use Rattle.postings.specs.Indexed.{Indexed, value_at, values_among, values_of}
 use Rattle.postings.specs.Places.{places_from}
 use Rattle.postings.proofs.PlaceLemmas.{places_from-append}
 use Rattle.postings.proofs.ValueLemmas.{concept_at, value_behind}
 use Rattle.executor.specs.Tested.{is_one_of}
 use Rattle.executor.proofs.MemberLemmas.{any_agree}
-use Rattle.executor.proofs.Normal.{number_of-None, same_by_number}
+use Rattle.executor.proofs.Normal.{concept_number-None, same_by_number}
 
 -- ---- a concept by its number
 -- a concept is one of some where its number is
@@ -28,11 +28,11 @@ one_by_number concepts rising items below n within =
     (λ k there. same_by_number concepts rising (get_or items k 0) n (below k 0 there) within)
 
 -- and one without a number is none of them
-pub none_by_number : (concepts : List ℕ) (items : List ℕ) → All (λ item. item < length concepts) items → (id : ℕ) → number_of concepts id ≡ None
+pub none_by_number : (concepts : List ℕ) (items : List ℕ) → All (λ item. item < length concepts) items → (id : ℕ) → concept_number concepts id ≡ None
     → is_one_of concepts items id ≡ false
 none_by_number concepts [] below id at = refl
 none_by_number concepts (item ∷ items) below id at =
-    (λ i. ne_eqb (get_or concepts item 0) id (λ same. number_of-None concepts id at item (below 0 0 (omega arith)) same) i || is_one_of concepts items id)
+    (λ i. ne_eqb (get_or concepts item 0) id (λ same. concept_number-None concepts id at item (below 0 0 (omega arith)) same) i || is_one_of concepts items id)
     ∙ none_by_number concepts items (All-tail (λ x. x < length concepts) item items below) id at
 
 -- a number that is not below a bound is not among some that are

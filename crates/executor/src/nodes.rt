@@ -2,7 +2,7 @@
 ghost use Rattle.std.specs.Prelude.{◌≡◌, ◌==◌, ◌&&◌, [], IfOk, length};
 ghost use Rattle.std.specs.List.{range_with_len};
 ghost use Rattle.idset.specs.Sets.{all_items, common_items, other_items};
-ghost use Rattle.constraint_tree.specs.Walks.{is_in_force};
+ghost use Rattle.constraint_tree.specs.Walks.{has_concept};
 ghost use Rattle.postings.specs.Groups.{all_groups};
 ghost use Rattle.postings.specs.Indexed.{IsIndexOf};
 ghost use Rattle.executor.specs.Numbers.{numbers_in};
@@ -70,7 +70,7 @@ pub fn one_concept<S: ConceptSet>(
     snapshot: &Snapshot,
     id: u64,
 ) -> Result<S, AllocError>
-    ensures items { IfOk result (λ found. S.items_of found ≡ numbers_in snapshot.now.release (λ concept. is_in_force snapshot.now.release concept && (concept == id))) }
+    ensures items { IfOk result (λ found. S.items_of found ≡ numbers_in snapshot.now.release (λ concept. has_concept snapshot.now.release concept && (concept == id))) }
     ensures bound { IfOk result (λ found. S.bound_of found ≡ length snapshot.now.release.concepts) }
 {
     let count = snapshot.concept_count();

@@ -22,8 +22,8 @@ use Rattle.indexmap.specs.IndexSet.{insert_key}
 use Rattle.rf2_rows.specs.Pairs.{value_eq}
 use Rattle.rf2_rows.specs.Release.{Value, concept_value, number_value, text_value}
 use Rattle.rf2_rows.proofs.PairLemmas.{tells_same_value}
-use Rattle.snapshot.specs.Numbering.{number_of}
-use Rattle.snapshot.proofs.NumberingLemmas.{contains_map, number_of-has}
+use Rattle.snapshot.specs.Numbering.{concept_number}
+use Rattle.snapshot.proofs.NumberingLemmas.{contains_map, concept_number-has}
 use Rattle.snapshot.proofs.ReleaseLemmas.{had_contained}
 use Rattle.snapshot.proofs.RisingLemmas.{earlier_below}
 use Rattle.postings.specs.Indexed.{value_at, values_among}
@@ -173,13 +173,13 @@ values_stay concepts decimals others texts more decimals_stay texts_stay (text_v
 
 -- a concept that is among the values has a place among the concepts
 pub concept_found : (concepts : List ℕ) (decimals : List ℤ) (texts : List (List ℕ)) (concept : ℕ)
-    → Contains (values_among concepts decimals texts) (concept_value concept) → is_some (number_of concepts concept) ≡ true
+    → Contains (values_among concepts decimals texts) (concept_value concept) → is_some (concept_number concepts concept) ≡ true
 concept_found concepts decimals texts concept there =
-    ap is_some (number_of-has concepts concept (had_contained concepts concept (had_concept concepts decimals texts concept there)))
+    ap is_some (concept_number-has concepts concept (had_contained concepts concept (had_concept concepts decimals texts concept there)))
 
 -- and the place leads to it
 pub concept_placed : (concepts : List ℕ) (decimals : List ℤ) (texts : List (List ℕ)) (concept place : ℕ)
-    → number_of concepts concept ≡ Some place → slice_get (values_among concepts decimals texts) place
+    → concept_number concepts concept ≡ Some place → slice_get (values_among concepts decimals texts) place
     ≡ Some (concept_value concept)
 concept_placed concepts decimals texts concept place found =
     let at = position-Some (λ other. concept == other) concepts place 0 found in

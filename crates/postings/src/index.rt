@@ -5,7 +5,7 @@ ghost use Rattle.std.specs.Ordering.{int_cmp};
 ghost use Rattle.rf2_rows.specs.Rows.{value_lent};
 ghost use Rattle.snapshot.specs.AttributesBySource.{attribute_of, with_source};
 ghost use Rattle.snapshot.specs.KeyedLists.{list_of};
-ghost use Rattle.snapshot.specs.Numbering.{number_of};
+ghost use Rattle.snapshot.specs.Numbering.{concept_number};
 ghost use Rattle.postings.specs.Groups.{group_of, groups_before, groups_in, rows_of_group};
 ghost use Rattle.postings.specs.Indexed.{IsIndexOf, rows_by_source, rows_by_type, rows_by_value, types_of, value_at, values_of};
 ghost use Rattle.postings.specs.RowColumns.{AreTypeColumns, AreValueColumns};
@@ -80,7 +80,7 @@ impl Indexes {
 
     /// The number of the concept with an identifier, or `None` where there is none in force.
     pub fn index_of(&self, id: u64) -> Option<u32>
-        ensures { result ≡ number_of self.now.concepts id }
+        ensures { result ≡ concept_number self.now.concepts id }
     {
         let place = self.concepts.binary_search_by_key(
             &id,

@@ -113,11 +113,11 @@ loaded_not (Some known) limits language names fault same said (inr (none, inl de
 loaded_not (Some known) limits language names fault same said (inr (none, inr memory)) = λ other own. absurd (other memory)
 
 -- a failure of the device at one of some names was counted
-pub counts_device : {X : Type 0} (text_of : X → List ℕ) (items : List X) (old new : ℕ) (fault : LoadFault)
-    → (is_device fault ≡ true → FailsToList old new (map text_of items) fault ⊎ FailsBelow (length items) old new fault)
-    → CountsDevice old new (map text_of items) (Err fault)
-counts_device text_of items old new fault said =
-    subst (λ (count : ℕ). is_device fault ≡ true → FailsToList old new (map text_of items) fault ⊎ FailsBelow count old new fault) (sym (length-map items text_of)) said
+pub counts_device : {X : Type 0} (text : X → List ℕ) (items : List X) (old new : ℕ) (fault : LoadFault)
+    → (is_device fault ≡ true → FailsToList old new (map text items) fault ⊎ FailsBelow (length items) old new fault)
+    → CountsDevice old new (map text items) (Err fault)
+counts_device text items old new fault said =
+    subst (λ (count : ℕ). is_device fault ≡ true → FailsToList old new (map text items) fault ⊎ FailsBelow count old new fault) (sym (length-map items text)) said
 
 -- what is said of want of memory behind a load
 pub loaded_no_more : (told : Option (List FileText)) (language : List ℕ) (names : List (List ℕ)) (fault : LoadFault) → fault ≡ load.Memory

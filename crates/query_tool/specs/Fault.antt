@@ -8,11 +8,11 @@ use Rattle.query_tool.specs.declared.run.RunFault.{RunFault}
 use Rattle.query_tool.specs.declared.run.RunFault.TheVariants.{Read, Write, Memory, Turns}
 
 -- the numbers of the faults
-abbrev pub number_of : RunFault → ℕ
-number_of (Read count) = 1
-number_of (Write count) = 2
-number_of (Memory count) = 3
-number_of (Turns count) = 4
+abbrev pub run_fault_number : RunFault → ℕ
+run_fault_number (Read count) = 1
+run_fault_number (Write count) = 2
+run_fault_number (Memory count) = 3
+run_fault_number (Turns count) = 4
 
 -- how many answers were written whole
 abbrev pub whole_answers : RunFault → ℕ

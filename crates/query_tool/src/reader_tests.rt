@@ -22,7 +22,7 @@ const ROWS: [(u32, u32, u64, i128); 9] = [
 ];
 
 // The number that a value is, or the identifier of the concept.
-fn number_of(value: &Value<'_>) -> i128 {
+fn integer_in(value: &Value<'_>) -> i128 {
     match value {
         Value::Concept(concept) => i128::from(concept.number()),
         Value::Decimal(decimal) => decimal.0,
@@ -38,7 +38,7 @@ fn assert_row(rt: &impl Abort, snapshot: &Snapshot, number: u32, want: &(u32, u3
     assert!(rt; row.source == want.0, "source of {number}");
     assert!(rt; row.group == want.1, "group of {number}");
     assert!(rt; row.type_id.number() == want.2, "type of {number}");
-    assert!(rt; number_of(&row.value) == want.3, "value of {number}");
+    assert!(rt; integer_in(&row.value) == want.3, "value of {number}");
 }
 
 fn assert_rows(rt: &impl Abort, snapshot: &Snapshot) {

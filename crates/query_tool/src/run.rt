@@ -2,7 +2,7 @@
 ghost use Rattle.std.specs.Prelude.{◌≡◌, ℕ, ◌+◌, ◌^◌, ◌<◌, ◌≤◌, ◌∷◌, ◌++◌, false, IfErr, IfOk, IfSome, List, MatchOption, OnErr, OnOk, [], is_err, length, take, vec_len};
 ghost use Rattle.std.specs.Io.KnownBytes.{Appends, IsAtEnd};
 ghost use Rattle.query_tool.specs.Answer.{IsAnswer};
-ghost use Rattle.query_tool.specs.Fault.{CountsTurns, EndsAt, HaveFailed, IsAnswerFault, LeavesWritten, number_of};
+ghost use Rattle.query_tool.specs.Fault.{CountsTurns, EndsAt, HaveFailed, IsAnswerFault, LeavesWritten, run_fault_number};
 ghost use Rattle.query_tool.specs.KeptLine.{IsCutTo, kept_of};
 ghost use Rattle.query_tool.specs.Lines.{AreWritten, HasNoFeed, line_feed, query_lines};
 
@@ -28,7 +28,7 @@ pub enum RunFault {
 impl RunFault {
     /// The number of the fault, from 1 to 4.
     pub fn number(self) -> u8
-        ensures { result ≡ number_of self }
+        ensures { result ≡ run_fault_number self }
     {
         match self {
             RunFault::Read(_) => 1,

@@ -38,14 +38,14 @@ parts [] = []
 parts (byte ∷ bytes) = if byte == line_feed then (byte ∷ []) ∷ parts bytes else onto_first byte (parts bytes)
 
 -- the text of a part: without its line feed, and then without one carriage return at its end
-abbrev pub text_of : List ℕ → List ℕ
-text_of part = strip_last carriage_return (strip_last line_feed part)
+abbrev pub part_text : List ℕ → List ℕ
+part_text part = strip_last carriage_return (strip_last line_feed part)
 
 -- the lines that the parts of a file are, after `number` lines that end at the offset `end`
 abbrev pub numbered : ℕ → ℕ → List (List ℕ) → List LineText
 numbered number end [] = []
 numbered number end (part ∷ parts) =
-    record { number = number + 1; end = end + length part; bytes = text_of part } ∷ numbered (number + 1) (end + length part) parts
+    record { number = number + 1; end = end + length part; bytes = part_text part } ∷ numbered (number + 1) (end + length part) parts
 
 -- all lines of a file
 unfoldable pub lines_of : List ℕ → List LineText

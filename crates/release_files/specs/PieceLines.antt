@@ -4,7 +4,7 @@ use Rattle.std.specs.Prelude.{◌≡◌, ℕ, ◌+◌, ◌-◌, ◌^◌, min, Li
 use Rattle.release_files.specs.declared.piece_lines.Stage.{Stage}
 use Rattle.release_files.specs.declared.piece_lines.Stage.TheVariants.{Fresh, Begun, Ended}
 use Rattle.release_files.specs.declared.piece_lines.PieceLines.{PieceLines}
-use Rattle.release_files.specs.Lines.{LineText, mark_length, parts, text_of}
+use Rattle.release_files.specs.Lines.{LineText, mark_length, parts, part_text}
 
 -- a count that stands still at u64::MAX
 abbrev pub counted : ℕ → ℕ → ℕ
@@ -15,7 +15,7 @@ counted count more = min (count + more) (2 ^ 64 - 1)
 abbrev pub counted_lines : ℕ → ℕ → List (List ℕ) → List LineText
 counted_lines number end [] = []
 counted_lines number end (part ∷ parts) =
-    record { number = counted number 1; end = counted end (length part); bytes = text_of part } ∷ counted_lines (counted number 1) (counted end (length part)) parts
+    record { number = counted number 1; end = counted end (length part); bytes = part_text part } ∷ counted_lines (counted number 1) (counted end (length part)) parts
 
 -- the lines of the bytes that were not cut yet: before the first line a byte order mark is dropped
 abbrev pub lines_at : Stage → ℕ → ℕ → List ℕ → List LineText
@@ -39,7 +39,7 @@ KeepsLines old new (Some before) (Some after) = lines_to_come old before ≡ lin
 
 -- the line that the bytes taken last are
 abbrev pub current_line : PieceLines → LineText
-current_line lines = record { number = lines.number; end = lines.end; bytes = text_of lines.held.taken }
+current_line lines = record { number = lines.number; end = lines.end; bytes = part_text lines.held.taken }
 
 -- a call gave the first line that was to come, or none and none was
 abbrev pub GivesNext : Option LineText → PieceLines → PieceLines → Option (List ℕ) → Option (List ℕ) → Type 0

@@ -6,9 +6,9 @@ use Rattle.release_files.specs.declared.source.SourceFault.TheVariants.{Device, 
 use Rattle.release_files.specs.declared.NamedBytes.{NamedBytes}
 
 -- the number of a fault
-abbrev pub number_of : SourceFault → ℕ
-number_of Device = 1
-number_of Memory = 2
+abbrev pub source_fault_number : SourceFault → ℕ
+source_fault_number Device = 1
+source_fault_number Memory = 2
 
 -- a file: its path below the folder of the release, and what it holds
 pub record FileText : Type 0 where

@@ -1,7 +1,7 @@
 //! Cutting bytes into lines.
 ghost use Rattle.std.specs.Prelude.{◌≡◌, ℕ, List, ◌<◌, ◌≤◌, ◌∷◌, ◌++◌, length};
 ghost use Rattle.std.specs.Io.BufRead.{strip_last};
-ghost use Rattle.release_files.specs.Lines.{parts, text_of, PartsAreLines};
+ghost use Rattle.release_files.specs.Lines.{parts, part_text, PartsAreLines};
 
 use bstr::ByteSlice;
 use std::marker::Model;
@@ -98,7 +98,7 @@ impl<'a> Iterator for Lines<'a> {
         Some(Line {
             number: self.number,
             end: self.end,
-            bytes: text_of(part),
+            bytes: part_text(part),
         })
     }
 }
@@ -117,8 +117,8 @@ fn first_part(bytes: &[u8]) -> (&[u8], &[u8])
 }
 
 // A line without its end: without its line feed, and then without one carriage return.
-pub(crate) fn text_of(part: &[u8]) -> &[u8]
-    ensures { result.now ≡ text_of part.now }
+pub(crate) fn part_text(part: &[u8]) -> &[u8]
+    ensures { result.now ≡ part_text part.now }
 {
     without_last(without_last(part, LINE_FEED), CARRIAGE_RETURN)
 }

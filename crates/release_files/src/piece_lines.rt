@@ -9,7 +9,7 @@ ghost use Rattle.release_files.specs.Source.{CountsFailures};
 ghost use Rattle.release_files.specs.contracts.piece_lines.PieceLines.{the_row};
 
 use crate::held::Held;
-use crate::lines::{BYTE_ORDER_MARK, Line, text_of};
+use crate::lines::{BYTE_ORDER_MARK, Line, part_text};
 use crate::source::{FileSource, SourceFault};
 use std::alloc::Global;
 
@@ -163,7 +163,7 @@ impl PieceLines {
         Line {
             number: self.number,
             end: self.end,
-            bytes: text_of(self.held.taken()),
+            bytes: part_text(self.held.taken()),
         }
     }
 }

@@ -1,7 +1,7 @@
 //! Where the files of a release are read from.
 ghost use Rattle.std.specs.Prelude.{◌≡◌, ℕ, ◌≤◌, IfOk, IfSome, List, MatchResult, OnErr, OnOk, Option, length, map, string_bytes};
 ghost use Rattle.std.specs.Io.KnownBytes.{IsAtEnd, Keeps};
-ghost use Rattle.release_files.specs.Source.{CountsFailures, FileText, Opens, ReadsNext, number_of};
+ghost use Rattle.release_files.specs.Source.{CountsFailures, FileText, Opens, ReadsNext, source_fault_number};
 
 /// Why a source of files gave no answer.
 #[derive(Clone, Copy, Debug, PartialEq, Eq)]
@@ -15,7 +15,7 @@ pub enum SourceFault {
 impl SourceFault {
     /// The number of the fault, 1 or 2.
     pub fn number(self) -> u8
-        ensures { result ≡ number_of self }
+        ensures { result ≡ source_fault_number self }
     {
         match self {
             SourceFault::Device => 1,

@@ -9,7 +9,7 @@ use Rattle.std.proofs.lemmas.Str.Parse.{digits_value_short}
 use Rattle.sctid.specs.Identifier.{fault_of}
 use Rattle.rf2_rows.specs.Columns.{Column, Format, cause_of, columns_of, component_format, group_format, id_format, time_format, fault_for}
 use Rattle.rf2_rows.specs.Numbers.{is_number, number_of}
-use Rattle.rf2_rows.specs.Rows.{column_fault, concept_row, concrete_row, description_row, fields_fault, fields_of, first_fault, member_row, relationship_row, row_fault, time_of}
+use Rattle.rf2_rows.specs.Rows.{column_fault, concept_row, concrete_row, description_row, fields_fault, fields_of, first_column_fault, member_row, relationship_row, row_fault, time_of}
 use Rattle.rf2_rows.specs.Versions.{time_on}
 use Rattle.rf2_rows.specs.declared.fault.RowCause.{RowCause}
 use Rattle.rf2_rows.specs.declared.fault.RowCause.TheVariants.{Group, Id, Time}
@@ -53,7 +53,7 @@ no_cause : (number : ℕ) (cause : Option RowCause) → column_fault number caus
 no_cause number None none = refl
 no_cause number (Some cause) none = cc
 
-no_cause_at : (number : ℕ) (columns : List Column) (texts : List (List ℕ)) (place : ℕ) → length texts ≡ length columns → first_fault number columns texts ≡ None → place < length columns → cause_of (format_at columns place) (get_or texts place []) ≡ None
+no_cause_at : (number : ℕ) (columns : List Column) (texts : List (List ℕ)) (place : ℕ) → length texts ≡ length columns → first_column_fault number columns texts ≡ None → place < length columns → cause_of (format_at columns place) (get_or texts place []) ≡ None
 no_cause_at number [] texts place width accepted inside = absurd (omega arith)
 no_cause_at number (column ∷ columns) [] place width accepted inside = absurd (omega arith)
 no_cause_at number (column ∷ columns) (text ∷ texts) zero width accepted inside =

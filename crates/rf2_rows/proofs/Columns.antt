@@ -10,7 +10,7 @@ use Rattle.rf2_rows.specs.Columns.{Column, columns_of, cause_of}
 use Rattle.rf2_rows.specs.Numbers.{number_of}
 use Rattle.rf2_rows.specs.Parts.{texts_of}
 use Rattle.rf2_rows.specs.Values.{value_of}
-use Rattle.rf2_rows.specs.Rows.{column_fault, first_fault, fields_fault, concept_of, description_of, relationship_of, concrete_of, member_of, time_of, active_of, uuid_of}
+use Rattle.rf2_rows.specs.Rows.{column_fault, first_column_fault, fields_fault, concept_of, description_of, relationship_of, concrete_of, member_of, time_of, active_of, uuid_of}
 
 -- the text of the field at a place
 abbrev pub text_at : List (Bor (List ℕ)) → ℕ → List ℕ
@@ -25,7 +25,7 @@ fault_by_place number [] text = None
 fault_by_place number (column ∷ columns) text =
     option_or (column_fault number (cause_of column.format (text 0))) (fault_by_place (number + 1) columns (λ place. text (suc place)))
 
-first_fault_by_place : (number : ℕ) (columns : List Column) (fields : List (Bor (List ℕ))) → length fields ≡ length columns → first_fault number columns (texts_of fields) ≡ fault_by_place number columns (text_at fields)
+first_fault_by_place : (number : ℕ) (columns : List Column) (fields : List (Bor (List ℕ))) → length fields ≡ length columns → first_column_fault number columns (texts_of fields) ≡ fault_by_place number columns (text_at fields)
 first_fault_by_place number [] [] same = refl
 first_fault_by_place number [] (field ∷ fields) same = absurd (omega arith)
 first_fault_by_place number (column ∷ columns) [] same = absurd (omega arith)

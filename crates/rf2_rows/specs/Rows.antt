@@ -34,15 +34,15 @@ abbrev pub column_fault : ℕ → Option RowCause → Option RowFault
 column_fault number cause = option_map (λ cause. record { cause = cause; column = number }) cause
 
 -- the fault of the first column whose text is not accepted, where the first column has this number
-abbrev pub first_fault : ℕ → List Column → List (List ℕ) → Option RowFault
-first_fault number (column ∷ columns) (text ∷ texts) =
-    option_or (column_fault number (cause_of column.format text)) (first_fault (number + 1) columns texts)
-first_fault number _ _ = None
+abbrev pub first_column_fault : ℕ → List Column → List (List ℕ) → Option RowFault
+first_column_fault number (column ∷ columns) (text ∷ texts) =
+    option_or (column_fault number (cause_of column.format text)) (first_column_fault (number + 1) columns texts)
+first_column_fault number _ _ = None
 
 -- the first fault of a line's fields: first their number, and then the columns from left to right
 abbrev pub fields_fault : FileKind → List (List ℕ) → Option RowFault
 fields_fault kind fields =
-    if length fields == length (columns_of kind) then first_fault 1 (columns_of kind) fields
+    if length fields == length (columns_of kind) then first_column_fault 1 (columns_of kind) fields
     else Some (record { cause = Fields; column = 0 })
 
 -- the first fault of a line, or none where it is a row

@@ -14,8 +14,8 @@ use Rattle.sctid.proofs.Group.{times-lt, times_assoc, zero-times, permuted-lt}
 use Rattle.sctid.proofs.Product.{digit-lt, digit_in}
 
 -- the text of eight digits
-abbrev pub text_of : (ℕ → ℕ) → List ℕ
-text_of digit = map (λ i. digit i + 48) (range_with_len 0 8)
+abbrev pub block_text : (ℕ → ℕ) → List ℕ
+block_text digit = map (λ i. digit i + 48) (range_with_len 0 8)
 
 -- eight digits, by their indices
 abbrev pub AreDigits : (ℕ → ℕ) → Type 0
@@ -29,9 +29,9 @@ pub are_digits : (bytes : List ℕ) → length bytes ≡ 8 → list_all is_ascii
 are_digits bytes eight digits i within = digit-lt (get_or bytes i 0) (digit_in bytes i (omega arith) digits)
 
 -- a text of eight digits is made of them
-pub spelled : (bytes : List ℕ) → length bytes ≡ 8 → list_all is_ascii_digit bytes ≡ true → bytes ≡ text_of (digit_in_text bytes)
+pub spelled : (bytes : List ℕ) → length bytes ≡ 8 → list_all is_ascii_digit bytes ≡ true → bytes ≡ block_text (digit_in_text bytes)
 spelled bytes eight digits =
-    same_number_lists bytes (text_of (digit_in_text bytes)) eight (λ k within.
+    same_number_lists bytes (block_text (digit_in_text bytes)) eight (λ k within.
     let at_least : 48 ≤ get_or bytes k 0 = leb-true 48 _ (and_parts _ _ (digit_in bytes k within digits)).0 in
     omega (arith, get_or-map-range_with_len (λ i. digit_in_text bytes i + 48) 0 8 k k 0 (omega arith) (omega arith)))
 
@@ -135,7 +135,7 @@ paired digit =
 less : (digit : ℕ) → digit + 48 - 48 ≡ digit
 less digit = omega arith
 
-text_product : (digit : ℕ → ℕ) → AreDigits digit → check_product (text_of digit) ≡ paired digit
+text_product : (digit : ℕ → ℕ) → AreDigits digit → check_product (block_text digit) ≡ paired digit
 text_product digit small =
     let lt = λ (place i : ℕ) (within : i < 8). permuted-lt place (digit i) (small i within) in
     let multiplied = halves (permuted 7 (digit 0)) (permuted 6 (digit 1)) (permuted 5 (digit 2)) (permuted 4 (digit 3)) (permuted 3 (digit 4)) (permuted 2 (digit 5)) (permuted 1 (digit 6)) (permuted 0 (digit 7))

@@ -9,7 +9,7 @@ use Rattle.std.proofs.Math.Seq.{take-add}
 use Rattle.std.proofs.lemmas.List.{take-append-drop, drop-drop, length-take-le}
 use Rattle.std.proofs.lemmas.List.Folds.{list_all-append}
 use Rattle.sctid.specs.Identifier.{times, check_product}
-use Rattle.sctid.proofs.Block.{text_of, digit_in_text, spelled}
+use Rattle.sctid.proofs.Block.{block_text, digit_in_text, spelled}
 use Rattle.sctid.proofs.Product.{check_product-block}
 
 -- what was read of a text behind so many blocks
@@ -68,7 +68,7 @@ value_append : (left right : List ℕ) (n : ℕ) → digits_value_after 10 n (le
 value_append [] right n = refl
 value_append (byte ∷ left) right n = value_append left right _
 
-value_after : (n : ℕ) (digit : ℕ → ℕ) → digits_value_after 10 n (text_of digit) ≡ n * 100000000 + digits_value 10 (text_of digit)
+value_after : (n : ℕ) (digit : ℕ → ℕ) → digits_value_after 10 n (block_text digit) ≡ n * 100000000 + digits_value 10 (block_text digit)
 value_after n digit = omega arith
 
 pub value-block : (text : List ℕ) (i : ℕ) → i < length text / 8 → list_all is_ascii_digit (block_at text i) ≡ true →

@@ -5,7 +5,7 @@ use Rattle.rf2_rows.specs.Release.{Release, Value}
 use Rattle.rf2_rows.specs.Pairs.{Pair}
 use Rattle.constraint_tree.specs.declared.operator.Cardinality.{Cardinality}
 use Rattle.constraint_tree.specs.Passing.{is_within, is_outside}
-use Rattle.constraint_tree.specs.Walks.{is_in_force, walks}
+use Rattle.constraint_tree.specs.Walks.{has_concept, walks}
 use Rattle.constraint_tree.specs.Denotation.{denotes, counted_pairs, all_denote, some_denotes, follows, satisfies, satisfies_all, satisfies_some, has_set, has_all, has_some, has_attribute, passes, is_value, is_component}
 use Rattle.constraint_tree.specs.Tree.{Tree, concept_tree, any_tree, walk_tree, member_tree, and_tree, or_tree, minus_tree, dotted_tree, refined_tree, Trees, no_trees, tree_then, RefinementTree, one_refinement, group_refinement, and_refinement, or_refinement, RefinementTrees, no_refinements, refinement_then, AttributeSetTree, one_set, and_set, or_set, AttributeSetTrees, no_sets, set_then, AttributeTree, attribute_tree, TestTree, within_test, outside_test, number_test}
 use Rattle.constraint_tree.proofs.DenotationLemmas.{denotes_concepts_in_force}
@@ -35,7 +35,7 @@ or_none true = refl
 or_none false = refl
 
 -- what a constraint denotes is in force
-in_force_if_denoted : (release : Release) (tree : Tree) (concept : ℕ) → denotes release tree concept ≡ true → is_in_force release concept ≡ true
+in_force_if_denoted : (release : Release) (tree : Tree) (concept : ℕ) → denotes release tree concept ≡ true → has_concept release concept ≡ true
 in_force_if_denoted release tree concept holds = (tells_in_force release concept).1 (denotes_concepts_in_force release tree concept holds)
 
 -- the same types and the same values pass
@@ -48,11 +48,11 @@ mutual
   same_meaning release (concept_tree number) concept = refl
   same_meaning release any_tree concept = refl
   same_meaning release (walk_tree operator operand) concept =
-      ap (λ (set : ℕ → Bool). is_in_force release concept && walks release operator set concept) (fun_ext (same_meaning release operand))
+      ap (λ (set : ℕ → Bool). has_concept release concept && walks release operator set concept) (fun_ext (same_meaning release operand))
   same_meaning release (member_tree operand) concept =
       ap (λ (set : ℕ → Bool). is_component release set concept) (fun_ext (same_meaning release operand))
   same_meaning release (and_tree parts) concept =
-      ap (λ (holds : Bool). is_in_force release concept && holds) (same_all release parts concept)
+      ap (λ (holds : Bool). has_concept release concept && holds) (same_all release parts concept)
   same_meaning release (or_tree parts) concept = same_some release parts concept
   same_meaning release (minus_tree first second) concept =
       ap (λ (holds : Bool). holds && not (means release (lowered second) concept)) (same_meaning release first concept)
@@ -60,9 +60,9 @@ mutual
   same_meaning release (dotted_tree start names) concept =
       same_along release names (means release (lowered start)) (denotes release start) (fun_ext (same_meaning release start)) concept
   same_meaning release (refined_tree focus refinement) concept =
-      ap (λ (holds : Bool). is_in_force release concept && (holds && (means release (lowered_refinement refinement) concept && true))) (same_meaning release focus concept)
-      ∙ ap (λ (holds : Bool). is_in_force release concept && (denotes release focus concept && (holds && true))) (same_refinement release refinement concept)
-      ∙ in_both (is_in_force release concept) (denotes release focus concept) (satisfies release refinement concept) (in_force_if_denoted release focus concept)
+      ap (λ (holds : Bool). has_concept release concept && (holds && (means release (lowered_refinement refinement) concept && true))) (same_meaning release focus concept)
+      ∙ ap (λ (holds : Bool). has_concept release concept && (denotes release focus concept && (holds && true))) (same_refinement release refinement concept)
+      ∙ in_both (has_concept release concept) (denotes release focus concept) (satisfies release refinement concept) (in_force_if_denoted release focus concept)
 
   same_all : (release : Release) (trees : Trees) (concept : ℕ) → all_mean release (lowered_trees trees) concept ≡ all_denote release trees concept
   same_all release no_trees concept = refl
@@ -84,22 +84,22 @@ mutual
       ∙ ap (λ (types : ℕ → Bool). is_value release other types) (fun_ext (same_meaning release name)))
       concept
 
-  same_refinement : (release : Release) (refinement : RefinementTree) (concept : ℕ) → means release (lowered_refinement refinement) concept ≡ (is_in_force release concept && satisfies release refinement concept)
+  same_refinement : (release : Release) (refinement : RefinementTree) (concept : ℕ) → means release (lowered_refinement refinement) concept ≡ (has_concept release concept && satisfies release refinement concept)
   same_refinement release (one_refinement attribute) concept = same_attribute release attribute concept
   same_refinement release (group_refinement count set) concept =
-      ap (λ (set : List Pair → Bool). is_in_force release concept && has_groups release count set concept) (fun_ext (same_set release set))
+      ap (λ (set : List Pair → Bool). has_concept release concept && has_groups release count set concept) (fun_ext (same_set release set))
   same_refinement release (and_refinement parts) concept = same_refinement_all release parts concept
   same_refinement release (or_refinement parts) concept = same_refinement_some release parts concept
 
-  same_refinement_all : (release : Release) (parts : RefinementTrees) (concept : ℕ) → (is_in_force release concept && all_mean release (lowered_refinements parts) concept) ≡ (is_in_force release concept && satisfies_all release parts concept)
+  same_refinement_all : (release : Release) (parts : RefinementTrees) (concept : ℕ) → (has_concept release concept && all_mean release (lowered_refinements parts) concept) ≡ (has_concept release concept && satisfies_all release parts concept)
   same_refinement_all release no_refinements concept = refl
   same_refinement_all release (refinement_then first rest) concept =
-      and_more (is_in_force release concept) _ _ _ _ (same_refinement release first concept) (same_refinement_all release rest concept)
+      and_more (has_concept release concept) _ _ _ _ (same_refinement release first concept) (same_refinement_all release rest concept)
 
-  same_refinement_some : (release : Release) (parts : RefinementTrees) (concept : ℕ) → some_means release (lowered_refinements parts) concept ≡ (is_in_force release concept && satisfies_some release parts concept)
-  same_refinement_some release no_refinements concept = or_none (is_in_force release concept)
+  same_refinement_some : (release : Release) (parts : RefinementTrees) (concept : ℕ) → some_means release (lowered_refinements parts) concept ≡ (has_concept release concept && satisfies_some release parts concept)
+  same_refinement_some release no_refinements concept = or_none (has_concept release concept)
   same_refinement_some release (refinement_then first rest) concept =
-      or_more (is_in_force release concept) _ _ _ _ (same_refinement release first concept) (same_refinement_some release rest concept)
+      or_more (has_concept release concept) _ _ _ _ (same_refinement release first concept) (same_refinement_some release rest concept)
 
   same_set : (release : Release) (set : AttributeSetTree) (pairs : List Pair) → group_means release (lowered_set set) pairs ≡ has_set release set pairs
   same_set release (one_set attribute) pairs = same_in_group release attribute pairs
@@ -118,9 +118,9 @@ mutual
       ap (λ (holds : Bool). holds || some_group_means release (lowered_sets rest) pairs) (same_set release first pairs)
       ∙ ap (λ (holds : Bool). has_set release first pairs || holds) (same_set_some release rest pairs)
 
-  same_attribute : (release : Release) (attribute : AttributeTree) (concept : ℕ) → means release (lowered_attribute attribute) concept ≡ (is_in_force release concept && has_attribute release attribute (counted_pairs release attribute concept))
+  same_attribute : (release : Release) (attribute : AttributeTree) (concept : ℕ) → means release (lowered_attribute attribute) concept ≡ (has_concept release concept && has_attribute release attribute (counted_pairs release attribute concept))
   same_attribute release (attribute_tree count reverse name test) concept =
-      ap (λ (holds : Bool). is_in_force release concept && holds)
+      ap (λ (holds : Bool). has_concept release concept && holds)
       (pairs_alike count (pairs_of release reverse concept) _ _ _ _ (fun_ext (same_meaning release name)) (fun_ext (same_passes release test)))
 
   same_in_group : (release : Release) (attribute : AttributeTree) (pairs : List Pair) → group_means release (lowered_in_group attribute) pairs ≡ has_attribute release attribute pairs

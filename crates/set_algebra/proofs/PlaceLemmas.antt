@@ -6,7 +6,7 @@ use Rattle.std.proofs.Math.Path.{fun_ext}
 use Rattle.rf2_rows.specs.Release.{Release, Value}
 use Rattle.rf2_rows.specs.Pairs.{Pair}
 use Rattle.constraint_tree.specs.Passing.{is_within, is_outside}
-use Rattle.constraint_tree.specs.Walks.{is_in_force, walks}
+use Rattle.constraint_tree.specs.Walks.{has_concept, walks}
 use Rattle.constraint_tree.specs.Denotation.{is_value, is_component}
 use Rattle.set_algebra.specs.Meaning.{means, all_mean, some_means, leads, group_means, all_group_mean, some_group_means, value_passes, has_pairs, has_groups, pairs_of}
 use Rattle.set_algebra.specs.Places.{Node, concept_node, group_node, plan_nodes, group_nodes, test_nodes, plan_children, group_children, children, inside, node_at, plans_with, groups_with, test_with, plan_with, group_with, with_child, with_changed, put_at, MeanTheSame, KeepsMeaningAtPlaces}
@@ -69,12 +69,12 @@ plan_keeps release empty_plan number child new is same = absurd (cc)
 plan_keeps release all_plan number child new is same = absurd (cc)
 plan_keeps release (one_plan value) number child new is same = absurd (cc)
 plan_keeps release (walk_plan operator operand) zero child new is same =
-    ap {B = ℕ → Bool} (λ (set : ℕ → Bool) (concept : ℕ). is_in_force release concept && walks release operator set concept) (found_plan release operand child new is same)
+    ap {B = ℕ → Bool} (λ (set : ℕ → Bool) (concept : ℕ). has_concept release concept && walks release operator set concept) (found_plan release operand child new is same)
 plan_keeps release (walk_plan operator operand) (suc number) child new is same = absurd (cc)
 plan_keeps release (members_plan operand) zero child new is same = ap (is_component release) (found_plan release operand child new is same)
 plan_keeps release (members_plan operand) (suc number) child new is same = absurd (cc)
 plan_keeps release (and_plan parts) number child new is same =
-    ap {B = ℕ → Bool} (λ (set : ℕ → Bool) (concept : ℕ). is_in_force release concept && set concept) (all_keep release parts number child new is same)
+    ap {B = ℕ → Bool} (λ (set : ℕ → Bool) (concept : ℕ). has_concept release concept && set concept) (all_keep release parts number child new is same)
 plan_keeps release (or_plan parts) number child new is same = some_keep release parts number child new is same
 plan_keeps release (minus_plan first second) zero child new is same =
     ap {B = ℕ → Bool} (λ (set : ℕ → Bool) (concept : ℕ). set concept && not (means release second concept)) (found_plan release first child new is same)
@@ -85,9 +85,9 @@ plan_keeps release (values_plan start names) zero child new is same =
     ap (λ (set : ℕ → Bool). leads release set names) (found_plan release start child new is same)
 plan_keeps release (values_plan start names) (suc number) child new is same = along_keep release names number child new (means release start) is same
 plan_keeps release (pairs_plan back count types test) zero child new is same =
-    ap {B = ℕ → Bool} (λ (set : ℕ → Bool) (concept : ℕ). is_in_force release concept && has_pairs count set (value_passes release test) (pairs_of release back concept)) (found_plan release types child new is same)
+    ap {B = ℕ → Bool} (λ (set : ℕ → Bool) (concept : ℕ). has_concept release concept && has_pairs count set (value_passes release test) (pairs_of release back concept)) (found_plan release types child new is same)
 plan_keeps release (pairs_plan back count types test) (suc number) child new is same =
-    ap {B = ℕ → Bool} (λ (values : Value → Bool) (concept : ℕ). is_in_force release concept && has_pairs count (means release types) values (pairs_of release back concept)) (test_keeps release test number child new is same)
+    ap {B = ℕ → Bool} (λ (values : Value → Bool) (concept : ℕ). has_concept release concept && has_pairs count (means release types) values (pairs_of release back concept)) (test_keeps release test number child new is same)
 plan_keeps release (units_plan count units) zero child new is same = absurd (cc)
 plan_keeps release (units_plan count units) (suc number) child new is same = absurd (cc)
 
@@ -122,7 +122,7 @@ braces_keep release (values_plan start names) (suc number) child new is same = a
 braces_keep release (pairs_plan back count types test) zero child new is same = absurd (cc)
 braces_keep release (pairs_plan back count types test) (suc number) child new is same = absurd (no_group_in_test test number child is)
 braces_keep release (units_plan count units) zero child new is same =
-    ap {B = ℕ → Bool} (λ (set : List Pair → Bool) (concept : ℕ). is_in_force release concept && has_groups release count set concept) (found_group release units child new is same)
+    ap {B = ℕ → Bool} (λ (set : List Pair → Bool) (concept : ℕ). has_concept release concept && has_groups release count set concept) (found_group release units child new is same)
 braces_keep release (units_plan count units) (suc number) child new is same = absurd (cc)
 
 -- a plan of concepts in a plan of groups: the types and the values of its pairs

@@ -8,7 +8,7 @@ use Rattle.rf2_rows.specs.Pairs.{Pair, out_pairs, in_pairs}
 use Rattle.rf2_rows.specs.Groups.{groups_of}
 use Rattle.constraint_tree.specs.declared.operator.Cardinality.{Cardinality}
 use Rattle.constraint_tree.specs.Passing.{is_within, is_outside, is_number_that, lies_in}
-use Rattle.constraint_tree.specs.Walks.{is_in_force, walks}
+use Rattle.constraint_tree.specs.Walks.{has_concept, walks}
 use Rattle.constraint_tree.specs.Denotation.{is_component, is_value}
 use Rattle.set_algebra.specs.Plan.{Plan, empty_plan, all_plan, one_plan, walk_plan, members_plan, and_plan, or_plan, minus_plan, values_plan, pairs_plan, units_plan, Plans, no_plans, plan_then, GroupPlan, nothing_group, every_group, and_group, or_group, minus_group, pairs_group, GroupPlans, no_groups, group_then, TestPlan, within_plan, outside_plan, number_plan}
 
@@ -29,21 +29,21 @@ abbrev mutual
   -- whether a concept is in the set that a plan means
   pub means : Release → Plan → ℕ → Bool
   means release empty_plan concept = false
-  means release all_plan concept = is_in_force release concept
-  means release (one_plan number) concept = is_in_force release concept && (concept == number)
+  means release all_plan concept = has_concept release concept
+  means release (one_plan number) concept = has_concept release concept && (concept == number)
   means release (walk_plan operator operand) concept =
-      is_in_force release concept && walks release operator (means release operand) concept
+      has_concept release concept && walks release operator (means release operand) concept
   means release (members_plan operand) concept = is_component release (means release operand) concept
-  means release (and_plan parts) concept = is_in_force release concept && all_mean release parts concept
+  means release (and_plan parts) concept = has_concept release concept && all_mean release parts concept
   means release (or_plan parts) concept = some_means release parts concept
   means release (minus_plan first second) concept =
       means release first concept && not (means release second concept)
   means release (values_plan start names) concept = leads release (means release start) names concept
   means release (pairs_plan back count types test) concept =
-      is_in_force release concept
+      has_concept release concept
       && has_pairs count (means release types) (value_passes release test) (pairs_of release back concept)
   means release (units_plan count units) concept =
-      is_in_force release concept && has_groups release count (group_means release units) concept
+      has_concept release concept && has_groups release count (group_means release units) concept
 
   -- of no plans everything is in all, and nothing in some
   pub all_mean : Release → Plans → ℕ → Bool

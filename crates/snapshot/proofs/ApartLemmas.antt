@@ -14,7 +14,7 @@ use Rattle.rf2_rows.specs.Versions.{id_on, same_time}
 use Rattle.rf2_rows.specs.declared.kind.FileKind.{FileKind}
 use Rattle.rf2_rows.specs.declared.kind.FileKind.TheVariants.{Concept, Concrete, Description, Member, Relationship}
 use Rattle.snapshot.specs.Chosen.{choices, chosen, is_later, is_repeated, is_superseded, marked, same_component, same_kind, same_version, time_of}
-use Rattle.snapshot.specs.Contents.{text_of}
+use Rattle.snapshot.specs.Contents.{text_of_row}
 use Rattle.snapshot.specs.Faults.{conflict_behind, count_of_kind, crowd_behind, fault_at, fault_behind, fault_here, first_fault, first_of}
 use Rattle.snapshot.specs.Files.{Place, RowAt, row_at, rows_of}
 use Rattle.snapshot.specs.Kept.{AreFew, IsReadFrom}
@@ -80,7 +80,7 @@ one_chosen rows earlier row next among next_among before latest next_latest firs
     (cc)
 
 -- two rows of active concepts with one identifier are of one component
-listed_alike : (row next : RowAt) (id other : ℕ) → concept_listed (text_of row) ≡ Some id → concept_listed (text_of next) ≡ Some other → nat_eq id other ≡ true
+listed_alike : (row next : RowAt) (id other : ℕ) → concept_listed (text_of_row row) ≡ Some id → concept_listed (text_of_row next) ≡ Some other → nat_eq id other ≡ true
     → same_component row next ≡ true
 listed_alike row next id other = by row.kind next.kind row.text next.text
   where
@@ -105,10 +105,10 @@ listed_alike row next id other = by row.kind next.kind row.text next.text
 
 -- the identifiers of the active concepts of rows
 abbrev active_ids : List RowAt → List ℕ
-active_ids rows = filter_map concept_listed (map text_of rows)
+active_ids rows = filter_map concept_listed (map text_of_row rows)
 
 -- behind a chosen row of an active concept there is no other of its identifier
-apart-later : (rows earlier later : List RowAt) (row : RowAt) (id : ℕ) → concept_listed (text_of row) ≡ Some id
+apart-later : (rows earlier later : List RowAt) (row : RowAt) (id : ℕ) → concept_listed (text_of_row row) ≡ Some id
     → IsAmong rows row → is_superseded rows row ≡ false → IsAmong earlier row → AreAmong rows later
     → AllByRecursion (λ other. nat_eq id other ≡ false) (active_ids (marked (choices rows earlier later) later))
 apart-later rows earlier [] row id listed among latest before all = tt
@@ -124,9 +124,9 @@ apart-later rows earlier (next ∷ later) row id listed among latest before all 
         → AllByRecursion (λ other. nat_eq id other ≡ false) (active_ids (cond (not (superseded || repeated)) (next ∷ marked (choices rows (earlier ++ next ∷ []) later) later) (marked (choices rows (earlier ++ next ∷ []) later) later)))
     by rest true next_latest repeated first = rest
     by rest false next_latest true first = rest
-    by rest false next_latest false first = at (concept_listed (text_of next)) refl
+    by rest false next_latest false first = at (concept_listed (text_of_row next)) refl
       where
-        at : (found : Option ℕ) → concept_listed (text_of next) ≡ found → AllByRecursion (λ other. nat_eq id other ≡ false) (cons_option found others)
+        at : (found : Option ℕ) → concept_listed (text_of_row next) ≡ found → AllByRecursion (λ other. nat_eq id other ≡ false) (cons_option found others)
         at None is = rest
         at (Some other) is = (differs (nat_eq id other) refl, rest)
           where
@@ -146,14 +146,14 @@ distinct-choices rows earlier (row ∷ later) all =
     by : IsDistinct nat_eq (active_ids others) → (superseded : Bool) → is_superseded rows row ≡ superseded → (repeated : Bool) → IsDistinct nat_eq (active_ids (cond (not (superseded || repeated)) (row ∷ others) others))
     by rest true latest repeated = rest
     by rest false latest true = rest
-    by rest false latest false = at (concept_listed (text_of row)) refl
+    by rest false latest false = at (concept_listed (text_of_row row)) refl
       where
-        at : (found : Option ℕ) → concept_listed (text_of row) ≡ found → IsDistinct nat_eq (cons_option found (active_ids others))
+        at : (found : Option ℕ) → concept_listed (text_of_row row) ≡ found → IsDistinct nat_eq (cons_option found (active_ids others))
         at None is = rest
         at (Some id) is = (apart-later rows (earlier ++ row ∷ []) later row id is all.0 latest (among-here earlier [] row) all.1, rest)
 
 -- no two chosen rows of active concepts have one identifier
-pub active-distinct : (rows : List RowAt) → IsDistinct nat_eq (filter_map concept_listed (map text_of (chosen rows)))
+pub active-distinct : (rows : List RowAt) → IsDistinct nat_eq (filter_map concept_listed (map text_of_row (chosen rows)))
 active-distinct rows = distinct-choices rows [] rows (are_among [] rows)
 
 -- ---- there are no more rows than the limits allow
@@ -281,9 +281,9 @@ length-marked {X} (mark ∷ marks) (item ∷ items) = by mark (length-marked mar
     by true rest = omega (arith, rest)
     by false rest = omega (arith, rest)
 
-length-listed : {X : Type 0} (pick : RowText → Option X) (rows : List RowAt) → length (filter_map pick (map text_of (chosen rows))) ≤ length rows
+length-listed : {X : Type 0} (pick : RowText → Option X) (rows : List RowAt) → length (filter_map pick (map text_of_row (chosen rows))) ≤ length rows
 length-listed pick rows =
-    omega (arith, length-picked pick (map text_of (chosen rows)), length-map (chosen rows) text_of, length-marked (choices rows [] rows) rows)
+    omega (arith, length-picked pick (map text_of_row (chosen rows)), length-map (chosen rows) text_of_row, length-marked (choices rows [] rows) rows)
 
 -- what was read of places without a fault is few
 pub AreFew-read : (limits : Limits) (places : List Place) (count : ℕ) (listed : Listed) → row_total limits ≤ 68000000 → IsReadFrom limits places count listed → AreFew count listed

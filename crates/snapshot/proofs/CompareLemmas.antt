@@ -12,7 +12,7 @@ use Rattle.rf2_rows.specs.declared.kind.FileKind.TheVariants.{Concept, Concrete,
 use Rattle.snapshot.specs.Chosen.{choices, conflicts, id_of, is_later, is_repeated, is_superseded, same_component, same_kind, same_version, time_of}
 use Rattle.snapshot.specs.Compared.{Compared, IsCompared, IsComparedRow, IsDenied, IsDeniedRow, IsExpected, IsRefused, IsTaken, clashes, compared_in, noted_of}
 use Rattle.snapshot.specs.declared.comparing.Comparing.{Comparing}
-use Rattle.snapshot.specs.Contents.{text_of}
+use Rattle.snapshot.specs.Contents.{text_of_row}
 use Rattle.snapshot.specs.Faults.{first_of}
 use Rattle.snapshot.specs.Files.{Place, RowAt, row_at, rows_of}
 use Rattle.snapshot.specs.InForce.{has}
@@ -242,7 +242,7 @@ module _ (uuids repeated : List ℕ) (few : length uuids < 2 ^ 63) where
   expected compared earlier row uuids_is taken_is known own accepted = record {
     taken = taken_is;
     kinds = subst (λ (met : List ℕ). AreOfItsKind (map (noted_of uuids) earlier) (noted_of met row)) (sym uuids_is) (of_its_kind uuids few earlier row known own);
-    met = subst (λ (met : List ℕ). IsMet met (text_of row)) (sym uuids_is) own.1;
+    met = subst (λ (met : List ℕ). IsMet met (text_of_row row)) (sym uuids_is) own.1;
     accepted = accepted;
     same_key = ap (λ (met : List ℕ). (noted_of met row).key) uuids_is;
   }
@@ -368,7 +368,7 @@ module _ (uuids repeated : List ℕ) (few : length uuids < 2 ^ 63) where
 -- ---- what was seen
 uuids_after-append : (uuids : List ℕ) (front rows : List RowAt) → uuids_after uuids (front ++ rows) ≡ uuids_after (uuids_after uuids front) rows
 uuids_after-append uuids [] rows = refl
-uuids_after-append uuids (row ∷ front) rows = uuids_after-append (uuids_behind uuids (text_of row)) front rows
+uuids_after-append uuids (row ∷ front) rows = uuids_after-append (uuids_behind uuids (text_of_row row)) front rows
 
 had-more : (n : ℕ) (uuids more : List ℕ) → has uuids n ≡ true → has (uuids ++ more) n ≡ true
 had-more n [] more none = absurd (cc)
@@ -389,7 +389,7 @@ same_itself row = (λ i. own row.kind i && eq-eqb (id_of row) (id_of row) refl i
     own Member = refl
 
 -- a row that was seen is met
-met-seen : (uuids : List ℕ) (rows : List RowAt) (row : RowAt) → IsMet (uuids_after (uuids_behind uuids (text_of row)) rows) (text_of row)
+met-seen : (uuids : List ℕ) (rows : List RowAt) (row : RowAt) → IsMet (uuids_after (uuids_behind uuids (text_of_row row)) rows) (text_of_row row)
 met-seen uuids rows row = by row.kind row.text
   where
     by : (kind : FileKind) (text : List ℕ) → IsMet (uuids_after (uuids_behind uuids (row_text kind text)) rows) (row_text kind text)
@@ -404,13 +404,13 @@ met-seen uuids rows row = by row.kind row.text
 
 known-seen : (uuids : List ℕ) (rows : List RowAt) → AreShort rows → AreKnown (uuids_after uuids rows) rows
 known-seen uuids [] short = tt
-known-seen uuids (row ∷ rows) short = ((short.0.0, met-seen uuids rows row), known-seen (uuids_behind uuids (text_of row)) rows short.1)
+known-seen uuids (row ∷ rows) short = ((short.0.0, met-seen uuids rows row), known-seen (uuids_behind uuids (text_of_row row)) rows short.1)
 
 -- the keys are those by all UUIDs
 keys-seen : (uuids : List ℕ) (rows : List RowAt) → keys_behind uuids rows ≡ keys_of (uuids_after uuids rows) rows
 keys-seen uuids [] = refl
 keys-seen uuids (row ∷ rows) =
-    (λ i. sym (key-later uuids rows row row (same_itself row)) i ∷ keys-seen (uuids_behind uuids (text_of row)) rows i)
+    (λ i. sym (key-later uuids rows row row (same_itself row)) i ∷ keys-seen (uuids_behind uuids (text_of_row row)) rows i)
 
 -- a row that conflicts with an earlier one is of its component
 some-component : (earlier : List RowAt) (row : RowAt) → list_any (λ other. conflicts other row) earlier ≡ true → list_any (λ other. same_component other row) earlier ≡ true
@@ -430,15 +430,15 @@ finds repeated earlier [] covers = tt
 finds repeated earlier (row ∷ ahead) covers =
     let cut : (earlier ++ row ∷ []) ++ ahead ≡ earlier ++ row ∷ ahead = append_assoc earlier (row ∷ []) ahead in (
       (λ there.
-          let key = key_in (uuids_after [] earlier) (text_of row) in
+          let key = key_in (uuids_after [] earlier) (text_of_row row) in
           let among : 1 ≤ times key (keys_behind [] earlier) = key-among [] earlier row (some-component earlier row there) in
-          let later = keys_behind (uuids_behind (uuids_after [] earlier) (text_of row)) ahead in
+          let later = keys_behind (uuids_behind (uuids_after [] earlier) (text_of_row row)) ahead in
           let all : times key (keys_behind [] (earlier ++ row ∷ ahead)) ≡ times key (keys_behind [] earlier) + times key (key ∷ later) =
           ap (times key) (keys_behind-append [] earlier (row ∷ ahead)) ∙ times-append key (keys_behind [] earlier) (key ∷ later) in
           let own : times key (key ∷ later) ≡ times key (key ∷ []) + times key later = times-append key (key ∷ []) later in
           let contained : Contains repeated key = covers key (omega (arith, among, all, own, times-one key)) in
           let final : (noted_of (uuids_after [] (earlier ++ row ∷ ahead)) row).key ≡ key =
-          ap (λ (uuids : List ℕ). key_in uuids (text_of row)) (uuids_after-append [] earlier (row ∷ ahead)) ∙ key-later (uuids_after [] earlier) ahead row row (same_itself row) in
+          ap (λ (uuids : List ℕ). key_in uuids (text_of_row row)) (uuids_after-append [] earlier (row ∷ ahead)) ∙ key-later (uuids_after [] earlier) ahead row row (same_itself row) in
           ap (has repeated) final ∙ had_contained repeated key contained),
       subst (λ (all : List RowAt). Finds (uuids_after [] all) repeated (earlier ++ row ∷ []) ahead) cut
           (finds repeated (earlier ++ row ∷ []) ahead (subst (λ (all : List RowAt). (key : ℕ) → 2 ≤ times key (keys_behind [] all) → Contains repeated key) (sym cut) covers)),

@@ -14,7 +14,7 @@ use Rattle.rf2_rows.specs.Release.{Name}
 use Rattle.snapshot.specs.FirstRows.{AreFirstPlaces, IsFirstOfTwo, IsFirstPlace}
 use Rattle.snapshot.specs.Name.{first_name, names_of}
 use Rattle.snapshot.specs.NamesInside.{name_in}
-use Rattle.snapshot.specs.Numbering.{number_of}
+use Rattle.snapshot.specs.Numbering.{concept_number}
 use Rattle.snapshot.specs.declared.names.NameRow.{NameRow}
 use Rattle.snapshot.proofs.RisingLemmas.{earlier_below}
 
@@ -49,7 +49,7 @@ none_passes test xs k none within = by (nat_lt (position_or_len test xs) (length
     by false is none = fails_before_first test xs k 0 (omega (arith, within, ltb-false (position_or_len test xs) (length xs) is))
 
 -- a row of none of the concepts
-pub first_places-other : (language concepts : List ℕ) (names later : List Name) (row : Name) (places : List (Option ℕ)) → number_of concepts row.concept ≡ None
+pub first_places-other : (language concepts : List ℕ) (names later : List Name) (row : Name) (places : List (Option ℕ)) → concept_number concepts row.concept ≡ None
     → AreFirstPlaces language concepts names later places → AreFirstPlaces language concepts names (row ∷ later) places
 first_places-other language concepts names later row places none are = (
   are.0,
@@ -59,7 +59,7 @@ first_places-other language concepts names later row places none are = (
 
 -- a row of the concept with a number
 pub first_places-own : (language concepts : List ℕ) (names later : List Name) (row : Name) (at number result : ℕ) (places : List (Option ℕ)) → IsStrictlyIncreasing concepts
-    → number_of concepts row.concept ≡ Some number → slice_get names at ≡ Some row → IsFirstOfTwo language names at (get_or places number None) result
+    → concept_number concepts row.concept ≡ Some number → slice_get names at ≡ Some row → IsFirstOfTwo language names at (get_or places number None) result
     → AreFirstPlaces language concepts names later places → AreFirstPlaces language concepts names (row ∷ later) (set places number (Some result))
 first_places-own language concepts names later row at number result places rising own there first are =
     let found = position-Some (λ other. row.concept == other) concepts number 0 own in
@@ -116,7 +116,7 @@ first_within language concept texts rows later (Some at) is = by (first_name lan
 
 -- the place at the number of a concept
 pub place_read : (language concepts : List ℕ) (id : ℕ) (names later : List Name) (places : List (Option ℕ)) (number : ℕ) (place : Option ℕ)
-    → AreFirstPlaces language concepts names later places → number_of concepts id ≡ Some number → place ≡ get_or places number place
+    → AreFirstPlaces language concepts names later places → concept_number concepts id ≡ Some number → place ≡ get_or places number place
     → (number < length concepts) × (place ≡ get_or places number None)
 place_read language concepts id names later places number place are own is =
     let found = position-Some (λ other. id == other) concepts number 0 own in

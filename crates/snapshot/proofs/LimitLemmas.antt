@@ -4,7 +4,7 @@ use Rattle.std.proofs.lemmas.Bool.{cases_eq, eq-eqb, eqb-true, false_from_ne_tru
 use Rattle.std.proofs.lemmas.List.{drop-take, take-take, take_all}
 use Rattle.std.proofs.lemmas.List.Elements.{All-head, All-tail}
 use Rattle.std.specs.List.{onto_first}
-use Rattle.release_files.specs.Lines.{LineText, byte_order_mark, lines_of, mark_length, numbered, parts, text_of}
+use Rattle.release_files.specs.Lines.{LineText, byte_order_mark, lines_of, mark_length, numbered, parts, part_text}
 use Rattle.release_files.specs.Source.{FileText}
 use Rattle.rf2_rows.specs.Files.{file_kind_of}
 use Rattle.rf2_rows.specs.declared.kind.FileKind.{FileKind}
@@ -53,11 +53,11 @@ numbered_agree : (limit number end left : ℕ) (short long : List (List ℕ)) �
     → LinesAgree limit (numbered number end short) (numbered number end long)
 numbered_agree limit number end left short long (no_part now) is = no_more
 numbered_agree limit number end left short long (same_part now later part xs ys cut agree) is =
-    same_line (record { number = number + 1; end = end + length part; bytes = text_of part })
+    same_line (record { number = number + 1; end = end + length part; bytes = part_text part })
     (numbered (number + 1) (end + length part) xs) (numbered (number + 1) (end + length part) ys)
     (numbered_agree limit (number + 1) (end + length part) later xs ys agree (omega arith))
 numbered_agree limit number end left short long (past_cut now front whole xs ys here there) is =
-    past_limit (record { number = number + 1; end = end + length front; bytes = text_of front }) (record { number = number + 1; end = end + length whole; bytes = text_of whole })
+    past_limit (record { number = number + 1; end = end + length front; bytes = part_text front }) (record { number = number + 1; end = end + length whole; bytes = part_text whole })
     (numbered (number + 1) (end + length front) xs) (numbered (number + 1) (end + length whole) ys)
     refl (omega arith) (omega arith)
 

@@ -5,7 +5,7 @@ use Rattle.std.specs.List.{cons_option, filter_map}
 use Rattle.std.proofs.lemmas.List.{append-nil, map-append}
 use Rattle.std.proofs.lemmas.List.Elements.{filter_map-append}
 use Rattle.rf2_rows.specs.RowTexts.{RowText, of_concept, of_concrete, of_description, of_member, of_relationship}
-use Rattle.snapshot.specs.Contents.{text_of}
+use Rattle.snapshot.specs.Contents.{text_of_row}
 use Rattle.snapshot.specs.Files.{RowAt}
 use Rattle.snapshot.specs.InForce.{concrete_attribute, is_name, name_on, relationship_attribute}
 use Rattle.snapshot.specs.Kept.{Kept, kept_behind, nothing_kept}
@@ -75,12 +75,12 @@ grown-is listed (of_member row) = by row.active
 
 -- what is listed behind rows
 listed-more : (kept : Kept) (front : List RowText) (rows : List RowAt) → kept.listed ≡ listed_of front
-    → (kept_rows kept rows).listed ≡ listed_of (front ++ map text_of rows)
+    → (kept_rows kept rows).listed ≡ listed_of (front ++ map text_of_row rows)
 listed-more kept front [] same = same ∙ ap (λ (rows : List RowText). listed_of rows) (sym (append-nil front))
 listed-more kept front (row ∷ rows) same =
-    listed-more (kept_behind kept row) (front ++ text_of row ∷ []) rows
-    (ap (λ (listed : Listed). listed_behind listed (text_of row)) same ∙ sym (grown-is (listed_of front) (text_of row)) ∙ sym (listed_of-grown front (text_of row)))
-    ∙ ap (λ (all : List RowText). listed_of all) (append_assoc front (text_of row ∷ []) (map text_of rows))
+    listed-more (kept_behind kept row) (front ++ text_of_row row ∷ []) rows
+    (ap (λ (listed : Listed). listed_behind listed (text_of_row row)) same ∙ sym (grown-is (listed_of front) (text_of_row row)) ∙ sym (listed_of-grown front (text_of_row row)))
+    ∙ ap (λ (all : List RowText). listed_of all) (append_assoc front (text_of_row row ∷ []) (map text_of_row rows))
 
-pub listed-rows : (limits : Limits) (rows : List RowAt) → (kept_rows (nothing_kept limits) rows).listed ≡ listed_of (map text_of rows)
+pub listed-rows : (limits : Limits) (rows : List RowAt) → (kept_rows (nothing_kept limits) rows).listed ≡ listed_of (map text_of_row rows)
 listed-rows limits rows = listed-more (nothing_kept limits) [] rows refl

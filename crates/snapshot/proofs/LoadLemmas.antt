@@ -14,7 +14,7 @@ use Rattle.rf2_rows.specs.declared.row.ConceptRow.{ConceptRow}
 use Rattle.rf2_rows.specs.declared.row.MemberRow.{MemberRow}
 use Rattle.rf2_rows.specs.declared.row.RelationshipRow.{RelationshipRow}
 use Rattle.snapshot.specs.Chosen.{chosen}
-use Rattle.snapshot.specs.Contents.{Contents, contents_of, least_cyclic, load_of, loaded_from, text_of, unless_cyclic, unless_faulty}
+use Rattle.snapshot.specs.Contents.{Contents, contents_of, least_cyclic, load_of, loaded_from, text_of_row, unless_cyclic, unless_faulty}
 use Rattle.snapshot.specs.Faults.{first_fault}
 use Rattle.rf2_rows.specs.Files.{file_kind_of}
 use Rattle.snapshot.specs.Files.{Place, RowAt, is_concept_file, is_concept_kind, has_kind, places_from, rows_of}
@@ -222,7 +222,7 @@ concrete_in_force-is concepts row value =
     by true false = ap (λ (b : Bool). cond b (Some (concrete_attribute row)) None) (and_false (has concepts row.source_id))
     by false other = refl
 
-attribute_in-listed : (concepts : List ℕ) (row : RowAt) → attribute_in concepts (text_of row) ≡ among_concepts concepts (attribute_listed (text_of row))
+attribute_in-listed : (concepts : List ℕ) (row : RowAt) → attribute_in concepts (text_of_row row) ≡ among_concepts concepts (attribute_listed (text_of_row row))
 attribute_in-listed concepts row = by row.kind row.text
   where
     by : (kind : FileKind) (line : List ℕ) → attribute_in concepts (row_text kind line) ≡ among_concepts concepts (attribute_listed (row_text kind line))
@@ -234,14 +234,14 @@ attribute_in-listed concepts row = by row.kind row.text
 
 -- the attributes in force are those listed of concepts in force
 attributes_in_force-is : (concepts : List ℕ) (rows : List RowAt)
-    → attributes_in_force concepts (map text_of rows) ≡ attributes_among concepts (filter_map attribute_listed (map text_of rows))
+    → attributes_in_force concepts (map text_of_row rows) ≡ attributes_among concepts (filter_map attribute_listed (map text_of_row rows))
 attributes_in_force-is concepts [] = refl
 attributes_in_force-is concepts (row ∷ rows) =
     (λ i. cons_option (attribute_in-listed concepts row i) (attributes_in_force-is concepts rows i))
-    ∙ by (attribute_listed (text_of row))
+    ∙ by (attribute_listed (text_of_row row))
   where
     listed : List Attribute
-    listed = filter_map attribute_listed (map text_of rows)
+    listed = filter_map attribute_listed (map text_of_row rows)
 
     by : (attribute : Option Attribute)
         → cons_option (among_concepts concepts attribute) (attributes_among concepts listed) ≡ attributes_among concepts (cons_option attribute listed)
@@ -265,9 +265,9 @@ made concepts listed = record {
 }
 
 -- the release of rows is made of what is listed of them
-pub release_of-listed : (rows : List RowAt) → release_of (map text_of rows) ≡ release_from (listed_of (map text_of rows))
+pub release_of-listed : (rows : List RowAt) → release_of (map text_of_row rows) ≡ release_from (listed_of (map text_of_row rows))
 release_of-listed rows =
-    let texts : List RowText = map text_of rows in
+    let texts : List RowText = map text_of_row rows in
     let concepts : List ℕ = concepts_in_force texts in
     let isa : isa_in_force concepts texts ≡ rows_among concepts (filter_map isa_listed texts) =
     isa_in_force-is concepts (relationship_rows texts) ∙ ap (rows_among concepts) (isa-listed texts) in
@@ -312,7 +312,7 @@ listed-named known name_of (item ∷ items) = ap (λ rest. text_named known (nam
 contents_of-read : (limits : Limits) (language : List ℕ) (kinds : ℕ) (places : List Place) (count : ℕ) (listed : Listed)
     → IsReadFrom limits places count listed → contents_of language kinds places ≡ contents_from language kinds count listed
 contents_of-read limits language kinds places count listed read =
-    let release : release_of (map text_of (chosen (rows_of places))) ≡ release_from listed =
+    let release : release_of (map text_of_row (chosen (rows_of places))) ≡ release_from listed =
     release_of-listed (chosen (rows_of places)) ∙ ap release_from (sym read.lists) in
     (λ i. record {
       release = release i;

@@ -13,8 +13,7 @@ use Rattle.rf2_rows.proofs.HierarchyLemmas.{chain_from_test, test_from_chain, re
 use Rattle.std.proofs.lemmas.List.{get_or-map, length-map, same_lists}
 use Rattle.snapshot.specs.Contents.{first_cyclic}
 use Rattle.snapshot.specs.InForce.{has, rows_among}
-use Rattle.snapshot.specs.Numbering.{number_of, numbered_row, row_of_numbers}
-use Rattle.snapshot.specs.Search.{IsWithin}
+use Rattle.snapshot.specs.Numbering.{concept_number, IsWithin, numbered_row, row_of_numbers}
 use Rattle.snapshot.proofs.RisingLemmas.{earlier_below}
 
 -- the place of an identifier among concepts, or their number where it is not among them
@@ -57,11 +56,11 @@ place_of-get_or concepts rising i within =
     (λ _. eq-eqb (get_or concepts i 0) (get_or concepts i 0) refl)
 
 -- the number of a concept among others is its place
-pub number_of-has : (concepts : List ℕ) (id : ℕ) → has concepts id ≡ true → number_of concepts id ≡ Some (place_of concepts id)
-number_of-has concepts id there = rw (place_within concepts id, there) refl
+pub concept_number-has : (concepts : List ℕ) (id : ℕ) → has concepts id ≡ true → concept_number concepts id ≡ Some (place_of concepts id)
+concept_number-has concepts id there = rw (place_within concepts id, there) refl
 
-number_of-lacks : (concepts : List ℕ) (id : ℕ) → has concepts id ≡ false → number_of concepts id ≡ None
-number_of-lacks concepts id lacks = rw (place_within concepts id, lacks) refl
+concept_number-lacks : (concepts : List ℕ) (id : ℕ) → has concepts id ≡ false → concept_number concepts id ≡ None
+concept_number-lacks concepts id lacks = rw (place_within concepts id, lacks) refl
 
 -- the rows among concepts by their numbers are the rows by their places
 pub numbered_rows : (concepts : List ℕ) (rows : List (ℕ × ℕ))
@@ -69,10 +68,10 @@ pub numbered_rows : (concepts : List ℕ) (rows : List (ℕ × ℕ))
 numbered_rows concepts [] = refl
 numbered_rows concepts (row ∷ rows) = elim (cases_Bool (has concepts row.0)) [
   | inl child ↦ elim (cases_Bool (has concepts row.1)) [
-    | inl parent ↦ rw (child, parent, number_of-has concepts row.0 child, number_of-has concepts row.1 parent) (ap (λ rest. row_by (place_of concepts) row ∷ rest) (numbered_rows concepts rows))
-    | inr lacks ↦ rw (child, lacks, number_of-has concepts row.0 child, number_of-lacks concepts row.1 lacks) (numbered_rows concepts rows)
+    | inl parent ↦ rw (child, parent, concept_number-has concepts row.0 child, concept_number-has concepts row.1 parent) (ap (λ rest. row_by (place_of concepts) row ∷ rest) (numbered_rows concepts rows))
+    | inr lacks ↦ rw (child, lacks, concept_number-has concepts row.0 child, concept_number-lacks concepts row.1 lacks) (numbered_rows concepts rows)
   ]
-  | inr lacks ↦ rw (lacks, number_of-lacks concepts row.0 lacks) (numbered_rows concepts rows)
+  | inr lacks ↦ rw (lacks, concept_number-lacks concepts row.0 lacks) (numbered_rows concepts rows)
 ]
 
 -- and by the identifiers at these numbers they are the rows again
@@ -81,11 +80,11 @@ pub rows_of_numbers : (concepts : List ℕ) (rows : List (ℕ × ℕ))
 rows_of_numbers concepts [] = refl
 rows_of_numbers concepts (row ∷ rows) = elim (cases_Bool (has concepts row.0)) [
   | inl child ↦ elim (cases_Bool (has concepts row.1)) [
-    | inl parent ↦ rw (child, parent, number_of-has concepts row.0 child, number_of-has concepts row.1 parent, get_or-place_of concepts row.0 child, get_or-place_of concepts row.1 parent)
+    | inl parent ↦ rw (child, parent, concept_number-has concepts row.0 child, concept_number-has concepts row.1 parent, get_or-place_of concepts row.0 child, get_or-place_of concepts row.1 parent)
         (ap (λ rest. row ∷ rest) (rows_of_numbers concepts rows))
-    | inr lacks ↦ rw (child, lacks, number_of-has concepts row.0 child, number_of-lacks concepts row.1 lacks) (rows_of_numbers concepts rows)
+    | inr lacks ↦ rw (child, lacks, concept_number-has concepts row.0 child, concept_number-lacks concepts row.1 lacks) (rows_of_numbers concepts rows)
   ]
-  | inr lacks ↦ rw (lacks, number_of-lacks concepts row.0 lacks) (rows_of_numbers concepts rows)
+  | inr lacks ↦ rw (lacks, concept_number-lacks concepts row.0 lacks) (rows_of_numbers concepts rows)
 ]
 
 -- what stands at the first place where a test passes is found
@@ -149,13 +148,13 @@ pub IsWithin-numbered : (concepts : List ℕ) (ends : List (ℕ × ℕ)) → IsW
 IsWithin-numbered concepts [] = λ k d below. absurd (omega arith)
 IsWithin-numbered concepts (row ∷ ends) = elim (cases_Bool (has concepts row.0)) [
   | inl child ↦ elim (cases_Bool (has concepts row.1)) [
-    | inl parent ↦ rw (number_of-has concepts row.0 child, number_of-has concepts row.1 parent)
+    | inl parent ↦ rw (concept_number-has concepts row.0 child, concept_number-has concepts row.1 parent)
         (All-cons (place_of concepts row.0, place_of concepts row.1) (filter_map (numbered_row concepts) ends)
         (ltb-true _ _ (place_within concepts row.0 ∙ child), ltb-true _ _ (place_within concepts row.1 ∙ parent))
         (IsWithin-numbered concepts ends))
-    | inr lacks ↦ rw (number_of-has concepts row.0 child, number_of-lacks concepts row.1 lacks) (IsWithin-numbered concepts ends)
+    | inr lacks ↦ rw (concept_number-has concepts row.0 child, concept_number-lacks concepts row.1 lacks) (IsWithin-numbered concepts ends)
   ]
-  | inr lacks ↦ rw (number_of-lacks concepts row.0 lacks) (IsWithin-numbered concepts ends)
+  | inr lacks ↦ rw (concept_number-lacks concepts row.0 lacks) (IsWithin-numbered concepts ends)
 ]
   where
     All-cons : (first : ℕ × ℕ) (rest : List (ℕ × ℕ)) → (first.0 < length concepts) × (first.1 < length concepts) → IsWithin (length concepts) rest → IsWithin (length concepts) (first ∷ rest)

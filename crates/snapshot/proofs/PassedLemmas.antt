@@ -15,7 +15,7 @@ use Rattle.rf2_rows.specs.declared.row.ConceptRow.{ConceptRow}
 use Rattle.rf2_rows.specs.declared.row.MemberRow.{MemberRow}
 use Rattle.rf2_rows.specs.declared.row.RelationshipRow.{RelationshipRow}
 use Rattle.snapshot.specs.Chosen.{choices, chosen, is_chosen, marked}
-use Rattle.snapshot.specs.Contents.{text_of}
+use Rattle.snapshot.specs.Contents.{text_of_row}
 use Rattle.snapshot.specs.Files.{RowAt, rows_of}
 use Rattle.snapshot.specs.InForce.{KeepsRising, attributes_in_force, concept_rows, concepts_in_force, concrete_attribute, concrete_rows, description_rows, has, is_concrete_in_force, is_in_force, is_member_in_force, is_name, isa_in_force, listed_count, member_rows, members_in_force, name_on, names_in_force, put, relationship_attribute, relationship_rows, release_of, rising}
 use Rattle.snapshot.specs.Metadata.{is_a}
@@ -147,10 +147,10 @@ listed_or_passed rows apart =
 pub counts_passed_rows : CountsPassedRows
 counts_passed_rows limits language files places clean =
     let rows : List RowAt = rows_of places in
-    let texts : List RowText = map text_of (chosen rows) in
+    let texts : List RowText = map text_of_row (chosen rows) in
     let told : listed_count (release_of texts) + passed_texts texts ≡ length texts =
     listed_or_passed texts (subst (λ (ids : List ℕ). IsDistinct nat_eq ids) (sym (concepts-listed texts)) (active-distinct rows)) in
-    let counted : length texts ≡ length (chosen rows) = length-map (chosen rows) text_of in
+    let counted : length texts ≡ length (chosen rows) = length-map (chosen rows) text_of_row in
     let split_rows : length (chosen rows) + superseded_rows rows ≡ length rows = choices_split rows [] rows in
     less (length rows) (listed_count (release_of texts)) (passed_texts texts) (superseded_rows rows) (length texts) (length (chosen rows)) told counted split_rows
   where

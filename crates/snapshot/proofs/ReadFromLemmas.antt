@@ -4,7 +4,7 @@ use Rattle.std.specs.Prelude.{is_some}
 use Rattle.std.specs.List.{filter_map}
 use Rattle.rf2_rows.specs.RowTexts.{RowText, of_concept, of_concrete, of_description, of_member, of_relationship}
 use Rattle.snapshot.specs.Chosen.{choices, chosen, marked}
-use Rattle.snapshot.specs.Contents.{text_of}
+use Rattle.snapshot.specs.Contents.{text_of_row}
 use Rattle.snapshot.specs.Faults.{first_fault, first_of}
 use Rattle.snapshot.specs.Files.{Place, RowAt}
 use Rattle.snapshot.specs.InForce.{concrete_attribute, is_name, name_on, relationship_attribute}
@@ -122,7 +122,7 @@ are-seen limits places kept fault all = record {
 
 length-keys : (uuids : List ℕ) (rows : List RowAt) → length (keys_behind uuids rows) ≡ length rows
 length-keys uuids [] = refl
-length-keys uuids (row ∷ rows) = ap suc (length-keys (uuids_behind uuids (text_of row)) rows)
+length-keys uuids (row ∷ rows) = ap suc (length-keys (uuids_behind uuids (text_of_row row)) rows)
 
 pub count-seen : (limits : Limits) (places : List Place) (kept : Kept) (fault : Option LoadFault) → (all : IsSeen limits places kept fault) → length kept.keyed.keys ≡ length all.seen
 count-seen limits places kept fault all = ap length (keyed-seen limits kept all.seen all.kept_is) ∙ length-keys [] all.seen
@@ -145,7 +145,7 @@ read-single limits places kept count all counted few =
       clean = all.first ∙ first_of-none (first_conflict [] all.seen) ∙ no_conflict [] all.seen single;
       count_is = counted ∙ count-seen limits places kept None all ∙ ap length (all.whole refl);
       lists = ap (λ (k : Kept). unmarked k.listed) all.kept_is ∙ ap (λ (listed : Listed). unmarked listed) (listed-rows limits all.seen)
-          ∙ ap (λ (rows : List RowAt). unmarked (listed_of (map text_of rows))) (sym (single-choices [] all.seen single) ∙ ap chosen (all.whole refl));
+          ∙ ap (λ (rows : List RowAt). unmarked (listed_of (map text_of_row rows))) (sym (single-choices [] all.seen single) ∙ ap chosen (all.whole refl));
     }
 
 -- some rows are chosen
@@ -157,10 +157,10 @@ read-chosen limits places kept count all counted none marks told listed same = r
   count_is = counted ∙ count-seen limits places kept None all ∙ ap length (all.whole refl);
   lists = ap (λ (l : Listed). unmarked l) same
       ∙ ap (λ (l : Listed). unmarked (listed_chosen l marks)) (ap (λ (k : Kept). k.listed) all.kept_is ∙ listed-rows limits all.seen)
-      ∙ lists-chosen (map text_of all.seen) marks
-      ∙ ap (λ (rows : List RowText). unmarked (listed_of rows)) (sym (map-marked text_of marks all.seen))
-      ∙ ap (λ (m : List Bool). unmarked (listed_of (map text_of (marked m all.seen)))) told
-      ∙ ap (λ (rows : List RowAt). unmarked (listed_of (map text_of (chosen rows)))) (all.whole refl);
+      ∙ lists-chosen (map text_of_row all.seen) marks
+      ∙ ap (λ (rows : List RowText). unmarked (listed_of rows)) (sym (map-marked text_of_row marks all.seen))
+      ∙ ap (λ (m : List Bool). unmarked (listed_of (map text_of_row (marked m all.seen)))) told
+      ∙ ap (λ (rows : List RowAt). unmarked (listed_of (map text_of_row (chosen rows)))) (all.whole refl);
 }
 
 -- the fault at which the first pass ended is the first, where no row conflicts

@@ -10,7 +10,7 @@ use Rattle.rf2_rows.specs.Versions.{id_on, member_number, same_time}
 use Rattle.rf2_rows.specs.declared.kind.FileKind.{FileKind}
 use Rattle.rf2_rows.specs.declared.kind.FileKind.TheVariants.{Concept, Concrete, Description, Member, Relationship}
 use Rattle.snapshot.specs.Chosen.{choices, conflicts, is_later, is_repeated, is_superseded, marked, same_component, same_kind, same_version, time_of, id_of}
-use Rattle.snapshot.specs.Contents.{text_of}
+use Rattle.snapshot.specs.Contents.{text_of_row}
 use Rattle.snapshot.specs.Files.{RowAt}
 use Rattle.snapshot.specs.InForce.{has}
 use Rattle.snapshot.specs.Keys.{key_in, uuids_behind}
@@ -80,13 +80,13 @@ uuids_behind-more uuids (of_member row) = by (has uuids (member_number row))
 pub uuids_after-more : (uuids : List ℕ) (rows : List RowAt) → (more : List ℕ) × (uuids_after uuids rows ≡ uuids ++ more)
 uuids_after-more uuids [] = ([], sym (append-nil uuids))
 uuids_after-more uuids (row ∷ rows) =
-    let one = uuids_behind-more uuids (text_of row) in
-    let others = uuids_after-more (uuids_behind uuids (text_of row)) rows in
+    let one = uuids_behind-more uuids (text_of_row row) in
+    let others = uuids_after-more (uuids_behind uuids (text_of_row row)) rows in
     (one.0 ++ others.0, others.1 ∙ ap (λ (front : List ℕ). front ++ others.0) one.1 ∙ append_assoc uuids one.0 others.0)
 
 -- a later row of one component has the key of the earlier one
 pub key-later : (uuids : List ℕ) (rows : List RowAt) (one other : RowAt) → same_component one other ≡ true
-    → key_in (uuids_after (uuids_behind uuids (text_of one)) rows) (text_of other) ≡ key_in uuids (text_of one)
+    → key_in (uuids_after (uuids_behind uuids (text_of_row one)) rows) (text_of_row other) ≡ key_in uuids (text_of_row one)
 key-later uuids rows one other same = by one.kind other.kind one.text other.text same
   where
     by : (kind kind' : FileKind) (text text' : List ℕ) → (same_kind kind kind' && (id_on kind text == id_on kind' text')) ≡ true
@@ -130,23 +130,23 @@ times-one number = times-own (number ∷ []) 0 (omega arith)
 
 -- where an earlier row is of its component, the key of a row is among the earlier ones
 pub key-among : (uuids : List ℕ) (rows : List RowAt) (row : RowAt) → list_any (λ other. same_component other row) rows ≡ true
-    → 1 ≤ times (key_in (uuids_after uuids rows) (text_of row)) (keys_behind uuids rows)
+    → 1 ≤ times (key_in (uuids_after uuids rows) (text_of_row row)) (keys_behind uuids rows)
 key-among uuids [] row there = absurd (cc)
-key-among uuids (first ∷ rows) row there = by (same_component first row) refl there (key-among (uuids_behind uuids (text_of first)) rows row)
+key-among uuids (first ∷ rows) row there = by (same_component first row) refl there (key-among (uuids_behind uuids (text_of_row first)) rows row)
   where
     by : (same : Bool) → same_component first row ≡ same → (same || list_any (λ other. same_component other row) rows) ≡ true
-        → (list_any (λ other. same_component other row) rows ≡ true → 1 ≤ times (key_in (uuids_after (uuids_behind uuids (text_of first)) rows) (text_of row)) (keys_behind (uuids_behind uuids (text_of first)) rows))
-        → 1 ≤ times (key_in (uuids_after (uuids_behind uuids (text_of first)) rows) (text_of row)) (key_in uuids (text_of first) ∷ keys_behind (uuids_behind uuids (text_of first)) rows)
+        → (list_any (λ other. same_component other row) rows ≡ true → 1 ≤ times (key_in (uuids_after (uuids_behind uuids (text_of_row first)) rows) (text_of_row row)) (keys_behind (uuids_behind uuids (text_of_row first)) rows))
+        → 1 ≤ times (key_in (uuids_after (uuids_behind uuids (text_of_row first)) rows) (text_of_row row)) (key_in uuids (text_of_row first) ∷ keys_behind (uuids_behind uuids (text_of_row first)) rows)
     by true same there rest =
-        let own : times (key_in (uuids_after (uuids_behind uuids (text_of first)) rows) (text_of row)) (key_in uuids (text_of first) ∷ []) ≡ 1 =
-        ap (λ (number : ℕ). times number (key_in uuids (text_of first) ∷ [])) (key-later uuids rows first row same) ∙ times-one (key_in uuids (text_of first)) in
-        omega (arith, own, times-append (key_in (uuids_after (uuids_behind uuids (text_of first)) rows) (text_of row)) (key_in uuids (text_of first) ∷ []) (keys_behind (uuids_behind uuids (text_of first)) rows))
+        let own : times (key_in (uuids_after (uuids_behind uuids (text_of_row first)) rows) (text_of_row row)) (key_in uuids (text_of_row first) ∷ []) ≡ 1 =
+        ap (λ (number : ℕ). times number (key_in uuids (text_of_row first) ∷ [])) (key-later uuids rows first row same) ∙ times-one (key_in uuids (text_of_row first)) in
+        omega (arith, own, times-append (key_in (uuids_after (uuids_behind uuids (text_of_row first)) rows) (text_of_row row)) (key_in uuids (text_of_row first) ∷ []) (keys_behind (uuids_behind uuids (text_of_row first)) rows))
     by false same there rest =
-        omega (arith, rest there, times-append (key_in (uuids_after (uuids_behind uuids (text_of first)) rows) (text_of row)) (key_in uuids (text_of first) ∷ []) (keys_behind (uuids_behind uuids (text_of first)) rows))
+        omega (arith, rest there, times-append (key_in (uuids_after (uuids_behind uuids (text_of_row first)) rows) (text_of_row row)) (key_in uuids (text_of_row first) ∷ []) (keys_behind (uuids_behind uuids (text_of_row first)) rows))
 
 pub keys_behind-append : (uuids : List ℕ) (front rows : List RowAt) → keys_behind uuids (front ++ rows) ≡ keys_behind uuids front ++ keys_behind (uuids_after uuids front) rows
 keys_behind-append uuids [] rows = refl
-keys_behind-append uuids (row ∷ front) rows = ap (λ (rest : List ℕ). key_in uuids (text_of row) ∷ rest) (keys_behind-append (uuids_behind uuids (text_of row)) front rows)
+keys_behind-append uuids (row ∷ front) rows = ap (λ (rest : List ℕ). key_in uuids (text_of_row row) ∷ rest) (keys_behind-append (uuids_behind uuids (text_of_row row)) front rows)
 
 -- no row is of the component of an earlier one
 abbrev pub AreSingle : List RowAt → List RowAt → Type 0
@@ -165,9 +165,9 @@ single-keys earlier (row ∷ rows) few =
     by : (found : Bool) → list_any (λ other. same_component other row) earlier ≡ found → list_any (λ other. same_component other row) earlier ≡ false
     by false told = told
     by true told =
-        let key = key_in (uuids_after [] earlier) (text_of row) in
+        let key = key_in (uuids_after [] earlier) (text_of_row row) in
         let among : 1 ≤ times key (keys_behind [] earlier) = key-among [] earlier row told in
-        let later = keys_behind (uuids_behind (uuids_after [] earlier) (text_of row)) rows in
+        let later = keys_behind (uuids_behind (uuids_after [] earlier) (text_of_row row)) rows in
         let all : times key (keys_behind [] (earlier ++ row ∷ rows)) ≡ times key (keys_behind [] earlier) + times key (key ∷ later) =
         ap (times key) (keys_behind-append [] earlier (row ∷ rows)) ∙ times-append key (keys_behind [] earlier) (key ∷ later) in
         let own : times key (key ∷ later) ≡ times key (key ∷ []) + times key later = times-append key (key ∷ []) later in

@@ -13,7 +13,7 @@ use Rattle.snapshot.specs.InForce.{has}
 use Rattle.snapshot.specs.KeyedLists.{AreItemsBelow, items_of, lists_by, list_of, turned}
 use Rattle.snapshot.specs.ParentsFirst.{IsParentsFirst}
 use Rattle.snapshot.specs.Released.{AreRoots, IsReleased}
-use Rattle.snapshot.specs.Search.{IsWithin}
+use Rattle.snapshot.specs.Numbering.{IsWithin}
 use Rattle.snapshot.proofs.KeyedLemmas.{items_of-append, length-lengths, length-lists_by, length_at, lengths, list_of-lists_by}
 use Rattle.snapshot.proofs.OrderLemmas.{all_done, open_all, open_count, open_less, some_open, times-children, times-past}
 use Rattle.snapshot.proofs.ReleaseLemmas.{contains_had, had_contained, had_not, not_contained, times, times-own, times-take}

@@ -9,7 +9,7 @@ use Rattle.std.proofs.lemmas.List.Sums.{sum_by-append}
 use Rattle.rf2_rows.specs.declared.kind.FileKind.{FileKind}
 use Rattle.rf2_rows.specs.declared.kind.FileKind.TheVariants.{Concept, Concrete, Description, Member, Relationship}
 use Rattle.snapshot.specs.Chosen.{same_kind}
-use Rattle.snapshot.specs.Contents.{text_of}
+use Rattle.snapshot.specs.Contents.{text_of_row}
 use Rattle.snapshot.specs.Faults.{conflict_behind, count_of_kind, crowd_behind, fault_at, fault_behind, fault_here, first_fault, first_of}
 use Rattle.snapshot.specs.Files.{Place, RowAt, first_line, later_line, no_line, row_at, rows_of}
 use Rattle.snapshot.specs.Kept.{IsRead, IsShortAt, IsStopped, Kept, fault_of_room, kept_after, kept_behind, nothing_kept, plain_fault}
@@ -37,7 +37,7 @@ pub kept_rows-keys : (kept : Kept) (rows : List RowAt) → (kept_rows kept rows)
 kept_rows-keys kept [] = sym (append-nil kept.keyed.keys)
 kept_rows-keys kept (row ∷ rows) =
     kept_rows-keys (kept_behind kept row) rows
-    ∙ append_assoc kept.keyed.keys (key_in kept.keyed.uuids (text_of row) ∷ []) (keys_behind (uuids_behind kept.keyed.uuids (text_of row)) rows)
+    ∙ append_assoc kept.keyed.keys (key_in kept.keyed.uuids (text_of_row row) ∷ []) (keys_behind (uuids_behind kept.keyed.uuids (text_of_row row)) rows)
 
 pub kept_rows-uuids : (kept : Kept) (rows : List RowAt) → (kept_rows kept rows).keyed.uuids ≡ uuids_after kept.keyed.uuids rows
 kept_rows-uuids kept [] = refl

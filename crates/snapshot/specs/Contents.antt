@@ -16,8 +16,8 @@ use Rattle.snapshot.specs.declared.fault.LoadFault.TheVariants.{NoConceptFile, C
 use Rattle.snapshot.specs.declared.limits.Limits.{Limits}
 
 -- what a row says
-abbrev pub text_of : RowAt → RowText
-text_of row = row_text row.kind row.text
+abbrev pub text_of_row : RowAt → RowText
+text_of_row row = row_text row.kind row.text
 
 -- what a snapshot is of: a release, the language whose names come first, how many files have a kind, and
 -- how many rows are in none of the release's lists
@@ -38,7 +38,7 @@ least_cyclic release = first_cyclic release.concepts release.isa
 -- what the places of so many files without a fault contain: the release that the chosen rows make
 abbrev pub contents_of : List ℕ → ℕ → List Place → Contents
 contents_of language count places =
-    let release = release_of (map text_of (chosen (rows_of places))) in
+    let release = release_of (map text_of_row (chosen (rows_of places))) in
     record {
       release = release;
       language = language;

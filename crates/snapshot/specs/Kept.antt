@@ -4,7 +4,7 @@ use Rattle.rf2_rows.specs.Release.{Attribute, Name, Release, Value, concept_valu
 use Rattle.rf2_rows.specs.RowTexts.{RowText}
 use Rattle.rf2_rows.specs.Rows.{row_fault}
 use Rattle.rf2_rows.specs.declared.kind.FileKind.{FileKind}
-use Rattle.snapshot.specs.Contents.{Contents, least_cyclic, text_of, unless_cyclic}
+use Rattle.snapshot.specs.Contents.{Contents, least_cyclic, text_of_row, unless_cyclic}
 use Rattle.snapshot.specs.Chosen.{chosen}
 use Rattle.snapshot.specs.Faults.{fault_here, first_fault, first_of}
 use Rattle.snapshot.specs.Files.{Place, RowAt, row_at, rows_of}
@@ -35,7 +35,7 @@ kept_text kept kind text = record {
 
 -- what is kept behind a row
 abbrev pub kept_behind : Kept → RowAt → Kept
-kept_behind kept row = kept_text kept row.kind (text_of row)
+kept_behind kept row = kept_text kept row.kind (text_of_row row)
 
 -- and behind the row of a place, if it has one
 abbrev pub kept_after : Kept → Option RowAt → Kept
@@ -53,7 +53,7 @@ plain_fault left place = first_of (fault_here left place) (option_and_then (faul
 -- the row at a place, if it has one, has such an identifier, and no fault by itself
 abbrev pub IsShortAt : Option RowAt → Type 0
 IsShortAt None = ⊤
-IsShortAt (Some row) = IsShort (text_of row) × (row_fault row.kind row.text ≡ None)
+IsShortAt (Some row) = IsShort (text_of_row row) × (row_fault row.kind row.text ≡ None)
 
 -- a row that says something was added, where there was room for one of its kind
 pub record IsAdded (old : Kept) (kind : FileKind) (text : RowText) (new : Kept) : Type 0 where
@@ -123,7 +123,7 @@ unmarked listed = record listed { marks = [] }
 pub record IsReadFrom (limits : Limits) (places : List Place) (count : ℕ) (listed : Listed) : Type 0 where
   pub clean : first_fault limits [] places ≡ None
   pub count_is : count ≡ length (rows_of places)
-  pub lists : unmarked listed ≡ unmarked (listed_of (map text_of (chosen (rows_of places))))
+  pub lists : unmarked listed ≡ unmarked (listed_of (map text_of_row (chosen (rows_of places))))
 
 -- the contents that are made of what was listed of so many rows
 abbrev pub contents_from : List ℕ → ℕ → ℕ → Listed → Contents

@@ -4,7 +4,7 @@ use Rattle.rf2_rows.specs.RowTexts.{RowText}
 use Rattle.rf2_rows.specs.Rows.{ConcreteText, DescriptionText}
 use Rattle.rf2_rows.specs.declared.row.ConceptRow.{ConceptRow}
 use Rattle.snapshot.specs.Chosen.{choices, chosen}
-use Rattle.snapshot.specs.Contents.{contents_of, text_of}
+use Rattle.snapshot.specs.Contents.{contents_of, text_of_row}
 use Rattle.snapshot.specs.Faults.{first_fault}
 use Rattle.snapshot.specs.Files.{Place, RowAt, rows_of}
 use Rattle.snapshot.specs.InForce.{concept_rows, concepts_in_force, concrete_rows, description_rows, has, is_concrete_in_force, is_in_force, is_member_in_force, is_name, member_rows, relationship_rows}
@@ -50,7 +50,7 @@ superseded_rows rows = count_by not (choices rows [] rows)
 
 -- the rows that are in none of the lists
 abbrev pub passed_rows : List RowAt → ℕ
-passed_rows rows = superseded_rows rows + passed_texts (map text_of (chosen rows))
+passed_rows rows = superseded_rows rows + passed_texts (map text_of_row (chosen rows))
 
 -- of places without a fault, the rows that are said to be passed over are those in none of the lists
 abbrev pub CountsPassedRows : Type 0

@@ -5,10 +5,6 @@ use Rattle.rf2_rows.specs.Hierarchy.{Reaches}
 use Rattle.snapshot.specs.declared.fault.LoadFault.{LoadFault}
 use Rattle.snapshot.specs.declared.fault.LoadFault.TheVariants.{Cycle, Memory}
 
--- each row has both its ends among the concepts below a number
-abbrev pub IsWithin : ℕ → List (ℕ × ℕ) → Type 0
-IsWithin count rows = All (λ (row : ℕ × ℕ). (row.0 < count) × (row.1 < count)) rows
-
 -- a concept is marked
 abbrev pub IsMarked : List Bool → ℕ → Type 0
 IsMarked marks concept = slice_index_or marks concept false ≡ true

@@ -1,7 +1,7 @@
 -- The rows that a load has seen, and what it knows of their first fault.
 use Rattle.std.specs.Prelude.{◌≡◌, ◌≤◌, ◌+◌, ⊤, ℕ, List, [], ◌∷◌, ◌++◌, length, Option, None}
 use Rattle.rf2_rows.specs.Rows.{row_fault}
-use Rattle.snapshot.specs.Contents.{text_of}
+use Rattle.snapshot.specs.Contents.{text_of_row}
 use Rattle.snapshot.specs.Faults.{conflict_behind, first_fault, first_of}
 use Rattle.snapshot.specs.Files.{Place, RowAt, rows_of}
 use Rattle.snapshot.specs.Kept.{Kept, kept_behind, nothing_kept}
@@ -12,11 +12,11 @@ use Rattle.snapshot.specs.declared.limits.Limits.{Limits}
 -- the UUIDs that were met behind rows, and the keys of the rows
 abbrev pub uuids_after : List ℕ → List RowAt → List ℕ
 uuids_after uuids [] = uuids
-uuids_after uuids (row ∷ rows) = uuids_after (uuids_behind uuids (text_of row)) rows
+uuids_after uuids (row ∷ rows) = uuids_after (uuids_behind uuids (text_of_row row)) rows
 
 abbrev pub keys_behind : List ℕ → List RowAt → List ℕ
 keys_behind uuids [] = []
-keys_behind uuids (row ∷ rows) = key_in uuids (text_of row) ∷ keys_behind (uuids_behind uuids (text_of row)) rows
+keys_behind uuids (row ∷ rows) = key_in uuids (text_of_row row) ∷ keys_behind (uuids_behind uuids (text_of_row row)) rows
 
 -- what is kept behind rows
 abbrev pub kept_rows : Kept → List RowAt → Kept
@@ -26,7 +26,7 @@ kept_rows kept (row ∷ rows) = kept_rows (kept_behind kept row) rows
 -- each row has an identifier of at most 18 digits, and no fault by itself
 abbrev pub AreShort : List RowAt → Type 0
 AreShort [] = ⊤
-AreShort (row ∷ rows) = (IsShort (text_of row) × (row_fault row.kind row.text ≡ None)) × AreShort rows
+AreShort (row ∷ rows) = (IsShort (text_of_row row) × (row_fault row.kind row.text ≡ None)) × AreShort rows
 
 -- the first of some rows that conflicts with an earlier one
 abbrev pub first_conflict : List RowAt → List RowAt → Option LoadFault

@@ -2,7 +2,7 @@
 //! searches over flat lists (Kosaraju and Sharir), with no recursion. No contract says that it finds
 //! what it should; `cycle` tests that.
 ghost use Rattle.std.specs.Prelude.{◌≡◌, ◌<◌, ◌^◌, IfOk, length};
-ghost use Rattle.snapshot.specs.Search.{IsWithin};
+ghost use Rattle.snapshot.specs.Numbering.{IsWithin};
 
 use crate::keyed_lists::KeyedLists;
 use std::alloc::{AllocError, Global};

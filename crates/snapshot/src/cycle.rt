@@ -3,7 +3,8 @@
 ghost use Rattle.std.specs.Prelude.{◌≡◌, ◌≤◌, ◌<◌, ◌↔◌, ◌⊎◌, ℕ, false, true, List, All, Contains, IfOk, IfSome, IfNone, IsTrue, IsFalse, slice_index_or, length, vec_len};
 ghost use Rattle.std.specs.Bool.{OnFalse, OnTrue};
 ghost use Rattle.rf2_rows.specs.Hierarchy.{Reaches};
-ghost use Rattle.snapshot.specs.Search.{IsWithin, IsMarked, IsFollowed, MarksReached, NoneFalls, rank_in, unmarked_count};
+ghost use Rattle.snapshot.specs.Numbering.{IsWithin};
+ghost use Rattle.snapshot.specs.Search.{IsMarked, IsFollowed, MarksReached, NoneFalls, rank_in, unmarked_count};
 
 use crate::components::{component_ranks, rows_from};
 use std::alloc::{AllocError, Global};

@@ -15,11 +15,11 @@ ghost use Rattle.snapshot.specs.Kept.{AreFew, AreValuesInForce, attributes_among
 ghost use Rattle.snapshot.specs.ListsInside.{listed_in};
 ghost use Rattle.snapshot.specs.Line.{concept_line};
 ghost use Rattle.snapshot.specs.Name.{name_among, name_of, text_lent};
-ghost use Rattle.snapshot.specs.Numbering.{number_of, numbered_row, row_of_numbers};
+ghost use Rattle.snapshot.specs.Numbering.{concept_number, IsWithin, numbered_row, row_of_numbers};
 ghost use Rattle.rf2_rows.specs.Hierarchy.{Reaches};
 ghost use Rattle.rf2_rows.specs.Rows.{value_lent};
 ghost use Rattle.snapshot.specs.ParentsFirst.{IsParentsFirst};
-ghost use Rattle.snapshot.specs.Search.{IsLeastCycle, IsWithin};
+ghost use Rattle.snapshot.specs.Search.{IsLeastCycle};
 ghost use Rattle.snapshot.specs.Sorted.{IsSortedBySource, in_file_order};
 
 use crate::attributes::Attributes;
@@ -29,7 +29,7 @@ use crate::fault::LoadFault;
 use crate::limits::Limits;
 use crate::lines::{ConceptLines, lines_among};
 use crate::names::Names;
-use crate::numbering::{number_concepts, number_of, number_rows};
+use crate::numbering::{concept_number, number_concepts, number_rows};
 use crate::order::parents_first;
 use crate::pieces::PiecePlaces;
 use crate::places::{MemoryPlaces, PlaceSource};
@@ -153,9 +153,9 @@ impl Snapshot {
 
     /// The number of the concept with an identifier, or `None` where there is none in force.
     pub fn index_of(&self, id: u64) -> Option<u32>
-        ensures { result ≡ number_of self.now.release.concepts id }
+        ensures { result ≡ concept_number self.now.release.concepts id }
     {
-        number_of(&self.numbers, id)
+        concept_number(&self.numbers, id)
     }
 
     /// The identifier of a concept by its number, which is below `concept_count`.
@@ -400,7 +400,7 @@ fn finish(
     let concepts = rising(concepts);
     match number_hierarchy(alloc, concepts.as_slice(), isa_ends.as_slice()) {
         Ok(hierarchy) => {
-            let Hierarchy {
+            let NumberedHierarchy {
                 numbers,
                 isa,
                 order,
@@ -484,7 +484,7 @@ fn lists_among(
 
 // The concepts in force, each at its number, and the is-a rows by the numbers of their ends.
 #[derive(Drop)]
-struct Hierarchy {
+struct NumberedHierarchy {
     numbers: IndexSet<u64>,
     isa: Vec<(u32, u32)>,
     // the concepts in an order in which parents come first
@@ -497,7 +497,7 @@ fn number_hierarchy(
     alloc: Global,
     concepts: &[SctId],
     ends: &[(SctId, SctId)],
-) -> Result<Hierarchy, LoadFault>
+) -> Result<NumberedHierarchy, LoadFault>
     requires rising { IsStrictlyIncreasing concepts.now }
     requires few { length concepts.now < 2 ^ 32 }
     ensures numbers { IfOk result (λ hierarchy. hierarchy.numbers.keys ≡ concepts.now) }
@@ -510,7 +510,7 @@ fn number_hierarchy(
     let isa = number_rows(alloc, &numbers, ends)?;
     let count = concepts.len() as u32;
     match parents_first(alloc, isa.as_slice(), count)? {
-        Some(order) => Ok(Hierarchy {
+        Some(order) => Ok(NumberedHierarchy {
             numbers,
             isa,
             order,

@@ -9,7 +9,7 @@ ghost use Rattle.snapshot.specs.Listed.{in_list, items_chosen};
 ghost use Rattle.snapshot.specs.Name.{comes_before as comes_before_of};
 ghost use Rattle.snapshot.specs.NamesInside.{IsPlaced, name_in, name_read};
 
-use crate::numbering::number_of;
+use crate::numbering::concept_number;
 use crate::row_lists::{Listing, chosen_items};
 use indexmap::IndexSet;
 use sctid::SctId;
@@ -235,7 +235,7 @@ fn first_places(
 {
     let mut places = vec![in alloc; None; concepts.len()]?;
     for place in (0..rows.len()).rev() {
-        if let Some(number) = number_of(concepts, rows[place].concept.number()) {
+        if let Some(number) = concept_number(concepts, rows[place].concept.number()) {
             let later = places[number as usize];
             let first = first_of_two(texts, rows, language, place as u32, later);
             places[number as usize] = Some(first);

@@ -2,7 +2,7 @@
 ghost use Rattle.std.specs.Prelude.{◌≡◌, ◌<◌, ◌^◌, IfOk, length};
 ghost use Rattle.std.specs.List.{filter_map};
 ghost use Rattle.std.specs.List.Sorted.{IsStrictlyIncreasing};
-ghost use Rattle.snapshot.specs.Numbering.{number_of, numbered_row};
+ghost use Rattle.snapshot.specs.Numbering.{concept_number, numbered_row};
 
 use indexmap::IndexSet;
 use sctid::SctId;
@@ -39,15 +39,15 @@ fn number_row(numbers: &IndexSet<u64>, row: &(SctId, SctId)) -> Option<(u32, u32
     requires { length numbers.now.keys < 2 ^ 32 }
     ensures { result ≡ numbered_row numbers.now.keys row.now }
 {
-    let child = number_of(numbers, row.0.number())?;
-    let parent = number_of(numbers, row.1.number())?;
+    let child = concept_number(numbers, row.0.number())?;
+    let parent = concept_number(numbers, row.1.number())?;
     Some((child, parent))
 }
 
 /// The number of the concept with an identifier, if it is in force.
-pub fn number_of(numbers: &IndexSet<u64>, id: u64) -> Option<u32>
+pub fn concept_number(numbers: &IndexSet<u64>, id: u64) -> Option<u32>
     requires { length numbers.now.keys < 2 ^ 32 }
-    ensures { result ≡ number_of numbers.now.keys id }
+    ensures { result ≡ concept_number numbers.now.keys id }
 {
     let number = numbers.get_index_of(&id)?;
     Some(number as u32)

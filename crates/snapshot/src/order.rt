@@ -4,7 +4,7 @@ ghost use Rattle.std.specs.Prelude.{◌≡◌, ◌≤◌, ◌<◌, ◌+◌, ◌^
 ghost use Rattle.rf2_rows.specs.Hierarchy.{Reaches};
 ghost use Rattle.snapshot.specs.ParentsFirst.{IsParentsFirst};
 ghost use Rattle.snapshot.specs.Released.{AreRoots, IsReleased};
-ghost use Rattle.snapshot.specs.Search.{IsWithin};
+ghost use Rattle.snapshot.specs.Numbering.{IsWithin};
 
 use crate::keyed_lists::KeyedLists;
 use std::alloc::{AllocError, Global};

@@ -2,7 +2,7 @@ use Rattle.std.proofs.Common.{ℕ, ◌<◌, ◌∙◌, sym, ap, subst}
 use Rattle.std.specs.Prelude.{All}
 use Rattle.executor.specs.Tested.{is_one_of}
 use Rattle.executor.proofs.JoinedLemmas.{all_below}
-use Rattle.executor.proofs.Normal.{number_of-Some}
+use Rattle.executor.proofs.Normal.{concept_number-Some}
 use Rattle.executor.proofs.PassingLemmas.{none_by_number, one_by_number}
 use Rattle.executor.proofs.types.is_in.Goals as goal
 
@@ -10,7 +10,7 @@ pub returns-in-Some : goal.returns-in-Some
 returns-in-Some g c =
     let concepts = c.args.indexes.now.concepts in
     let items = g.S.ConceptSet.items_of c.args.set.now in
-    let found = number_of-Some concepts c.args.id c.in-Some.concept (sym c.index_of.ensures ∙ c.in-Some.is) in
+    let found = concept_number-Some concepts c.args.id c.in-Some.concept (sym c.index_of.ensures ∙ c.in-Some.is) in
     c.has.ensures
     ∙ sym (one_by_number concepts c.concept_count.ensures.rising items
     (subst (λ (count : ℕ). All (λ item. item < count) items) c.requires (all_below (g.S.ConceptSet.bound_of c.args.set.now) items (g.met.S.ConceptSet.rising c.args.set.now)))

@@ -9,9 +9,8 @@ use Rattle.snapshot.specs.Kept.{IsCycle, attributes_among, is_value_among, names
 use Rattle.snapshot.specs.Line.{concept_line}
 use Rattle.snapshot.specs.ListsInside.{listed_in}
 use Rattle.snapshot.specs.Name.{name_among}
-use Rattle.snapshot.specs.Numbering.{numbered_row}
+use Rattle.snapshot.specs.Numbering.{IsWithin, numbered_row}
 use Rattle.snapshot.specs.ParentsFirst.{IsParentsFirst}
-use Rattle.snapshot.specs.Search.{IsWithin}
 use Rattle.snapshot.specs.Sorted.{IsSortedBySource, in_file_order}
 use Rattle.snapshot.proofs.FinishLemmas.{attributes_among-values, finished-Ok, finished-Err, length-attributes_among, length-rising}
 use Rattle.snapshot.proofs.NumberingLemmas.{IsWithin-numbered}

@@ -1,8 +1,8 @@
 use Rattle.std.proofs.Common.{ℕ, ◌≡◌, List, length, sym, ◌∙◌, ap, subst}
 use Rattle.std.specs.List.{filter_map}
 use Rattle.rf2_rows.specs.Hierarchy.{Reaches}
-use Rattle.snapshot.specs.Numbering.{numbered_row}
-use Rattle.snapshot.specs.Search.{IsLeastCycle, IsWithin}
+use Rattle.snapshot.specs.Numbering.{IsWithin, numbered_row}
+use Rattle.snapshot.specs.Search.{IsLeastCycle}
 use Rattle.snapshot.proofs.FinishLemmas.{least_cycle}
 use Rattle.snapshot.proofs.NumberingLemmas.{IsWithin-numbered, first_cyclic-None}
 use Rattle.snapshot.proofs.WayLemmas.{ordered_acyclic}

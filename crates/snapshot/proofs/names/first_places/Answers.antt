@@ -2,7 +2,7 @@
 use Rattle.std.proofs.Common.{◌≡◌, ◌≤◌, ◌-◌, ℕ, List, Option, Some, get_or, set, map, drop, length, sym, ◌∙◌, ap, subst, arith}
 use Rattle.snapshot.specs.FirstRows.{AreFirstPlaces, IsFirstOfTwo, IsFirstPlace}
 use Rattle.snapshot.specs.NamesInside.{name_in}
-use Rattle.snapshot.specs.Numbering.{number_of}
+use Rattle.snapshot.specs.Numbering.{concept_number}
 use Rattle.snapshot.specs.declared.names.NameRow.{NameRow}
 use Rattle.rf2_rows.specs.Release.{Name}
 use Rattle.snapshot.proofs.FirstRowLemmas.{first_places-other, first_places-own, first_within, name_at, names_from, place_read}
@@ -13,7 +13,7 @@ first_of_two-first-requires-clause-later c =
     let names = map (name_in c.args.texts.now) c.args.rows.now in
     let keys = c.args.concepts.now.keys in
     let behind = drop c.loop-place.place names in
-    let own : number_of keys c.number.result ≡ Some c.in-Some.number = sym c.number_of.ensures ∙ c.in-Some.is in
+    let own : concept_number keys c.number.result ≡ Some c.in-Some.number = sym c.concept_number.ensures ∙ c.in-Some.is in
     let read = place_read c.args.language.now keys c.number.result names behind c.loop-place.places.items c.in-Some.number c.index-later.result.now c.loop-place.invariant own c.index-later.ensures in
     first_within c.args.language.now (get_or keys c.in-Some.number 0) c.args.texts.now c.args.rows.now behind c.index-later.result.now
     (subst (λ (place : Option ℕ). IsFirstPlace c.args.language.now (get_or keys c.in-Some.number 0) names behind place) (sym read.1) (c.loop-place.invariant.1 c.in-Some.number read.0))
@@ -25,8 +25,8 @@ loop-place-preserved-in-Some c =
     let behind = drop c.loop-place.place names in
     let row = name_in c.args.texts.now c.index-rows-place.result in
     let within : c.loop-place.place ≤ length c.args.rows.now = omega arith in
-    let own : number_of keys row.concept ≡ Some c.in-Some.number =
-    ap (λ (at : NameRow). number_of keys at.concept) c.index-rows-place.is ∙ ap (number_of keys) (sym c.number.ensures.number) ∙ sym c.number_of.ensures ∙ c.in-Some.is in
+    let own : concept_number keys row.concept ≡ Some c.in-Some.number =
+    ap (λ (at : NameRow). concept_number keys at.concept) c.index-rows-place.is ∙ ap (concept_number keys) (sym c.number.ensures.number) ∙ sym c.concept_number.ensures ∙ c.in-Some.is in
     let read = place_read c.args.language.now keys row.concept names behind c.loop-place.places.items c.in-Some.number c.index-later.result.now c.loop-place.invariant own c.index-later.ensures in
     subst (λ (some : List Name). AreFirstPlaces c.args.language.now keys names some (set c.loop-place.places.items c.in-Some.number (Some c.first_of_two-first.result)))
     (sym (names_from c.args.texts.now c.args.rows.now c.loop-place.place c.index-rows-place.result c.loop-place-test.true within c.index-rows-place.is))
@@ -44,4 +44,4 @@ loop-place-preserved c =
     subst (λ (some : List Name). AreFirstPlaces c.args.language.now keys names some c.loop-place.places.items)
     (sym (names_from c.args.texts.now c.args.rows.now c.loop-place.place c.index-rows-place.result c.loop-place-test.true within c.index-rows-place.is))
     (first_places-other c.args.language.now keys names (drop c.loop-place.place names) row c.loop-place.places.items
-    (ap (λ (at : NameRow). number_of keys at.concept) c.index-rows-place.is ∙ ap (number_of keys) (sym c.number.ensures.number) ∙ sym c.number_of.ensures ∙ c.in_default.is) c.loop-place.invariant)
+    (ap (λ (at : NameRow). concept_number keys at.concept) c.index-rows-place.is ∙ ap (concept_number keys) (sym c.number.ensures.number) ∙ sym c.concept_number.ensures ∙ c.in_default.is) c.loop-place.invariant)

@@ -1,7 +1,7 @@
 use Rattle.std.proofs.Common.{ℕ, ◌≡◌, ◌<◌, ◌^◌, ◌∙◌, List, length, sym, subst, ap, arith}
 use Rattle.rf2_rows.specs.Hierarchy.{reaches}
 use Rattle.snapshot.specs.KeyedLists.{turned, turned_from}
-use Rattle.snapshot.specs.Search.{IsWithin}
+use Rattle.snapshot.specs.Numbering.{IsWithin}
 use Rattle.snapshot.proofs.KeyedLemmas.{length-lists_by}
 use Rattle.ancestor_index.specs.HierarchyLists.{is_child, lists_where}
 use Rattle.ancestor_index.specs.Wide.{AreWide}

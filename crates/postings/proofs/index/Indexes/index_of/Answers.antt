@@ -1,7 +1,7 @@
 use Rattle.std.proofs.Common.{ℕ, ◌∙◌, List, Ok, Err, ap, subst, sym, rules}
 use Rattle.std.specs.List.Sorted.{IsStrictlyIncreasing}
 use Rattle.std.proofs.lemmas.List.Sorted.{answers_always, searched}
-use Rattle.snapshot.specs.Numbering.{number_of}
+use Rattle.snapshot.specs.Numbering.{concept_number}
 use Rattle.postings.specs.Indexed.{Indexed}
 use Rattle.postings.proofs.NumberLemmas.{number_missing, number_there, rises_on}
 use Rattle.postings.proofs.index.Indexes.index_of.Goals as goal
@@ -13,8 +13,8 @@ returns-in-Ok c =
     (c.in-Ok.ensures.position (λ id. id) (answers_always _ _ _ (λ f a r q called. search rules)))
     (rises_on c.deref.result.now rises) in
     number_there c.deref.result.now rises c.args.id c.in-Ok.number found.0 found.1
-    ∙ ap (λ (ids : List ℕ). number_of ids c.args.id) c.deref.ensures.value
-    ∙ ap (λ (indexed : Indexed). number_of indexed.concepts c.args.id) c.self.view_is
+    ∙ ap (λ (ids : List ℕ). concept_number ids c.args.id) c.deref.ensures.value
+    ∙ ap (λ (indexed : Indexed). concept_number indexed.concepts c.args.id) c.self.view_is
 
 pub returns-in-Err : goal.returns-in-Err
 returns-in-Err c =
@@ -23,5 +23,5 @@ returns-in-Err c =
     (c.in-Err.ensures.position (λ id. id) (answers_always _ _ _ (λ f a r q called. search rules)))
     (rises_on c.deref.result.now rises) in
     number_missing c.deref.result.now c.args.id c.in-Err.field-0 found.1 found.2
-    ∙ ap (λ (ids : List ℕ). number_of ids c.args.id) c.deref.ensures.value
-    ∙ ap (λ (indexed : Indexed). number_of indexed.concepts c.args.id) c.self.view_is
+    ∙ ap (λ (ids : List ℕ). concept_number ids c.args.id) c.deref.ensures.value
+    ∙ ap (λ (indexed : Indexed). concept_number indexed.concepts c.args.id) c.self.view_is

@@ -3,7 +3,7 @@ use Rattle.std.specs.Prelude.{Contains, is_some}
 use Rattle.std.specs.List.{slice_get}
 use Rattle.rf2_rows.specs.Rows.{value_lent}
 use Rattle.rf2_rows.specs.declared.value.Value.{Value as LentValue}
-use Rattle.snapshot.specs.Numbering.{number_of}
+use Rattle.snapshot.specs.Numbering.{concept_number}
 use Rattle.postings.specs.ValueTables.{texts_in, values_in}
 use Rattle.postings.proofs.ValueLemmas.{concept_found, concept_placed, decimal_found, decimal_placed, text_found, text_placed}
 use Rattle.postings.proofs.values.Values.number.Goals as goal
@@ -13,7 +13,7 @@ unwrap-requires c =
     let concepts = c.args.snapshot.now.release.concepts in
     let tables = c.args.self.now in
     let there = subst (λ (value : LentValue). Contains (values_in concepts tables) (value_lent value)) c.in-Concept.is c.requires.there in
-    ap is_some (c.index_of.ensures ∙ ap (number_of concepts) c.number.ensures.number)
+    ap is_some (c.index_of.ensures ∙ ap (concept_number concepts) c.number.ensures.number)
     ∙ concept_found concepts tables.decimals.keys (texts_in tables) c.in-Concept.concept there
 
 pub unwrap-requires-in-Decimal : goal.unwrap-requires-in-Decimal
@@ -35,7 +35,7 @@ returns-in-Concept c =
     let concepts = c.args.snapshot.now.release.concepts in
     let tables = c.args.self.now in
     concept_placed concepts tables.decimals.keys (texts_in tables) c.in-Concept.concept c.unwrap.result
-    (ap (number_of concepts) (sym c.number.ensures.number) ∙ sym c.index_of.ensures ∙ c.unwrap.ensures)
+    (ap (concept_number concepts) (sym c.number.ensures.number) ∙ sym c.index_of.ensures ∙ c.unwrap.ensures)
     ∙ ap (λ (value : LentValue). Some (value_lent value)) (sym c.in-Concept.is)
 
 pub returns-in-Decimal : goal.returns-in-Decimal
