@@ -65,12 +65,10 @@ pub fn time(text: &[u8], column: u8) -> Result<Option<u32>, RowFault>
 pub fn flag(text: &[u8], column: u8) -> Result<bool, RowFault>
     ensures { IsReading (column_fault column (cause_of active_format text.now)) (active_of text.now) result }
 {
-    if text == b"0".as_slice() {
-        Ok(false)
-    } else if text == b"1".as_slice() {
-        Ok(true)
-    } else {
-        Err(fault(RowCause::Active, column))
+    match text {
+        [b'0'] => Ok(false),
+        [b'1'] => Ok(true),
+        _ => Err(fault(RowCause::Active, column)),
     }
 }
 

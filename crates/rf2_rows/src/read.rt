@@ -9,7 +9,7 @@ use crate::fields::{component, fault, flag, group, hyphenated, identifier, text,
 use crate::kind::FileKind;
 use crate::recent_concepts::RecentConcepts;
 use crate::row::{ConceptRow, DescriptionRow, MemberRow, RelationshipRow, Row};
-use crate::tabs::cut_fields;
+use crate::tabs::{Fields, push_fields};
 use sctid::Part;
 
 /// Reads a line, without its end, as a row of a kind. A fault is the first: the number of fields,
@@ -45,7 +45,8 @@ impl RowReader {
         ensures accepted { IfOk result (λ _. row_fault kind line.now ≡ None) }
         ensures fault { IfErr result (λ fault. row_fault kind line.now ≡ Some fault) }
     {
-        let Some(fields) = cut_fields(line) else {
+        let mut fields = Fields::new();
+        let Some(()) = push_fields(&mut fields, line) else {
             return Err(fault(RowCause::Fields, 0));
         };
         let fields = fields.as_slice();

@@ -1,7 +1,8 @@
 -- What a line behind the header comes to, once it is read as a row.
-use Rattle.std.proofs.Common.{ℕ, ◌≡◌, ◌<◌, ◌∙◌, List, [], ◌∷◌, length, false, nat_lt, None, Some, ap, arith, refl, sym, subst}
+use Rattle.std.proofs.Common.{ℕ, ◌≡◌, ◌<◌, ◌∙◌, List, [], ◌∷◌, length, false, nat_lt, None, Some, Result, Ok, IfOk, ap, arith, refl, sym, subst}
 use Rattle.rf2_rows.specs.RowTexts.{RowText, row_text, text_in}
 use Rattle.rf2_rows.specs.Rows.{IsRow, row_fault}
+use Rattle.rf2_rows.specs.declared.fault.RowFault.{RowFault}
 use Rattle.rf2_rows.specs.declared.kind.FileKind.{FileKind}
 use Rattle.rf2_rows.specs.declared.row.Row.{Row}
 use Rattle.rf2_rows.proofs.RowTextLemmas.{text_in-row}
@@ -10,6 +11,15 @@ use Rattle.snapshot.specs.Files.{later_line}
 use Rattle.snapshot.specs.Kept.{IsAdded, IsCrowded, IsRead, IsStopped, Kept, kept_text}
 use Rattle.snapshot.specs.Keys.{IsShort}
 use Rattle.snapshot.specs.declared.fault.LoadFault.{LoadFault}
+
+-- a result that is a row has what is told of it
+pub read-row : (kind : FileKind) (bytes : List ℕ) (result : Result Row RowFault) (row : Row) → result ≡ Ok row
+    → IfOk result (λ found. IsRow kind bytes found) → IfOk result (λ _. row_fault kind bytes ≡ None)
+    → (row_fault kind bytes ≡ None) × IsRow kind bytes row
+read-row kind bytes result row is stands accepted = (
+      subst (λ found. IfOk found (λ _. row_fault kind bytes ≡ None)) is accepted,
+      subst (λ found. IfOk found (λ found. IsRow kind bytes found)) is stands,
+    )
 
 -- a row was added
 pub read-added : (old new : Kept) (file : ℕ) (kind : FileKind) (line : LineText) (row : Row)

@@ -56,12 +56,13 @@ impl Rows {
         if line.bytes.is_empty() {
             return Ok(());
         }
-        match self.reader.read_row(kind, line.bytes) {
-            Ok(row) => self.add(file, number, kind, &row),
+        // the row is lent where it was read, and not copied
+        match &self.reader.read_row(kind, line.bytes) {
+            Ok(row) => self.add(file, number, kind, row),
             Err(fault) => Err(LoadFault::Row {
                 file,
                 line: number,
-                fault,
+                fault: *fault,
             }),
         }
     }

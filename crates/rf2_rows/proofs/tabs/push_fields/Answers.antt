@@ -2,7 +2,7 @@
 use Rattle.std.proofs.Common.{◌++◌, ap, sym, ◌∙◌, [], append-nil, arith}
 use Rattle.rf2_rows.specs.Parts.{texts_of}
 use Rattle.rf2_rows.proofs.TabBits.{last_part, pushed}
-use Rattle.rf2_rows.proofs.tabs.cut_fields.Goals as goal
+use Rattle.rf2_rows.proofs.tabs.push_fields.Goals as goal
 
 pub returns-in-Ok-clause-fields : goal.returns-in-Ok-clause-fields
 returns-in-Ok-clause-fields c =
