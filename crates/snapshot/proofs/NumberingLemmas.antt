@@ -1,12 +1,12 @@
 -- Concepts by their identifiers and by their numbers: rows, chains of rows and cycles are the same.
-use Rattle.std.proofs.Common.{ℕ, zero, suc, inl, inr, ◌≡◌, ◌<◌, ◌==◌, List, [], ◌∷◌, length, get_or, map, Bool, true, false, ltb, None, Some, sym, ◌∙◌, ap, subst, refl, arith}
-use Rattle.std.specs.Prelude.{Contains, find}
+use Rattle.std.proofs.Common.{ℕ, zero, suc, inl, inr, ◌≡◌, ◌≤◌, ◌<◌, ◌==◌, ◌-◌, List, [], ◌∷◌, length, get_or, map, Bool, true, false, ltb, None, Some, sym, ◌∙◌, ap, subst, refl, arith}
+use Rattle.std.specs.Prelude.{Contains, find, is_some}
 use Rattle.std.specs.List.{slice_get, filter_map, position_or_len}
 use Rattle.std.specs.List.Sorted.{IsStrictlyIncreasing}
 use Rattle.std.proofs.lemmas.List.Sums.{position_or_len_is, passes_at_first}
 use Rattle.std.proofs.lemmas.List.Folds.{find_at}
 use Rattle.std.proofs.lemmas.Option.{slice_get-get_or}
-use Rattle.std.proofs.lemmas.Bool.{cases_Bool, eqb-true, eq-eqb, ltb-true}
+use Rattle.std.proofs.lemmas.Bool.{cases_Bool, eqb-true, eq-eqb, ltb-true, lt-ltb}
 use Rattle.std.proofs.lemmas.Bool.Decides.{nat_tests}
 use Rattle.rf2_rows.specs.Hierarchy.{Reaches, one_row, more_rows, reaches}
 use Rattle.rf2_rows.proofs.HierarchyLemmas.{chain_from_test, test_from_chain, rest_contained}
@@ -14,7 +14,7 @@ use Rattle.std.proofs.lemmas.List.{get_or-map, length-map, same_lists}
 use Rattle.snapshot.specs.Contents.{first_cyclic}
 use Rattle.snapshot.specs.InForce.{has, rows_among}
 use Rattle.snapshot.specs.Numbering.{concept_number, IsWithin, numbered_row, row_of_numbers}
-use Rattle.snapshot.proofs.RisingLemmas.{earlier_below}
+use Rattle.snapshot.proofs.RisingLemmas.{earlier_below, has-between}
 
 -- the place of an identifier among concepts, or their number where it is not among them
 abbrev pub place_of : List ℕ → ℕ → ℕ
@@ -61,6 +61,28 @@ concept_number-has concepts id there = rw (place_within concepts id, there) refl
 
 concept_number-lacks : (concepts : List ℕ) (id : ℕ) → has concepts id ≡ false → concept_number concepts id ≡ None
 concept_number-lacks concepts id lacks = rw (place_within concepts id, lacks) refl
+
+-- an identifier has a number exactly where it is among concepts
+pub number_has : (concepts : List ℕ) (id : ℕ) → is_some (concept_number concepts id) ≡ has concepts id
+number_has concepts id = elim (cases_Bool (has concepts id)) [
+  | inl there ↦ ap is_some (concept_number-has concepts id there) ∙ sym there
+  | inr lacks ↦ ap is_some (concept_number-lacks concepts id lacks) ∙ sym lacks
+]
+
+-- the number of the identifier at a place is the place
+pub number_at : (concepts : List ℕ) → IsStrictlyIncreasing concepts → (id place : ℕ) → place < length concepts
+    → get_or concepts place 0 ≡ id → Some place ≡ concept_number concepts id
+number_at concepts rising id place within is =
+    let same : place_of concepts id ≡ place = ap (place_of concepts) (sym is) ∙ place_of-get_or concepts rising place within in
+    let there : has concepts id ≡ true = sym (place_within concepts id) ∙ lt-ltb (place_of concepts id) (length concepts) (omega (arith, same, within)) in
+    sym (concept_number-has concepts id there ∙ ap Some same)
+
+-- an identifier has no number where those before a place are less and those from it on are greater
+pub number_nowhere : (concepts : List ℕ) → IsStrictlyIncreasing concepts → (id place : ℕ) → place ≤ length concepts
+    → ((k : ℕ) → k < place → get_or concepts k 0 < id) → ((k : ℕ) → place ≤ k → k < length concepts → id < get_or concepts k 0)
+    → None ≡ concept_number concepts id
+number_nowhere concepts rising id place within above below =
+    sym (concept_number-lacks concepts id (has-between concepts rising id place within (λ some. above (place - 1) (omega (arith, some))) (λ inside. below place (omega arith) inside)))
 
 -- the rows among concepts by their numbers are the rows by their places
 pub numbered_rows : (concepts : List ℕ) (rows : List (ℕ × ℕ))

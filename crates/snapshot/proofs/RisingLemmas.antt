@@ -1,7 +1,6 @@
 -- Lists in strictly rising order: a number stands at one place alone.
-use Rattle.std.proofs.Common.{ℕ, inl, inr, ◌≡◌, ◌<◌, ◌≤◌, ◌+◌, ◌-◌, List, length, get_or, take, false, nat_eq, nat_lt, Ok, Err, sym, ◌∙◌, arith, length-take, get_or-take}
+use Rattle.std.proofs.Common.{ℕ, inl, inr, ◌≡◌, ◌<◌, ◌≤◌, ◌-◌, List, length, get_or, false, nat_eq, nat_lt, Ok, Err, sym, arith}
 use Rattle.std.specs.Prelude.{All, Result, is_ok}
-use Rattle.std.specs.List.{list_any}
 use Rattle.std.specs.List.Sorted.{IsBinarySearchResult, IsStrictlyIncreasing}
 use Rattle.std.specs.Ordering.{nat_cmp}
 use Rattle.std.proofs.lemmas.List.Kept.{AllPairs-from_increasing}
@@ -9,51 +8,19 @@ use Rattle.std.proofs.lemmas.List.Folds.{list_any_at, list_any_none}
 use Rattle.std.proofs.lemmas.List.Sorted.{searched}
 use Rattle.std.proofs.lemmas.Bool.{cases_Bool}
 use Rattle.std.proofs.lemmas.Bool.Decides.{nat_tests}
-use Rattle.std.proofs.lemmas.List.{take_more, get_or_default}
-use Rattle.indexmap.specs.IndexSet.{insert_key}
+use Rattle.std.proofs.lemmas.List.{get_or_default}
 use Rattle.snapshot.specs.InForce.{has}
 
 -- an earlier number is below a later one
 pub earlier_below : (xs : List ℕ) → IsStrictlyIncreasing xs → (j k : ℕ) → j < k → k < length xs → get_or xs j 0 < get_or xs k 0
 earlier_below xs rising j k before within = AllPairs-from_increasing xs rising j k 0 before within
 
--- a number is not among those before it
-pub not_before : (xs : List ℕ) → IsStrictlyIncreasing xs → (i : ℕ) → i < length xs → list_any (nat_eq (get_or xs i 0)) (take i xs) ≡ false
-not_before xs rising i within = list_any_none (nat_eq (get_or xs i 0)) (take i xs) differs
-  where
-    differs : All (λ x. nat_eq (get_or xs i 0) x ≡ false) (take i xs)
-    differs k d lt =
-        let short : k < i = omega (arith, length-take i xs, lt) in
-        let at : get_or (take i xs) k d ≡ get_or xs k 0 = get_or-take i xs k d short ∙ get_or_default xs k d 0 (omega arith) in
-        let below : get_or xs k 0 < get_or xs i 0 = earlier_below xs rising k i short within in
-        rw at (grind (arith, nat_tests))
-
 -- a later number is not below an earlier one
-not_falling : (xs : List ℕ) → IsStrictlyIncreasing xs → (j k : ℕ) → j ≤ k → k < length xs → get_or xs j 0 ≤ get_or xs k 0
+pub not_falling : (xs : List ℕ) → IsStrictlyIncreasing xs → (j k : ℕ) → j ≤ k → k < length xs → get_or xs j 0 ≤ get_or xs k 0
 not_falling xs rising j k before within = elim (cases_Bool (nat_lt j k)) [
   | inl below ↦ omega (arith, earlier_below xs rising j k (grind (arith, nat_tests, below)) within)
   | inr same ↦ let is : j ≡ k = grind (arith, nat_tests, same, before) in rw is (omega arith)
 ]
-
--- putting the numbers of a rising list into a set in turn adds each at the end
-pub insert_key-next : (xs keys : List ℕ) → IsStrictlyIncreasing xs → (i id : ℕ) → i < length xs → id ≡ get_or xs i 0
-    → keys ≡ take i xs → insert_key nat_eq keys id ≡ take (i + 1) xs
-insert_key-next xs keys rising i id within same known =
-    rw (known, same, not_before xs rising i within, take_more xs i 0 within)
-
--- a number above the last is not among them
-pub has-above : (xs : List ℕ) → IsStrictlyIncreasing xs → (id : ℕ) → get_or xs (length xs - 1) 0 < id → has xs id ≡ false
-has-above xs rising id above = list_any_none (nat_eq id) xs differs
-  where
-    differs : All (λ x. nat_eq id x ≡ false) xs
-    differs k d lt = elim (cases_Bool (nat_lt k (length xs - 1))) [
-      | inl before ↦
-          let below = earlier_below xs rising k (length xs - 1) (grind (arith, nat_tests, before)) (omega (arith, lt)) in
-          rw (get_or_default xs k d 0 lt) (grind (arith, nat_tests, below))
-      | inr last ↦
-          let is : k ≡ length xs - 1 = grind (arith, nat_tests, last, lt) in
-          rw (get_or_default xs k d 0 lt, is) (grind (arith, nat_tests, above))
-    ]
 
 -- a binary search finds a number exactly where it is among them
 pub has-searched : (xs : List ℕ) → IsStrictlyIncreasing xs → (id : ℕ) (r : Result ℕ ℕ) → IsBinarySearchResult (λ y. nat_cmp y id) xs r → is_ok r ≡ has xs id

@@ -1,7 +1,9 @@
 pub mod AttributesBySource
 pub mod AttributesInside
+pub mod Buckets
 pub mod Chosen
 pub mod Compared
+pub mod ConceptsInside
 pub mod Contents
 pub mod FaultNumbers
 pub mod Faults

@@ -15,10 +15,10 @@ use Rattle.snapshot.specs.declared.load.Snapshot.TheInside.{Inside}
 abbrev pub contents_in : Inside → Contents
 contents_in inside = record {
   release = record {
-    concepts = inside.concepts.items;
-    isa = map (row_of_numbers inside.concepts.items) inside.isa.items;
-    attributes = in_file_order inside.concepts.items inside.attributes;
-    members = map (row_of_numbers inside.concepts.items) inside.members.items;
+    concepts = inside.concepts;
+    isa = map (row_of_numbers inside.concepts) inside.isa.items;
+    attributes = in_file_order inside.concepts inside.attributes;
+    members = map (row_of_numbers inside.concepts) inside.members.items;
     names = inside.lines.names;
   };
   language = string_bytes inside.language;
@@ -26,18 +26,16 @@ contents_in inside = record {
   passed = inside.passed;
 }
 
--- the concepts rise, and each is found at its number; the numbers in rows are those of concepts; the lines are
--- those of the concepts; parents come first in the order of the concepts; the attribute rows are sorted by
--- source, few enough to number; and their values that are concepts are in force
+-- the concepts rise; the numbers in rows are those of concepts; the lines are those of the concepts; parents come
+-- first in the order of the concepts; the attribute rows are sorted by source, few enough to number; and their
+-- values that are concepts are in force
 abbrev pub IsNumbered : Inside → Type 0
 IsNumbered inside =
-    IsStrictlyIncreasing inside.concepts.items
-    × (inside.numbers.keys ≡ inside.concepts.items)
-    × (length inside.concepts.items < 2 ^ 31)
-    × IsWithin (length inside.concepts.items) inside.isa.items
-    × IsWithin (length inside.concepts.items) inside.members.items
-    × (inside.lines.lines ≡ map (concept_line (name_among (string_bytes inside.language) inside.lines.names)) inside.concepts.items)
-    × IsParentsFirst (length inside.concepts.items) inside.isa.items inside.order.items
-    × IsSortedBySource inside.concepts.items inside.attributes
+    IsStrictlyIncreasing inside.concepts
+    × IsWithin (length inside.concepts) inside.isa.items
+    × IsWithin (length inside.concepts) inside.members.items
+    × (inside.lines.lines ≡ map (concept_line (name_among (string_bytes inside.language) inside.lines.names)) inside.concepts)
+    × IsParentsFirst (length inside.concepts) inside.isa.items inside.order.items
+    × IsSortedBySource inside.concepts inside.attributes
     × (length inside.attributes.rows < 2 ^ 31)
-    × All (λ (row : Attribute). is_value_among inside.concepts.items row.value ≡ true) (in_file_order inside.concepts.items inside.attributes)
+    × All (λ (row : Attribute). is_value_among inside.concepts row.value ≡ true) (in_file_order inside.concepts inside.attributes)

@@ -7,8 +7,8 @@ ghost use Rattle.snapshot.specs.InForce.{has};
 ghost use Rattle.snapshot.specs.Kept.{attributes_among, is_value_among};
 ghost use Rattle.snapshot.specs.Listed.{in_list, items_chosen};
 
+use crate::concepts::Concepts;
 use crate::row_lists::{Listing, chosen_items};
-use indexmap::IndexSet;
 use rf2_rows::{Decimal, Value};
 use sctid::SctId;
 use std::alloc::{AllocError, Global};
@@ -134,8 +134,8 @@ impl Attributes {
 
     /// Leaves the rows of some concepts whose values are no concepts or among these. The texts of the
     /// others leave with the buffer, where the rows are sorted.
-    pub fn retain_among(&mut self, concepts: &IndexSet<u64>)
-        ensures { self.new ≡ attributes_among concepts.now.keys self.old }
+    pub fn retain_among(&mut self, concepts: &Concepts)
+        ensures { self.new ≡ attributes_among concepts.now self.old }
     {
         self.rows.retain(|row| is_row_among(concepts, row));
     }
@@ -174,18 +174,18 @@ pub fn lend_value(texts: &[u8], value: KeptValue) -> Value<'_>
 }
 
 // Whether a row is of one of some concepts, and its value is no concept or one of them.
-fn is_row_among(concepts: &IndexSet<u64>, row: &KeptRow) -> bool
-    ensures { (texts : List ℕ) → result ≡ (has concepts.now.keys row.now.source && is_value_among concepts.now.keys (value_in texts row.now.value)) }
+fn is_row_among(concepts: &Concepts, row: &KeptRow) -> bool
+    ensures { (texts : List ℕ) → result ≡ (has concepts.now row.now.source && is_value_among concepts.now (value_in texts row.now.value)) }
 {
-    concepts.contains(&row.source.number()) && is_value_among(concepts, row.value)
+    concepts.has(row.source.number()) && is_value_among(concepts, row.value)
 }
 
 // Whether a value is no concept, or one of some concepts.
-fn is_value_among(concepts: &IndexSet<u64>, value: KeptValue) -> bool
-    ensures { (texts : List ℕ) → result ≡ is_value_among concepts.now.keys (value_in texts value) }
+fn is_value_among(concepts: &Concepts, value: KeptValue) -> bool
+    ensures { (texts : List ℕ) → result ≡ is_value_among concepts.now (value_in texts value) }
 {
     match value {
-        KeptValue::Concept(concept) => concepts.contains(&concept.number()),
+        KeptValue::Concept(concept) => concepts.has(concept.number()),
         KeptValue::Decimal(_) | KeptValue::Other { .. } => true,
     }
 }

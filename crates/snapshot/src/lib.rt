@@ -5,6 +5,7 @@ mod attributes;
 mod choosing;
 mod comparing;
 mod components;
+mod concepts;
 mod cycle;
 mod fault;
 mod kept_names;

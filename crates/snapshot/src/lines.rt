@@ -2,7 +2,6 @@
 //! of the lines where they name a concept.
 ghost use Rattle.std.specs.Prelude.{◌≡◌, ◌≤◌, ◌<◌, ◌+◌, ◌^◌, ◌++◌, ℕ, [], List, Option, None, Some, All, IfOk, IfSome, OnOk, length, map, option_and_then, option_map, slice_index, slice_range, string_bytes};
 ghost use Rattle.std.specs.List.{slice_get};
-ghost use Rattle.std.specs.List.Sorted.{IsStrictlyIncreasing};
 ghost use Rattle.rf2_rows.specs.Release.{Name};
 ghost use Rattle.snapshot.specs.FirstRows.{AreFirstPlaces};
 ghost use Rattle.snapshot.specs.Kept.{names_among};
@@ -13,9 +12,9 @@ ghost use Rattle.snapshot.specs.Line.{concept_line};
 ghost use Rattle.snapshot.specs.LinesInside.{lines_between};
 ghost use Rattle.snapshot.specs.Name.{name_among, text_lent};
 
+use crate::concepts::Concepts;
 use crate::kept_names::{KeptName, Span, keep_names, push_text};
 use crate::names::Names;
-use indexmap::IndexSet;
 use sctid::SctId;
 use std::alloc::{AllocError, Global};
 use std::marker::Model;
@@ -84,21 +83,17 @@ impl ConceptLines {
 /// The lines of concepts, with their names in a language, and of name rows those of the concepts.
 pub fn lines_among(
     alloc: Global,
-    concepts: &[SctId],
-    numbers: &IndexSet<u64>,
+    concepts: &Concepts,
     mut names: Names,
     language: &str,
 ) -> Result<ConceptLines, AllocError>
-    requires few { length names < 2 ^ 32 }
-    requires rising { IsStrictlyIncreasing numbers.now.keys }
-    requires few_concepts { length numbers.now.keys < 2 ^ 32 }
-    requires same { concepts.now ≡ numbers.now.keys }
-    ensures names { IfOk result (λ lines. lines.names ≡ names_among numbers.now.keys names) }
-    ensures lines { IfOk result (λ lines. lines.lines ≡ map (concept_line (name_among language.now lines.names)) numbers.now.keys) }
+    requires { length names < 2 ^ 32 }
+    ensures names { IfOk result (λ lines. lines.names ≡ names_among concepts.now names) }
+    ensures lines { IfOk result (λ lines. lines.lines ≡ map (concept_line (name_among language.now lines.names)) concepts.now) }
 {
-    names.retain_among(numbers);
-    let places = names.first_places(alloc, numbers, language)?;
-    lines_by_place(alloc, concepts, &names, places.as_slice())
+    names.retain_among(concepts);
+    let places = names.first_places(alloc, concepts, language)?;
+    lines_by_place(alloc, concepts.ids(), &names, places.as_slice())
 }
 
 // The line of each concept, by the place of the row that names it, if there is one.

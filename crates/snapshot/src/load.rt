@@ -24,19 +24,19 @@ ghost use Rattle.snapshot.specs.Sorted.{IsSortedBySource, in_file_order};
 
 use crate::attributes::Attributes;
 use crate::choosing::{ReadRows, TOO_MANY_ROWS, read_rows};
+use crate::concepts::Concepts;
 use crate::cycle::least_cyclic;
 use crate::fault::LoadFault;
 use crate::limits::Limits;
 use crate::lines::{ConceptLines, lines_among};
 use crate::names::Names;
-use crate::numbering::{concept_number, number_concepts, number_rows};
+use crate::numbering::number_rows;
 use crate::order::parents_first;
 use crate::pieces::PiecePlaces;
 use crate::places::{MemoryPlaces, PlaceSource};
 use crate::report::Report;
 use crate::row_lists::RowLists;
 use crate::sorted_attributes::{AttributeRow, SortedAttributes, sort_by_source};
-use indexmap::IndexSet;
 use release_files::{FileSource, NamedBytes, SourceFault};
 use rf2_rows::{FileKind, file_kind};
 use sctid::SctId;
@@ -48,10 +48,8 @@ use std::marker::Model;
 /// rows that are passed over.
 #[derive(Drop, Debug)]
 pub struct Snapshot {
-    // the concepts in force in rising order
-    concepts: Vec<SctId>,
-    // the same, to find a concept's number by its identifier
-    numbers: IndexSet<u64>,
+    // the concepts in force
+    concepts: Concepts,
     // child and parent of each is-a row, in the order of the rows
     isa: Vec<(u32, u32)>,
     // the numbers of the concepts in an order in which parents come first
@@ -148,14 +146,14 @@ impl Snapshot {
         ensures few { length self.now.release.concepts < 2 ^ 31 }
         ensures rising { IsStrictlyIncreasing self.now.release.concepts }
     {
-        self.concepts.len() as u32
+        self.concepts.len()
     }
 
     /// The number of the concept with an identifier, or `None` where there is none in force.
     pub fn index_of(&self, id: u64) -> Option<u32>
         ensures { result ≡ concept_number self.now.release.concepts id }
     {
-        concept_number(&self.numbers, id)
+        self.concepts.index_of(id)
     }
 
     /// The identifier of a concept by its number, which is below `concept_count`.
@@ -163,7 +161,7 @@ impl Snapshot {
         requires { concept < length self.now.release.concepts }
         ensures { result ≡ slice_index self.now.release.concepts concept }
     {
-        self.concepts[concept as usize]
+        self.concepts.id_at(concept)
     }
 
     /// The name of a concept by its number, which is below `concept_count`: the term of its fully
@@ -173,7 +171,7 @@ impl Snapshot {
         requires { concept < length self.now.release.concepts }
         ensures { text_lent result ≡ name_of self.now.release self.now.language (slice_index self.now.release.concepts concept) }
     {
-        self.lines.name(concept, self.concepts[concept as usize])
+        self.lines.name(concept, self.concepts.id_at(concept))
     }
 
     /// The line of a concept by its number, which is below `concept_count`: its identifier, behind a
@@ -249,7 +247,7 @@ impl Snapshot {
     {
         Report {
             files: self.files,
-            concepts: self.concepts.len() as u64,
+            concepts: u64::from(self.concepts.len()),
             isa: self.isa.len() as u64,
             attributes: self.attributes.len() as u64,
             members: self.members.len() as u64,
@@ -397,18 +395,13 @@ fn finish(
         member_ends,
         ..
     } = lists;
-    let concepts = rising(concepts);
-    match number_hierarchy(alloc, concepts.as_slice(), isa_ends.as_slice()) {
+    let concepts = Concepts::new(alloc, rising(concepts))?;
+    match number_hierarchy(alloc, &concepts, isa_ends.as_slice()) {
         Ok(hierarchy) => {
-            let NumberedHierarchy {
-                numbers,
-                isa,
-                order,
-            } = hierarchy;
+            let NumberedHierarchy { isa, order } = hierarchy;
             let lists = lists_among(
                 alloc,
-                concepts.as_slice(),
-                &numbers,
+                &concepts,
                 names,
                 language.as_str(),
                 attributes,
@@ -419,14 +412,13 @@ fn finish(
                 attributes,
                 members,
             } = lists;
-            let listed = concepts.len() as u64
+            let listed = u64::from(concepts.len())
                 + isa.len() as u64
                 + attributes.len() as u64
                 + members.len() as u64
                 + lines.name_count() as u64;
             Ok(Snapshot {
                 concepts,
-                numbers,
                 isa,
                 order,
                 attributes,
@@ -453,8 +445,7 @@ struct Lists {
 // names in a language.
 fn lists_among(
     alloc: Global,
-    concepts: &[SctId],
-    numbers: &IndexSet<u64>,
+    concepts: &Concepts,
     names: Names,
     language: &str,
     mut attributes: Attributes,
@@ -462,19 +453,16 @@ fn lists_among(
 ) -> Result<Lists, AllocError>
     requires few { length names < 2 ^ 32 }
     requires few_attributes { length attributes < 2 ^ 32 }
-    requires rising { IsStrictlyIncreasing numbers.now.keys }
-    requires few_concepts { length numbers.now.keys < 2 ^ 32 }
-    requires same { concepts.now ≡ numbers.now.keys }
-    ensures names { IfOk result (λ lists. lists.lines.names ≡ names_among numbers.now.keys names) }
-    ensures lines { IfOk result (λ lists. lists.lines.lines ≡ map (concept_line (name_among language.now lists.lines.names)) numbers.now.keys) }
-    ensures attributes { IfOk result (λ lists. in_file_order numbers.now.keys lists.attributes ≡ attributes_among numbers.now.keys attributes) }
-    ensures sorted { IfOk result (λ lists. IsSortedBySource numbers.now.keys lists.attributes) }
-    ensures members { IfOk result (λ lists. lists.members.items ≡ filter_map (numbered_row numbers.now.keys) member_ends.now) }
+    ensures names { IfOk result (λ lists. lists.lines.names ≡ names_among concepts.now names) }
+    ensures lines { IfOk result (λ lists. lists.lines.lines ≡ map (concept_line (name_among language.now lists.lines.names)) concepts.now) }
+    ensures attributes { IfOk result (λ lists. in_file_order concepts.now lists.attributes ≡ attributes_among concepts.now attributes) }
+    ensures sorted { IfOk result (λ lists. IsSortedBySource concepts.now lists.attributes) }
+    ensures members { IfOk result (λ lists. lists.members.items ≡ filter_map (numbered_row concepts.now) member_ends.now) }
 {
-    let lines = lines_among(alloc, concepts, numbers, names, language)?;
-    attributes.retain_among(numbers);
-    let attributes = sort_by_source(alloc, numbers, &attributes)?;
-    let members = number_rows(alloc, numbers, member_ends)?;
+    let lines = lines_among(alloc, concepts, names, language)?;
+    attributes.retain_among(concepts);
+    let attributes = sort_by_source(alloc, concepts, &attributes)?;
+    let members = number_rows(alloc, concepts, member_ends)?;
     Ok(Lists {
         lines,
         attributes,
@@ -482,52 +470,40 @@ fn lists_among(
     })
 }
 
-// The concepts in force, each at its number, and the is-a rows by the numbers of their ends.
+// The is-a rows by the numbers of their ends.
 #[derive(Drop)]
 struct NumberedHierarchy {
-    numbers: IndexSet<u64>,
     isa: Vec<(u32, u32)>,
     // the concepts in an order in which parents come first
     order: Vec<u32>,
 }
 
-// The numbers of concepts in rising order, and by them the rows between two of the concepts, unless
-// one reaches itself.
+// The rows between two of some concepts by the numbers of these, unless one reaches itself.
 fn number_hierarchy(
     alloc: Global,
-    concepts: &[SctId],
+    concepts: &Concepts,
     ends: &[(SctId, SctId)],
 ) -> Result<NumberedHierarchy, LoadFault>
-    requires rising { IsStrictlyIncreasing concepts.now }
-    requires few { length concepts.now < 2 ^ 32 }
-    ensures numbers { IfOk result (λ hierarchy. hierarchy.numbers.keys ≡ concepts.now) }
     ensures rows { IfOk result (λ hierarchy. hierarchy.isa.items ≡ filter_map (numbered_row concepts.now) ends.now) }
     ensures order { IfOk result (λ hierarchy. IsParentsFirst (length concepts.now) hierarchy.isa.items hierarchy.order.items) }
     ensures acyclic { OnOk result (first_cyclic concepts.now (rows_among concepts.now ends.now) ≡ None) }
     ensures cycle { IfErr result (λ fault. IsCycle fault (first_cyclic concepts.now (rows_among concepts.now ends.now))) }
 {
-    let numbers = number_concepts(alloc, concepts)?;
-    let isa = number_rows(alloc, &numbers, ends)?;
-    let count = concepts.len() as u32;
-    match parents_first(alloc, isa.as_slice(), count)? {
-        Some(order) => Ok(NumberedHierarchy {
-            numbers,
-            isa,
-            order,
-        }),
+    let isa = number_rows(alloc, concepts, ends)?;
+    match parents_first(alloc, isa.as_slice(), concepts.len())? {
+        Some(order) => Ok(NumberedHierarchy { isa, order }),
         None => Err(cycle_fault(alloc, concepts, isa.as_slice())),
     }
 }
 
 // The fault that names the least concept that reaches itself.
-fn cycle_fault(alloc: Global, concepts: &[SctId], rows: &[(u32, u32)]) -> LoadFault
-    requires few { length concepts.now < 2 ^ 32 }
+fn cycle_fault(alloc: Global, concepts: &Concepts, rows: &[(u32, u32)]) -> LoadFault
     requires within { IsWithin (length concepts.now) rows.now }
     requires cyclic { (concept : ℕ) × (concept < length concepts.now) × Reaches rows.now concept concept }
     ensures { IsLeastCycle result concepts.now rows.now }
 {
-    match least_cyclic(alloc, rows, concepts.len() as u32) {
-        Ok(Some(concept)) => LoadFault::Cycle(concepts[concept as usize]),
+    match least_cyclic(alloc, rows, concepts.len()) {
+        Ok(Some(concept)) => LoadFault::Cycle(concepts.id_at(concept)),
         Ok(None) => unreachable!(),
         Err(_) => LoadFault::Memory,
     }

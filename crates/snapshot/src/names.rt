@@ -1,6 +1,5 @@
 //! Name rows in the order in which they were read, with their texts in one buffer.
 ghost use Rattle.std.specs.Prelude.{◌≡◌, ◌<◌, ◌^◌, ◌++◌, ◌∷◌, [], All, IfOk, IfSome, OnOk, length, map, slice_index_or};
-ghost use Rattle.std.specs.List.Sorted.{IsStrictlyIncreasing};
 ghost use Rattle.rf2_rows.specs.Release.{Name};
 ghost use Rattle.snapshot.specs.FirstRows.{AreFirstPlaces, IsFirstOfTwo};
 ghost use Rattle.snapshot.specs.InForce.{has};
@@ -9,9 +8,8 @@ ghost use Rattle.snapshot.specs.Listed.{in_list, items_chosen};
 ghost use Rattle.snapshot.specs.Name.{comes_before as comes_before_of};
 ghost use Rattle.snapshot.specs.NamesInside.{IsPlaced, name_in, name_read};
 
-use crate::numbering::concept_number;
+use crate::concepts::Concepts;
 use crate::row_lists::{Listing, chosen_items};
-use indexmap::IndexSet;
 use sctid::SctId;
 use std::alloc::{AllocError, Global};
 use std::marker::Model;
@@ -128,8 +126,8 @@ impl Names {
 
     /// Leaves the rows of some concepts. The texts of the others leave with the buffer, where the lines
     /// of the concepts are written.
-    pub fn retain_among(&mut self, concepts: &IndexSet<u64>)
-        ensures { self.new ≡ names_among concepts.now.keys self.old }
+    pub fn retain_among(&mut self, concepts: &Concepts)
+        ensures { self.new ≡ names_among concepts.now self.old }
     {
         self.rows.retain(|row| is_row_among(concepts, row));
     }
@@ -138,13 +136,11 @@ impl Names {
     pub fn first_places(
         &self,
         alloc: Global,
-        concepts: &IndexSet<u64>,
+        concepts: &Concepts,
         language: &str,
     ) -> Result<Vec<Option<u32>>, AllocError>
-        requires few { length self.now < 2 ^ 32 }
-        requires rising { IsStrictlyIncreasing concepts.now.keys }
-        requires few_concepts { length concepts.now.keys < 2 ^ 32 }
-        ensures { IfOk result (λ places. AreFirstPlaces language.now concepts.now.keys self.now self.now places.items) }
+        requires { length self.now < 2 ^ 32 }
+        ensures { IfOk result (λ places. AreFirstPlaces language.now concepts.now self.now self.now places.items) }
     {
         first_places(
             alloc,
@@ -213,10 +209,10 @@ fn first_of_two(
 }
 
 // Whether a row is of one of some concepts.
-fn is_row_among(concepts: &IndexSet<u64>, row: &NameRow) -> bool
-    ensures { result ≡ has concepts.now.keys row.now.concept }
+fn is_row_among(concepts: &Concepts, row: &NameRow) -> bool
+    ensures { result ≡ has concepts.now row.now.concept }
 {
-    concepts.contains(&row.concept.number())
+    concepts.has(row.concept.number())
 }
 
 // For each of some concepts the place of the row that names it, if there is one.
@@ -224,18 +220,16 @@ fn first_places(
     alloc: Global,
     texts: &str,
     rows: &[NameRow],
-    concepts: &IndexSet<u64>,
+    concepts: &Concepts,
     language: &str,
 ) -> Result<Vec<Option<u32>>, AllocError>
     requires placed { All (IsPlaced texts.now) rows.now }
     requires few { length rows.now < 2 ^ 32 }
-    requires rising { IsStrictlyIncreasing concepts.now.keys }
-    requires few_concepts { length concepts.now.keys < 2 ^ 32 }
-    ensures { IfOk result (λ places. AreFirstPlaces language.now concepts.now.keys (map (name_in texts.now) rows.now) (map (name_in texts.now) rows.now) places.items) }
+    ensures { IfOk result (λ places. AreFirstPlaces language.now concepts.now (map (name_in texts.now) rows.now) (map (name_in texts.now) rows.now) places.items) }
 {
-    let mut places = vec![in alloc; None; concepts.len()]?;
+    let mut places = vec![in alloc; None; concepts.len() as usize]?;
     for place in (0..rows.len()).rev() {
-        if let Some(number) = concept_number(concepts, rows[place].concept.number()) {
+        if let Some(number) = concepts.index_of(rows[place].concept.number()) {
             let later = places[number as usize];
             let first = first_of_two(texts, rows, language, place as u32, later);
             places[number as usize] = Some(first);

@@ -17,7 +17,8 @@ pub fn repeated_keys(alloc: Global, keys: &[u64]) -> Result<Vec<u64>, AllocError
         return Ok(Vec::new(alloc));
     }
     let mut sorted = Vec::from_slice(alloc, keys)?;
-    sorted.sort_unstable();
+    // the keys of each folder rise as a rule, and the stable sort merges what rises
+    sorted.sort()?;
     let mut repeated = equal_neighbours(alloc, sorted.as_slice())?;
     repeated.dedup();
     Ok(repeated)

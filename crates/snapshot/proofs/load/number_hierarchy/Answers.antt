@@ -1,4 +1,4 @@
-use Rattle.std.proofs.Common.{ℕ, ◌≡◌, List, length, sym, ◌∙◌, ap, subst}
+use Rattle.std.proofs.Common.{ℕ, ◌≡◌, List, length, sym, ◌∙◌, subst, arith}
 use Rattle.std.specs.List.{filter_map}
 use Rattle.rf2_rows.specs.Hierarchy.{Reaches}
 use Rattle.snapshot.specs.Numbering.{IsWithin, numbered_row}
@@ -12,32 +12,33 @@ use Rattle.snapshot.proofs.load.number_hierarchy.Goals as goal
 pub parents_first-requires : goal.parents_first-requires
 parents_first-requires c =
     let rows_are : c.as_slice.result.now ≡ filter_map (numbered_row c.args.concepts.now) c.args.ends.now =
-    c.as_slice.ensures.value ∙ c.in_ok-isa.ensures ∙ ap (λ (keys : List ℕ). filter_map (numbered_row keys) c.args.ends.now) c.in_ok-numbers.ensures in
-    subst (λ (rows : List (ℕ × ℕ)). IsWithin (length c.args.concepts.now) rows) (sym rows_are) (IsWithin-numbered c.args.concepts.now c.args.ends.now)
+    c.as_slice.ensures.value ∙ c.in_ok-isa.ensures in
+    subst (λ (count : ℕ). IsWithin count c.as_slice.result.now) (sym c.len.ensures.count)
+    (subst (λ (rows : List (ℕ × ℕ)). IsWithin (length c.args.concepts.now) rows) (sym rows_are) (IsWithin-numbered c.args.concepts.now c.args.ends.now))
 
 pub cycle_fault-requires-clause-within : goal.cycle_fault-requires-clause-within
 cycle_fault-requires-clause-within c =
     let rows_are : c.as_slice-in-None.result.now ≡ filter_map (numbered_row c.args.concepts.now) c.args.ends.now =
-    c.as_slice-in-None.ensures.value ∙ c.in_ok-isa.ensures ∙ ap (λ (keys : List ℕ). filter_map (numbered_row keys) c.args.ends.now) c.in_ok-numbers.ensures in
+    c.as_slice-in-None.ensures.value ∙ c.in_ok-isa.ensures in
     subst (λ (rows : List (ℕ × ℕ)). IsWithin (length c.args.concepts.now) rows) (sym rows_are) (IsWithin-numbered c.args.concepts.now c.args.ends.now)
 
 pub cycle_fault-requires-clause-cyclic : goal.cycle_fault-requires-clause-cyclic
 cycle_fault-requires-clause-cyclic c =
     let cyclic = rw c.in-None.is at c.in_ok-order.ensures.cycle in
-    (cyclic.0, cyclic.1, subst (λ (rows : List (ℕ × ℕ)). Reaches rows cyclic.0 cyclic.0) (c.as_slice.ensures.value ∙ sym c.as_slice-in-None.ensures.value) cyclic.2)
+    (cyclic.0, omega (arith, cyclic.1, c.len.ensures.count), subst (λ (rows : List (ℕ × ℕ)). Reaches rows cyclic.0 cyclic.0) (c.as_slice.ensures.value ∙ sym c.as_slice-in-None.ensures.value) cyclic.2)
 
 pub returns-in-Some-clause-acyclic : goal.returns-in-Some-clause-acyclic
 returns-in-Some-clause-acyclic c =
     let rows_are : c.as_slice.result.now ≡ filter_map (numbered_row c.args.concepts.now) c.args.ends.now =
-    c.as_slice.ensures.value ∙ c.in_ok-isa.ensures ∙ ap (λ (keys : List ℕ). filter_map (numbered_row keys) c.args.ends.now) c.in_ok-numbers.ensures in
+    c.as_slice.ensures.value ∙ c.in_ok-isa.ensures in
     let ordered = rw c.in-Some.is at c.in_ok-order.ensures.order in
-    first_cyclic-None c.args.concepts.now c.requires.rising c.args.ends.now
-    (λ k below chain. ordered_acyclic (length c.args.concepts.now) c.as_slice.result.now c.in-Some.order.items ordered k below
+    first_cyclic-None c.args.concepts.now c.len.ensures.rising c.args.ends.now
+    (λ k below chain. ordered_acyclic c.len.result c.as_slice.result.now c.in-Some.order.items ordered k (omega (arith, below, c.len.ensures.count))
     (subst (λ (rows : List (ℕ × ℕ)). Reaches rows k k) (sym rows_are) chain))
 
 pub returns-in-None-clause-cycle : goal.returns-in-None-clause-cycle
 returns-in-None-clause-cycle c =
     let rows_are : c.as_slice-in-None.result.now ≡ filter_map (numbered_row c.args.concepts.now) c.args.ends.now =
-    c.as_slice-in-None.ensures.value ∙ c.in_ok-isa.ensures ∙ ap (λ (keys : List ℕ). filter_map (numbered_row keys) c.args.ends.now) c.in_ok-numbers.ensures in
-    least_cycle c.cycle_fault.result c.args.concepts.now c.requires.rising c.args.ends.now
+    c.as_slice-in-None.ensures.value ∙ c.in_ok-isa.ensures in
+    least_cycle c.cycle_fault.result c.args.concepts.now c.len.ensures.rising c.args.ends.now
     (subst (λ (rows : List (ℕ × ℕ)). IsLeastCycle c.cycle_fault.result c.args.concepts.now rows) rows_are c.cycle_fault.ensures)

@@ -6,4 +6,4 @@ use Rattle.snapshot.proofs.names.first_places.Given as goal
 
 abbrev pub invariant-loop-place : goal.invariant-loop-place
 invariant-loop-place l =
-    AreFirstPlaces l.language l.concepts.keys (map (name_in l.texts) l.rows) (drop l.place (map (name_in l.texts) l.rows)) l.places.items
+    AreFirstPlaces l.language l.concepts (map (name_in l.texts) l.rows) (drop l.place (map (name_in l.texts) l.rows)) l.places.items

@@ -11,7 +11,7 @@ use Rattle.snapshot.proofs.attributes.Attributes.retain_among.Goals as goal
 
 pub invariant_of-self : goal.invariant_of-self
 invariant_of-self c =
-    let keys = c.args.concepts.now.keys in
+    let keys = c.args.concepts.now in
     let texts = c.self.inside.texts.items in
     let left : c.retain.new.self.items ≡ filter (λ (row : KeptRow). has keys row.source && is_value_among keys (value_in texts row.value)) c.self.inside.rows.items =
     filter_same _ _ _ (λ x b f' k. search rules) _ _ c.retain.ensures.filtered in
@@ -20,7 +20,7 @@ invariant_of-self c =
 
 pub returns : goal.returns
 returns c =
-    let keys = c.args.concepts.now.keys in
+    let keys = c.args.concepts.now in
     let texts = c.self.inside.texts.items in
     let left : c.retain.new.self.items ≡ filter (λ (row : KeptRow). has keys row.source && is_value_among keys (value_in texts row.value)) c.self.inside.rows.items =
     filter_same _ _ _ (λ x b f' k. search rules) _ _ c.retain.ensures.filtered in

@@ -6,8 +6,8 @@ use Rattle.snapshot.proofs.load.Snapshot.attribute_count.Goals as goal
 
 pub returns-clause-by_source : goal.returns-clause-by_source
 returns-clause-by_source c =
-    let concepts = c.self.inside.concepts.items in
+    let concepts = c.self.inside.concepts in
     let rows = c.self.inside.attributes.rows in
     let by_source : attributes_by_source c.args.self.now.release ≡ map (with_source concepts) rows =
-    ap (λ (contents : Contents). attributes_by_source contents.release) (sym c.self.view_is) ∙ sym c.self.invariant.7.by_source in
-    omega (arith, ap length by_source, length-map rows (with_source concepts), c.self.invariant.7.count, ap (λ (contents : Contents). length contents.release.attributes) c.self.view_is)
+    ap (λ (contents : Contents). attributes_by_source contents.release) (sym c.self.view_is) ∙ sym c.self.invariant.5.by_source in
+    omega (arith, ap length by_source, length-map rows (with_source concepts), c.self.invariant.5.count, ap (λ (contents : Contents). length contents.release.attributes) c.self.view_is)

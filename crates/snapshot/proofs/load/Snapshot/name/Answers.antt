@@ -1,5 +1,4 @@
 use Rattle.std.proofs.Common.{ℕ, ◌≡◌, ◌<◌, ◌∙◌, List, [], Option, length, get_or, map, sym, ap, arith, string_bytes}
-use Rattle.std.proofs.lemmas.List.{get_or_read}
 use Rattle.snapshot.specs.Contents.{Contents}
 use Rattle.snapshot.specs.Line.{concept_line}
 use Rattle.snapshot.specs.Name.{name_among, name_of, text_lent}
@@ -9,27 +8,27 @@ use Rattle.snapshot.proofs.load.Snapshot.name.Goals as goal
 
 -- the line of a concept, whose identifier was read
 line_is : (name : ℕ → Option (List ℕ)) (concepts : List ℕ) (lists : List (List ℕ)) (number concept : ℕ) → lists ≡ map (concept_line name) concepts → number < length concepts
-    → concept ≡ get_or concepts number concept → get_or lists number [] ≡ concept_line (λ _. name (get_or concepts number 0)) concept
+    → concept ≡ get_or concepts number 0 → get_or lists number [] ≡ concept_line (λ _. name (get_or concepts number 0)) concept
 line_is name concepts lists number concept are below read =
     line_of_concept name concepts lists number are below
-    ∙ ap (λ (id : ℕ). concept_line (λ _. name (get_or concepts number 0)) id) (sym (get_or_read concepts number concept below read 0))
+    ∙ ap (λ (id : ℕ). concept_line (λ _. name (get_or concepts number 0)) id) (sym read)
 
 -- it is a line of that concept
 is_line : (name : ℕ → Option (List ℕ)) (concepts : List ℕ) (lists : List (List ℕ)) (number concept : ℕ) → lists ≡ map (concept_line name) concepts
-    → concept ≡ get_or concepts number concept → number < length concepts → (own : Option (List ℕ)) × (get_or lists number [] ≡ concept_line (λ _. own) concept)
+    → concept ≡ get_or concepts number 0 → number < length concepts → (own : Option (List ℕ)) × (get_or lists number [] ≡ concept_line (λ _. own) concept)
 is_line name concepts lists number concept are read below = (name (get_or concepts number 0), line_is name concepts lists number concept are below read)
 
 pub name-requires-clause-line : goal.name-requires-clause-line
 name-requires-clause-line c =
     let inside = c.self.inside in
-    is_line (name_among (string_bytes inside.language) inside.lines.names) inside.concepts.items inside.lines.lines _ c.index.result.now c.self.invariant.5 c.index.ensures
+    is_line (name_among (string_bytes inside.language) inside.lines.names) inside.concepts inside.lines.lines _ c.id_at.result c.self.invariant.3 c.id_at.ensures
     (omega (arith, c.requires, ap (λ (contents : Contents). length contents.release.concepts) c.self.view_is))
 
 pub returns : goal.returns
 returns c =
     let inside = c.self.inside in
     let name = name_among (string_bytes inside.language) inside.lines.names in
-    let below : c.args.concept < length inside.concepts.items = omega (arith, c.requires, ap (λ (contents : Contents). length contents.release.concepts) c.self.view_is) in
-    same_name c.index.result.now (text_lent c.name.result) (name (get_or inside.concepts.items c.args.concept 0))
-    (sym c.name.ensures ∙ line_is name inside.concepts.items inside.lines.lines c.args.concept c.index.result.now c.self.invariant.5 below c.index.ensures)
+    let below : c.args.concept < length inside.concepts = omega (arith, c.requires, ap (λ (contents : Contents). length contents.release.concepts) c.self.view_is) in
+    same_name c.id_at.result (text_lent c.name.result) (name (get_or inside.concepts c.args.concept 0))
+    (sym c.name.ensures ∙ line_is name inside.concepts inside.lines.lines c.args.concept c.id_at.result c.self.invariant.3 below c.id_at.ensures)
     ∙ ap (λ (contents : Contents). name_of contents.release contents.language (get_or contents.release.concepts c.args.concept 0)) c.self.view_is

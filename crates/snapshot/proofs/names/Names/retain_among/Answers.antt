@@ -12,7 +12,7 @@ use Rattle.snapshot.proofs.names.Names.retain_among.Goals as goal
 
 pub invariant_of-self : goal.invariant_of-self
 invariant_of-self c =
-    let keys = c.args.concepts.now.keys in
+    let keys = c.args.concepts.now in
     let texts = string_bytes c.self.inside.texts in
     let left : c.retain.new.self.items ≡ filter (λ (row : NameRow). has keys row.concept) c.self.inside.rows.items =
     filter_same _ _ _ (λ x b f' k. search rules) _ _ c.retain.ensures.filtered in
@@ -21,7 +21,7 @@ invariant_of-self c =
 
 pub returns : goal.returns
 returns c =
-    let keys = c.args.concepts.now.keys in
+    let keys = c.args.concepts.now in
     let texts = string_bytes c.self.inside.texts in
     let left : c.retain.new.self.items ≡ filter (λ (row : NameRow). has keys row.concept) c.self.inside.rows.items =
     filter_same _ _ _ (λ x b f' k. search rules) _ _ c.retain.ensures.filtered in
