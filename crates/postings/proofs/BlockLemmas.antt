@@ -67,14 +67,6 @@ module _ {X : Type 0} where
       let rest = flat_map-within f g xs (All-tail (λ x. f x ≡ g x) x xs same) in
       λ i. here i ++ rest i
 
-  -- the same item for each
-  pub map-constant : {Y Z : Type 0} (z : Z) (xs : List X) (ys : List Y) → length xs ≡ length ys
-      → map (λ (x : X). z) xs ≡ map (λ (y : Y). z) ys
-  map-constant z [] [] long = refl
-  map-constant z [] (y ∷ ys) long = absurd (omega arith)
-  map-constant z (x ∷ xs) [] long = absurd (omega arith)
-  map-constant z (x ∷ xs) (y ∷ ys) long = ap (λ rest. z ∷ rest) (map-constant z xs ys (omega arith))
-
   -- what holds of what a function gives, of the items
   pub All-mapped : {Y : Type 0} (P : Y → Type 0) (f : X → Y) (xs : List X) → All P (map f xs) → All (λ x. P (f x)) xs
   All-mapped P f xs all k d below = subst P (get_or-map f xs k d (f d) below) (all k (f d) (omega (arith, below, length-map xs f)))

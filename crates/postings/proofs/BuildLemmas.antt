@@ -1,6 +1,5 @@
 -- From the rows by numbers to the rows, and from what the parts of the indexes are to what the indexes keep.
 use Rattle.std.proofs.Common.{ℕ, ◌≡◌, ◌<◌, ◌∙◌, List, Some, length, get_or, map, slice_index, sym, ap, subst, arith}
-use Rattle.std.specs.Prelude.{All}
 use Rattle.std.specs.List.{slice_get}
 use Rattle.std.specs.List.Sorted.{IsStrictlyIncreasing}
 use Rattle.std.proofs.lemmas.List.{get_or-map, get_or_default, length-map}
@@ -13,8 +12,9 @@ use Rattle.snapshot.specs.Numbering.{IsWithin, row_of_numbers}
 use Rattle.ancestor_index.specs.HierarchyLists.{is_child, lists_where}
 use Rattle.ancestor_index.proofs.BuildLemmas.{lists_where-agree, same_child}
 use Rattle.ancestor_index.proofs.ClosureLemmas.{length-where}
-use Rattle.postings.specs.Coded.{IsCoded, row_coded, rows_coded}
+use Rattle.postings.specs.Coded.{row_coded, rows_coded}
 use Rattle.postings.specs.Indexed.{value_at}
+use Rattle.postings.specs.KeptRows.{rows_kept}
 use Rattle.postings.specs.RowIndexes.{AreRowIndexes}
 use Rattle.postings.specs.declared.row_indexes.RowIndexes.{RowIndexes}
 use Rattle.postings.specs.declared.rows.CodedRow.{CodedRow}
@@ -22,11 +22,7 @@ use Rattle.postings.specs.declared.rows.CodedRow.{CodedRow}
 -- ---- a row by its numbers
 module _ (concepts types ids : List ℕ) (values : List Value) (coded : List CodedRow) (n : ℕ) (row : CodedRow) (below : n < length coded)
     (is : row ≡ get_or coded n row) where
-  -- its numbers are within their tables
-  pub row_within : All (IsCoded concepts types values) coded → IsCoded concepts types values row
-  row_within within = subst (λ (found : CodedRow). IsCoded concepts types values found) (sym is) (within n row below)
-
-  -- and the row that they stand for is the one at its place
+  -- the row that its numbers stand for is the one at its place
   pub row_told : (id : ℕ) (value : LentValue) → ids ≡ types → row.type_place < length types → id ≡ get_or ids row.type_place id
       → value_lent value ≡ value_at values row.value
       → slice_get (map (row_coded concepts types values) coded) n
@@ -47,14 +43,14 @@ module _ (concepts types ids : List ℕ) (values : List Value) (coded : List Cod
 -- they are those that the indexes are of
 pub rows_told : (concepts all : List ℕ) (rows : List Attribute) (indexes : RowIndexes) → all ≡ concepts
     → AreRowIndexes concepts rows indexes
-    → rows_coded all indexes.coded ≡ rows
+    → rows_coded all indexes.types indexes.values (rows_kept indexes) ≡ rows
 rows_told concepts all rows indexes same are =
-    ap (λ (ids : List ℕ). rows_coded ids indexes.coded) same ∙ are.coded.stand_for
+    ap (λ (ids : List ℕ). rows_coded ids indexes.types indexes.values (rows_kept indexes)) same ∙ are.coded.stand_for
 
 -- so the indexes are of them
 pub indexes_of_own : (concepts all : List ℕ) (rows : List Attribute) (indexes : RowIndexes) → all ≡ concepts
     → AreRowIndexes concepts rows indexes
-    → AreRowIndexes all (rows_coded all indexes.coded) indexes
+    → AreRowIndexes all (rows_coded all indexes.types indexes.values (rows_kept indexes)) indexes
 indexes_of_own concepts all rows indexes same are =
     subst (λ (found : List Attribute). AreRowIndexes all found indexes) (sym (rows_told concepts all rows indexes same are))
     (subst (λ (ids : List ℕ). AreRowIndexes ids rows indexes) (sym same) are)

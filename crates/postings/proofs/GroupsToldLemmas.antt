@@ -1,9 +1,9 @@
--- What the marks of coded rows tell of the groups: the group of each row, where the groups of a source begin, the rows of each group,
--- and the concept of each.
+-- What the marks of coded rows tell of the groups: the group of each row, where the groups of a source begin, and the rows of each
+-- group.
 use Rattle.std.proofs.Common.{ℕ, ◌+◌, ◌==◌, ◌≡◌, ◌≢◌, ◌<◌, ◌≤◌, ◌&&◌, ◌++◌, ◌∷◌, []}
 use Rattle.std.proofs.Common.{◌∙◌, not, ⊎_elim, List, length, get_or, map, take, Bool, true, false, cond, nat_eq, Option, Some}
 use Rattle.std.proofs.Common.{refl, sym, ap, subst, arith, le_of_lt}
-use Rattle.std.specs.Prelude.{All, Contains, slice_get, slice_index}
+use Rattle.std.specs.Prelude.{All, Contains, slice_get}
 use Rattle.std.specs.List.{IsDistinct, filter, flat_map, range_with_len}
 use Rattle.std.specs.List.Sorted.{IsStrictlyIncreasing}
 use Rattle.std.proofs.lemmas.Bool.{and_right, cases_Bool, cases_eq, eq-eqb, ne_eqb}
@@ -25,8 +25,8 @@ use Rattle.postings.specs.Groups.{rows_alone, ungrouped}
 use Rattle.postings.specs.Indexed.{value_at}
 use Rattle.postings.specs.Places.{places_from, places_where}
 use Rattle.postings.specs.declared.rows.CodedRow.{CodedRow}
-use Rattle.postings.proofs.BlockLemmas.{All-blocks, All-range, blocks-long, blocks-same, blocks_before, blocks_by_place, filter-map}
-use Rattle.postings.proofs.BlockLemmas.{items_by_place, map-constant, map-flat_map, map-within}
+use Rattle.postings.proofs.BlockLemmas.{All-range, blocks-long, blocks-same, blocks_before, filter-map}
+use Rattle.postings.proofs.BlockLemmas.{items_by_place, map-flat_map, map-within}
 use Rattle.postings.proofs.CodeLemmas.{alike_in_group_coded, same_type}
 use Rattle.postings.proofs.EntryLemmas.{firsts_in_group, firsts_of_marks, numbers_of_marks, rows_of_entries}
 use Rattle.postings.proofs.FlagLemmas.{flags-map, flags_after}
@@ -267,39 +267,3 @@ module _ (concepts types : List ℕ) (values : List Value) (increases : IsStrict
 
         near : (u n : ℕ) → u < 0 + n → u < n
         near u n below = omega arith
-
-  -- the concepts of the groups
-  pub group_concepts_told : map (slice_index concepts)
-      (flat_map (λ s. map (λ (code : ℕ × (ℕ × ℕ)). s) (group_codes (of_source coded s))) (range_with_len 0 (length concepts)))
-      ≡ map (λ (group : ConceptGroup). group.concept) (all_groups (rows_alone concepts rows))
-  group_concepts_told =
-      map-flat_map id (λ s. map (λ (code : ℕ × (ℕ × ℕ)). s) (group_codes (of_source coded s)))
-      (range_with_len 0 (length concepts))
-      ∙ blocks-same (λ s. map id (map (λ (code : ℕ × (ℕ × ℕ)). s) (group_codes (of_source coded s))))
-      (λ s. map (λ (group : ConceptGroup). group.concept) (groups_at (rows_alone concepts rows) (id s))) 0 (length concepts)
-      (λ s below.
-      map-map id (λ (code : ℕ × (ℕ × ℕ)). s) (group_codes (of_source coded s))
-      ∙ map-constant (id s) (group_codes (of_source coded s)) (keys_of (rows_alone concepts rows) (id s))
-      (sym (ap length (keys_are s (near s (length concepts) below)) ∙ length-keys_coded types values (of_source coded s)))
-      ∙ sym (map-map (λ (group : ConceptGroup). group.concept) (group_with (id s)) (keys_of (rows_alone concepts rows) (id s))))
-      ∙ sym (map-flat_map (λ (group : ConceptGroup). group.concept) (λ s. groups_at (rows_alone concepts rows) (id s))
-      (range_with_len 0 (length concepts)))
-      ∙ ap (map (λ (group : ConceptGroup). group.concept)) (sym (blocks_by_place (groups_at (rows_alone concepts rows)) concepts 0))
-    where
-      id : ℕ → ℕ
-      id s = get_or concepts s 0
-
-      near : (u n : ℕ) → u < 0 + n → u < n
-      near u n below = omega arith
-
--- the numbers of the concepts of the groups are below how many sources there are
-pub group_concepts_below : (coded : List CodedRow) (count : ℕ)
-    → All (λ s. s < count) (flat_map (λ s. map (λ (code : ℕ × (ℕ × ℕ)). s) (group_codes (of_source coded s)))
-    (range_with_len 0 count))
-group_concepts_below coded count =
-    All-blocks (λ s. s < count) (λ s. map (λ (code : ℕ × (ℕ × ℕ)). s) (group_codes (of_source coded s))) 0 count
-    (λ s above below. All-map (λ s. s < count) (λ (code : ℕ × (ℕ × ℕ)). s) (group_codes (of_source coded s))
-    (λ k d inside. near s count below))
-  where
-    near : (u n : ℕ) → u < 0 + n → u < n
-    near u n below = omega arith

@@ -12,7 +12,10 @@ pub mod FlagLemmas
 pub mod GroupKeyLemmas
 pub mod GroupLemmas
 pub mod GroupsToldLemmas
+pub mod GroupRowLemmas
 pub mod IndexLemmas
+pub mod InverseLemmas
+pub mod KeptLemmas
 pub mod KeyLemmas
 pub mod KeyedPlacesLemmas
 pub mod LookUpLemmas
@@ -25,5 +28,8 @@ pub mod RowIndexLemmas
 pub mod RowLemmas
 pub mod RowListLemmas
 pub mod SourceLemmas
+pub mod SourceRowLemmas
 pub mod SourcesToldLemmas
+pub mod SpanLemmas
+pub mod UnitLemmas
 pub mod ValueLemmas

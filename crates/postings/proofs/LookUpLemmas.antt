@@ -1,23 +1,29 @@
 -- What the look-ups by type and by value find.
-use Rattle.std.proofs.Common.{ℕ, ◌==◌, ◌≡◌, ◌<◌, ◌^◌, ◌∙◌, [], false, List, Some, length, nat_eq, slice_index}
+use Rattle.std.proofs.Common.{ℕ, ◌+◌, ◌==◌, ◌≡◌, ◌≤◌, ◌<◌, ◌^◌, ◌∙◌, [], false, List, Some, length, nat_eq, slice_index, take}
 use Rattle.std.proofs.Common.{refl, sym, ap, subst, arith}
-use Rattle.std.specs.List.{list_any, position}
-use Rattle.rf2_rows.specs.Release.{Attribute}
+use Rattle.std.specs.List.{concat, list_any, position, slice_range}
+use Rattle.std.proofs.lemmas.List.{length-map, take_all}
+use Rattle.std.proofs.lemmas.List.FromFn.{length-map-range_with_len}
+use Rattle.rf2_rows.specs.Release.{Attribute, Release}
 use Rattle.snapshot.specs.KeyedLists.{list_of}
 use Rattle.postings.specs.Cells.{cells_of}
 use Rattle.postings.specs.Columns.{AreGroups, AreSources, AreTypes, AreValues, Mark}
 use Rattle.postings.specs.Entries.{Entry, entries_with_type, entries_with_value}
-use Rattle.postings.specs.Groups.{groups_in}
+use Rattle.postings.specs.Groups.{ConceptGroup, all_groups, groups_among, groups_in, is_in_group, rows_alone}
 use Rattle.postings.specs.IndexInside.{AreIndexed, indexed_in}
 use Rattle.postings.specs.Indexed.{Indexed, rows_by_source, rows_by_type, rows_by_value, types_of, values_of}
+use Rattle.postings.specs.KeptRows.{rows_between}
 use Rattle.postings.specs.Places.{places_where}
 use Rattle.postings.specs.RowColumns.{AreTypeColumns, AreValueColumns}
-use Rattle.postings.specs.RowIndexes.{has_source, has_type, has_value}
+use Rattle.postings.specs.RowIndexes.{has_source, has_type, has_value, rows_by_sources}
 use Rattle.postings.specs.declared.columns.RowLists.{RowLists}
 use Rattle.postings.specs.declared.columns.TypeColumns.{TypeColumns}
 use Rattle.postings.specs.declared.columns.ValueColumns.{ValueColumns}
 use Rattle.postings.specs.declared.index.Indexes.TheInside.{Inside}
+use Rattle.postings.proofs.CellLemmas.{span_list}
 use Rattle.postings.proofs.IndexLemmas.{few_types, list_at, none_by_type, none_with_type, type_place_below, type_there}
+use Rattle.postings.proofs.KeyLemmas.{groups_at}
+use Rattle.postings.proofs.SpanLemmas.{blocks_rise}
 
 module _ (inside : Inside) (are : AreIndexed inside) (now : Indexed) (same : indexed_in inside ≡ now) where
   abbrev rows : List Attribute
@@ -33,12 +39,12 @@ module _ (inside : Inside) (are : AreIndexed inside) (now : Indexed) (same : ind
   by_value = inside.rows.by_value
 
   -- ---- a type that rows have
-  module _ (id place : ℕ) (found : position (nat_eq id) inside.rows.coded.types.numbers.keys ≡ Some place) where
+  module _ (id place : ℕ) (found : position (nat_eq id) inside.rows.types.numbers.keys ≡ Some place) where
     below : place < length types
-    below = type_place_below inside.rows.coded.types.numbers.keys rows id place are.rows.coded.types found
+    below = type_place_below inside.rows.types.numbers.keys rows id place are.rows.coded.types found
 
     named : slice_index types place ≡ id
-    named = type_there inside.rows.coded.types.numbers.keys rows id place are.rows.coded.types found
+    named = type_there inside.rows.types.numbers.keys rows id place are.rows.coded.types found
 
     pub few_places : place < 2 ^ 31
     few_places = omega (arith, below, few_types rows, are.rows.coded.few)
@@ -73,7 +79,7 @@ module _ (inside : Inside) (are : AreIndexed inside) (now : Indexed) (same : ind
         })
 
   -- ---- a type that no row has
-  module _ (id : ℕ) (missing : list_any (nat_eq id) inside.rows.coded.types.numbers.keys ≡ false) where
+  module _ (id : ℕ) (missing : list_any (nat_eq id) inside.rows.types.numbers.keys ≡ false) where
     none : list_any (nat_eq id) types ≡ false
     none = ap (λ (types : List ℕ). list_any (nat_eq id) types) (sym are.rows.coded.types) ∙ missing
 
@@ -130,15 +136,67 @@ module _ (inside : Inside) (are : AreIndexed inside) (now : Indexed) (same : ind
               (are.rows.by_value.groups concept near);
         })
 
-    -- and as a source
-    with_source : (concept < length inside.rows.by_source)
-        × (list_of inside.rows.by_source concept ≡ places_where (has_source inside.concepts.items concept) rows)
-    with_source =
-        list_at inside.rows.by_source (λ key. places_where (has_source inside.concepts.items key) rows) (length inside.concepts.items)
-        concept are.rows.by_source near
+    -- and as a source: its groups are between where they start and where those of the next concept do
+    abbrev sources : List (List ℕ)
+    sources = rows_by_sources inside.concepts.items rows
 
-    pub source_listed : concept < length inside.rows.by_source
-    source_listed = with_source.0
+    abbrev starts : List ℕ
+    starts = inside.rows.groups.starts.items
 
-    pub rows_with_source : list_of inside.rows.by_source concept ≡ rows_by_source now concept
-    rows_with_source = with_source.1 ∙ ap (λ (indexed : Indexed). rows_by_source indexed concept) same
+    abbrev alone : Release
+    alone = rows_alone inside.concepts.items rows
+
+    many_groups : length inside.rows.groups.rows ≡ length (all_groups alone)
+    many_groups = ap (λ (lists : List (List ℕ)). length lists) are.rows.groups.each
+        ∙ length-map (all_groups alone) (λ (group : ConceptGroup). places_where (is_in_group group) rows)
+
+    all_told : length (groups_among alone (take (length inside.concepts.items) inside.concepts.items)) ≡ length (all_groups alone)
+    all_told = ap (λ (concepts : List ℕ). length (groups_among alone concepts))
+        (take_all (length inside.concepts.items) inside.concepts.items (omega arith))
+
+    pub starts_within : concept + 1 < length starts
+    starts_within = omega (arith, near, are.rows.groups.starts_len)
+
+    pub starts_rise : slice_index starts concept ≤ slice_index starts (concept + 1)
+    starts_rise =
+        omega (
+          arith,
+          are.rows.groups.starts concept (omega (arith, near)),
+          are.rows.groups.starts (concept + 1) (omega (arith, near)),
+          blocks_rise (groups_at alone) inside.concepts.items concept (concept + 1) (omega arith),
+        )
+
+    pub starts_end : slice_index starts (concept + 1) ≤ length inside.rows.groups.rows
+    starts_end =
+        omega (
+          arith,
+          many_groups,
+          are.rows.groups.starts (concept + 1) (omega (arith, near)),
+          blocks_rise (groups_at alone) inside.concepts.items (concept + 1) (length inside.concepts.items) (omega (arith, near)),
+          all_told,
+        )
+
+    -- there are as many numbers of rows as rows of all groups
+    pub long_numbers : length inside.rows.row_numbers.items ≡ length (concat inside.rows.groups.rows)
+    long_numbers =
+        let count : ℕ = length inside.concepts.items in
+        let last : slice_index starts count ≡ length inside.rows.groups.rows =
+        omega (arith, are.rows.groups.starts count (omega arith), all_told, many_groups) in
+        ap (λ (xs : List ℕ). length xs) are.rows.row_numbers
+        ∙ ap (λ (lists : List (List ℕ)). length (concat lists)) (sym (take_all count sources
+        (omega (arith, length-map-range_with_len (λ concept. places_where (has_source inside.concepts.items concept) rows) 0 count))))
+        ∙ sym (are.rows.ahead count (omega arith))
+        ∙ ap (λ (n : ℕ). length (concat (take n inside.rows.groups.rows))) last
+        ∙ ap (λ (lists : List (List ℕ)). length (concat lists))
+        (take_all (length inside.rows.groups.rows) inside.rows.groups.rows (omega arith))
+
+    -- and its rows are those between the rows of these groups
+    pub rows_with_source : rows_between inside.rows concept ≡ rows_by_source now concept
+    rows_with_source =
+        let there = list_at sources (λ key. places_where (has_source inside.concepts.items key) rows) (length inside.concepts.items)
+        concept refl near in
+        (λ i. slice_range (are.rows.row_numbers i) (are.rows.ahead concept (omega (arith, near)) i)
+        (are.rows.ahead (concept + 1) (omega (arith, near)) i))
+        ∙ span_list sources concept there.0
+        ∙ there.1
+        ∙ ap (λ (indexed : Indexed). rows_by_source indexed concept) same

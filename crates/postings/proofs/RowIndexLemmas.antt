@@ -1,7 +1,7 @@
 -- From the rows by numbers to the indexes of the rows.
-use Rattle.std.proofs.Common.{ℕ, ◌+◌, ◌-◌, ◌==◌, ◌≡◌, ◌≤◌, ◌<◌, ◌^◌, ◌∷◌, [], ◌∙◌, Bool, List}
-use Rattle.std.proofs.Common.{All, length, get_or, map, nat_eq, replicate, take, refl, sym, ap, subst, arith}
-use Rattle.std.specs.List.{IsDistinct, flat_map, range_with_len}
+use Rattle.std.proofs.Common.{ℕ, ◌+◌, ◌-◌, ◌==◌, ◌≡◌, ◌≤◌, ◌<◌, ◌^◌, ◌∙◌, Bool, List}
+use Rattle.std.proofs.Common.{length, get_or, map, nat_eq, take, refl, sym, ap, subst, arith}
+use Rattle.std.specs.List.{IsDistinct, range_with_len}
 use Rattle.std.specs.List.Sorted.{IsStrictlyIncreasing}
 use Rattle.std.proofs.lemmas.List.{length-map, take_all}
 use Rattle.rf2_rows.specs.Pairs.{value_eq}
@@ -9,32 +9,26 @@ use Rattle.rf2_rows.specs.Release.{Attribute, Release, Value}
 use Rattle.rf2_rows.proofs.DistinctLemmas.{keeps_each_number_once}
 use Rattle.snapshot.specs.AttributesBySource.{attributes_by_source}
 use Rattle.snapshot.proofs.CutLemmas.{same_maps}
-use Rattle.postings.specs.Coded.{AreCodedRows, AreRowMarks, IsBySource, IsCoded, all_group_marks, all_source_marks, group_codes}
-use Rattle.postings.specs.Coded.{of_source, row_coded}
+use Rattle.postings.specs.Coded.{AreCodedRows, AreRowMarks, IsBySource, IsCoded, all_group_marks, all_source_marks}
+use Rattle.postings.specs.Coded.{row_coded}
 use Rattle.postings.specs.Columns.{AreGroups, AreSources, Mark}
 use Rattle.postings.specs.Entries.{entries_of}
 use Rattle.postings.specs.Groups.{ConceptGroup, all_groups, groups_among, is_in_group, rows_alone}
 use Rattle.postings.specs.Indexed.{value_at}
-use Rattle.postings.specs.Places.{keys_from, places_by, places_where}
+use Rattle.postings.specs.Places.{places_by, places_where}
 use Rattle.postings.specs.RowIndexes.{has_source, has_type, has_value}
 use Rattle.postings.specs.ValueTables.{values_in}
 use Rattle.postings.specs.declared.groups.RowMarks.{RowMarks}
 use Rattle.postings.specs.declared.rows.CodedRow.{CodedRow}
 use Rattle.postings.specs.declared.rows.CodedRows.{CodedRows}
 use Rattle.postings.proofs.AgainLemmas.{by_source_again}
-use Rattle.postings.proofs.BlockLemmas.{blocks-same}
 use Rattle.postings.proofs.CodeLemmas.{same_type}
-use Rattle.postings.proofs.GroupsToldLemmas.{group_concepts_below, group_concepts_told, group_rows_told, groups_told, starts_told}
+use Rattle.postings.proofs.GroupsToldLemmas.{group_rows_told, groups_told, starts_told}
 use Rattle.postings.proofs.IndexLemmas.{length-groups, length-sources}
 use Rattle.postings.proofs.PlaceLemmas.{places_where-agree, places_where-map}
-use Rattle.postings.proofs.SourceLemmas.{groups_ahead-le, groups_ahead-more}
+use Rattle.postings.proofs.SourceLemmas.{groups_ahead-le}
 use Rattle.postings.proofs.SourcesToldLemmas.{by_source_coded, sources_told}
 use Rattle.postings.proofs.ValueLemmas.{rising_apart, value_of_concept, values_exact}
-
--- as many of one number as there are items
-replicated : {X : Type 0} (n : ℕ) (xs : List X) → replicate (length xs) n ≡ map (λ x. n) xs
-replicated n [] = refl
-replicated n (x ∷ xs) = ap (λ (rest : List ℕ). n ∷ rest) (replicated n xs)
 
 module _ (release : Release) (rises : IsStrictlyIncreasing release.concepts) (coded : CodedRows)
     (are : AreCodedRows release.concepts (attributes_by_source release) coded) where
@@ -129,15 +123,6 @@ module _ (release : Release) (rises : IsStrictlyIncreasing release.concepts) (co
     starts_are concept near = marked.starts concept near
         ∙ sym (starts_told release.concepts types all rises once exact codes are.within rows (sym are.stand_for) concept near)
 
-    pub starts_rise : (concept : ℕ) → concept + 1 < length starts → get_or starts concept 0 ≤ get_or starts (concept + 1) 0
-    starts_rise concept near =
-        omega (
-          arith,
-          marked.starts concept (omega (arith, near, long)),
-          marked.starts (concept + 1) (omega (arith, near, long)),
-          groups_ahead-more codes concept,
-        )
-
     pub starts_last : get_or starts (length starts - 1) 0 ≡ length (all_groups (rows_alone release.concepts rows))
     starts_last =
         let last : length starts - 1 ≡ length release.concepts = omega (arith, long) in
@@ -159,37 +144,6 @@ module _ (release : Release) (rises : IsStrictlyIncreasing release.concepts) (co
       where
         last : length starts - 1 ≡ length release.concepts
         last = omega (arith, long)
-
-    -- the concepts by the starts are those of the groups
-    listed : keys_from starts (length starts - 1)
-        ≡ flat_map (λ s. map (λ (code : ℕ × (ℕ × ℕ)). s) (group_codes (of_source codes s)))
-        (range_with_len 0 (length release.concepts))
-    listed =
-        let last : length starts - 1 ≡ length release.concepts = omega (arith, long) in
-        ap (keys_from starts) last
-        ∙ blocks-same (λ concept. replicate (get_or starts (concept + 1) 0 - get_or starts concept 0) concept)
-        (λ s. map (λ (code : ℕ × (ℕ × ℕ)). s) (group_codes (of_source codes s))) 0 (length release.concepts)
-        (λ s below. ap (λ (n : ℕ). replicate n s) (gap s (omega (arith, below))) ∙ replicated s (group_codes (of_source codes s)))
-      where
-        gap : (s : ℕ) → s < length release.concepts → get_or starts (s + 1) 0 - get_or starts s 0
-            ≡ length (group_codes (of_source codes s))
-        gap s below = omega (
-          arith,
-          marked.starts s (omega (arith, below)),
-          marked.starts (s + 1) (omega (arith, below)),
-          groups_ahead-more codes s,
-        )
-
-    pub concepts_are : (kept : List ℕ) → kept ≡ keys_from starts (length starts - 1)
-        → All (λ concept. concept < length release.concepts) kept
-        × (map (λ n. get_or release.concepts n 0) kept
-        ≡ map (λ (group : ConceptGroup). group.concept) (all_groups (rows_alone release.concepts rows)))
-    concepts_are kept is = (
-      subst (λ (xs : List ℕ). All (λ concept. concept < length release.concepts) xs) (sym (is ∙ listed))
-          (group_concepts_below codes (length release.concepts)),
-      ap (map (λ n. get_or release.concepts n 0)) (is ∙ listed)
-          ∙ group_concepts_told release.concepts types all rises once exact codes are.within rows (sym are.stand_for),
-    )
 
     -- the rows of each group
     pub group_rows_are : places_by (get_or starts (length starts - 1) 0)

@@ -1,6 +1,7 @@
 -- The lists of rows by type and by value, with their columns.
 use Rattle.std.proofs.Common.{ℕ, ◌-◌, ◌≡◌, ◌≤◌, ◌<◌, ◌^◌, ◌∙◌, [], Bool, true, List, length, get_or}
 use Rattle.std.proofs.Common.{map, refl, sym, ap, subst, arith}
+use Rattle.std.specs.Prelude.{All}
 use Rattle.std.specs.List.{concat, range_with_len}
 use Rattle.std.specs.List.Sorted.{IsStrictlyIncreasing}
 use Rattle.std.proofs.lemmas.List.{length-map}
@@ -15,7 +16,7 @@ use Rattle.postings.specs.Columns.{AreGroups, AreSources, AreTypes, AreValues, M
 use Rattle.postings.specs.Entries.{Entry, entries_of, entries_where}
 use Rattle.postings.specs.Groups.{ConceptGroup, all_groups, rows_alone}
 use Rattle.postings.specs.Indexed.{types_of, value_at}
-use Rattle.postings.specs.Places.{keys_from, places_by, places_where}
+use Rattle.postings.specs.Places.{places_by, places_where}
 use Rattle.postings.specs.RowIndexes.{AreByType, AreByValue, AreGroupLists, AreListsBy, has_type, has_value}
 use Rattle.postings.specs.ValueTables.{values_in}
 use Rattle.postings.specs.declared.columns.RowLists.{RowLists}
@@ -25,8 +26,8 @@ use Rattle.postings.specs.declared.rows.CodedRow.{CodedRow}
 use Rattle.postings.specs.declared.rows.CodedRows.{CodedRows}
 use Rattle.postings.proofs.CellLemmas.{groups_at, long_cells, sources_at, types_at, values_at}
 use Rattle.postings.proofs.IndexLemmas.{list_at, rows_of_entries}
-use Rattle.postings.proofs.RowIndexLemmas.{by_type_are, by_value_are, concepts_are, few_codes, few_groups, group_rows_are, groups_are}
-use Rattle.postings.proofs.RowIndexLemmas.{length-group_marks, length-source_marks, sources_are, starts_are}
+use Rattle.postings.proofs.RowIndexLemmas.{by_type_are, by_value_are, few_codes, few_groups, group_rows_are, groups_are}
+use Rattle.postings.proofs.RowIndexLemmas.{length-group_marks, length-source_marks, sources_are, starts_are, starts_last}
 
 module _ (release : Release) (rises : IsStrictlyIncreasing release.concepts) (coded : CodedRows)
     (are : AreCodedRows release.concepts (attributes_by_source release) coded) where
@@ -73,6 +74,14 @@ module _ (release : Release) (rises : IsStrictlyIncreasing release.concepts) (co
         types = map-map (λ place. get_or types place 0) (λ (row : CodedRow). row.type_place) codes
             ∙ field_of (λ row. get_or types row.type_place 0) (λ row. row.type_id) (λ row. refl);
       })
+
+  -- the places of the types are below how many types there are
+  pub type_places_below : (count : ℕ) → count ≡ length types
+      → All (λ place. place < count) (map (λ (row : CodedRow). row.type_place) codes)
+  type_places_below count same =
+      All-map (λ place. place < count) (λ (row : CodedRow). row.type_place) codes
+      (All-weaker (IsCoded release.concepts types all) (λ (row : CodedRow). row.type_place < count)
+      (λ row is. omega (arith, is.type_place, same)) codes are.within)
 
   module _ (marks : RowMarks) (marked : AreRowMarks (length release.concepts) codes marks) where
     marks_told : AreSources release.concepts (entries_of rows) marks.sources.items
@@ -160,23 +169,19 @@ module _ (release : Release) (rises : IsStrictlyIncreasing release.concepts) (co
           (subst (AreTypes (types_of rows) (entries_of rows)) (sym others_are) types_told) other_cells)
 
     -- the groups of the rows
-    module _ (lists : GroupLists) (of_rows_is : lists.of_rows.items ≡ marks.groups.items)
+    module _ (lists : GroupLists) (numbers_len : length lists.numbers.items ≡ get_or marks.starts.items (length marks.starts.items - 1) 0)
         (starts_is : lists.starts.items ≡ marks.starts.items)
-        (concepts_is : lists.concepts.items ≡ keys_from marks.starts.items (length marks.starts.items - 1))
         (rows_is : lists.rows ≡ places_by (get_or marks.starts.items (length marks.starts.items - 1) 0)
         (map (λ (mark : Mark). mark.number) marks.groups.items)) where
       pub group_lists_told : AreGroupLists release.concepts rows lists
       group_lists_told =
-          let kept = concepts_are release rises coded are marks marked lists.concepts.items concepts_is in
           record {
             few = smaller (length groups) (length codes) (few_groups release rises coded are marks marked)
                 (few_codes release rises coded are);
-            of_rows = subst (AreGroups groups (entries_of rows)) (sym of_rows_is) groups_told;
+            numbers_len = numbers_len ∙ starts_last release rises coded are marks marked;
             starts_len = ap (λ (xs : List ℕ). length xs) starts_is ∙ omega (arith, marked.starts_len);
             starts = λ concept near.
                 ap (λ (xs : List ℕ). get_or xs concept 0) starts_is ∙ starts_are release rises coded are marks marked concept near;
-            within = kept.0;
-            sources = kept.1;
             each = rows_is ∙ ap (λ (xs : List Mark). places_by (get_or marks.starts.items (length marks.starts.items - 1) 0)
                 (map (λ (mark : Mark). mark.number) xs)) marked.groups
                 ∙ group_rows_are release rises coded are marks marked;

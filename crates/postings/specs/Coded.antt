@@ -12,6 +12,8 @@ use Rattle.postings.specs.ValueTables.{AreTables, values_in}
 use Rattle.postings.specs.declared.groups.RowMarks.{RowMarks}
 use Rattle.postings.specs.declared.rows.CodedRow.{CodedRow}
 use Rattle.postings.specs.declared.rows.CodedRows.{CodedRows}
+use Rattle.postings.specs.declared.rows.Types.{Types}
+use Rattle.postings.specs.declared.values.Values.{Values}
 
 -- the row that numbers stand for
 abbrev pub row_coded : List ℕ → List ℕ → List Value → CodedRow → Attribute
@@ -28,20 +30,23 @@ pub record IsCoded (concepts types : List ℕ) (values : List Value) (row : Code
   pub type_place : row.type_place < length types
   pub value : row.value < length values
 
--- the rows that numbers and their tables stand for
-abbrev pub rows_coded : List ℕ → CodedRows → List Attribute
-rows_coded concepts coded =
-    map (row_coded concepts coded.types.numbers.keys (values_in concepts coded.values)) coded.rows.items
+-- the rows that numbers stand for by their tables
+abbrev pub rows_coded : List ℕ → Types → Values → List CodedRow → List Attribute
+rows_coded concepts types values rows = map (row_coded concepts types.numbers.keys (values_in concepts values)) rows
 
 -- the numbers and their tables are those of some attribute rows of some concepts
-pub record AreCodedRows (concepts : List ℕ) (rows : List Attribute) (coded : CodedRows) : Type 0 where
-  pub stand_for : rows_coded concepts coded ≡ rows
-  pub within : All (IsCoded concepts coded.types.numbers.keys (values_in concepts coded.values)) coded.rows.items
-  pub types : coded.types.numbers.keys ≡ types_of rows
-  pub ids : coded.types.ids.items ≡ coded.types.numbers.keys
-  pub tables : AreTables coded.values
+pub record AreCoded (concepts : List ℕ) (rows : List Attribute) (type_table : Types) (value_table : Values) (coded : List CodedRow) :
+    Type 0 where
+  pub stand_for : rows_coded concepts type_table value_table coded ≡ rows
+  pub within : All (IsCoded concepts type_table.numbers.keys (values_in concepts value_table)) coded
+  pub types : type_table.numbers.keys ≡ types_of rows
+  pub ids : type_table.ids.items ≡ type_table.numbers.keys
+  pub tables : AreTables value_table
   pub few : length rows < 2 ^ 31
-  pub few_values : length (values_in concepts coded.values) < 2 ^ 32
+  pub few_values : length (values_in concepts value_table) < 2 ^ 32
+
+abbrev pub AreCodedRows : List ℕ → List Attribute → CodedRows → Type 0
+AreCodedRows concepts rows coded = AreCoded concepts rows coded.types coded.values coded.rows.items
 
 -- the rows of a source
 abbrev pub of_source : List CodedRow → ℕ → List CodedRow

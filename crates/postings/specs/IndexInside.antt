@@ -3,6 +3,7 @@ use Rattle.std.specs.Prelude.{◌≡◌, ◌<◌, ◌^◌, length}
 use Rattle.std.specs.List.Sorted.{IsStrictlyIncreasing}
 use Rattle.postings.specs.Coded.{rows_coded}
 use Rattle.postings.specs.Indexed.{Indexed}
+use Rattle.postings.specs.KeptRows.{rows_kept}
 use Rattle.postings.specs.RowIndexes.{AreRowIndexes}
 use Rattle.postings.specs.ValueTables.{texts_in}
 use Rattle.postings.specs.declared.index.Indexes.TheInside.{Inside}
@@ -11,10 +12,10 @@ abbrev pub indexed_in : Inside → Indexed
 indexed_in inside = record {
   concepts = inside.concepts.items;
   hierarchy = inside.hierarchy;
-  rows = rows_coded inside.concepts.items inside.rows.coded;
+  rows = rows_coded inside.concepts.items inside.rows.types inside.rows.values (rows_kept inside.rows);
   members = inside.members;
-  decimals = inside.rows.coded.values.decimals.keys;
-  texts = texts_in inside.rows.coded.values;
+  decimals = inside.rows.values.decimals.keys;
+  texts = texts_in inside.rows.values;
 }
 
 -- the concepts rise and have numbers of less than 31 bits; the rows and their lists are those that they stand for; and each

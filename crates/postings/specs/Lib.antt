@@ -5,6 +5,7 @@ pub mod Entries
 pub mod Groups
 pub mod IndexInside
 pub mod Indexed
+pub mod KeptRows
 pub mod KeyedPlaces
 pub mod Laws
 pub mod Packed

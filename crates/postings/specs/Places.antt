@@ -1,6 +1,6 @@
 -- The places of the items of a list that pass a test.
-use Rattle.std.specs.Prelude.{ℕ, ◌+◌, ◌-◌, ◌==◌, Bool, if◌then◌else◌, List, [], ◌∷◌, map, replicate, slice_index}
-use Rattle.std.specs.List.{flat_map, range_with_len}
+use Rattle.std.specs.Prelude.{ℕ, ◌+◌, ◌==◌, Bool, if◌then◌else◌, List, [], ◌∷◌, map}
+use Rattle.std.specs.List.{range_with_len}
 
 -- the places of the items that pass a test, in rising order, where the first item has a place
 abbrev pub places_from : {X : Type 0} → ℕ → (X → Bool) → List X → List ℕ
@@ -15,8 +15,3 @@ places_where test items = places_from 0 test items
 -- of the keys of some items, for each key below a count the places of the items that have it
 abbrev pub places_by : ℕ → List ℕ → List (List ℕ)
 places_by count keys = map (λ key. places_where (λ other. other == key) keys) (range_with_len 0 count)
-
--- of so many keys, whose items start at some places, the key of each item
-abbrev pub keys_from : List ℕ → ℕ → List ℕ
-keys_from starts count =
-    flat_map (λ key. replicate (slice_index starts (key + 1) - slice_index starts key) key) (range_with_len 0 count)

@@ -1,15 +1,16 @@
 -- What the indexes of attribute rows keep.
-use Rattle.std.specs.Prelude.{ℕ, ◌+◌, ◌==◌, ◌≡◌, ◌≤◌, ◌<◌, ◌^◌, Bool, All, List, length, map, slice_index}
+use Rattle.std.specs.Prelude.{ℕ, ◌+◌, ◌==◌, ◌≡◌, ◌≤◌, ◌<◌, ◌^◌, Bool, List, length, map, slice_index}
 use Rattle.std.specs.Prelude.{take}
-use Rattle.std.specs.List.{range_with_len}
+use Rattle.std.specs.List.{concat, range_with_len}
 use Rattle.rf2_rows.specs.Pairs.{value_eq}
 use Rattle.rf2_rows.specs.Release.{Attribute, Value, concept_value}
-use Rattle.postings.specs.Coded.{AreCodedRows}
+use Rattle.postings.specs.Coded.{AreCoded}
 use Rattle.postings.specs.Cells.{AreColumns, cells_of}
 use Rattle.postings.specs.Columns.{AreGroups, AreSources, AreTypes, AreValues}
 use Rattle.postings.specs.Entries.{Entry, entries_of, entries_where}
-use Rattle.postings.specs.Groups.{ConceptGroup, all_groups, groups_among, is_in_group, rows_alone}
+use Rattle.postings.specs.Groups.{all_groups, groups_among, is_in_group, rows_alone}
 use Rattle.postings.specs.Indexed.{types_of}
+use Rattle.postings.specs.KeptRows.{IsKept, groups_kept, rows_ahead, rows_kept}
 use Rattle.postings.specs.Places.{places_where}
 use Rattle.postings.specs.ValueTables.{values_in}
 use Rattle.postings.specs.declared.columns.RowLists.{RowLists}
@@ -37,6 +38,10 @@ has_value concepts concept row = value_eq row.value (concept_value (slice_index 
 abbrev pub has_source : List ℕ → ℕ → Attribute → Bool
 has_source concepts concept row = row.source == slice_index concepts concept
 
+-- the rows of each source
+abbrev pub rows_by_sources : List ℕ → List Attribute → List (List ℕ)
+rows_by_sources concepts rows = map (λ concept. places_where (has_source concepts concept) rows) (range_with_len 0 (length concepts))
+
 -- the rows of each type, and of each value that is a concept
 abbrev pub AreByType : List ℕ → List Value → List Attribute → RowLists → Type 0
 AreByType concepts values rows lists =
@@ -45,23 +50,23 @@ AreByType concepts values rows lists =
 abbrev pub AreByValue : List ℕ → List Attribute → RowLists → Type 0
 AreByValue concepts rows lists = AreListsBy concepts rows (length concepts) (has_value concepts) (AreTypes (types_of rows)) lists
 
--- the groups: that of each row, the first one of each concept, and the concept and the rows of each
+-- the groups: how many numbers there are, the first group of each concept, and the rows of each
 pub record AreGroupLists (concepts : List ℕ) (rows : List Attribute) (lists : GroupLists) : Type 0 where
   pub few : length (all_groups (rows_alone concepts rows)) < 2 ^ 31
-  pub of_rows : AreGroups (all_groups (rows_alone concepts rows)) (entries_of rows) lists.of_rows.items
+  pub numbers_len : length lists.numbers.items ≡ length (all_groups (rows_alone concepts rows))
   pub starts_len : length lists.starts.items ≡ length concepts + 1
   pub starts : (concept : ℕ) → concept ≤ length concepts
       → slice_index lists.starts.items concept ≡ length (groups_among (rows_alone concepts rows) (take concept concepts))
-  pub within : All (λ concept. concept < length concepts) lists.concepts.items
-  pub sources : map (slice_index concepts) lists.concepts.items
-      ≡ map (λ (group : ConceptGroup). group.concept) (all_groups (rows_alone concepts rows))
   pub each : lists.rows ≡ map (λ group. places_where (is_in_group group) rows) (all_groups (rows_alone concepts rows))
 
 -- the indexes are those of some attribute rows, sorted by source, of some concepts
 pub record AreRowIndexes (concepts : List ℕ) (rows : List Attribute) (indexes : RowIndexes) : Type 0 where
-  pub coded : AreCodedRows concepts rows indexes.coded
-  pub by_source : indexes.by_source ≡ map (λ concept. places_where (has_source concepts concept) rows)
-      (range_with_len 0 (length concepts))
-  pub by_type : AreByType concepts (values_in concepts indexes.coded.values) rows indexes.by_type
+  pub coded : AreCoded concepts rows indexes.types indexes.values (rows_kept indexes)
+  pub kept : (n : ℕ) → n < length rows → IsKept indexes n
+  pub units : AreGroups (all_groups (rows_alone concepts rows)) (entries_of rows) (groups_kept indexes)
+  pub row_numbers : indexes.row_numbers.items ≡ concat (rows_by_sources concepts rows)
+  pub ahead : (concept : ℕ) → concept ≤ length concepts
+      → rows_ahead indexes (slice_index indexes.groups.starts.items concept) ≡ length (concat (take concept (rows_by_sources concepts rows)))
+  pub by_type : AreByType concepts (values_in concepts indexes.values) rows indexes.by_type
   pub by_value : AreByValue concepts rows indexes.by_value
   pub groups : AreGroupLists concepts rows indexes.groups

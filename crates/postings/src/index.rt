@@ -108,7 +108,7 @@ impl Indexes {
         ensures count { result ≡ length self.now.rows }
         ensures few { length self.now.rows < 2 ^ 31 }
     {
-        self.rows.coded.rows.len() as u32
+        self.rows.type_places.len() as u32
     }
 
     /// An attribute row by its number, which is below `row_count`.
@@ -117,10 +117,10 @@ impl Indexes {
         ensures row { slice_get self.now.rows n ≡ Some (with_source self.now.concepts (attribute_of result)) }
         ensures source { result.source < length self.now.concepts }
     {
-        let row = self.rows.coded.rows[n as usize];
+        let row = self.rows.row(n);
         AttributeRow {
             source: row.source,
-            type_id: self.rows.coded.types.ids[row.type_place as usize],
+            type_id: self.rows.types.ids[row.type_place as usize],
             group: row.group,
             value: self.value(row.value),
         }
@@ -130,7 +130,7 @@ impl Indexes {
     pub fn by_type(&self, id: u64) -> &[u32]
         ensures { result.now ≡ rows_by_type self.now id }
     {
-        match self.rows.coded.types.numbers.get_index_of(&id) {
+        match self.rows.types.numbers.get_index_of(&id) {
             Some(type_place) => self.rows.by_type.rows.of(type_place as u32),
             None => &[],
         }
@@ -140,7 +140,7 @@ impl Indexes {
     pub fn type_columns(&self, id: u64) -> TypeColumns<'_>
         ensures { AreTypeColumns self.now id result }
     {
-        match self.rows.coded.types.numbers.get_index_of(&id) {
+        match self.rows.types.numbers.get_index_of(&id) {
             Some(type_place) => {
                 let columns = self.rows.by_type.columns(type_place as u32);
                 TypeColumns {
@@ -184,14 +184,14 @@ impl Indexes {
         requires { concept < length self.now.concepts }
         ensures { result.now ≡ rows_by_source self.now concept }
     {
-        self.rows.by_source.of(concept)
+        self.rows.of_source(concept)
     }
 
     /// The types of all rows, each once, in the order of their first rows.
     pub fn types(&self) -> &[SctId]
         ensures { result.now ≡ types_of self.now.rows }
     {
-        self.rows.coded.types.ids.as_slice()
+        self.rows.types.ids.as_slice()
     }
 
     /// The decimals among the values of the rows in rising order and once each, as so many times 10^-18. Their
@@ -201,7 +201,7 @@ impl Indexes {
         ensures rising { IsSorted int_cmp self.now.decimals }
         ensures few { length self.now.concepts + length self.now.decimals < 2 ^ 32 }
     {
-        self.rows.coded.values.decimals.as_slice()
+        self.rows.values.decimals.as_slice()
     }
 
     /// The value with a number: of a concept its own number, of a decimal its place in `decimals` behind the
@@ -215,7 +215,7 @@ impl Indexes {
         if number < concepts {
             return Value::Concept(self.concepts[number]);
         }
-        self.rows.coded.values.value(number - concepts)
+        self.rows.values.value(number - concepts)
     }
 
     /// How many groups all concepts have.
@@ -223,7 +223,7 @@ impl Indexes {
         ensures count { result ≡ length (groups_in self.now) }
         ensures few { length (groups_in self.now) < 2 ^ 31 }
     {
-        self.rows.groups.concepts.len() as u32
+        self.rows.groups.numbers.len() as u32
     }
 
     /// The numbers of the groups of a concept. `concept` is below the number of concepts (Release File
@@ -251,7 +251,9 @@ impl Indexes {
         ensures within { result < length self.now.concepts }
         ensures concept { IfSome (slice_get (groups_in self.now) unit) (λ group. slice_index self.now.concepts result ≡ group.concept) }
     {
-        self.rows.groups.concepts[unit as usize]
+        let first = self.rows.groups.rows.of(unit)[0];
+        let at = self.rows.places[first as usize];
+        self.rows.by_type.sources[at as usize].number()
     }
 
     /// The group of a row, whose number is below `row_count`.
@@ -259,7 +261,8 @@ impl Indexes {
         requires { n < length self.now.rows }
         ensures { IfSome (slice_get self.now.rows n) (λ row. slice_get (groups_in self.now) result ≡ Some (group_of row)) }
     {
-        self.rows.groups.of_rows[n as usize].number()
+        let place = self.rows.places[n as usize];
+        self.rows.by_type.groups[place as usize].number()
     }
 }
 

@@ -1,5 +1,5 @@
 //! Lists of rows by a key, and columns beside them.
-ghost use Rattle.std.specs.Prelude.{◌≡◌, ◌<◌, ◌^◌, All, IfOk, length};
+ghost use Rattle.std.specs.Prelude.{ℕ, ◌≡◌, ◌<◌, ◌^◌, All, Contains, IfOk, Some, length, slice_get, slice_index, vec_len};
 ghost use Rattle.postings.specs.Cells.{IsColumn};
 ghost use Rattle.postings.specs.KeyedPlaces.{keyed_places};
 ghost use Rattle.postings.specs.Places.{places_by};
@@ -40,4 +40,20 @@ pub fn column<T: Copy>(alloc: Global, cells: &[T], places: &[u32]) -> Result<Vec
         column.push(cells[*place as usize])?;
     }
     Ok(column)
+}
+
+/// For each number below a count its place among some, which have each of them.
+pub fn places_among(alloc: Global, count: usize, numbers: &[u32]) -> Result<Vec<u32>, AllocError>
+    requires few { length numbers.now < 2 ^ 32 }
+    requires within { All (λ number. number < count) numbers.now }
+    requires all { (number : ℕ) → number < count → Contains numbers.now number }
+    ensures len { IfOk result (λ places. vec_len places ≡ count) }
+    ensures found { IfOk result (λ places. (number : ℕ) → number < count
+        → slice_get numbers.now (slice_index places.items number) ≡ Some number) }
+{
+    let mut places = vec![in alloc; 0u32; count]?;
+    for (place, number) in numbers.iter().enumerate() {
+        places[*number as usize] = place as u32;
+    }
+    Ok(places)
 }

@@ -1,23 +1,34 @@
 //! The indexes of attribute rows.
-ghost use Rattle.std.specs.Prelude.{ℕ, ◌≡◌, ◌+◌, ◌-◌, ◌≤◌, ◌<◌, ◌^◌, IfOk, length, map, slice_index, vec_len};
+ghost use Rattle.std.specs.Prelude.{◌≡◌, ◌+◌, ◌-◌, ◌≤◌, ◌<◌, ◌^◌, All, IfOk, length, map, slice_index, vec_len};
+ghost use Rattle.std.specs.List.{concat};
 ghost use Rattle.snapshot.specs.AttributesBySource.{attributes_by_source};
+ghost use Rattle.postings.specs.Coded.{AreRowMarks, IsBySource};
 ghost use Rattle.postings.specs.Columns.{Mark as Marked};
-ghost use Rattle.postings.specs.Places.{keys_from, places_by};
+ghost use Rattle.postings.specs.KeptRows.{AreNumbersOf, HaveOneNumber, IsKept, row_kept, rows_between};
+ghost use Rattle.postings.specs.Places.{places_by};
 ghost use Rattle.postings.specs.RowIndexes.{AreRowIndexes};
 
 use crate::columns::{RowLists, row_lists};
 use crate::groups::{RowMarks, row_marks};
-use crate::lists::places_by_key;
+use crate::lists::{places_among, places_by_key};
 use crate::mark::Mark;
-use crate::rows::{CodedRow, CodedRows, coded_rows};
+use crate::rows::{CodedRow, Types, coded_rows};
+use crate::values::Values;
 use snapshot::{KeyedLists, Snapshot};
 use std::alloc::{AllocError, Global};
 
-/// The attribute rows of a release, and the rows of each source, type, value and group.
+/// The attribute rows of a release, and the rows of each source, type, value and group. A row is told by the place
+/// of its type and by the columns by type: at its place among them stand its source, its value and its group.
 #[derive(Drop)]
 pub struct RowIndexes {
-    pub coded: CodedRows,
-    pub by_source: KeyedLists,
+    pub types: Types,
+    pub values: Values,
+    /// For each row the place of its type among all types.
+    pub type_places: Vec<u32>,
+    /// For each row its place among the rows of all types, one type behind the other.
+    pub places: Vec<u32>,
+    /// The numbers of all rows, rising. The rows of a source are a part of them.
+    pub row_numbers: Vec<u32>,
     /// The columns have the values.
     pub by_type: RowLists,
     /// The columns have the types.
@@ -28,14 +39,49 @@ pub struct RowIndexes {
 /// The groups of all concepts.
 #[derive(Drop, Debug)]
 pub struct GroupLists {
-    /// The group of each row.
-    pub of_rows: Vec<Mark>,
+    /// The number of each group, 0 where it has none.
+    pub numbers: Vec<u32>,
     /// The first group of each concept, and at the end how many groups there are.
     pub starts: Vec<u32>,
-    /// The concept of each group.
-    pub concepts: Vec<u32>,
     /// The rows of each group.
     pub rows: KeyedLists,
+}
+
+impl RowIndexes {
+    /// A row by its number.
+    #[inline]
+    pub fn row(&self, n: u32) -> CodedRow
+        requires { IsKept self.now n }
+        ensures { result ≡ row_kept self.now n }
+    {
+        let place = self.places[n as usize] as usize;
+        let unit = self.by_type.groups[place].number();
+        CodedRow {
+            source: self.by_type.sources[place].number(),
+            type_place: self.type_places[n as usize],
+            group: self.groups.numbers[unit as usize],
+            value: self.by_type.others[place],
+        }
+    }
+
+    /// The rows of a source. Groups stand source by source as rows do, so they begin behind the rows of the groups
+    /// of the sources before it.
+    pub fn of_source(&self, concept: u32) -> &[u32]
+        requires starts { concept + 1 < vec_len self.now.groups.starts }
+        requires rise { slice_index self.now.groups.starts.items concept ≤ slice_index self.now.groups.starts.items (concept + 1) }
+        requires end { slice_index self.now.groups.starts.items (concept + 1) ≤ length self.now.groups.rows }
+        requires long { vec_len self.now.row_numbers ≡ length (concat self.now.groups.rows) }
+        ensures { result.now ≡ rows_between self.now concept }
+    {
+        let first = self.groups.starts[concept as usize];
+        let next = self.groups.starts[concept as usize + 1];
+        if first == next {
+            return &[];
+        }
+        let (from, _) = self.groups.rows.span(first);
+        let (_, to) = self.groups.rows.span(next - 1);
+        &self.row_numbers[from..to]
+    }
 }
 
 /// The indexes of the attribute rows of a release.
@@ -44,34 +90,55 @@ pub fn row_indexes(alloc: Global, snapshot: &Snapshot) -> Result<RowIndexes, All
 {
     let coded = coded_rows(alloc, snapshot)?;
     let count = snapshot.concept_count();
-    let sources = sources_of(alloc, coded.rows.as_slice())?;
+    let (marks, row_numbers) = marks_by_source(alloc, count, coded.rows.as_slice())?;
+    let groups = group_lists(alloc, &marks, coded.rows.as_slice())?;
     let type_places = type_places_of(alloc, coded.rows.as_slice())?;
-    let values = values_of(alloc, coded.rows.as_slice())?;
-    let by_source = places_by_key(alloc, count, sources.as_slice())?;
-    let marks = row_marks(alloc, coded.rows.as_slice(), &by_source)?;
-    let types = coded.types.ids.len() as u32;
+    let cells = values_of(alloc, coded.rows.as_slice())?;
+    let (types, values) = coded.into_tables();
     let by_type = row_lists(
         alloc,
-        types,
+        types.ids.len() as u32,
         type_places.as_slice(),
-        values.as_slice(),
+        cells.as_slice(),
         &marks,
     )?;
+    let places = places_among(alloc, type_places.len(), by_type.rows.flat())?;
     let by_value = row_lists(
         alloc,
         count,
-        values.as_slice(),
+        cells.as_slice(),
         type_places.as_slice(),
         &marks,
     )?;
-    let groups = group_lists(alloc, marks)?;
     Ok(RowIndexes {
-        coded,
-        by_source,
+        types,
+        values,
+        type_places,
+        places,
+        row_numbers,
         by_type,
         by_value,
         groups,
     })
+}
+
+// The marks of the rows, and the rows of all sources, one source behind the other.
+fn marks_by_source(
+    alloc: Global,
+    count: u32,
+    rows: &[CodedRow],
+) -> Result<(RowMarks, Vec<u32>), AllocError>
+    requires few { length rows.now < 2 ^ 31 }
+    requires few_sources { count < 2 ^ 31 }
+    requires sorted { IsBySource count rows.now }
+    ensures marks { IfOk result (λ made. AreRowMarks count rows.now made.0) }
+    ensures rows { IfOk result (λ made. made.1.items ≡ concat (places_by count (map (λ (row : CodedRow). row.source) rows.now))) }
+{
+    let sources = sources_of(alloc, rows)?;
+    let by_source = places_by_key(alloc, count, sources.as_slice())?;
+    let marks = row_marks(alloc, rows, &by_source)?;
+    let numbers = Vec::from_slice(alloc, by_source.flat())?;
+    Ok((marks, numbers))
 }
 
 // The sources of some rows, the places of their types, and the numbers of their values.
@@ -93,35 +160,51 @@ fn values_of(alloc: Global, rows: &[CodedRow]) -> Result<Vec<u32>, AllocError>
     rows.iter().map(|row| row.value).collect(alloc)
 }
 
-// The groups by the groups of the rows and the first group of each concept.
-fn group_lists(alloc: Global, marks: RowMarks) -> Result<GroupLists, AllocError>
-    requires few { vec_len marks.groups < 2 ^ 32 }
-    requires some { (0 < vec_len marks.starts) × (vec_len marks.starts ≤ 2 ^ 31) }
-    requires first { slice_index marks.starts.items 0 ≡ 0 }
-    requires rise { (concept : ℕ) → concept + 1 < vec_len marks.starts
-        → slice_index marks.starts.items concept ≤ slice_index marks.starts.items (concept + 1) }
-    ensures of_rows { IfOk result (λ lists. lists.of_rows.items ≡ marks.groups.items) }
-    ensures starts { IfOk result (λ lists. lists.starts.items ≡ marks.starts.items) }
-    ensures concepts { IfOk result (λ lists. lists.concepts.items ≡ keys_from marks.starts.items (vec_len marks.starts - 1)) }
+// The groups by the groups of the rows.
+fn group_lists(alloc: Global, marks: &RowMarks, rows: &[CodedRow]) -> Result<GroupLists, AllocError>
+    requires few { length rows.now < 2 ^ 32 }
+    requires some { 0 < vec_len marks.now.starts }
+    requires long { vec_len marks.now.groups ≡ length rows.now }
+    requires within { All (λ (mark : Marked). mark.number < slice_index marks.now.starts.items (vec_len marks.now.starts - 1))
+        marks.now.groups.items }
+    requires one { HaveOneNumber marks.now.groups.items rows.now }
+    ensures len { IfOk result (λ lists. vec_len lists.numbers ≡ slice_index marks.now.starts.items (vec_len marks.now.starts - 1)) }
+    ensures numbers { IfOk result (λ lists. AreNumbersOf marks.now.groups.items rows.now lists.numbers.items) }
+    ensures starts { IfOk result (λ lists. lists.starts.items ≡ marks.now.starts.items) }
     ensures rows { IfOk result (λ lists.
-        lists.rows ≡ places_by (slice_index marks.starts.items (vec_len marks.starts - 1))
-        (map (λ (mark : Marked). mark.number) marks.groups.items)) }
+        lists.rows ≡ places_by (slice_index marks.now.starts.items (vec_len marks.now.starts - 1))
+        (map (λ (mark : Marked). mark.number) marks.now.groups.items)) }
 {
-    let RowMarks {
-        sources: _,
-        groups: of_rows,
-        starts,
-    } = marks;
-    let numbers = numbers_of(alloc, of_rows.as_slice())?;
-    let count = starts[starts.len() - 1];
-    let rows = places_by_key(alloc, count, numbers.as_slice())?;
-    let concepts = concepts_by_starts(alloc, starts.as_slice())?;
+    let count = marks.starts[marks.starts.len() - 1];
+    let numbers = numbers_by_group(alloc, count, marks.groups.as_slice(), rows)?;
+    let units = numbers_of(alloc, marks.groups.as_slice())?;
+    let rows = places_by_key(alloc, count, units.as_slice())?;
+    let starts = Vec::from_slice(alloc, marks.starts.as_slice())?;
     Ok(GroupLists {
-        of_rows,
+        numbers,
         starts,
-        concepts,
         rows,
     })
+}
+
+// The number of each group, which all its rows have.
+fn numbers_by_group(
+    alloc: Global,
+    count: u32,
+    marks: &[Mark],
+    rows: &[CodedRow],
+) -> Result<Vec<u32>, AllocError>
+    requires long { length marks.now ≡ length rows.now }
+    requires within { All (λ (mark : Marked). mark.number < count) marks.now }
+    requires one { HaveOneNumber marks.now rows.now }
+    ensures len { IfOk result (λ numbers. vec_len numbers ≡ count) }
+    ensures numbers { IfOk result (λ numbers. AreNumbersOf marks.now rows.now numbers.items) }
+{
+    let mut numbers = vec![in alloc; 0u32; count as usize]?;
+    for (place, row) in rows.iter().enumerate() {
+        numbers[marks[place].number() as usize] = row.group;
+    }
+    Ok(numbers)
 }
 
 // The numbers of some marks.
@@ -129,19 +212,4 @@ fn numbers_of(alloc: Global, marks: &[Mark]) -> Result<Vec<u32>, AllocError>
     ensures { IfOk result (λ numbers. numbers.items ≡ map (λ (mark : Marked). mark.number) marks.now) }
 {
     marks.iter().map(|mark| mark.number()).collect(alloc)
-}
-
-// The concept of each group, by the first group of each concept.
-fn concepts_by_starts(alloc: Global, starts: &[u32]) -> Result<Vec<u32>, AllocError>
-    requires some { (0 < length starts.now) × (length starts.now ≤ 2 ^ 31) }
-    requires first { slice_index starts.now 0 ≡ 0 }
-    requires rise { (concept : ℕ) → concept + 1 < length starts.now
-        → slice_index starts.now concept ≤ slice_index starts.now (concept + 1) }
-    ensures { IfOk result (λ concepts. concepts.items ≡ keys_from starts.now (length starts.now - 1)) }
-{
-    let mut concepts = Vec::with_capacity(alloc, starts[starts.len() - 1] as usize)?;
-    for concept in 0..starts.len() - 1 {
-        concepts.resize(starts[concept + 1] as usize, concept as u32)?;
-    }
-    Ok(concepts)
 }

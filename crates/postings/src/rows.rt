@@ -62,6 +62,21 @@ pub fn coded_rows(alloc: Global, snapshot: &Snapshot) -> Result<CodedRows, Alloc
     })
 }
 
+impl CodedRows {
+    /// The tables without the rows, whose memory is given back.
+    pub fn into_tables(self) -> (Types, Values)
+        ensures types { result.0 ≡ self.types }
+        ensures values { result.1 ≡ self.values }
+    {
+        let CodedRows {
+            rows: _,
+            types,
+            values,
+        } = self;
+        (types, values)
+    }
+}
+
 impl Types {
     // The place of a type, which is added if it is new.
     fn place_of(&mut self, id: SctId) -> Result<u32, AllocError>

@@ -1,83 +1,85 @@
-use Rattle.std.proofs.Common.{ℕ, ◌≡◌, ◌-◌, ◌∙◌, List, length, get_or, map, vec_len, sym, ap, subst, arith}
+use Rattle.std.proofs.Common.{ℕ, ◌-◌, ◌≡◌, ◌<◌, ◌∙◌, List, Some, length, get_or, map, take, vec_len, sym, ap, subst, arith}
+use Rattle.std.specs.Prelude.{All, Contains, slice_get, slice_index}
+use Rattle.std.specs.List.{concat}
 use Rattle.std.proofs.lemmas.List.{length-map}
 use Rattle.snapshot.specs.AttributesBySource.{attributes_by_source}
+use Rattle.postings.specs.Cells.{AreRowLists}
 use Rattle.postings.specs.Coded.{AreRowMarks, IsBySource}
 use Rattle.postings.specs.Columns.{Mark as Marked}
-use Rattle.postings.specs.Places.{keys_from, places_by}
+use Rattle.postings.specs.KeptRows.{AreNumbersOf, HaveOneNumber}
+use Rattle.postings.specs.Places.{places_by}
+use Rattle.postings.specs.RowIndexes.{AreByType}
+use Rattle.postings.specs.ValueTables.{values_in}
+use Rattle.postings.specs.declared.row_indexes.RowIndexes.{RowIndexes}
 use Rattle.postings.specs.declared.rows.CodedRow.{CodedRow}
+use Rattle.postings.specs.declared.rows.Types.{Types}
+use Rattle.postings.specs.declared.values.Values.{Values}
+use Rattle.postings.proofs.ColumnLemmas.{places_by-within}
 use Rattle.postings.proofs.IndexLemmas.{few_types}
-use Rattle.postings.proofs.PlaceLemmas.{length-places_by}
-use Rattle.postings.proofs.RowIndexLemmas.{by_source_are, few_codes, is_sorted, length-group_marks, starts_rise}
-use Rattle.postings.proofs.RowListLemmas.{by_type_told, by_value_told, group_lists_told, of_one_length}
+use Rattle.postings.proofs.InverseLemmas.{each_place}
+use Rattle.postings.proofs.KeptLemmas.{coded_kept, each_kept, many_groups, one_number, units_are, units_below}
+use Rattle.postings.proofs.RowIndexLemmas.{by_source_are, few_codes, is_sorted, starts_last}
+use Rattle.postings.proofs.RowListLemmas.{by_type_told, by_value_told, group_lists_told, of_one_length, type_places_below}
+use Rattle.postings.proofs.SourceRowLemmas.{ahead_told, length-places, start_within}
 use Rattle.postings.proofs.row_indexes.row_indexes.Goals as goal
-use Rattle.postings.proofs.row_indexes.row_indexes.Goals.{In_ok-by_source, In_ok-marks}
+use Rattle.postings.proofs.row_indexes.row_indexes.Goals.{In_ok-by_type, In_ok-cells, In_ok-marks, In_ok-type_places}
 
--- there is a list of rows for each concept
-long_lists : (lists : List (List ℕ)) (count : ℕ) (keys : List ℕ) (concepts : ℕ) → lists ≡ places_by count keys
-    → count ≡ concepts
-    → length lists ≡ concepts
-long_lists lists count keys concepts are same = ap (λ (xs : List (List ℕ)). length xs) are ∙ length-places_by count keys ∙ same
-
-long : (c : In_ok-by_source) → length c.in_ok-by_source.by_source ≡ length c.args.snapshot.now.release.concepts
-long c =
-    long_lists c.in_ok-by_source.by_source c.concept_count-count.result c.as_slice-4.result.now
-    (length c.args.snapshot.now.release.concepts) c.in_ok-by_source.ensures c.concept_count-count.ensures.count
-
--- so the marks are those of the rows of all concepts
+-- the marks are those of the rows of all concepts
 marked : (c : In_ok-marks)
     → AreRowMarks (length c.args.snapshot.now.release.concepts) c.in_ok-coded.coded.rows.items c.in_ok-marks.marks
 marked c =
-    let concepts = length c.args.snapshot.now.release.concepts in
-    let long =
-    long_lists c.in_ok-by_source.by_source c.concept_count-count.result c.as_slice-4.result.now concepts
-    c.in_ok-by_source.ensures c.concept_count-count.ensures.count in
-    subst (λ (rows : List CodedRow). AreRowMarks concepts rows c.in_ok-marks.marks) c.as_slice-5.ensures.value
-    (subst (λ (n : ℕ). AreRowMarks n c.as_slice-5.result.now c.in_ok-marks.marks) long c.in_ok-marks.ensures)
+    subst (λ (rows : List CodedRow). AreRowMarks (length c.args.snapshot.now.release.concepts) rows c.in_ok-marks.marks) c.as_slice.ensures.value
+    (subst (λ (n : ℕ). AreRowMarks n c.as_slice.result.now c.in_ok-marks.marks) c.concept_count-count.ensures.count
+    c.in_ok-marks.ensures.marks)
 
-pub places_by_key-requires : goal.places_by_key-requires
-places_by_key-requires c =
-    omega (
-      arith,
-      c.as_slice-4.ensures.len,
-      ap (λ (xs : List ℕ). length xs) c.in_ok-sources.ensures,
-      ap (λ (xs : List CodedRow). length xs) c.as_slice.ensures.value,
-      length-map c.as_slice.result.now (λ (row : CodedRow). row.source),
-      few_codes c.args.snapshot.now.release c.concept_count-count.ensures.rising c.in_ok-coded.coded c.in_ok-coded.ensures,
-    )
+-- the keys and the cells are those of the rows
+typed : (c : In_ok-type_places)
+    → c.in_ok-type_places.type_places.items ≡ map (λ (row : CodedRow). row.type_place) c.in_ok-coded.coded.rows.items
+typed c = c.in_ok-type_places.ensures ∙ ap (map (λ (row : CodedRow). row.type_place)) c.as_slice-3.ensures.value
 
-pub row_marks-requires-clause-few : goal.row_marks-requires-clause-few
-row_marks-requires-clause-few c =
-    omega (
-      arith,
-      c.as_slice-5.ensures.len,
-      few_codes c.args.snapshot.now.release c.concept_count-count.ensures.rising c.in_ok-coded.coded c.in_ok-coded.ensures,
-    )
+valued : (c : In_ok-cells) → c.in_ok-cells.cells.items ≡ map (λ (row : CodedRow). row.value) c.in_ok-coded.coded.rows.items
+valued c = c.in_ok-cells.ensures ∙ ap (map (λ (row : CodedRow). row.value)) c.as_slice-4.ensures.value
 
-pub row_marks-requires-clause-few_sources : goal.row_marks-requires-clause-few_sources
-row_marks-requires-clause-few_sources c =
-    omega (arith, long (goal.at.row_marks-requires-clause-few_sources c).In_ok-by_source, c.concept_count-count.ensures.few)
+-- the rows by type are listed by the keys
+listed : (c : In_ok-by_type) → c.in_ok-by_type.by_type.rows ≡ places_by c.len.result c.in_ok-type_places.type_places.items
+listed c = c.in_ok-by_type.ensures.rows ∙ ap (places_by c.len.result) c.as_slice-5.ensures.value
 
-pub row_marks-requires-clause-lists : goal.row_marks-requires-clause-lists
-row_marks-requires-clause-lists c =
-    let same : c.concept_count-count.result ≡ length c.in_ok-by_source.by_source =
-    c.concept_count-count.ensures.count ∙ sym (long (goal.at.row_marks-requires-clause-lists c).In_ok-by_source) in
-    let keys : c.as_slice-4.result.now ≡ map (λ (row : CodedRow). row.source) c.as_slice-5.result.now =
-    c.as_slice-4.ensures.value ∙ c.in_ok-sources.ensures
-    ∙ ap (map (λ (row : CodedRow). row.source)) (c.as_slice.ensures.value ∙ sym c.as_slice-5.ensures.value) in
-    c.in_ok-by_source.ensures ∙ (λ i. places_by (same i) (keys i))
-
-pub row_marks-requires-clause-sorted : goal.row_marks-requires-clause-sorted
-row_marks-requires-clause-sorted c =
+pub marks_by_source-requires-clause-sorted : goal.marks_by_source-requires-clause-sorted
+marks_by_source-requires-clause-sorted c =
     let release = c.args.snapshot.now.release in
-    subst (λ (n : ℕ). IsBySource n c.as_slice-5.result.now) (sym (long (goal.at.row_marks-requires-clause-sorted c).In_ok-by_source))
-    (subst (λ (rows : List CodedRow). IsBySource (length release.concepts) rows) (sym c.as_slice-5.ensures.value)
+    subst (λ (n : ℕ). IsBySource n c.as_slice.result.now) (sym c.concept_count-count.ensures.count)
+    (subst (λ (rows : List CodedRow). IsBySource (length release.concepts) rows) (sym c.as_slice.ensures.value)
     (is_sorted release c.concept_count-count.ensures.rising c.in_ok-coded.coded c.in_ok-coded.ensures))
 
-pub overflow_cast-types : goal.overflow_cast-types
-overflow_cast-types c =
+pub group_lists-requires-clause-long : goal.group_lists-requires-clause-long
+group_lists-requires-clause-long c =
     omega (
       arith,
-      c.len-types.ensures,
+      c.as_slice-2.ensures.len,
+      many_groups c.args.snapshot.now.release c.concept_count-count.ensures.rising c.in_ok-coded.coded c.in_ok-coded.ensures
+          c.in_ok-marks.marks (marked (goal.at.group_lists-requires-clause-long c).In_ok-marks),
+    )
+
+pub group_lists-requires-clause-within : goal.group_lists-requires-clause-within
+group_lists-requires-clause-within c =
+    let starts = c.in_ok-marks.marks.starts.items in
+    let last : length starts - 1 ≡ vec_len c.in_ok-marks.marks.starts - 1 = omega arith in
+    subst (λ (n : ℕ). All (λ (mark : Marked). mark.number < get_or starts n 0) c.in_ok-marks.marks.groups.items) last
+    (units_below c.args.snapshot.now.release c.concept_count-count.ensures.rising c.in_ok-coded.coded c.in_ok-coded.ensures
+    c.in_ok-marks.marks (marked (goal.at.group_lists-requires-clause-within c).In_ok-marks))
+
+pub group_lists-requires-clause-one : goal.group_lists-requires-clause-one
+group_lists-requires-clause-one c =
+    subst (λ (rows : List CodedRow). HaveOneNumber c.in_ok-marks.marks.groups.items rows) (sym c.as_slice-2.ensures.value)
+    (one_number c.args.snapshot.now.release c.concept_count-count.ensures.rising c.in_ok-coded.coded c.in_ok-coded.ensures
+    c.in_ok-marks.marks (marked (goal.at.group_lists-requires-clause-one c).In_ok-marks))
+
+pub overflow_cast-len : goal.overflow_cast-len
+overflow_cast-len c =
+    omega (
+      arith,
+      c.len.ensures,
+      ap (λ (types : Types). length types.ids.items) c.into_tables-types.ensures.types,
       ap (λ (xs : List ℕ). length xs) c.in_ok-coded.ensures.ids,
       ap (λ (xs : List ℕ). length xs) c.in_ok-coded.ensures.types,
       few_types (attributes_by_source c.args.snapshot.now.release),
@@ -87,74 +89,133 @@ overflow_cast-types c =
 pub row_lists-requires : goal.row_lists-requires
 row_lists-requires c =
     of_one_length c.args.snapshot.now.release c.concept_count-count.ensures.rising c.in_ok-coded.coded c.in_ok-coded.ensures
-    c.in_ok-marks.marks (marked (goal.at.row_lists-requires c).In_ok-marks) c.as_slice-6.result.now c.as_slice-7.result.now
+    c.in_ok-marks.marks (marked (goal.at.row_lists-requires c).In_ok-marks) c.as_slice-5.result.now c.as_slice-6.result.now
     (λ row. row.type_place) (λ row. row.value)
-    (c.as_slice-6.ensures.value ∙ c.in_ok-type_places.ensures
-    ∙ ap (map (λ (row : CodedRow). row.type_place)) c.as_slice-2.ensures.value)
-    (c.as_slice-7.ensures.value ∙ c.in_ok-values.ensures ∙ ap (map (λ (row : CodedRow). row.value)) c.as_slice-3.ensures.value)
+    (c.as_slice-5.ensures.value ∙ typed (goal.at.row_lists-requires c).In_ok-type_places)
+    (c.as_slice-6.ensures.value ∙ valued (goal.at.row_lists-requires c).In_ok-cells)
 
 pub row_lists-requires-2 : goal.row_lists-requires-2
 row_lists-requires-2 c =
     of_one_length c.args.snapshot.now.release c.concept_count-count.ensures.rising c.in_ok-coded.coded c.in_ok-coded.ensures
-    c.in_ok-marks.marks (marked (goal.at.row_lists-requires-2 c).In_ok-marks) c.as_slice-8.result.now c.as_slice-9.result.now
+    c.in_ok-marks.marks (marked (goal.at.row_lists-requires-2 c).In_ok-marks) c.as_slice-7.result.now c.as_slice-8.result.now
     (λ row. row.value) (λ row. row.type_place)
-    (c.as_slice-8.ensures.value ∙ c.in_ok-values.ensures ∙ ap (map (λ (row : CodedRow). row.value)) c.as_slice-3.ensures.value)
-    (c.as_slice-9.ensures.value ∙ c.in_ok-type_places.ensures
-    ∙ ap (map (λ (row : CodedRow). row.type_place)) c.as_slice-2.ensures.value)
+    (c.as_slice-7.ensures.value ∙ valued (goal.at.row_lists-requires-2 c).In_ok-cells)
+    (c.as_slice-8.ensures.value ∙ typed (goal.at.row_lists-requires-2 c).In_ok-type_places)
 
-pub group_lists-requires-clause-few : goal.group_lists-requires-clause-few
-group_lists-requires-clause-few c =
-    let release = c.args.snapshot.now.release in
-    let marks = marked (goal.at.group_lists-requires-clause-few c).In_ok-marks in
+pub places_among-requires-clause-few : goal.places_among-requires-clause-few
+places_among-requires-clause-few c =
+    let at = goal.at.places_among-requires-clause-few c in
+    let keys = c.in_ok-type_places.type_places.items in
     omega (
       arith,
-      ap (λ (xs : List Marked). length xs) marks.groups,
-      length-group_marks release c.concept_count-count.ensures.rising c.in_ok-coded.coded c.in_ok-coded.ensures,
-      few_codes release c.concept_count-count.ensures.rising c.in_ok-coded.coded c.in_ok-coded.ensures,
+      ap (λ (xs : List ℕ). length xs) (c.flat.ensures ∙ ap concat (listed at.In_ok-by_type)),
+      length-places c.len.result keys,
+      ap (λ (xs : List ℕ). length xs) (typed at.In_ok-type_places),
+      length-map c.in_ok-coded.coded.rows.items (λ (row : CodedRow). row.type_place),
+      few_codes c.args.snapshot.now.release c.concept_count-count.ensures.rising c.in_ok-coded.coded c.in_ok-coded.ensures,
     )
 
-pub group_lists-requires-clause-some : goal.group_lists-requires-clause-some
-group_lists-requires-clause-some c =
-    let starts = (marked (goal.at.group_lists-requires-clause-some c).In_ok-marks).starts_len in
-    (omega (arith, starts), omega (arith, starts, c.concept_count-count.ensures.few))
+pub places_among-requires-clause-within : goal.places_among-requires-clause-within
+places_among-requires-clause-within c =
+    let keys = c.in_ok-type_places.type_places.items in
+    let many : length keys ≡ c.len-2.result = omega (arith, c.len-2.ensures) in
+    subst (λ (xs : List ℕ). All (λ n. n < c.len-2.result) xs)
+    (sym (c.flat.ensures ∙ ap concat (listed (goal.at.places_among-requires-clause-within c).In_ok-by_type)))
+    (subst (λ (count : ℕ). All (λ n. n < count) (concat (places_by c.len.result keys))) many (places_by-within c.len.result keys))
 
-pub group_lists-requires-clause-rise : goal.group_lists-requires-clause-rise
-group_lists-requires-clause-rise c =
-    λ concept near.
-    starts_rise c.args.snapshot.now.release c.concept_count-count.ensures.rising c.in_ok-coded.coded c.in_ok-coded.ensures
-    c.in_ok-marks.marks (marked (goal.at.group_lists-requires-clause-rise c).In_ok-marks) concept (omega (arith, near))
+pub places_among-requires-clause-all : goal.places_among-requires-clause-all
+places_among-requires-clause-all c = λ number below.
+    let at = goal.at.places_among-requires-clause-all c in
+    let keys = c.in_ok-type_places.type_places.items in
+    subst (λ (xs : List ℕ). Contains xs number) (sym (c.flat.ensures ∙ ap concat (listed at.In_ok-by_type)))
+    (each_place c.len.result keys
+    (subst (λ (xs : List ℕ). All (λ key. key < c.len.result) xs) (sym (typed at.In_ok-type_places))
+    (type_places_below c.args.snapshot.now.release c.concept_count-count.ensures.rising c.in_ok-coded.coded c.in_ok-coded.ensures
+    c.len.result (omega (
+      arith,
+      c.len.ensures,
+      ap (λ (types : Types). length types.ids.items) c.into_tables-types.ensures.types,
+      ap (λ (xs : List ℕ). length xs) c.in_ok-coded.ensures.ids,
+    ))))
+    number (omega (arith, below, c.len-2.ensures)))
 
 pub returns : goal.returns
 returns c =
-    let coded = c.in_ok-coded.coded in
-    let are = c.in_ok-coded.ensures in
+    let at = goal.at.returns c in
     let release = c.args.snapshot.now.release in
     let rises = c.concept_count-count.ensures.rising in
-    let count = c.concept_count-count.result in
+    let coded = c.in_ok-coded.coded in
+    let are = c.in_ok-coded.ensures in
+    let codes : List CodedRow = coded.rows.items in
     let marks = c.in_ok-marks.marks in
-    let marks_are = marked (goal.at.returns c).In_ok-marks in
-    let sources : c.as_slice-4.result.now ≡ map (λ (row : CodedRow). row.source) coded.rows.items =
-    c.as_slice-4.ensures.value ∙ c.in_ok-sources.ensures ∙ ap (map (λ (row : CodedRow). row.source)) c.as_slice.ensures.value in
-    let type_places : c.in_ok-type_places.type_places.items ≡ map (λ (row : CodedRow). row.type_place) coded.rows.items =
-    c.in_ok-type_places.ensures ∙ ap (map (λ (row : CodedRow). row.type_place)) c.as_slice-2.ensures.value in
-    let values : c.in_ok-values.values.items ≡ map (λ (row : CodedRow). row.value) coded.rows.items =
-    c.in_ok-values.ensures ∙ ap (map (λ (row : CodedRow). row.value)) c.as_slice-3.ensures.value in
-    let last : vec_len marks.starts - 1 ≡ length marks.starts.items - 1 = omega arith in
+    let marks_are = marked at.In_ok-marks in
+    let starts = marks.starts.items in
+    let last : vec_len marks.starts - 1 ≡ length starts - 1 = omega arith in
+    let keys_are = typed at.In_ok-type_places in
+    let cells_are = valued at.In_ok-cells in
+    let indexes : RowIndexes = record {
+      types = c.into_tables-types.result.0;
+      values = c.into_tables-types.result.1;
+      type_places = c.in_ok-type_places.type_places;
+      places = c.in_ok-places.places;
+      row_numbers = c.in_ok-marks.row_numbers;
+      by_type = c.in_ok-by_type.by_type;
+      by_value = c.in_ok-by_value.by_value;
+      groups = c.in_ok-groups.groups;
+    } in
+    let by_type : AreRowLists c.len.result indexes.type_places.items (map (λ (row : CodedRow). row.value) codes) marks indexes.by_type =
+    subst (λ (keys : List ℕ). AreRowLists c.len.result keys (map (λ (row : CodedRow). row.value) codes) marks indexes.by_type)
+    c.as_slice-5.ensures.value
+    (subst (λ (cells : List ℕ). AreRowLists c.len.result c.as_slice-5.result.now cells marks indexes.by_type)
+    (c.as_slice-6.ensures.value ∙ cells_are) c.in_ok-by_type.ensures) in
+    let many : c.len-2.result ≡ length codes =
+    omega (arith, c.len-2.ensures, ap (λ (xs : List ℕ). length xs) keys_are, length-map codes (λ (row : CodedRow). row.type_place)) in
+    let places_len : length indexes.places.items ≡ length codes = omega (arith, many, c.in_ok-places.ensures.len) in
+    let found : (n : ℕ) → n < length codes → slice_get (concat indexes.by_type.rows) (slice_index indexes.places.items n) ≡ Some n =
+    λ n below. subst (λ (xs : List ℕ). slice_get xs (slice_index indexes.places.items n) ≡ Some n) c.flat.ensures
+    (c.in_ok-places.ensures.found n (omega (arith, below, many))) in
+    let kept_len : length indexes.groups.numbers.items ≡ get_or starts (length starts - 1) 0 =
+    omega (arith, c.in_ok-groups.ensures.len, ap (λ (n : ℕ). get_or starts n 0) last) in
+    let numbers_len = kept_len ∙ starts_last release rises coded are marks marks_are in
+    let numbers : AreNumbersOf marks.groups.items codes indexes.groups.numbers.items =
+    subst (λ (rows : List CodedRow). AreNumbersOf marks.groups.items rows indexes.groups.numbers.items) c.as_slice-2.ensures.value
+    c.in_ok-groups.ensures.numbers in
+    let count = c.len.result in
+    let sources = by_source_are release rises coded are in
     record {
-      coded = are;
-      by_source = c.in_ok-by_source.ensures
-          ∙ (λ i. places_by (c.concept_count-count.ensures.count i) (sources i))
-          ∙ by_source_are release rises coded are;
-      by_type = by_type_told release rises coded are marks marks_are c.in_ok-by_type.by_type c.len-types.result
-          c.as_slice-6.result.now c.as_slice-7.result.now c.in_ok-by_type.ensures
-          (omega (arith, c.len-types.ensures, ap (λ (xs : List ℕ). length xs) are.ids))
-          (c.as_slice-6.ensures.value ∙ type_places) (c.as_slice-7.ensures.value ∙ values);
-      by_value = by_value_told release rises coded are marks marks_are c.in_ok-by_value.by_value count
-          c.as_slice-8.result.now c.as_slice-9.result.now c.in_ok-by_value.ensures
-          c.concept_count-count.ensures.count (c.as_slice-8.ensures.value ∙ values) (c.as_slice-9.ensures.value ∙ type_places);
-      groups = group_lists_told release rises coded are marks marks_are c.in_ok-groups.groups
-          c.in_ok-groups.ensures.of_rows c.in_ok-groups.ensures.starts
-          (c.in_ok-groups.ensures.concepts ∙ ap (keys_from marks.starts.items) last)
+      coded = coded_kept release rises coded are marks marks_are indexes count keys_are by_type places_len found numbers_len numbers
+          c.into_tables-types.ensures.types c.into_tables-types.ensures.values;
+      kept = each_kept release rises coded are marks marks_are indexes count keys_are by_type places_len found numbers_len numbers;
+      units = units_are release rises coded are marks marks_are indexes count keys_are by_type places_len found numbers_len numbers;
+      row_numbers = c.in_ok-marks.ensures.rows
+          ∙ (λ i. concat (places_by (c.concept_count-count.ensures.count i)
+          (map (λ (row : CodedRow). row.source) (c.as_slice.ensures.value i))))
+          ∙ ap concat sources;
+      ahead = λ concept within.
+          (λ i. length (concat (take (get_or (c.in_ok-groups.ensures.starts i) concept 0) (c.in_ok-groups.ensures.rows i))))
+          ∙ ahead_told release rises coded are marks marks_are concept within (get_or starts (vec_len marks.starts - 1) 0)
+          (omega (
+            arith,
+            start_within release rises coded are marks marks_are concept within,
+            starts_last release rises coded are marks marks_are,
+            ap (λ (n : ℕ). get_or starts n 0) last,
+          ))
+          ∙ ap (λ (lists : List (List ℕ)). length (concat (take concept lists))) sources;
+      by_type = subst (λ (values : Values). AreByType release.concepts (values_in release.concepts values)
+          (attributes_by_source release) indexes.by_type) (sym c.into_tables-types.ensures.values)
+          (by_type_told release rises coded are marks marks_are c.in_ok-by_type.by_type c.len.result c.as_slice-5.result.now
+          c.as_slice-6.result.now c.in_ok-by_type.ensures
+          (omega (
+            arith,
+            c.len.ensures,
+            ap (λ (types : Types). length types.ids.items) c.into_tables-types.ensures.types,
+            ap (λ (xs : List ℕ). length xs) are.ids,
+          ))
+          (c.as_slice-5.ensures.value ∙ keys_are) (c.as_slice-6.ensures.value ∙ cells_are));
+      by_value = by_value_told release rises coded are marks marks_are c.in_ok-by_value.by_value c.concept_count-count.result
+          c.as_slice-7.result.now c.as_slice-8.result.now c.in_ok-by_value.ensures c.concept_count-count.ensures.count
+          (c.as_slice-7.ensures.value ∙ cells_are) (c.as_slice-8.ensures.value ∙ keys_are);
+      groups = group_lists_told release rises coded are marks marks_are c.in_ok-groups.groups kept_len c.in_ok-groups.ensures.starts
           (c.in_ok-groups.ensures.rows
-          ∙ ap (λ (n : ℕ). places_by (get_or marks.starts.items n 0) (map (λ (mark : Marked). mark.number) marks.groups.items)) last);
+          ∙ ap (λ (n : ℕ). places_by (get_or starts n 0) (map (λ (mark : Marked). mark.number) marks.groups.items)) last);
     }

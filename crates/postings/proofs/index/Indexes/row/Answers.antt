@@ -1,29 +1,62 @@
-use Rattle.std.proofs.Common.{◌≡◌, ◌<◌, ◌∙◌, Some, length, ap, subst, sym, arith}
+use Rattle.std.proofs.Common.{ℕ, ◌≡◌, ◌<◌, ◌∙◌, List, Some, length, ap, subst, sym, arith}
 use Rattle.std.specs.List.{slice_get}
-use Rattle.std.proofs.lemmas.List.{length-map}
 use Rattle.snapshot.specs.AttributesBySource.{attribute_of, with_source}
-use Rattle.postings.specs.Coded.{row_coded}
-use Rattle.postings.specs.IndexInside.{indexed_in}
+use Rattle.postings.specs.Coded.{IsCoded}
 use Rattle.postings.specs.Indexed.{Indexed, value_at, values_of}
+use Rattle.postings.specs.KeptRows.{rows_kept}
 use Rattle.postings.specs.ValueTables.{values_in}
-use Rattle.postings.proofs.BuildLemmas.{row_told, row_within}
+use Rattle.postings.proofs.BuildLemmas.{row_told}
+use Rattle.postings.proofs.KeptLemmas.{kept_at, length-kept}
+use Rattle.postings.proofs.UnitLemmas.{length-rows, near, row_coded_within, row_there}
 use Rattle.postings.proofs.index.Indexes.row.Goals as goal
+use Rattle.postings.proofs.index.Indexes.row.Goals.{After-row-row}
+
+-- the numbers of the row are within their tables
+within : (c : After-row-row)
+    → IsCoded c.self.inside.concepts.items c.self.inside.rows.types.numbers.keys
+    (values_in c.self.inside.concepts.items c.self.inside.rows.values) c.row-row.result
+within c =
+    subst (IsCoded c.self.inside.concepts.items c.self.inside.rows.types.numbers.keys
+    (values_in c.self.inside.concepts.items c.self.inside.rows.values)) (sym c.row-row.ensures)
+    (row_coded_within c.self.inside c.self.invariant c.args.self.now c.self.view_is c.args.n
+    (near c.self.inside c.self.invariant c.args.self.now c.self.view_is c.args.n c.requires))
+
+pub row-row-requires : goal.row-row-requires
+row-row-requires c = row_there c.self.inside c.self.invariant c.args.self.now c.self.view_is c.args.n c.requires
+
+pub index-requires : goal.index-requires
+index-requires c =
+    omega (
+      arith,
+      (within (goal.at.index-requires c).After-row-row).type_place,
+      ap (λ (ids : List ℕ). length ids) c.self.invariant.rows.coded.ids,
+    )
+
+pub value-requires : goal.value-requires
+value-requires c =
+    subst (λ (indexed : Indexed). c.row-row.result.value < length (values_of indexed)) c.self.view_is
+    (within (goal.at.value-requires c).After-row-row).value
 
 pub returns-clause-row : goal.returns-clause-row
 returns-clause-row c =
     let concepts = c.self.inside.concepts.items in
-    let types = c.self.inside.rows.coded.types.numbers.keys in
-    let ids = c.self.inside.rows.coded.types.ids.items in
-    let values = values_in c.self.inside.concepts.items c.self.inside.rows.coded.values in
-    let coded = c.self.inside.rows.coded.rows.items in
-    let row = c.index-row.result.now in
-    let same : length (indexed_in c.self.inside).rows ≡ length c.args.self.now.rows =
-    ap (λ (indexed : Indexed). length indexed.rows) c.self.view_is in
-    let below : c.args.n < length coded = omega (arith, c.requires, same, length-map coded (row_coded concepts types values)) in
-    let within = row_within concepts types ids values coded c.args.n row below c.index-row.ensures c.self.invariant.rows.coded.within in
+    let types = c.self.inside.rows.types.numbers.keys in
+    let ids = c.self.inside.rows.types.ids.items in
+    let values = values_in c.self.inside.concepts.items c.self.inside.rows.values in
+    let row = c.row-row.result in
+    let known = near c.self.inside c.self.invariant c.args.self.now c.self.view_is c.args.n c.requires in
+    let long = length-rows c.self.inside c.self.invariant c.args.self.now c.self.view_is in
     let valued = c.value.ensures ∙ ap (λ (indexed : Indexed). value_at (values_of indexed) row.value) (sym c.self.view_is) in
     subst (λ (indexed : Indexed). slice_get indexed.rows c.args.n
     ≡ Some (with_source indexed.concepts (attribute_of
     (record { source = row.source; type_id = c.index.result.now; group = row.group; value = c.value.result })))) c.self.view_is
-    (row_told concepts types ids values coded c.args.n row below c.index-row.ensures c.index.result.now c.value.result
-    c.self.invariant.rows.coded.ids within.type_place c.index.ensures valued)
+    (row_told concepts types ids values (rows_kept c.self.inside.rows) c.args.n row
+    (omega (arith, known, long, length-kept c.self.inside.rows))
+    (c.row-row.ensures ∙ sym (kept_at c.self.inside.rows c.args.n row (omega (arith, known, long))))
+    c.index.result.now c.value.result c.self.invariant.rows.coded.ids (within (goal.at.returns-clause-row c).After-row-row).type_place
+    c.index.ensures valued)
+
+pub returns-clause-source : goal.returns-clause-source
+returns-clause-source c =
+    subst (λ (indexed : Indexed). c.row-row.result.source < length indexed.concepts) c.self.view_is
+    (within (goal.at.returns-clause-source c).After-row-row).source

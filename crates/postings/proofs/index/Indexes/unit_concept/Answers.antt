@@ -1,28 +1,63 @@
-use Rattle.std.proofs.Common.{ℕ, ◌≡◌, ◌<◌, ◌∙◌, List, length, get_or, slice_index, ap, subst, sym, arith}
-use Rattle.std.specs.Prelude.{IfSome}
-use Rattle.std.specs.List.{slice_get}
-use Rattle.std.proofs.lemmas.List.{get_or_default, get_or-map, length-map}
-use Rattle.postings.specs.Groups.{ConceptGroup, groups_in}
-use Rattle.postings.specs.IndexInside.{indexed_in}
+use Rattle.std.proofs.Common.{ℕ, ◌≡◌, ◌∙◌, true, List, length, get_or, slice_index, ap, arith}
+use Rattle.std.proofs.lemmas.List.{get_or_default}
+use Rattle.postings.specs.Columns.{Mark as Marked}
 use Rattle.postings.specs.Indexed.{Indexed}
-use Rattle.postings.proofs.IndexLemmas.{if_there}
+use Rattle.postings.specs.KeptRows.{IsKept, mark_at, row_kept}
+use Rattle.postings.proofs.UnitLemmas.{concept_told, first_kept, has_first, source_within}
 use Rattle.postings.proofs.index.Indexes.unit_concept.Goals as goal
+use Rattle.postings.proofs.index.Indexes.unit_concept.Goals.{After-index-at, After-number, After-of}
+
+-- the first row of the group can be read
+there : (c : After-of) → IsKept c.self.inside.rows (get_or c.of.result.now 0 0)
+there c =
+    first_kept c.self.inside c.self.invariant c.args.self.now c.self.view_is c.args.unit c.requires (get_or c.of.result.now 0 0) 0
+    (ap (λ (rows : List ℕ). get_or rows 0 0) c.of.ensures)
+
+-- its place
+placed : (c : After-index-at) → c.index-at.result.now ≡ slice_index c.self.inside.rows.places.items (get_or c.of.result.now 0 0)
+placed c =
+    c.index-at.ensures
+    ∙ get_or_default c.self.inside.rows.places.items (get_or c.of.result.now 0 0) c.index-at.result.now 0
+    (there (goal.at-After-index-at c).After-of).place
+
+-- and its source
+read : (c : After-number) → c.number.result ≡ (row_kept c.self.inside.rows (get_or c.of.result.now 0 0)).source
+read c =
+    let marks = c.self.inside.rows.by_type.sources.items in
+    let some : Marked = record { number = 0; is_first = true } in
+    let place = placed (goal.at-After-number c).After-index-at in
+    c.number.ensures.number
+    ∙ ap (λ (mark : Marked). mark.number) (c.index.ensures
+    ∙ get_or_default marks c.index-at.result.now c.index.result.now some
+    (omega (arith, place, (there (goal.at-After-number c).After-of).source))
+    ∙ ap (mark_at marks) place)
+
+pub bounds-of-0 : goal.bounds-of-0
+bounds-of-0 c =
+    omega (
+      arith,
+      ap (λ (rows : List ℕ). length rows) c.of.ensures,
+      has_first c.self.inside c.self.invariant c.args.self.now c.self.view_is c.args.unit c.requires,
+    )
+
+pub index-at-requires : goal.index-at-requires
+index-at-requires c = omega (arith, (there (goal.at.index-at-requires c).After-of).place)
+
+pub index-requires : goal.index-requires
+index-requires c =
+    omega (arith, placed (goal.at.index-requires c).After-index-at, (there (goal.at.index-requires c).After-of).source)
+
+pub returns-clause-within : goal.returns-clause-within
+returns-clause-within c =
+    omega (
+      arith,
+      read (goal.at.returns-clause-within c).After-number,
+      source_within c.self.inside c.self.invariant c.args.self.now c.self.view_is c.args.unit c.requires (get_or c.of.result.now 0 0) 0
+          (ap (λ (rows : List ℕ). get_or rows 0 0) c.of.ensures),
+      ap (λ (indexed : Indexed). length indexed.concepts) c.self.view_is,
+    )
 
 pub returns-clause-concept : goal.returns-clause-concept
 returns-clause-concept c =
-    let concepts = c.self.inside.concepts.items in
-    let kept = c.self.inside.rows.groups.concepts.items in
-    let groups = groups_in (indexed_in c.self.inside) in
-    let same : (λ (indexed : Indexed). length (groups_in indexed)) (indexed_in c.self.inside) ≡ length (groups_in c.args.self.now) =
-    ap (λ (indexed : Indexed). length (groups_in indexed)) c.self.view_is in
-    let below : c.args.unit < length groups = omega (arith, c.requires, same) in
-    let long : length kept ≡ length groups =
-    sym (length-map kept (slice_index concepts)) ∙ ap (λ (xs : List ℕ). length xs) c.self.invariant.rows.groups.sources
-    ∙ length-map groups (λ (group : ConceptGroup). group.concept) in
-    subst (λ (indexed : Indexed). IfSome (slice_get (groups_in indexed) c.args.unit)
-    (λ group. slice_index indexed.concepts c.index.result.now ≡ group.concept)) c.self.view_is
-    (if_there groups c.args.unit below (λ (group : ConceptGroup). slice_index concepts c.index.result.now ≡ group.concept) (λ group.
-    ap (slice_index concepts) (c.index.ensures ∙ get_or_default kept c.args.unit _ 0 (omega (arith, below, long)))
-    ∙ sym (get_or-map (slice_index concepts) kept c.args.unit 0 0 (omega (arith, below, long)))
-    ∙ ap (λ (xs : List ℕ). get_or xs c.args.unit 0) c.self.invariant.rows.groups.sources
-    ∙ get_or-map (λ (group : ConceptGroup). group.concept) groups c.args.unit group 0 below))
+    concept_told c.self.inside c.self.invariant c.args.self.now c.self.view_is c.args.unit c.requires (get_or c.of.result.now 0 0) 0
+    (ap (λ (rows : List ℕ). get_or rows 0 0) c.of.ensures) c.number.result (read (goal.at.returns-clause-concept c).After-number)

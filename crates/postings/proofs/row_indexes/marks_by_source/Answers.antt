@@ -1,0 +1,32 @@
+use Rattle.std.proofs.Common.{ℕ, ◌≡◌, ◌∙◌, List, length, map, sym, ap, subst, arith}
+use Rattle.postings.specs.Coded.{AreRowMarks, IsBySource}
+use Rattle.postings.specs.Places.{places_by}
+use Rattle.postings.specs.declared.rows.CodedRow.{CodedRow}
+use Rattle.postings.proofs.PlaceLemmas.{length-places_by}
+use Rattle.postings.proofs.row_indexes.marks_by_source.Goals as goal
+use Rattle.postings.proofs.row_indexes.marks_by_source.Goals.{In_ok-by_source}
+
+-- there is a list of rows for each source
+long : (c : In_ok-by_source) → length c.in_ok-by_source.by_source ≡ c.args.count
+long c = ap (λ (xs : List (List ℕ)). length xs) c.in_ok-by_source.ensures ∙ length-places_by c.args.count c.as_slice.result.now
+
+pub row_marks-requires-clause-few_sources : goal.row_marks-requires-clause-few_sources
+row_marks-requires-clause-few_sources c =
+    omega (arith, c.requires.few_sources, long (goal.at.row_marks-requires-clause-few_sources c).In_ok-by_source)
+
+pub row_marks-requires-clause-lists : goal.row_marks-requires-clause-lists
+row_marks-requires-clause-lists c =
+    let same = sym (long (goal.at.row_marks-requires-clause-lists c).In_ok-by_source) in
+    let keys : c.as_slice.result.now ≡ map (λ (row : CodedRow). row.source) c.args.rows.now =
+    c.as_slice.ensures.value ∙ c.in_ok-sources.ensures in
+    c.in_ok-by_source.ensures ∙ (λ i. places_by (same i) (keys i))
+
+pub row_marks-requires-clause-sorted : goal.row_marks-requires-clause-sorted
+row_marks-requires-clause-sorted c =
+    subst (λ (n : ℕ). IsBySource n c.args.rows.now) (sym (long (goal.at.row_marks-requires-clause-sorted c).In_ok-by_source))
+    c.requires.sorted
+
+pub returns-clause-marks : goal.returns-clause-marks
+returns-clause-marks c =
+    subst (λ (n : ℕ). AreRowMarks n c.args.rows.now c.in_ok-marks.marks) (long (goal.at.returns-clause-marks c).In_ok-by_source)
+    c.in_ok-marks.ensures
