@@ -2,7 +2,7 @@
 ghost use Rattle.std.specs.Prelude.{◌≡◌};
 ghost use Rattle.ancestor_index.specs.HierarchyLists.{hierarchy_of};
 
-use crate::load_tests::{RELATIONSHIPS, chain_of, files_of, replaced, sample};
+use crate::load_tests::{RELATIONSHIPS, chain_of, files_of, replaced, sample, sample_with};
 use ancestor_index::AncestorIndex;
 use release_files::NamedBytes;
 use snapshot::{Limits, Snapshot};
@@ -100,23 +100,6 @@ fn assert_parents_first(rt: &impl Abort, snapshot: &Snapshot) {
         let before = order.iter().position(|concept| concept == parent);
         assert!(rt; before < place, "{parent} before {child}");
     }
-}
-
-/// The sample's files, with other bytes for the one at a place.
-pub fn sample_with(
-    alloc: Global,
-    place: usize,
-    changed: &[u8],
-) -> Result<Vec<NamedBytes<'_>>, AllocError> {
-    let mut files = Vec::new(alloc);
-    for (at, named) in sample().iter().enumerate() {
-        let bytes = if at == place { changed } else { named.bytes };
-        files.push(NamedBytes {
-            name: named.name,
-            bytes,
-        })?;
-    }
-    Ok(files)
 }
 
 // Looks at the hierarchy of a release of some is-a rows, which of each concept is as wanted. Lists of more

@@ -62,6 +62,23 @@ pub fn replaced(
     Ok(changed)
 }
 
+/// The sample's files, with other bytes for the one at a place.
+pub fn sample_with(
+    alloc: Global,
+    place: usize,
+    changed: &[u8],
+) -> Result<Vec<NamedBytes<'_>>, AllocError> {
+    let mut files = Vec::new(alloc);
+    for (at, named) in sample().iter().enumerate() {
+        let bytes = if at == place { changed } else { named.bytes };
+        files.push(NamedBytes {
+            name: named.name,
+            bytes,
+        })?;
+    }
+    Ok(files)
+}
+
 // The fault of a load, if it has one.
 fn fault_of(alloc: Global, files: &[NamedBytes<'_>], limits: Limits) -> Option<LoadFault> {
     Snapshot::load(alloc, files, "en", limits).err()
@@ -79,18 +96,7 @@ fn fault_with(
         return Ok(None);
     };
     let changed = replaced(alloc, named.bytes, from, to)?;
-    let mut files = Vec::new(alloc);
-    for (at, named) in sample.iter().enumerate() {
-        let bytes = if at == place {
-            changed.as_slice()
-        } else {
-            named.bytes
-        };
-        files.push(NamedBytes {
-            name: named.name,
-            bytes,
-        })?;
-    }
+    let files = sample_with(alloc, place, changed.as_slice())?;
     Ok(fault_of(alloc, files.as_slice(), Limits::standard()))
 }
 
@@ -270,76 +276,105 @@ fn keeps_to_limits_and_names(rt: HostRuntime) {
     assert!(rt; none == Some(LoadFault::NoConceptFile));
 }
 
+// What of the loaded sample is looked at.
+#[derive(Clone, Copy)]
+enum Look<'a> {
+    Numbers,
+    Concepts,
+    Hierarchy,
+    Lines(&'a [&'a str]),
+}
+
+// Loads the sample, its names in a language, and lends it to who looks at it: a function that owns a snapshot is dear
+// to prove, so that this one does little else.
+fn look_at_sample(
+    rt: &impl Abort,
+    alloc: Global,
+    language: &str,
+    look: Look<'_>,
+) -> Result<(), LoadFault> {
+    let snapshot = Snapshot::load(alloc, &sample(), language, Limits::standard())?;
+    match look {
+        Look::Numbers => assert_numbers(rt, &snapshot),
+        Look::Concepts => assert_concepts(rt, &snapshot),
+        Look::Hierarchy => assert_hierarchy(rt, &snapshot),
+        Look::Lines(lines) => assert_lines(rt, &snapshot, lines),
+    }
+    Ok(())
+}
+
 #[test]
-fn numbers_concepts(rt: HostRuntime) {
-    match Snapshot::load(rt.alloc(), &sample(), "en", Limits::standard()) {
-        Ok(snapshot) => {
-            assert_eq!(rt; snapshot.concept_count(), 10);
-            assert_eq!(rt; snapshot.index_of(103007), Some(3));
-            assert_eq!(rt; snapshot.index_of(109006), None);
-            assert_eq!(rt; snapshot.id_at(9).number(), 138875005);
-            assert_eq!(rt; snapshot.isa_rows().len(), 10);
-            assert!(rt; snapshot.member_rows() == [(8, 1), (8, 3)].as_slice());
-        }
-        Err(fault) => panic!(rt; "{fault}"),
+fn numbers_concepts(rt: HostRuntime) -> Result<(), LoadFault> {
+    look_at_sample(&rt, rt.alloc(), "en", Look::Numbers)
+}
+
+fn assert_numbers(rt: &impl Abort, snapshot: &Snapshot) {
+    assert!(rt; snapshot.concept_count() == 10);
+    assert_eq!(rt; snapshot.index_of(103007), Some(3));
+    assert_eq!(rt; snapshot.index_of(109006), None);
+    assert_eq!(rt; snapshot.id_at(9).number(), 138875005);
+    assert!(rt; snapshot.member_rows() == [(8, 1), (8, 3)].as_slice());
+}
+
+// The concepts in force of the sample and their names, as the sample release of the definitions has them.
+const CONCEPTS_IN_FORCE: [(u64, Option<&str>); 10] = [
+    (100005, Some("Alpha (finding)")),
+    (101009, Some("Beta (finding)")),
+    (102002, Some("Gamma (finding)")),
+    (103007, Some("Delta (finding)")),
+    (104001, Some("Type T (attribute)")),
+    (105000, Some("Type U (attribute)")),
+    (106004, Some("Value X (value)")),
+    (107008, Some("Value Y (value)")),
+    (108003, None),
+    (138875005, Some("Root (test)")),
+];
+
+#[test]
+fn holds_the_sample_concepts(rt: HostRuntime) -> Result<(), LoadFault> {
+    look_at_sample(&rt, rt.alloc(), "en", Look::Concepts)
+}
+
+fn assert_concepts(rt: &impl Abort, snapshot: &Snapshot) {
+    assert!(rt; snapshot.concept_count() == 10);
+    for (number, (id, name)) in (0u32..).zip(&CONCEPTS_IN_FORCE) {
+        assert!(rt; number < snapshot.concept_count());
+        assert_eq!(rt; snapshot.index_of(*id), Some(number));
+        assert!(rt; snapshot.name(number) == *name, "name of {id}");
     }
 }
 
-// The rows in force of the sample: as many concepts, the is-a rows in the order of the file, and the
-// names, as the sample release of the definitions has them.
+// The is-a rows of the sample in the order of the file, child and parent.
+const IS_A_IN_FORCE: [(u64, u64); 10] = [
+    (100005, 138875005),
+    (106004, 138875005),
+    (104001, 138875005),
+    (105000, 138875005),
+    (108003, 138875005),
+    (101009, 100005),
+    (102002, 100005),
+    (103007, 101009),
+    (103007, 102002),
+    (107008, 106004),
+];
+
 #[test]
-fn holds_the_sample_release(rt: HostRuntime) {
-    let concepts = [
-        100005, 101009, 102002, 103007, 104001, 105000, 106004, 107008, 108003, 138875005,
-    ];
-    let isa = [
-        (100005, 138875005),
-        (106004, 138875005),
-        (104001, 138875005),
-        (105000, 138875005),
-        (108003, 138875005),
-        (101009, 100005),
-        (102002, 100005),
-        (103007, 101009),
-        (103007, 102002),
-        (107008, 106004),
-    ];
-    let names = [
-        Some("Alpha (finding)"),
-        Some("Beta (finding)"),
-        Some("Gamma (finding)"),
-        Some("Delta (finding)"),
-        Some("Type T (attribute)"),
-        Some("Type U (attribute)"),
-        Some("Value X (value)"),
-        Some("Value Y (value)"),
-        None,
-        Some("Root (test)"),
-    ];
-    match Snapshot::load(rt.alloc(), &sample(), "en", Limits::standard()) {
-        Ok(snapshot) => {
-            for (number, id) in concepts.iter().enumerate() {
-                assert_eq!(rt; snapshot.index_of(*id), Some(number as u32));
-            }
-            assert_eq!(rt; snapshot.isa_rows().len(), isa.len());
-            for (row, ends) in snapshot.isa_rows().iter().zip(&isa) {
-                assert_eq!(rt; Some(row.0), snapshot.index_of(ends.0));
-                assert_eq!(rt; Some(row.1), snapshot.index_of(ends.1));
-            }
-            assert_eq!(rt; snapshot.concept_count() as usize, names.len());
-            for number in 0..snapshot.concept_count() {
-                let name = snapshot.name(number);
-                assert!(rt; names.get(number as usize) == Some(&name));
-            }
-        }
-        Err(fault) => panic!(rt; "{fault}"),
+fn holds_the_sample_hierarchy(rt: HostRuntime) -> Result<(), LoadFault> {
+    look_at_sample(&rt, rt.alloc(), "en", Look::Hierarchy)
+}
+
+fn assert_hierarchy(rt: &impl Abort, snapshot: &Snapshot) {
+    assert!(rt; snapshot.isa_rows().len() == 10);
+    for (row, (child, parent)) in snapshot.isa_rows().iter().zip(&IS_A_IN_FORCE) {
+        assert!(rt; Some(row.0) == snapshot.index_of(*child), "{child}");
+        assert!(rt; Some(row.1) == snapshot.index_of(*parent), "{parent}");
     }
 }
 
 // The lines of the sample's concepts: the identifier, the name between bars where there is one, and LF.
 // With another language first, a name in it stands there where there is one.
 #[test]
-fn keeps_lines(rt: HostRuntime) {
+fn keeps_lines(rt: HostRuntime) -> Result<(), LoadFault> {
     let lines = [
         "100005 |Alpha (finding)|\n",
         "101009 |Beta (finding)|\n",
@@ -352,22 +387,17 @@ fn keeps_lines(rt: HostRuntime) {
         "108003\n",
         "138875005 |Root (test)|\n",
     ];
-    assert_lines(&rt, rt.alloc(), "en", &lines);
+    look_at_sample(&rt, rt.alloc(), "en", Look::Lines(&lines))?;
     let mut danish = lines;
     danish[3] = "103007 |Delta (fund)|\n";
-    assert_lines(&rt, rt.alloc(), "da", &danish);
+    look_at_sample(&rt, rt.alloc(), "da", Look::Lines(&danish))
 }
 
-// The lines of the sample's concepts, with their names in a language.
-fn assert_lines(rt: &impl Abort, alloc: Global, language: &str, lines: &[&str]) {
-    match Snapshot::load(alloc, &sample(), language, Limits::standard()) {
-        Ok(snapshot) => {
-            assert_eq!(rt; snapshot.concept_count() as usize, lines.len());
-            for number in 0..snapshot.concept_count() {
-                assert!(rt; snapshot.line(number) == lines[number as usize].as_bytes());
-            }
-        }
-        Err(fault) => panic!(rt; "{fault}"),
+fn assert_lines(rt: &impl Abort, snapshot: &Snapshot, lines: &[&str]) {
+    assert!(rt; snapshot.concept_count() as usize == lines.len());
+    for (number, line) in (0u32..).zip(lines) {
+        assert!(rt; number < snapshot.concept_count());
+        assert!(rt; snapshot.line(number) == line.as_bytes(), "{line}");
     }
 }
 

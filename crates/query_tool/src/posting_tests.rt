@@ -1,8 +1,7 @@
 //! The indexes of the sample release and of releases made for a test.
 //!
 //! Concepts go by their numbers: A 0, B 1, C 2, D 3, T 4, U 5, X 6, Y 7, Q 8 and Root 9.
-use crate::hierarchy_tests::sample_with;
-use crate::load_tests::{MEMBERS, RELATIONSHIPS, replaced, sample};
+use crate::load_tests::{MEMBERS, RELATIONSHIPS, replaced, sample, sample_with};
 use postings::{Indexes, Mark};
 use release_files::NamedBytes;
 use rf2_rows::Value;
@@ -294,14 +293,14 @@ fn assert_release(
     alloc: Global,
     files: &[NamedBytes<'_>],
     wants: &Wants<'_>,
-) -> Result<(), Fail> {
+) -> Result<(), LoadFault> {
     let indexes = indexes_of(alloc, files)?;
     assert_indexes(rt, &indexes, wants);
     Ok(())
 }
 
 #[test]
-fn lists_the_sample_rows(rt: HostRuntime) -> Result<(), Fail> {
+fn lists_the_sample_rows(rt: HostRuntime) -> Result<(), LoadFault> {
     assert_release(&rt, rt.alloc(), &sample(), &SAMPLE)
 }
 
@@ -312,7 +311,8 @@ fn tells_repeated_pairs_and_groups(rt: HostRuntime) -> Result<(), Fail> {
     let rows = sample()[RELATIONSHIPS].bytes;
     let changed = replaced(rt.alloc(), rows, b"121022\t", ROWS_OF_D)?;
     let files = sample_with(rt.alloc(), RELATIONSHIPS, changed.as_slice())?;
-    assert_release(&rt, rt.alloc(), files.as_slice(), &REPEATED)
+    assert_release(&rt, rt.alloc(), files.as_slice(), &REPEATED)?;
+    Ok(())
 }
 
 // A row that repeats another row's ends is one more row, and changes no list.
@@ -323,5 +323,6 @@ fn lists_a_repeated_member_once(rt: HostRuntime) -> Result<(), Fail> {
     let changed = replaced(rt.alloc(), rows, last, B_IS_A_MEMBER)?;
     let files = sample_with(rt.alloc(), MEMBERS, changed.as_slice())?;
     assert_eq!(rt; member_rows_of(rt.alloc(), files.as_slice())?, 3);
-    assert_release(&rt, rt.alloc(), files.as_slice(), &SAMPLE)
+    assert_release(&rt, rt.alloc(), files.as_slice(), &SAMPLE)?;
+    Ok(())
 }

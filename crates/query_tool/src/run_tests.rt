@@ -6,7 +6,7 @@ use crate::load_tests::sample;
 use crate::run::{RunFault, run};
 use crate::streams::{AnswerOutput, QueryInput, StreamInput, StreamOutput};
 use crate::test_streams::{PieceInput, PieceOutput, ROOM};
-use snapshot::Limits;
+use snapshot::{Limits, LoadFault};
 use std::alloc::{AllocError, Global};
 use std::process::Abort;
 use std::test::Fail;
@@ -42,14 +42,12 @@ fn check_run(
     output: PieceOutput,
     answer: Result<u64, RunFault>,
     written: &[u8],
-) -> Result<(), Fail>
+) -> Result<(), LoadFault>
     requires input { input.failed ≡ false }
     requires output { output.failed ≡ false }
 {
-    match Engine::load(alloc, &sample(), "en", Limits::standard()) {
-        Ok(engine) => check_run_of(rt, alloc, &engine, input, output, answer, written),
-        Err(_) => assert!(rt; false, "the release loads"),
-    }
+    let engine = Engine::load(alloc, &sample(), "en", Limits::standard())?;
+    check_run_of(rt, alloc, &engine, input, output, answer, written);
     Ok(())
 }
 
@@ -57,7 +55,8 @@ fn check_run(
 fn answers_no_line_of_no_input(rt: HostRuntime) -> Result<(), Fail> {
     let input = PieceInput::new(b"", ROOM, ROOM);
     let output = PieceOutput::new(rt.alloc(), ROOM, ROOM)?;
-    check_run(&rt, rt.alloc(), input, output, Ok(0), b"")
+    check_run(&rt, rt.alloc(), input, output, Ok(0), b"")?;
+    Ok(())
 }
 
 // An empty line is a query too, though no text of one; a last line needs no line feed.
@@ -146,19 +145,27 @@ fn stops_where_the_input_fails(rt: HostRuntime) -> Result<(), Fail> {
     Ok(())
 }
 
+// What a run over the sample release answers.
+fn run_sample<R: QueryInput, W: AnswerOutput>(
+    alloc: Global,
+    input: &mut R,
+    output: &mut W,
+) -> Result<Result<u64, RunFault>, LoadFault>
+    requires input { R.has_failed input.old ≡ false }
+    requires output { W.has_failed output.old ≡ false }
+{
+    let engine = Engine::load(alloc, &sample(), "en", Limits::standard())?;
+    Ok(run(alloc, &engine, input, output))
+}
+
 #[test]
 fn runs_over_streams(rt: HostRuntime) -> Result<(), Fail> {
     let bytes = b"<100005\n".as_slice();
     let mut input = StreamInput::new(bytes);
     let mut written = Vec::new(rt.alloc());
     let mut output = StreamOutput::new(&mut written);
-    match Engine::load(rt.alloc(), &sample(), "en", Limits::standard()) {
-        Ok(engine) => {
-            let found = run(rt.alloc(), &engine, &mut input, &mut output);
-            assert!(rt; found == Ok(1));
-        }
-        Err(_) => assert!(rt; false, "the release loads"),
-    }
+    let answer = run_sample(rt.alloc(), &mut input, &mut output)?;
+    assert!(rt; answer == Ok(1));
     // one read gave the line, and one the end
     assert!(rt; input.reads() == 2);
     assert!(rt; !input.failed() && !output.failed());

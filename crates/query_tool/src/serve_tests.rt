@@ -1,5 +1,5 @@
 //! What the program answers to its words, and to releases that are refused.
-use crate::load_tests::{replaced, sample};
+use crate::load_tests::{replaced, sample, sample_with};
 use crate::serve::{Status, refuse_words, serve};
 use crate::streams::QueryInput;
 use crate::test_streams::{PieceInput, PieceOutput, ROOM};
@@ -264,18 +264,7 @@ fn check_refused(
         return Ok(());
     };
     let changed = replaced(alloc, named.bytes, from, to)?;
-    let mut files = Vec::new(alloc);
-    for (at, named) in sample.iter().enumerate() {
-        let bytes = if at == place {
-            changed.as_slice()
-        } else {
-            named.bytes
-        };
-        files.push(NamedBytes {
-            name: named.name,
-            bytes,
-        })?;
-    }
+    let files = sample_with(alloc, place, changed.as_slice())?;
     let refused = (Status::ReleaseRefused, b"".as_slice(), line);
     check_served(
         rt,
