@@ -102,11 +102,19 @@ def write_members(path, concepts, rows, source):
             file.write(f"{member}\t20240101\t{source.randint(0, 1)}\t{MODULE}\t{concepts[1 + source.randrange(50)][0]}\t{source.choice(concepts)[0]}\r\n")
 
 
+def shuffle(path, source):
+    """Puts the rows behind the header in no order."""
+    header, *rows = path.read_bytes().splitlines(keepends=True)
+    source.shuffle(rows)
+    path.write_bytes(header + b"".join(rows))
+
+
 def main():
     words = argparse.ArgumentParser(description=__doc__)
     words.add_argument("folder", type=pathlib.Path)
     words.add_argument("--scale", type=float, default=1.0)
     words.add_argument("--seed", type=int, default=1)
+    words.add_argument("--shuffled", action="store_true", help="the rows of each file in no order")
     asked = words.parse_args()
     source = random.Random(asked.seed)
     asked.folder.mkdir(parents=True, exist_ok=True)
@@ -116,6 +124,9 @@ def main():
     write_relationships(asked.folder / "sct2_Relationship_Snapshot_INT_20240101.txt", concepts, int(3_300_000 * asked.scale), source)
     write_concrete_values(asked.folder / "sct2_RelationshipConcreteValues_Snapshot_INT_20240101.txt", concepts, int(20_000 * asked.scale), source)
     write_members(asked.folder / "der2_Refset_SimpleSnapshot_INT_20240101.txt", concepts, int(400_000 * asked.scale), source)
+    if asked.shuffled:
+        for path in sorted(asked.folder.glob("*.txt")):
+            shuffle(path, source)
 
 
 if __name__ == "__main__":
