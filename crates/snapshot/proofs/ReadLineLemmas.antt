@@ -17,9 +17,9 @@ pub read-row : (kind : FileKind) (bytes : List ℕ) (result : Result Row RowFaul
     → IfOk result (λ found. IsRow kind bytes found) → IfOk result (λ _. row_fault kind bytes ≡ None)
     → (row_fault kind bytes ≡ None) × IsRow kind bytes row
 read-row kind bytes result row is stands accepted = (
-      subst (λ found. IfOk found (λ _. row_fault kind bytes ≡ None)) is accepted,
-      subst (λ found. IfOk found (λ found. IsRow kind bytes found)) is stands,
-    )
+  subst (λ found. IfOk found (λ _. row_fault kind bytes ≡ None)) is accepted,
+  subst (λ found. IfOk found (λ found. IsRow kind bytes found)) is stands,
+)
 
 -- a row was added
 pub read-added : (old new : Kept) (file : ℕ) (kind : FileKind) (line : LineText) (row : Row)
