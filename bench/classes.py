@@ -22,7 +22,7 @@ import time
 HERE = pathlib.Path(__file__).resolve().parent
 MADE = {"scale-0.1": ["--scale", "0.1"], "scale-1.0": ["--scale", "1.0"], "scale-1.0-no-order": ["--scale", "1.0", "--shuffled"]}
 MOST_WAITING = 50
-SECONDS_WAITING = 0.1
+SECONDS_WAITING = 0.06
 
 
 def made_releases(room):
@@ -43,18 +43,21 @@ class Program:
         self.load = time.perf_counter() - start
 
     def answer(self, query):
-        """The bytes of one answer."""
+        """The pieces of one answer: a line that says how many follow, and these."""
         os.write(self.process.stdin.fileno(), f"{query}\n".encode())
-        found, lines = b"", None
-        while lines is None or found.count(b"\n") < lines:
+        pieces, left = [], None
+        while left is None or left > 0:
             piece = os.read(self.process.stdout.fileno(), 1 << 20)
             if not piece:
                 sys.exit(f"the program ended at {query}")
-            found += piece
-            if lines is None and b"\n" in found:
-                first = found.split(b"\n", 1)[0].split()
-                lines = 1 + int(first[1]) if first[0] == b"OK" else 1
-        return found
+            pieces.append(piece)
+            if left is not None:
+                left -= piece.count(b"\n")
+            elif b"\n" in piece:
+                start = b"".join(pieces)
+                first = start.split(b"\n", 1)[0].split()
+                left = 1 + int(first[1] if first[0] == b"OK" else 0) - start.count(b"\n")
+        return pieces
 
     def timed(self, query, size, count):
         """The seconds for so many answers of a known size, all asked at once."""
@@ -89,8 +92,9 @@ def scan(folder):
 def ask(program, query):
     """An answer's digest and count of lines, the seconds of the first one and of one of many."""
     start = time.perf_counter()
-    answer = program.answer(query)
+    pieces = program.answer(query)
     first = time.perf_counter() - start
+    answer = b"".join(pieces)
     once = program.timed(query, len(answer), 1)
     waiting = max(1, min(MOST_WAITING, int(SECONDS_WAITING / once)))
     many = min(program.timed(query, len(answer), waiting) for _ in range(2))
