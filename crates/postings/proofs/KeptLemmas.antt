@@ -191,6 +191,17 @@ module _ (release : Release) (rises : IsStrictlyIncreasing release.concepts) (co
     long : length indexes.type_places.items ≡ length codes
     long = ap (λ (xs : List ℕ). length xs) type_places ∙ length-map codes (λ (row : CodedRow). row.type_place)
 
+    -- each row has a cell in a column by type
+    in_column : {X : Type 0} (cells column : List X)
+        → ((d : X) → column ≡ map (λ place. slice_index_or cells place d) (concat (places_by count indexes.type_places.items)))
+        → (d : X) (n : ℕ) → n < length codes → get_or indexes.places.items n 0 < length column
+    in_column cells column told d n below =
+        omega (
+          arith,
+          place_within flat indexes.places.items (length codes) places_len found n below,
+          long_cells indexes.by_type.rows cells column (follows cells column told) d,
+        )
+
     -- a row is kept as it is
     row_is : (n : ℕ) → n < length codes → row_kept indexes n ≡ get_or codes n a_row
     unfolding a_mark
@@ -245,31 +256,13 @@ module _ (release : Release) (rises : IsStrictlyIncreasing release.concepts) (co
     unfolding a_mark
     each_kept n within =
         let below : n < length codes = omega (arith, within, length-codes release rises coded are) in
-        let inside : get_or indexes.places.items n 0 < length flat = place_within flat indexes.places.items (length codes) places_len found n
-        below in
         let row : Attribute = row_coded release.concepts coded.types.numbers.keys (values_in release.concepts coded.values) a_row in
-        let all : List (List ℕ) = indexes.by_type.rows in
         record {
           type_place = omega (arith, below, long);
           place = omega (arith, below, places_len);
-          source = omega (
-            arith,
-            inside,
-            long_cells all marks.sources.items indexes.by_type.sources.items
-                (follows marks.sources.items indexes.by_type.sources.items by_type.sources) a_mark,
-          );
-          value = omega (
-            arith,
-            inside,
-            long_cells all (map (λ (row : CodedRow). row.value) codes) indexes.by_type.others.items
-                (follows (map (λ (row : CodedRow). row.value) codes) indexes.by_type.others.items by_type.others) 0,
-          );
-          unit = omega (
-            arith,
-            inside,
-            long_cells all marks.groups.items indexes.by_type.groups.items
-                (follows marks.groups.items indexes.by_type.groups.items by_type.groups) a_mark,
-          );
+          source = in_column marks.sources.items indexes.by_type.sources.items by_type.sources a_mark n below;
+          value = in_column (map (λ (row : CodedRow). row.value) codes) indexes.by_type.others.items by_type.others 0 n below;
+          unit = in_column marks.groups.items indexes.by_type.groups.items by_type.groups a_mark n below;
           group = omega (
             arith,
             numbers_len,
