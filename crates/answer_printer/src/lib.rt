@@ -10,8 +10,6 @@ mod load_refusal;
 mod numbers;
 mod query_refusal;
 mod report;
-#[cfg(test)]
-mod tests;
 mod told_name;
 
 pub use crate::answer::print_answer;

@@ -5,8 +5,6 @@ mod depth;
 mod laws;
 mod operator;
 mod print;
-#[cfg(test)]
-mod tests;
 mod tree;
 
 pub use crate::laws::{

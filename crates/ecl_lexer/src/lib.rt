@@ -10,8 +10,6 @@ mod lexer;
 mod pieces;
 mod runs;
 mod symbols;
-#[cfg(test)]
-mod tests;
 mod token;
 mod unsupported;
 

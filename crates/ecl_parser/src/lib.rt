@@ -8,8 +8,6 @@
 mod counts;
 mod laws;
 mod parser;
-#[cfg(test)]
-mod tests;
 mod text;
 mod tokens;
 

@@ -11,8 +11,6 @@ mod lists;
 mod marks;
 mod mixed_set;
 mod sorted_set;
-#[cfg(test)]
-mod tests;
 mod word_set;
 
 pub use concept_set::ConceptSet;

@@ -1,6 +1,5 @@
 mod AnswerLemmas
 mod FaultLemmas
-mod HierarchyLemmas
 mod KeptLemmas
 mod LineLemmas
 mod RunLemmas

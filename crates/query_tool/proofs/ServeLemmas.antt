@@ -16,7 +16,7 @@ use Rattle.snapshot.specs.declared.report.Report.{Report}
 use Rattle.answer_printer.specs.ReportText.{report_text}
 use Rattle.query_tool.specs.Fault.{CountsTurns, HaveFailed}
 use Rattle.query_tool.specs.Report.{report_of}
-use Rattle.query_tool.specs.SampleContents.{sample_contents}
+use Rattle.sample_release.specs.SampleContents.{sample_contents}
 use Rattle.query_tool.specs.Serve.{CountsDevice, EndsWith, IsCut, IsLoadOf, IsServed, IsTask, ServesWith, Task, TellsLoadFault, fault_text, refusal_status_of, sample_task, status_of}
 use Rattle.query_tool.specs.Streams.{IsTold, Streams, streams}
 use Rattle.query_tool.specs.declared.run.RunFault.{RunFault}

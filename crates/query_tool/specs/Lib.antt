@@ -5,7 +5,6 @@ pub mod Fault
 pub mod KeptLine
 pub mod Lines
 pub mod Report
-pub mod SampleContents
 pub mod Serve
 pub mod Streams
 pub mod WordRefusal

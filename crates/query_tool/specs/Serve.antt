@@ -13,7 +13,7 @@ use Rattle.answer_printer.specs.ReportText.{report_text}
 use Rattle.query_tool.specs.Fault.{CountsTurns, EndsAt, HaveFailed}
 use Rattle.query_tool.specs.Lines.{AreWritten, query_lines}
 use Rattle.query_tool.specs.Report.{report_of}
-use Rattle.query_tool.specs.SampleContents.{sample_contents}
+use Rattle.sample_release.specs.SampleContents.{sample_contents}
 use Rattle.query_tool.specs.Streams.{IsTold, Streams}
 use Rattle.query_tool.specs.declared.run.RunFault.{RunFault}
 use Rattle.query_tool.specs.declared.run.RunFault.TheVariants.{Read, Write, Memory, Turns}

@@ -3,34 +3,19 @@
 #![tactic(auto)]
 
 mod engine;
-#[cfg(test)]
-mod execute_tests;
 mod folder;
-#[cfg(test)]
-mod hierarchy_tests;
 mod laws;
-#[cfg(test)]
-mod load_tests;
-#[cfg(test)]
-mod many_rows_tests;
-#[cfg(test)]
-mod posting_tests;
-#[cfg(test)]
-mod reader_tests;
 mod run;
 #[cfg(test)]
 mod run_tests;
-mod sample;
-#[cfg(test)]
-mod sample_tests;
 mod serve;
 #[cfg(test)]
 mod serve_tests;
 #[cfg(test)]
-mod source_tests;
-#[cfg(test)]
 mod stream_tests;
 mod streams;
+#[cfg(test)]
+mod test_release;
 #[cfg(test)]
 mod test_streams;
 #[cfg(test)]

@@ -2,9 +2,9 @@
 ghost use Rattle.std.specs.Prelude.{◌≡◌, false};
 
 use crate::engine::Engine;
-use crate::load_tests::sample;
 use crate::run::{RunFault, run};
 use crate::streams::{AnswerOutput, QueryInput, StreamInput, StreamOutput};
+use crate::test_release::sample;
 use crate::test_streams::{PieceInput, PieceOutput, ROOM};
 use snapshot::{Limits, LoadFault};
 use std::alloc::{AllocError, Global};
@@ -175,11 +175,6 @@ fn runs_over_streams(rt: HostRuntime) -> Result<(), Fail> {
 
 #[test]
 fn numbers_its_faults(rt: HostRuntime) {
-    let faults = [
-        RunFault::Read(0),
-        RunFault::Write(0),
-        RunFault::Memory(0),
-        RunFault::Turns(0),
-    ];
-    assert!(rt; faults.map(|fault| fault.number()) == [1, 2, 3, 4]);
+    assert!(rt; RunFault::Read(0).number() == 1 && RunFault::Write(0).number() == 2);
+    assert!(rt; RunFault::Memory(0).number() == 3 && RunFault::Turns(0).number() == 4);
 }

@@ -11,11 +11,11 @@ ghost use Rattle.query_tool.specs.WordRefusal.{TellsWordFault};
 
 use crate::engine::Engine;
 use crate::run::{RunFault, run, write_all};
-use crate::sample::sample_files;
 use crate::streams::{AnswerOutput, QueryInput};
 use crate::words::{Mode, Request, WordFault};
 use answer_printer::{print_load_fault, print_report};
 use release_files::FileSource;
+use sample_release::sample_files;
 use snapshot::{Limits, LoadFault, Snapshot};
 use std::alloc::{AllocError, Global};
 

@@ -1,7 +1,7 @@
 //! What the program answers to its words, and to releases that are refused.
-use crate::load_tests::{replaced, sample, sample_with};
 use crate::serve::{Status, refuse_words, serve};
 use crate::streams::QueryInput;
+use crate::test_release::{sample, sample_and};
 use crate::test_streams::{PieceInput, PieceOutput, ROOM};
 use crate::words::{Mode, Request, WordFault, read_words};
 use release_files::{MemoryFiles, NamedBytes};
@@ -18,12 +18,10 @@ const ANSWER: &[u8] =
 const REPORT: &[u8] =
     b"FILES 5\nCONCEPTS 10\nISA 10\nATTRIBUTES 9\nMEMBERS 2\nNAMES 10\nPASSED 6\n";
 
-// The places of the sample's concept and relationship files in the list.
-const CONCEPTS: usize = 1;
+// A file of concepts and one of relationships behind those of the sample.
+const CONCEPTS: &str = "xsct2_Concept_Snapshot_XX.txt";
 
-const RELATIONSHIPS: usize = 4;
-
-const LAST_CONCEPT: &[u8] = b"109006\t20240101\t0\t900000000000207008\t900000000000074008\r\n";
+const RELATIONSHIPS: &str = "xsct2_Relationship_Snapshot_XX.txt";
 
 // Ten folders behind a command.
 const TEN_FOLDERS: [&str; 12] = [
@@ -250,21 +248,15 @@ fn reports_releases(rt: HostRuntime) -> Result<(), Fail> {
     )
 }
 
-// The sample release with the first `from` in a file replaced is refused by a line.
+// The sample release with one file more is refused by a line.
 fn check_refused(
     rt: &impl Abort,
     alloc: Global,
-    place: usize,
-    from: &[u8],
-    to: &[u8],
+    name: &str,
+    bytes: &[u8],
     line: &[u8],
 ) -> Result<(), Fail> {
-    let sample = sample();
-    let Some(named) = sample.get(place) else {
-        return Ok(());
-    };
-    let changed = replaced(alloc, named.bytes, from, to)?;
-    let files = sample_with(alloc, place, changed.as_slice())?;
+    let files = sample_and(alloc, name, bytes)?;
     let refused = (Status::ReleaseRefused, b"".as_slice(), line);
     check_served(
         rt,
@@ -277,43 +269,38 @@ fn check_refused(
     )
 }
 
+// What stands in the file more, and the line that refuses it.
+const REFUSED: [(&str, &[u8], &[u8]); 5] = [
+    (
+        CONCEPTS,
+        b"id\teffectiveTime\tactive\tmoduleId\tdefinitionStatusId\r\n100006\t20240101\t1\t900000000000207008\t900000000000074008\r\n",
+        b"REFUSED row xsct2_Concept_Snapshot_XX.txt 2 1 id-check\n",
+    ),
+    (
+        CONCEPTS,
+        b"id\teffectiveTime\tactive\tmoduleId\tdefinitionStatusId\r\n100005\t20240101\t0\t900000000000207008\t900000000000074008\r\n",
+        b"REFUSED conflict xsct2_Concept_Snapshot_XX.txt 2\n",
+    ),
+    (
+        CONCEPTS,
+        b"id\teffectiveTime\tactive\tmoduleId\r\n",
+        b"REFUSED header xsct2_Concept_Snapshot_XX.txt\n",
+    ),
+    (
+        CONCEPTS,
+        b"id\teffectiveTime\tactive\tmoduleId\tdefinitionStatusId\r\n109006\t20240101\t",
+        b"REFUSED row xsct2_Concept_Snapshot_XX.txt 2 0 fields\n",
+    ),
+    (
+        RELATIONSHIPS,
+        b"id\teffectiveTime\tactive\tmoduleId\tsourceId\tdestinationId\trelationshipGroup\ttypeId\tcharacteristicTypeId\tmodifierId\r\n122026\t20240101\t1\t900000000000207008\t100005\t103007\t0\t116680003\t900000000000011006\t900000000000451002\r\n",
+        b"REFUSED cycle 100005\n",
+    ),
+];
+
 #[test]
 fn refuses_releases(rt: HostRuntime) -> Result<(), Fail> {
-    let changes = [
-        (
-            CONCEPTS,
-            b"138875005\t".as_slice(),
-            b"100006\t".as_slice(),
-            b"REFUSED row sct2_Concept_Snapshot_INT_20240101.txt 2 1 id-check\n".as_slice(),
-        ),
-        (
-            CONCEPTS,
-            LAST_CONCEPT,
-            b"109006\t20240101\t0\t900000000000207008\t900000000000074008\r\n100005\t20240101\t0\t900000000000207008\t900000000000074008\r\n",
-            b"REFUSED conflict sct2_Concept_Snapshot_INT_20240101.txt 13\n",
-        ),
-        (
-            CONCEPTS,
-            b"\tmoduleId\tdefinitionStatusId",
-            b"\tmoduleId",
-            b"REFUSED header sct2_Concept_Snapshot_INT_20240101.txt\n",
-        ),
-        (
-            CONCEPTS,
-            LAST_CONCEPT,
-            b"109006\t20240101\t",
-            b"REFUSED row sct2_Concept_Snapshot_INT_20240101.txt 12 0 fields\n",
-        ),
-        (
-            RELATIONSHIPS,
-            b"121022\t",
-            b"122026\t20240101\t1\t900000000000207008\t100005\t103007\t0\t116680003\t900000000000011006\t900000000000451002\r\n121022\t",
-            b"REFUSED cycle 100005\n",
-        ),
-    ];
-    for (place, from, to, line) in &changes {
-        check_refused(&rt, rt.alloc(), *place, from, to, line)?;
-    }
+    assert_refused(&rt, rt.alloc(), &REFUSED)?;
     let none = (
         Status::ReleaseRefused,
         b"".as_slice(),
@@ -330,16 +317,22 @@ fn refuses_releases(rt: HostRuntime) -> Result<(), Fail> {
     )
 }
 
+fn assert_refused(
+    rt: &impl Abort,
+    alloc: Global,
+    files: &[(&str, &[u8], &[u8])],
+) -> Result<(), Fail> {
+    for (name, bytes, line) in files {
+        check_refused(rt, alloc, name, bytes, line)?;
+    }
+    Ok(())
+}
+
 #[test]
 fn ends_with_its_status(rt: HostRuntime) {
-    let statuses = [
-        Status::Done,
-        Status::DeviceFault,
-        Status::WordsFault,
-        Status::ReleaseRefused,
-        Status::MemoryRefused,
-    ];
-    assert!(rt; statuses.map(|status| status.code()) == [0, 1, 2, 3, 4]);
+    assert!(rt; Status::Done.code() == 0 && Status::DeviceFault.code() == 1);
+    assert!(rt; Status::WordsFault.code() == 2 && Status::ReleaseRefused.code() == 3);
+    assert!(rt; Status::MemoryRefused.code() == 4);
 }
 
 // What a call for help or for the version writes, and where it is told of words that are wrong.

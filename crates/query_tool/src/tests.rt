@@ -1,6 +1,6 @@
 //! Queries and their answers over small releases.
 use crate::engine::Engine;
-use crate::load_tests::sample;
+use crate::test_release::sample;
 use release_files::NamedBytes;
 use snapshot::{Limits, LoadFault};
 use std::alloc::{AllocError, Global};

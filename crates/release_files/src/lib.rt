@@ -7,8 +7,6 @@ mod lines;
 mod memory_files;
 mod piece_lines;
 mod source;
-#[cfg(test)]
-mod tests;
 
 pub use crate::lines::{Line, Lines, parts_are_lines};
 pub use crate::memory_files::MemoryFiles;

@@ -14,11 +14,7 @@ mod recent_concepts;
 mod row;
 mod split;
 mod tabs;
-#[cfg(test)]
-mod tests;
 mod value;
-#[cfg(test)]
-mod version_tests;
 mod versions;
 
 pub use crate::concrete::decimal;

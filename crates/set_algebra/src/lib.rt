@@ -7,8 +7,6 @@ mod equal;
 mod laws;
 mod lowering;
 mod plan;
-#[cfg(test)]
-mod tests;
 
 pub use crate::laws::{
     places_are_found_and_put, places_keep_the_meaning, plans_mean_concepts_in_force,

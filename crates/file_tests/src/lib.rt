@@ -1,0 +1,14 @@
+//! Tests of what a release's files are read by, from outside: identifiers, rows of each kind, and lines.
+//!
+//! They stand in a crate of their own, so that the crates that they look at are not proved once more with
+//! them.
+#![tactic(auto)]
+
+#[cfg(test)]
+mod identifier_tests;
+#[cfg(test)]
+mod line_tests;
+#[cfg(test)]
+mod row_tests;
+#[cfg(test)]
+mod version_tests;

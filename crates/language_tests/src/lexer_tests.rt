@@ -1,0 +1,384 @@
+//! Texts with their tokens and their refusals, as the language's description gives them.
+use ecl_lexer::{Feature, QueryFault, Token, TokenKind, lex};
+use std::alloc::{AllocError, Global};
+use std::process::Abort;
+
+// Each token alone.
+const SPELLINGS: [(&[u8], TokenKind); 40] = [
+    (b"<", TokenKind::DescendantOf),
+    (b"<<", TokenKind::DescendantOrSelfOf),
+    (b"<!", TokenKind::ChildOf),
+    (b"<<!", TokenKind::ChildOrSelfOf),
+    (b">", TokenKind::AncestorOf),
+    (b">>", TokenKind::AncestorOrSelfOf),
+    (b">!", TokenKind::ParentOf),
+    (b">>!", TokenKind::ParentOrSelfOf),
+    (b"!!>", TokenKind::Top),
+    (b"!!<", TokenKind::Bottom),
+    (b"^", TokenKind::MemberOf),
+    (b"*", TokenKind::Wildcard),
+    (b"(", TokenKind::RoundOpen),
+    (b")", TokenKind::RoundClose),
+    (b"{", TokenKind::BraceOpen),
+    (b"}", TokenKind::BraceClose),
+    (b"[", TokenKind::BracketOpen),
+    (b"]", TokenKind::BracketClose),
+    (b":", TokenKind::Colon),
+    (b".", TokenKind::Dot),
+    (b"..", TokenKind::Dots),
+    (b"=", TokenKind::Equal),
+    (b"!=", TokenKind::NotEqual),
+    (b"<=", TokenKind::LessOrEqual),
+    (b">=", TokenKind::GreaterOrEqual),
+    (b",", TokenKind::And),
+    (b"R", TokenKind::Reverse),
+    (b"r", TokenKind::Reverse),
+    (b"0", TokenKind::Digits),
+    (b"123456789012345678", TokenKind::Digits),
+    (b"#0", TokenKind::Number),
+    (b"#+2.6", TokenKind::Number),
+    (b"#-2.50", TokenKind::Number),
+    (b"#0.001", TokenKind::Number),
+    (b"#123456789012345678.123456789012345678", TokenKind::Number),
+    (b"||", TokenKind::Term),
+    (b"|Alpha (finding)|", TokenKind::Term),
+    (b"|\xc3\xa6 /* {{ \" 007|", TokenKind::Term),
+    (b"100005", TokenKind::Digits),
+    (b"100035", TokenKind::Digits),
+];
+
+// A word, which is followed by a blank.
+const WORDS: [(&[u8], TokenKind, usize); 8] = [
+    (b"AND ", TokenKind::And, 3),
+    (b"and\t", TokenKind::And, 3),
+    (b"aNd\r", TokenKind::And, 3),
+    (b"OR\n", TokenKind::Or, 2),
+    (b"Or/**/", TokenKind::Or, 2),
+    (b"MINUS /* c */", TokenKind::Minus, 5),
+    (b"minus/* * / **/", TokenKind::Minus, 5),
+    (b"r/**/", TokenKind::Reverse, 1),
+];
+
+// Texts and their tokens, by kind and span.
+const TOKENS: [(&[u8], &[(TokenKind, usize, usize)]); 15] = [
+    (b"", &[]),
+    (b" \t\r\n/**//* c */ ", &[]),
+    (
+        b"<<100005",
+        &[
+            (TokenKind::DescendantOrSelfOf, 0, 2),
+            (TokenKind::Digits, 2, 8),
+        ],
+    ),
+    (
+        b"< 100005 |Alpha| /* c */ and 101009",
+        &[
+            (TokenKind::DescendantOf, 0, 1),
+            (TokenKind::Digits, 2, 8),
+            (TokenKind::Term, 9, 16),
+            (TokenKind::And, 25, 28),
+            (TokenKind::Digits, 29, 35),
+        ],
+    ),
+    (
+        b"*:105000=#2.",
+        &[
+            (TokenKind::Wildcard, 0, 1),
+            (TokenKind::Colon, 1, 2),
+            (TokenKind::Digits, 2, 8),
+            (TokenKind::Equal, 8, 9),
+            (TokenKind::Number, 9, 11),
+            (TokenKind::Dot, 11, 12),
+        ],
+    ),
+    (
+        b"#1..5",
+        &[
+            (TokenKind::Number, 0, 2),
+            (TokenKind::Dots, 2, 4),
+            (TokenKind::Digits, 4, 5),
+        ],
+    ),
+    (
+        b"{R105000=*}",
+        &[
+            (TokenKind::BraceOpen, 0, 1),
+            (TokenKind::Reverse, 1, 2),
+            (TokenKind::Digits, 2, 8),
+            (TokenKind::Equal, 8, 9),
+            (TokenKind::Wildcard, 9, 10),
+            (TokenKind::BraceClose, 10, 11),
+        ],
+    ),
+    (
+        b"105000<!=#3",
+        &[
+            (TokenKind::Digits, 0, 6),
+            (TokenKind::ChildOf, 6, 8),
+            (TokenKind::Equal, 8, 9),
+            (TokenKind::Number, 9, 11),
+        ],
+    ),
+    (
+        b"<<=",
+        &[
+            (TokenKind::DescendantOrSelfOf, 0, 2),
+            (TokenKind::Equal, 2, 3),
+        ],
+    ),
+    (
+        b"<<<!",
+        &[
+            (TokenKind::DescendantOrSelfOf, 0, 2),
+            (TokenKind::ChildOf, 2, 4),
+        ],
+    ),
+    (
+        b"{ {",
+        &[(TokenKind::BraceOpen, 0, 1), (TokenKind::BraceOpen, 2, 3)],
+    ),
+    (
+        b"^/**/[",
+        &[(TokenKind::MemberOf, 0, 1), (TokenKind::BracketOpen, 5, 6)],
+    ),
+    (
+        b"100005AND 101009",
+        &[
+            (TokenKind::Digits, 0, 6),
+            (TokenKind::And, 6, 9),
+            (TokenKind::Digits, 10, 16),
+        ],
+    ),
+    (
+        b"[0..*]",
+        &[
+            (TokenKind::BracketOpen, 0, 1),
+            (TokenKind::Digits, 1, 2),
+            (TokenKind::Dots, 2, 4),
+            (TokenKind::Wildcard, 4, 5),
+            (TokenKind::BracketClose, 5, 6),
+        ],
+    ),
+    (
+        b"R1R1",
+        &[
+            (TokenKind::Reverse, 0, 1),
+            (TokenKind::Digits, 1, 2),
+            (TokenKind::Reverse, 2, 3),
+            (TokenKind::Digits, 3, 4),
+        ],
+    ),
+];
+
+// Texts that are refused.
+const REFUSALS: [(&[u8], QueryFault); 52] = [
+    (
+        b"*{{C active=1}}",
+        QueryFault::Unsupported(1, Feature::Filter),
+    ),
+    (
+        b"*{{+HISTORY}}",
+        QueryFault::Unsupported(1, Feature::History),
+    ),
+    (
+        b"*{{ \t\r\n+HISTORY}}",
+        QueryFault::Unsupported(1, Feature::History),
+    ),
+    (b"{{/**/+", QueryFault::Unsupported(0, Feature::Filter)),
+    (b"{{{", QueryFault::Unsupported(0, Feature::Filter)),
+    (b"^[a]108003", QueryFault::Unsupported(0, Feature::Fields)),
+    (
+        b"* ^ \t\r\n[a]108003",
+        QueryFault::Unsupported(2, Feature::Fields),
+    ),
+    (
+        b"LOINC#1-8",
+        QueryFault::Unsupported(0, Feature::Identifier),
+    ),
+    (
+        b"100005a#1",
+        QueryFault::Unsupported(6, Feature::Identifier),
+    ),
+    (
+        b"R105000#1",
+        QueryFault::Unsupported(0, Feature::Identifier),
+    ),
+    (b"R1R1-x#1", QueryFault::Unsupported(0, Feature::Identifier)),
+    (b"AND#", QueryFault::Unsupported(0, Feature::Identifier)),
+    (b"true#", QueryFault::Unsupported(0, Feature::Identifier)),
+    (
+        b"*:105000=\"x\"",
+        QueryFault::Unsupported(9, Feature::String),
+    ),
+    (
+        b"*:105000=true",
+        QueryFault::Unsupported(9, Feature::Boolean),
+    ),
+    (b"FALSE", QueryFault::Unsupported(0, Feature::Boolean)),
+    (b"true1", QueryFault::Unsupported(0, Feature::Boolean)),
+    (b"trueX", QueryFault::Token(0)),
+    (b"100005 XOR 101009", QueryFault::Token(7)),
+    (b"100005 AND(101009)", QueryFault::Token(7)),
+    (b"100005 AND/* x", QueryFault::Token(7)),
+    (b"100005 AND", QueryFault::Token(7)),
+    (b"100005 |Alpha", QueryFault::Token(7)),
+    (b"100005 /* c", QueryFault::Token(7)),
+    (b"100005 / *", QueryFault::Token(7)),
+    (b"/*/", QueryFault::Token(0)),
+    (b"/**/*/", QueryFault::Token(5)),
+    (b"007", QueryFault::Token(0)),
+    (b"00", QueryFault::Token(0)),
+    (b"*:105000=#-02", QueryFault::Token(9)),
+    (b"#02.1", QueryFault::Token(0)),
+    (b"#", QueryFault::Token(0)),
+    (b"#.5", QueryFault::Token(0)),
+    (b"* # 1", QueryFault::Token(2)),
+    (b"#+-1", QueryFault::Token(0)),
+    (b"RR", QueryFault::Token(0)),
+    (b"Rx", QueryFault::Token(0)),
+    (b"!!=", QueryFault::Token(0)),
+    (b"!", QueryFault::Token(0)),
+    (b"1+2", QueryFault::Token(1)),
+    (b"* \xc3\xa6", QueryFault::Token(2)),
+    (b"1234567890123456789", QueryFault::Limit(0)),
+    (b"0123456789012345678", QueryFault::Token(0)),
+    (b"*:105000=#1234567890123456789", QueryFault::Limit(9)),
+    (b"*:105000=#0.0000000000000000001", QueryFault::Limit(9)),
+    (b"#02.0000000000000000001", QueryFault::Token(0)),
+    (b"1234567890123456789 {{", QueryFault::Limit(0)),
+    (b"? {{", QueryFault::Token(0)),
+    (b"{{ ?", QueryFault::Unsupported(0, Feature::Filter)),
+    (b"\xff", QueryFault::Utf8),
+    (b"?\xff", QueryFault::Utf8),
+    (b"|\xff|", QueryFault::Utf8),
+];
+
+// What a text is read to. Where memory was refused it is read once more: one refusal is answered by
+// `Memory` alone, and leaves nothing behind.
+fn read(alloc: Global, text: &[u8]) -> Result<Vec<Token<'_>>, QueryFault> {
+    match lex(alloc, text) {
+        Err(QueryFault::Memory) => lex(alloc, text),
+        answer => answer,
+    }
+}
+
+// The one token of a text, which may have blanks behind it.
+fn assert_token(rt: &impl Abort, alloc: Global, text: &[u8], kind: TokenKind, end: usize) {
+    match read(alloc, text) {
+        Ok(tokens) => {
+            assert!(rt; tokens.len() == 1, "{text:?}");
+            let token = tokens[0];
+            assert!(rt; token.kind == kind, "{text:?}");
+            assert!(rt; token.span == (0, end), "{text:?}");
+            assert!(rt; end <= text.len(), "{text:?}");
+            assert!(rt; token.text == &text[..end], "{text:?}");
+        }
+        Err(_) => panic!(rt; "{text:?}"),
+    }
+}
+
+#[test]
+fn spellings(rt: HostRuntime) {
+    for (text, kind) in SPELLINGS {
+        assert_token(&rt, rt.alloc(), text, kind, text.len());
+    }
+    for (text, kind, end) in WORDS {
+        assert_token(&rt, rt.alloc(), text, kind, end);
+    }
+}
+
+#[test]
+fn tokens(rt: HostRuntime) {
+    for (text, want) in TOKENS {
+        match read(rt.alloc(), text) {
+            Ok(tokens) => {
+                assert!(rt; tokens.len() == want.len(), "{text:?}");
+                for (token, place) in tokens.iter().zip(want) {
+                    assert!(rt; token.kind == place.0, "{text:?}");
+                    assert!(rt; token.span == (place.1, place.2), "{text:?}");
+                }
+            }
+            Err(_) => panic!(rt; "{text:?}"),
+        }
+    }
+}
+
+#[test]
+fn refusals(rt: HostRuntime) {
+    for (text, want) in REFUSALS {
+        match read(rt.alloc(), text) {
+            Ok(_) => panic!(rt; "{text:?}"),
+            Err(fault) => assert!(rt; fault == want, "{text:?}"),
+        }
+    }
+}
+
+// A text of many times the same bytes, with others before and behind them.
+fn repeated(
+    alloc: Global,
+    front: &[u8],
+    bytes: &[u8],
+    times: usize,
+    back: &[u8],
+) -> Result<Vec<u8>, AllocError> {
+    let mut text = Vec::from_slice(alloc, front)?;
+    for _ in 0..times {
+        text.extend_from_slice(bytes)?;
+    }
+    text.extend_from_slice(back)?;
+    Ok(text)
+}
+
+// How many tokens a long text has, or its refusal.
+fn count(alloc: Global, text: &[u8]) -> Result<usize, QueryFault> {
+    match read(alloc, text) {
+        Ok(tokens) => Ok(tokens.len()),
+        Err(fault) => Err(fault),
+    }
+}
+
+#[test]
+fn long_texts(rt: HostRuntime) {
+    let alloc = rt.alloc();
+    for (front, bytes, times, back, want) in [
+        (
+            b"".as_slice(),
+            b" ".as_slice(),
+            65_535,
+            b"".as_slice(),
+            Ok(0),
+        ),
+        (b"", b" ", 65_536, b"", Err(QueryFault::Long)),
+        (b"", b"\xff", 65_536, b"", Err(QueryFault::Long)),
+        (b"", b"(", 65_535, b"", Ok(65_535)),
+        (b"", b"R1", 32_767, b"", Ok(65_534)),
+        (b"", b"(", 65, b"?", Err(QueryFault::Token(65))),
+        (b"*:", b"{ ", 65, b"", Ok(67)),
+        (
+            b"*",
+            b"/**/",
+            16_000,
+            b"{{+",
+            Err(QueryFault::Unsupported(64_001, Feature::History)),
+        ),
+    ] {
+        // Memory that is refused to the test itself tells nothing.
+        if let Ok(text) = repeated(alloc, front, bytes, times, back) {
+            assert!(rt;
+                count(alloc, &text) == want,
+                "{front:?} {bytes:?} {times} {back:?}"
+            );
+        }
+    }
+}
+
+#[test]
+fn words_of_faults(rt: HostRuntime) {
+    let fault = QueryFault::Unsupported(12, Feature::History);
+    if let Ok(text) = format!(in rt.alloc(); "{fault}") {
+        assert!(rt; text.as_str() == "at byte 12 a form begins that is not read: history");
+    }
+    assert_eq!(rt; fault.number(), 3);
+    assert!(rt; Feature::Identifier.name() == "identifier");
+    assert_eq!(rt; QueryFault::Memory.number(), 6);
+}

@@ -1,0 +1,6 @@
+use Rattle.std.proofs.Common.{◌≡◌, ◌%◌, eqb}
+use Rattle.idset.specs.Sets.{numbers_where}
+use Rattle.release_tests.proofs.set_tests.multiples.Given as goal
+
+abbrev pub invariant-loop-number : goal.invariant-loop-number
+invariant-loop-number l = l.multiples.items ≡ numbers_where l.number (λ number. eqb (number % l.of) 0)

@@ -1,0 +1,193 @@
+//! The row of sets in each form, and the forms against each other at many bounds.
+//!
+//! Each check runs again where an allocation failed, so that it holds with every allocation failing in
+//! its turn.
+ghost use Rattle.std.specs.Prelude.{◌≡◌, ◌<◌, ◌++◌, ◌∷◌, [], cond, IfOk, OnOk};
+ghost use Rattle.idset.specs.Sets.{IsRisingBelow};
+
+use idset::{ConceptSet, MixedSet, SortedSet, WordSet};
+use std::alloc::{AllocError, Global};
+use std::test::Fail;
+
+// Whether a set has just these items, and is told to have so many.
+fn is_of<S: ConceptSet>(alloc: Global, set: &S, wanted: &[u32]) -> Result<bool, AllocError> {
+    let items = set.items(alloc)?;
+    Ok(items.as_slice() == wanted && set.count() as usize == wanted.len())
+}
+
+// The operations on x = 0 2 5 and y = 2 5 9 below 10.
+fn operations_hold<S: ConceptSet>(alloc: Global, x: &S, y: &S) -> Result<bool, AllocError>
+    requires { S.bound_of x.now ≡ S.bound_of y.now }
+{
+    let both = x.and(alloc, y)?;
+    let either = x.or(alloc, y)?;
+    let left = x.minus(alloc, y)?;
+    let right = y.minus(alloc, x)?;
+    let missing = x.others(alloc)?;
+    let copy = x.copy(alloc)?;
+    Ok(
+        is_of(alloc, &both, &[2, 5])?
+            && is_of(alloc, &either, &[0, 2, 5, 9])?
+            && is_of(alloc, &left, &[0])?
+            && is_of(alloc, &right, &[9])?
+            && is_of(alloc, &missing, &[1, 3, 4, 6, 7, 8, 9])?
+            && is_of(alloc, &copy, &[0, 2, 5])?,
+    )
+}
+
+// What a set tells without memory.
+fn tells<S: ConceptSet>(x: &S) -> bool {
+    x.count() == 3
+        && x.bound() == 10
+        && x.has(2)
+        && !x.has(3)
+        && !x.has(10)
+        && !x.has(4_000_000_000)
+}
+
+// The same set made in other ways.
+fn made_alike<S: ConceptSet>(alloc: Global) -> Result<bool, AllocError> {
+    let unsorted = S::from_numbers(alloc, &[5, 0, 2, 0, 5], 10)?;
+    let marks = WordSet::from_items(alloc, &[0, 2, 5], 10)?;
+    let marked = S::from_words(alloc, marks.words(), marks.bound())?;
+    let every = S::every(alloc, 10)?;
+    Ok(
+        is_of(alloc, &unsorted, &[0, 2, 5])?
+            && is_of(alloc, &marked, &[0, 2, 5])?
+            && is_of(alloc, &every, &[0, 1, 2, 3, 4, 5, 6, 7, 8, 9])?,
+    )
+}
+
+// A list added to a set in place; where it could not be added, the set is as it was.
+fn grows<S: ConceptSet>(alloc: Global, set: &mut S) -> Result<bool, AllocError>
+    requires { S.bound_of set.old ≡ 10 }
+{
+    if set.add_all(alloc, &[2, 5, 9]).is_err() {
+        return Ok(set.count() == 3 && set.has(0) && set.has(2) && set.has(5) && !set.has(9));
+    }
+    is_of(alloc, set, &[0, 2, 5, 9])
+}
+
+// Sets at the ends of words, and the empty set.
+fn ends_hold<S: ConceptSet>(alloc: Global) -> Result<bool, AllocError> {
+    let set = S::from_items(alloc, &[0, 63, 64, 127, 128, 129], 130)?;
+    let empty = S::from_items(alloc, &[], 0)?;
+    let every = S::every(alloc, 0)?;
+    Ok(
+        set.count() == 6
+            && is_of(alloc, &set, &[0, 63, 64, 127, 128, 129])?
+            && is_of(alloc, &empty, &[])?
+            && is_of(alloc, &every, &[])?,
+    )
+}
+
+fn row_holds<S: ConceptSet>(alloc: Global) -> Result<bool, AllocError> {
+    let mut x = S::from_items(alloc, &[0, 2, 5], 10)?;
+    let y = S::from_items(alloc, &[2, 5, 9], 10)?;
+    Ok(
+        tells(&x)
+            && operations_hold(alloc, &x, &y)?
+            && made_alike::<S>(alloc)?
+            && ends_hold::<S>(alloc)?
+            && grows(alloc, &mut x)?,
+    )
+}
+
+fn row_holds_again<S: ConceptSet>(alloc: Global) -> Result<bool, AllocError> {
+    match row_holds::<S>(alloc) {
+        Ok(holds) => Ok(holds),
+        Err(AllocError) => row_holds::<S>(alloc),
+    }
+}
+
+#[test]
+fn row_of_sorted_sets(rt: HostRuntime) -> Result<(), Fail> {
+    assert!(rt; row_holds_again::<SortedSet>(rt.alloc())?);
+    Ok(())
+}
+
+#[test]
+fn row_of_word_sets(rt: HostRuntime) -> Result<(), Fail> {
+    assert!(rt; row_holds_again::<WordSet>(rt.alloc())?);
+    Ok(())
+}
+
+#[test]
+fn row_of_mixed_sets(rt: HostRuntime) -> Result<(), Fail> {
+    assert!(rt; row_holds_again::<MixedSet>(rt.alloc())?);
+    Ok(())
+}
+
+// Pushes a number where the test holds.
+fn push_if(items: &mut Vec<u32>, test: bool, item: u32) -> Result<(), AllocError>
+    ensures { OnOk result (items.new.items ≡ items.old.items ++ cond test (item ∷ []) []) }
+{
+    if test {
+        items.push(item)?;
+    }
+    Ok(())
+}
+
+// The multiples of a number below a bound.
+fn multiples(alloc: Global, of: u32, bound: u32) -> Result<Vec<u32>, AllocError>
+    requires { 0 < of }
+    ensures { IfOk result (λ multiples. IsRisingBelow bound multiples.items) }
+{
+    let mut multiples = Vec::new(alloc);
+    for number in 0..bound {
+        push_if(&mut multiples, number % of == 0, number)?;
+    }
+    Ok(multiples)
+}
+
+// The items of what each operation gives, one after another.
+fn answers<S: ConceptSet>(
+    alloc: Global,
+    xs: &[u32],
+    ys: &[u32],
+    bound: u32,
+) -> Result<Vec<u32>, AllocError>
+    requires xs { IsRisingBelow bound xs.now }
+    requires ys { IsRisingBelow bound ys.now }
+{
+    let x = S::from_items(alloc, xs, bound)?;
+    let y = S::from_items(alloc, ys, bound)?;
+    let mut answers = x.and(alloc, &y)?.items(alloc)?;
+    answers.extend_from_slice(&x.or(alloc, &y)?.items(alloc)?)?;
+    answers.extend_from_slice(&x.minus(alloc, &y)?.items(alloc)?)?;
+    answers.extend_from_slice(&y.minus(alloc, &x)?.items(alloc)?)?;
+    answers.extend_from_slice(&x.others(alloc)?.items(alloc)?)?;
+    answers.extend_from_slice(&x.copy(alloc)?.items(alloc)?)?;
+    answers.push(y.count())?;
+    Ok(answers)
+}
+
+// Whether all forms answer alike below a bound.
+fn forms_agree(alloc: Global, bound: u32) -> Result<bool, AllocError> {
+    let xs = multiples(alloc, 2, bound)?;
+    let ys = multiples(alloc, 3, bound)?;
+    let sorted = answers::<SortedSet>(alloc, &xs, &ys, bound)?;
+    let words = answers::<WordSet>(alloc, &xs, &ys, bound)?;
+    let mixed = answers::<MixedSet>(alloc, &xs, &ys, bound)?;
+    Ok(sorted.as_slice() == words.as_slice() && sorted.as_slice() == mixed.as_slice())
+}
+
+// The first bound of a stretch below which the forms do not agree, or the stretch's end.
+fn agree_until(alloc: Global, end: u32) -> Result<u32, AllocError> {
+    for bound in 0..end {
+        if !forms_agree(alloc, bound)? {
+            return Ok(bound);
+        }
+    }
+    Ok(end)
+}
+
+#[test]
+fn forms_agree_below_each_bound(rt: HostRuntime) -> Result<(), Fail> {
+    let agree = match agree_until(rt.alloc(), 601) {
+        Ok(agree) => agree,
+        Err(AllocError) => agree_until(rt.alloc(), 601)?,
+    };
+    assert_eq!(rt; agree, 601);
+    Ok(())
+}
