@@ -1,7 +1,7 @@
 //! The operators, comparisons and cardinalities of a constraint.
 
 /// A way to go through the hierarchy (Expression Constraint Language, "Simple Expression Constraints").
-#[derive(Clone, Copy, Debug, PartialEq, Eq, Hash)]
+#[derive(Clone, Copy, Debug, PartialEq, Eq)]
 pub enum Operator {
     /// `<`
     Descendants,
@@ -26,7 +26,7 @@ pub enum Operator {
 }
 
 /// A comparison with a number (Expression Constraint Language, "Refinements", concrete values).
-#[derive(Clone, Copy, Debug, PartialEq, Eq, Hash)]
+#[derive(Clone, Copy, Debug, PartialEq, Eq)]
 pub enum Compare {
     /// `=`
     Equal,
@@ -44,7 +44,7 @@ pub enum Compare {
 
 /// How many there may be (Expression Constraint Language, "Cardinality"). A minimum above the maximum is
 /// never satisfied.
-#[derive(Clone, Copy, Debug, PartialEq, Eq, Hash)]
+#[derive(Clone, Copy, Debug, PartialEq, Eq)]
 pub struct Cardinality {
     /// At least so many.
     pub min: u64,

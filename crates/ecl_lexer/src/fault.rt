@@ -5,7 +5,7 @@ use std::alloc::{AllocError, AllocFailed};
 use thiserror::Error;
 
 /// A form of the language (Expression Constraint Language 2.2) that is not read.
-#[derive(Clone, Copy, Debug, PartialEq, Eq, Hash)]
+#[derive(Clone, Copy, Debug, PartialEq, Eq)]
 pub enum Feature {
     /// A filter, as `{{ C active = 1 }}` ("Description Filters", "Concept Filters", "Member Filters").
     Filter,
@@ -41,7 +41,7 @@ impl Feature {
 
 /// The first refusal of a text, in the order of the numbers; among those of number 3 it is the one at
 /// the least offset. An offset counts bytes, from 0.
-#[derive(Clone, Copy, Debug, PartialEq, Eq, Hash, Error)]
+#[derive(Clone, Copy, Debug, PartialEq, Eq, Error)]
 pub enum QueryFault {
     /// More than 65,535 bytes.
     #[error("the text has more than 65,535 bytes")]

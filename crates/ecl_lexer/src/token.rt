@@ -2,7 +2,7 @@
 
 /// The kinds of token (Expression Constraint Language 2.2, 5.1 "Brief syntax"), one for each spelling.
 /// The comma and the word `AND` spell one kind.
-#[derive(Clone, Copy, Debug, PartialEq, Eq, Hash)]
+#[derive(Clone, Copy, Debug, PartialEq, Eq)]
 pub enum TokenKind {
     /// `<`: descendant of, and among comparisons less than.
     DescendantOf,
@@ -72,7 +72,7 @@ pub enum TokenKind {
 }
 
 /// A token of a text.
-#[derive(Clone, Copy, Debug, PartialEq, Eq, Hash)]
+#[derive(Clone, Copy, Debug, PartialEq, Eq)]
 pub struct Token<'a> {
     /// What it is.
     pub kind: TokenKind,

@@ -5,7 +5,7 @@ use sctid::IdFault;
 use thiserror::Error;
 
 /// Why the text of a column, or a line as a whole, is not accepted.
-#[derive(Clone, Copy, Debug, PartialEq, Eq, Hash, Error)]
+#[derive(Clone, Copy, Debug, PartialEq, Eq, Error)]
 pub enum RowCause {
     /// The line has more or fewer fields than the header has columns.
     #[error("the line has not as many fields as the header")]
@@ -36,7 +36,7 @@ pub enum RowCause {
 }
 
 /// The first fault of a line: its cause, and the column that it is in.
-#[derive(Clone, Copy, Debug, PartialEq, Eq, Hash, Error)]
+#[derive(Clone, Copy, Debug, PartialEq, Eq, Error)]
 #[error("column {column}: {cause}")]
 pub struct RowFault {
     /// Why the line is refused.

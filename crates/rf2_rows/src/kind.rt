@@ -7,7 +7,7 @@ use crate::split::cut;
 use bstr::ByteSlice;
 
 /// What the rows of a file describe.
-#[derive(Clone, Copy, Debug, PartialEq, Eq, Hash)]
+#[derive(Clone, Copy, Debug, PartialEq, Eq)]
 pub enum FileKind {
     /// Concepts (Release File Specification, "Concept file").
     Concept,

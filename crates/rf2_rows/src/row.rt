@@ -7,7 +7,7 @@ use sctid::SctId;
 use uuid::Uuid;
 
 /// A row of the Concept file (Release File Specification, "Concept file").
-#[derive(Clone, Copy, Debug, PartialEq, Eq, Hash)]
+#[derive(Clone, Copy, Debug, PartialEq, Eq)]
 pub struct ConceptRow {
     /// The concept.
     pub id: SctId,
@@ -23,7 +23,7 @@ pub struct ConceptRow {
 
 /// A row of the Description file (Release File Specification, "Description file"). Its texts are
 /// lent from the line.
-#[derive(Clone, Copy, Debug, PartialEq, Eq, Hash)]
+#[derive(Clone, Copy, Debug, PartialEq, Eq)]
 pub struct DescriptionRow<'a> {
     /// The description.
     pub id: SctId,
@@ -46,7 +46,7 @@ pub struct DescriptionRow<'a> {
 }
 
 /// A row of the Relationship file (Release File Specification, "Relationship file").
-#[derive(Clone, Copy, Debug, PartialEq, Eq, Hash)]
+#[derive(Clone, Copy, Debug, PartialEq, Eq)]
 pub struct RelationshipRow {
     /// The relationship.
     pub id: SctId,
@@ -72,7 +72,7 @@ pub struct RelationshipRow {
 
 /// A row of the Relationship concrete values file (Release File Specification, "Relationship
 /// concrete values file"). Its value may be lent from the line.
-#[derive(Clone, Copy, Debug, PartialEq, Eq, Hash)]
+#[derive(Clone, Copy, Debug, PartialEq, Eq)]
 pub struct ConcreteRow<'a> {
     /// The relationship.
     pub id: SctId,
@@ -97,7 +97,7 @@ pub struct ConcreteRow<'a> {
 }
 
 /// A row of a simple reference set file (Release File Specification, "Simple reference set").
-#[derive(Clone, Copy, Debug, PartialEq, Eq, Hash)]
+#[derive(Clone, Copy, Debug, PartialEq, Eq)]
 pub struct MemberRow {
     /// The member.
     pub id: Uuid,
@@ -114,7 +114,7 @@ pub struct MemberRow {
 }
 
 /// The row that a line of a file stands for.
-#[derive(Clone, Copy, Debug, PartialEq, Eq, Hash)]
+#[derive(Clone, Copy, Debug, PartialEq, Eq)]
 pub enum Row<'a> {
     /// A row of a Concept file.
     Concept(ConceptRow),

@@ -12,8 +12,6 @@ ghost use Rattle.sctid.specs.Identifier.{has_partition};
 
 mod check;
 mod digits;
-#[cfg(test)]
-mod tests;
 
 use arrayvec::ArrayVec;
 use digits::read_digits;
@@ -22,7 +20,7 @@ use thiserror::Error;
 
 /// The kind of component that an identifier names, by its partition (Release File Specification,
 /// "Partition identifier"): the second digit of the partition, in the short and the long form alike.
-#[derive(Clone, Copy, Debug, PartialEq, Eq, PartialOrd, Ord, Hash)]
+#[derive(Clone, Copy, Debug, PartialEq, Eq)]
 pub enum Part {
     /// Partitions 00 and 10.
     Concept,
@@ -33,7 +31,7 @@ pub enum Part {
 }
 
 /// Why a text is no identifier: the first cause, in this order, that holds of it.
-#[derive(Clone, Copy, Debug, PartialEq, Eq, Hash, Error)]
+#[derive(Clone, Copy, Debug, PartialEq, Eq, Error)]
 pub enum IdFault {
     /// Fewer than 6 or more than 18 bytes.
     #[error("an identifier has 6 to 18 digits")]
