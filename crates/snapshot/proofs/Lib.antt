@@ -1,5 +1,6 @@
 pub mod ApartLemmas
 pub mod AttributeLemmas
+pub mod BehindLemmas
 pub mod BucketLemmas
 pub mod ChoiceLemmas
 pub mod CodeLemmas

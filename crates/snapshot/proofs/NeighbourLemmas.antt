@@ -124,11 +124,11 @@ count_of-same : (key : ℕ) (x : ℕ) (xs : List ℕ) → x ≡ key → count_of
 count_of-same key x xs same =
     sum_by-cons (λ other. cond (other == key) 1 0) x xs ∙ ap (λ (b : Bool). cond b 1 0 + count_of key xs) (eq-eqb x key same)
 
-count_of-other : (key : ℕ) (x : ℕ) (xs : List ℕ) → (x ≡ key → ⊥) → count_of key (x ∷ xs) ≡ 0 + count_of key xs
+pub count_of-other : (key : ℕ) (x : ℕ) (xs : List ℕ) → (x ≡ key → ⊥) → count_of key (x ∷ xs) ≡ 0 + count_of key xs
 count_of-other key x xs apart =
     sum_by-cons (λ other. cond (other == key) 1 0) x xs ∙ ap (λ (b : Bool). cond b 1 0 + count_of key xs) (ne_eqb x key apart)
 
-count_of-some : (key : ℕ) (xs : List ℕ) → 1 ≤ count_of key xs → has xs key ≡ true
+pub count_of-some : (key : ℕ) (xs : List ℕ) → 1 ≤ count_of key xs → has xs key ≡ true
 count_of-some key [] some = absurd (omega arith)
 count_of-some key (x ∷ xs) some = elim (cases_eq x key) [
   | inl same ↦ or_left (key == x) (has xs key) (eq-eqb key x (sym same))

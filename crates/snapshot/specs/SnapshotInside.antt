@@ -9,7 +9,7 @@ use Rattle.snapshot.specs.Name.{name_among}
 use Rattle.snapshot.specs.Numbering.{IsWithin, row_of_numbers}
 use Rattle.snapshot.specs.ParentsFirst.{IsParentsFirst}
 use Rattle.snapshot.specs.Sorted.{IsSortedBySource, in_file_order}
-use Rattle.snapshot.specs.declared.load.Snapshot.TheInside.{Inside}
+use Rattle.snapshot.specs.declared.held_release.Snapshot.TheInside.{Inside}
 
 -- the contents that the fields stand for
 abbrev pub contents_in : Inside → Contents

@@ -36,7 +36,7 @@ AreLines inside = All (IsLineOf inside.lines.items) inside.rows.items
 
 abbrev pub taken_in : Inside → Taken
 taken_in inside = record {
-  repeated = inside.repeated.items;
+  repeated = inside.repeated;
   codes = inside.seen.keys;
   versions = inside.versions;
   chosen = inside.chosen.items;

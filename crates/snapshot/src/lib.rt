@@ -8,6 +8,7 @@ mod components;
 mod concepts;
 mod cycle;
 mod fault;
+mod held_release;
 mod kept_names;
 mod keyed_lists;
 mod keys;
@@ -22,18 +23,19 @@ mod pieces;
 mod places;
 mod repeated;
 mod report;
+mod rising_keys;
 mod row_lists;
 mod rows;
 mod sorted_attributes;
 mod versions;
 
 pub use crate::fault::LoadFault;
+pub use crate::held_release::Snapshot;
 pub use crate::keyed_lists::KeyedLists;
 pub use crate::laws::{
     cyclic_concept_is_the_least, first_fault_is_the_first, naming_row_comes_first,
     rising_keeps_the_members, rows_are_listed_or_passed,
 };
 pub use crate::limits::Limits;
-pub use crate::load::Snapshot;
 pub use crate::report::Report;
 pub use crate::sorted_attributes::AttributeRow;

@@ -9,6 +9,7 @@ ghost use Rattle.snapshot.specs.InForce.{has};
 ghost use Rattle.snapshot.specs.Noted.{Noted, choices, conflicts, AreOfItsKind, Covers};
 ghost use Rattle.snapshot.specs.Taken.{IsCodeOf, Version, is_older, is_outdated, time_code, without};
 
+use crate::rising_keys::RisingKeys;
 use indexmap::IndexSet;
 use rf2_rows::{FileKind, same_row};
 use std::alloc::{AllocError, Global};
@@ -129,10 +130,8 @@ impl VersionRows {
 /// are compared. Once memory was refused, nothing is known of the rows taken any more.
 #[derive(Drop)]
 pub struct Versions {
-    // the keys of the components that have several rows, in rising order
-    repeated: Vec<u64>,
-    // the place where the last key that is not among them would stand: the next one mostly stands there too
-    near: usize,
+    // the keys of the components that have several rows
+    repeated: RisingKeys,
     // the codes of the versions, to find a version's number by its code
     seen: IndexSet<u64>,
     // the versions in the order in which they were first seen
@@ -165,8 +164,7 @@ impl Versions {
         ensures taken { HasTaken result [] }
     {
         Versions {
-            repeated,
-            near: 0,
+            repeated: RisingKeys::new(repeated),
             seen: IndexSet::new(alloc),
             versions: VersionRows::new(alloc),
             chosen: Vec::new(alloc),
@@ -178,16 +176,7 @@ impl Versions {
         ensures repeated { result ≡ has self.old.repeated key }
         ensures same { self.new ≡ self.old }
     {
-        if is_between(self.repeated.as_slice(), self.near, key) {
-            return false;
-        }
-        match self.repeated.binary_search(&key) {
-            Ok(_) => true,
-            Err(place) => {
-                self.near = place;
-                false
-            }
-        }
+        self.repeated.has(key)
     }
 
     /// Takes a row whose key is not repeated.
@@ -270,25 +259,16 @@ impl Versions {
             → result.items ≡ choices rows [] rows }
     {
         let Versions {
-            repeated: mut latest,
+            repeated,
             versions,
             mut chosen,
             ..
         } = self;
+        let mut latest = repeated.into_keys();
         find_latest(&mut latest, &versions);
         leave_latest(&mut chosen, latest.as_slice(), &versions);
         chosen
     }
-}
-
-// Whether a key lies between the one before a place in a rising list and the one at it.
-fn is_between(rising: &[u64], place: usize, key: u64) -> bool
-    requires { IsStrictlyIncreasing rising.now }
-    ensures { result ≡ true → has rising.now key ≡ false }
-{
-    place <= rising.len()
-        && (place == 0 || rising[place - 1] < key)
-        && (place == rising.len() || key < rising[place])
 }
 
 // The code of the version of a key and a time: the place of the key among the repeated ones, and behind it

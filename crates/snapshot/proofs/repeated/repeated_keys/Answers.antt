@@ -1,5 +1,4 @@
-use Rattle.std.proofs.Common.{ℕ, ◌≡◌, ◌<◌, ◌∙◌, List, length, ap, subst, nat_eq, arith}
-use Rattle.std.specs.Prelude.{IsPermutation}
+use Rattle.std.proofs.Common.{◌≡◌, ◌<◌, ◌∙◌, length, ap, nat_eq, arith}
 use Rattle.std.specs.List.{dedup}
 use Rattle.std.proofs.lemmas.List.Filters.{dedup_is}
 use Rattle.snapshot.specs.Repeated.{equal_neighbours}
@@ -14,22 +13,22 @@ returns-then-rises-clause-members c = λ key. (
 
 pub returns-clause-rising : goal.returns-clause-rising
 returns-clause-rising c =
-    let sorted = c.sort.new.self.items in
-    let moved : IsPermutation c.args.keys.now sorted = subst (λ (keys : List ℕ). IsPermutation keys sorted) c.in_ok-sorted.ensures.items c.sort.ensures.permutation in
+    let sorted = c.sort_unstable.new.self.items in
     let are : c.dedup.new.self.items ≡ dedup nat_eq (equal_neighbours sorted) =
     dedup_is nat_eq c.in_ok-repeated.repeated.items c.dedup.new.self.items c.dedup.ensures.filtered
     ∙ ap (dedup nat_eq) (c.in_ok-repeated.ensures ∙ ap equal_neighbours c.as_slice.ensures.value) in
-    repeated_rise c.args.keys.now sorted moved c.in_ok-sort.ensures.sorted c.dedup.new.self.items are
+    repeated_rise c.in_ok-doubtful.doubtful.items sorted c.sort_unstable.ensures.permutation c.sort_unstable.ensures.sorted c.dedup.new.self.items are
 
 pub returns-clause-members : goal.returns-clause-members
 returns-clause-members c = λ key.
-    let sorted = c.sort.new.self.items in
-    let moved : IsPermutation c.args.keys.now sorted = subst (λ (keys : List ℕ). IsPermutation keys sorted) c.in_ok-sorted.ensures.items c.sort.ensures.permutation in
+    let doubtful = c.in_ok-doubtful.doubtful.items in
+    let sorted = c.sort_unstable.new.self.items in
     let are : c.dedup.new.self.items ≡ dedup nat_eq (equal_neighbours sorted) =
     dedup_is nat_eq c.in_ok-repeated.repeated.items c.dedup.new.self.items c.dedup.ensures.filtered
-    ∙ ap (dedup nat_eq) (c.in_ok-repeated.ensures ∙ ap equal_neighbours c.as_slice.ensures.value) in (
-      repeated_twice c.args.keys.now sorted moved c.in_ok-sort.ensures.sorted c.dedup.new.self.items are key,
-      twice_repeated c.args.keys.now sorted moved c.in_ok-sort.ensures.sorted c.dedup.new.self.items are key,
+    ∙ ap (dedup nat_eq) (c.in_ok-repeated.ensures ∙ ap equal_neighbours c.as_slice.ensures.value) in
+    let twice = c.in_ok-doubtful.ensures.twice key in (
+      (λ there. twice.0 (repeated_twice doubtful sorted c.sort_unstable.ensures.permutation c.sort_unstable.ensures.sorted c.dedup.new.self.items are key there)),
+      (λ often. twice_repeated doubtful sorted c.sort_unstable.ensures.permutation c.sort_unstable.ensures.sorted c.dedup.new.self.items are key (twice.1 often)),
     )
 
 pub returns-clause-few : goal.returns-clause-few
@@ -40,6 +39,6 @@ returns-clause-few c =
       ap length c.in_ok-repeated.ensures,
       neighbours_few c.as_slice.result.now,
       ap length c.as_slice.ensures.value,
-      c.sort.ensures.len,
-      ap length c.in_ok-sorted.ensures.items,
+      c.sort_unstable.ensures.len,
+      c.in_ok-doubtful.ensures.few,
     )

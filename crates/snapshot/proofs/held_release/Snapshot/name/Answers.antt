@@ -4,7 +4,7 @@ use Rattle.snapshot.specs.Line.{concept_line}
 use Rattle.snapshot.specs.Name.{name_among, name_of, text_lent}
 use Rattle.snapshot.proofs.LineLemmas.{line_of_concept}
 use Rattle.snapshot.proofs.NameInLineLemmas.{same_name}
-use Rattle.snapshot.proofs.load.Snapshot.name.Goals as goal
+use Rattle.snapshot.proofs.held_release.Snapshot.name.Goals as goal
 
 -- the line of a concept, whose identifier was read
 line_is : (name : ℕ → Option (List ℕ)) (concepts : List ℕ) (lists : List (List ℕ)) (number concept : ℕ) → lists ≡ map (concept_line name) concepts → number < length concepts

@@ -4,7 +4,7 @@ use Rattle.snapshot.specs.Contents.{load_of}
 use Rattle.snapshot.specs.Pieces.{listed}
 use Rattle.snapshot.proofs.PiecesLemmas.{in_order}
 use Rattle.snapshot.proofs.TakingLemmas.{at_told, if_told}
-use Rattle.snapshot.proofs.load.Snapshot.load_from.Goals as goal
+use Rattle.snapshot.proofs.held_release.Snapshot.load_from.Goals as goal
 
 pub returns-clause-ok : goal.returns-clause-ok
 returns-clause-ok g c = if_told _ (g.S.FileSource.files c.args.source.now) (λ known told.

@@ -3,7 +3,7 @@ use Rattle.snapshot.specs.Contents.{Contents}
 use Rattle.snapshot.specs.Line.{concept_line}
 use Rattle.snapshot.specs.Name.{name_among, name_of}
 use Rattle.snapshot.proofs.LineLemmas.{line_of_concept}
-use Rattle.snapshot.proofs.load.Snapshot.line.Goals as goal
+use Rattle.snapshot.proofs.held_release.Snapshot.line.Goals as goal
 
 pub returns : goal.returns
 returns c =

@@ -7,7 +7,7 @@ use Rattle.snapshot.specs.AttributesBySource.{attribute_of, attributes_by_source
 use Rattle.snapshot.specs.Contents.{Contents}
 use Rattle.snapshot.specs.Kept.{is_value_among}
 use Rattle.snapshot.proofs.SortedLemmas.{All-sorted}
-use Rattle.snapshot.proofs.load.Snapshot.attribute_row.Goals as goal
+use Rattle.snapshot.proofs.held_release.Snapshot.attribute_row.Goals as goal
 
 pub returns-clause-row : goal.returns-clause-row
 returns-clause-row c =

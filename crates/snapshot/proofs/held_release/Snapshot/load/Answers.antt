@@ -6,7 +6,7 @@ use Rattle.snapshot.specs.Files.{places_from}
 use Rattle.snapshot.specs.declared.fault.LoadFault.{LoadFault}
 use Rattle.snapshot.proofs.LoadLemmas.{kind_count-is, load_of-named, load_of-none, names_concepts-is}
 use Rattle.snapshot.proofs.TakingLemmas.{if_both, no_device}
-use Rattle.snapshot.proofs.load.Snapshot.load.Goals as goal
+use Rattle.snapshot.proofs.held_release.Snapshot.load.Goals as goal
 
 pub returns-then-not-has_concept_file-clause-err : goal.returns-then-not-has_concept_file-clause-err
 returns-then-not-has_concept_file-clause-err c other =

@@ -3,7 +3,7 @@ use Rattle.snapshot.specs.Contents.{Contents}
 use Rattle.snapshot.specs.Numbering.{IsWithin, row_of_numbers}
 use Rattle.snapshot.specs.ParentsFirst.{IsParentsFirst}
 use Rattle.snapshot.proofs.NumberingLemmas.{same_numbers}
-use Rattle.snapshot.proofs.load.Snapshot.parents_first.Goals as goal
+use Rattle.snapshot.proofs.held_release.Snapshot.parents_first.Goals as goal
 
 pub returns : goal.returns
 returns c = λ rows are within.

@@ -1,8 +1,8 @@
 use Rattle.std.proofs.Common.{◌<◌, ◌∙◌, arith, length, slice_index_or, sym}
 use Rattle.std.proofs.lemmas.Bool.Decides.{nat_tests}
 use Rattle.snapshot.proofs.RisingLemmas.{has-between}
-use Rattle.snapshot.proofs.versions.is_between.Goals as goal
-use Rattle.snapshot.proofs.versions.is_between.Goals.{then-place-rising+then-place-eq0, then-place-rising+else-place-eq0, else-place-rising}
+use Rattle.snapshot.proofs.rising_keys.is_between.Goals as goal
+use Rattle.snapshot.proofs.rising_keys.is_between.Goals.{then-place-rising+then-place-eq0, then-place-rising+else-place-eq0, else-place-rising}
 
 pub returns-then-place-rising-2 : goal.returns-then-place-rising-2
 returns-then-place-rising-2 c = λ last.

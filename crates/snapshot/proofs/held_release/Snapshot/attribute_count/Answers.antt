@@ -2,7 +2,7 @@ use Rattle.std.proofs.Common.{◌≡◌, ◌∙◌, length, map, ap, sym, arith}
 use Rattle.std.proofs.lemmas.List.{length-map}
 use Rattle.snapshot.specs.AttributesBySource.{attributes_by_source, with_source}
 use Rattle.snapshot.specs.Contents.{Contents}
-use Rattle.snapshot.proofs.load.Snapshot.attribute_count.Goals as goal
+use Rattle.snapshot.proofs.held_release.Snapshot.attribute_count.Goals as goal
 
 pub returns-clause-by_source : goal.returns-clause-by_source
 returns-clause-by_source c =

@@ -1,0 +1,10 @@
+use Rattle.std.proofs.Common.{◌≡◌, take}
+use Rattle.std.specs.List.{filter}
+use Rattle.snapshot.specs.InForce.{has}
+use Rattle.snapshot.proofs.repeated.keys_among.Given as goal
+
+abbrev pub invariant-loop-key : goal.invariant-loop-key
+invariant-loop-key l = record {
+  others : l.others ≡ l.fn.others;
+  among : l.among.items ≡ filter (has l.fn.others) (take l.key-index l.keys);
+}

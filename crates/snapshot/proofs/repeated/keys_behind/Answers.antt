@@ -1,0 +1,34 @@
+use Rattle.std.proofs.Common.{ℕ, ◌≡◌, ◌<◌, ◌≤◌, ◌+◌, ◌++◌, ◌∷◌, [], ◌∙◌, List, length, get_or, take, sym, subst, arith}
+use Rattle.std.specs.Prelude.{All}
+use Rattle.std.proofs.lemmas.List.{take_all}
+use Rattle.std.proofs.lemmas.List.Elements.{All-more}
+use Rattle.snapshot.proofs.BehindLemmas.{AreBehind, behind_kept, behind_pushed}
+use Rattle.snapshot.proofs.repeated.keys_behind.Goals as goal
+use Rattle.snapshot.proofs.repeated.keys_behind.Goals.{then-key-highest+in_ok-push, else-key-highest}
+
+pub loop-key-preserved : goal.loop-key-preserved
+loop-key-preserved c =
+    let keys = c.args.keys.now in
+    let place = c.loop-key.key-index in
+    let key = get_or keys place 0 in
+    let highest = c.loop-key.highest in
+    let old = c.loop-key.behind.items in
+    let within : place < length keys = c.loop-key-test.true in
+    let seen = c.loop-key.invariant in
+    elim c.if-key-highest.branch [
+      | then-key-highest+in_ok-push w ↦
+          let is : c.if-key-highest.behind.items ≡ old ++ key ∷ [] = (λ i. (w.behind-is i).items) ∙ w.in_ok-push.ensures.items in record {
+            behind = subst (AreBehind (take (place + 1) keys)) (sym is) (behind_pushed keys old place within seen.behind);
+            highest = subst (λ (most : ℕ). All (λ key. key ≤ most) (take (place + 1) keys)) (sym w.highest-is)
+                (All-more (λ key. key ≤ highest) keys place 0 within seen.highest w.if-key-highest.true);
+          }
+      | else-key-highest w ↦
+          let is : c.if-key-highest.behind.items ≡ old = λ i. (w.behind-is i).items in record {
+            behind = subst (AreBehind (take (place + 1) keys)) (sym is) (behind_kept keys old place within seen.behind highest seen.highest w.if-key-highest.false);
+            highest = subst (λ (most : ℕ). All (λ key. key ≤ most) (take (place + 1) keys)) (sym w.highest-is)
+                (All-more (λ other. other ≤ key) keys place 0 within (λ k d lt. let low = seen.highest k d lt in omega (arith, low, w.if-key-highest.false)) (omega arith));
+          }
+    ]
+
+pub returns : goal.returns
+returns c = subst (λ (seen : List ℕ). AreBehind seen c.loop-key.behind.items) (take_all c.loop-key.key-index c.args.keys.now (omega arith)) c.loop-key.invariant.behind

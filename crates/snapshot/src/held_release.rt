@@ -1,0 +1,173 @@
+//! A release in memory, and reading it.
+ghost use Rattle.std.specs.Prelude.{◌≡◌, ◌<◌, ◌^◌, ℕ, List, None, Some, true, map, length, slice_index};
+ghost use Rattle.std.specs.List.{slice_get};
+ghost use Rattle.std.specs.List.Sorted.{IsStrictlyIncreasing};
+ghost use Rattle.snapshot.specs.AttributesBySource.{attribute_of, attributes_by_source, with_source};
+ghost use Rattle.snapshot.specs.Kept.{AreValuesInForce, is_value_among};
+ghost use Rattle.snapshot.specs.Line.{concept_line};
+ghost use Rattle.snapshot.specs.Name.{name_of, text_lent};
+ghost use Rattle.snapshot.specs.Numbering.{concept_number, IsWithin, row_of_numbers};
+ghost use Rattle.rf2_rows.specs.Rows.{value_lent};
+ghost use Rattle.snapshot.specs.ParentsFirst.{IsParentsFirst};
+
+use crate::concepts::Concepts;
+use crate::lines::ConceptLines;
+use crate::report::Report;
+use crate::sorted_attributes::{AttributeRow, SortedAttributes};
+use sctid::SctId;
+use std::marker::Model;
+
+/// The rows in force of a release. Its concepts have the numbers from 0, in the rising order of
+/// their identifiers. Contracts see the release, the asked language, and the counts of files and of
+/// rows that are passed over.
+#[derive(Drop, Debug)]
+pub struct Snapshot {
+    // the concepts in force
+    pub(crate) concepts: Concepts,
+    // child and parent of each is-a row, in the order of the rows
+    pub(crate) isa: Vec<(u32, u32)>,
+    // the numbers of the concepts in an order in which parents come first
+    pub(crate) order: Vec<u32>,
+    // the attribute rows sorted by source
+    pub(crate) attributes: SortedAttributes,
+    // reference set and component of each member row, in the order of the rows
+    pub(crate) members: Vec<(u32, u32)>,
+    // the line of each concept, and the name rows in the order of the rows
+    pub(crate) lines: ConceptLines,
+    // the language whose names come first
+    pub(crate) language: String,
+    // how many files have a kind
+    pub(crate) files: u64,
+    // how many rows are in none of the lists
+    pub(crate) passed: u64,
+}
+
+impl Model for Snapshot {
+    ghost use Rattle.snapshot.specs.Contents.{Contents};
+
+    ghost Value = { Contents };
+
+    ghost use Rattle.snapshot.specs.SnapshotInside.{contents_in, IsNumbered};
+
+    ghost view = { contents_in };
+
+    ghost invariant = { IsNumbered };
+}
+
+impl Snapshot {
+    /// How many concepts are in force: fewer than 2^31.
+    pub fn concept_count(&self) -> u32
+        ensures count { result ≡ length self.now.release.concepts }
+        ensures few { length self.now.release.concepts < 2 ^ 31 }
+        ensures rising { IsStrictlyIncreasing self.now.release.concepts }
+    {
+        self.concepts.len()
+    }
+
+    /// The number of the concept with an identifier, or `None` where there is none in force.
+    pub fn index_of(&self, id: u64) -> Option<u32>
+        ensures { result ≡ concept_number self.now.release.concepts id }
+    {
+        self.concepts.index_of(id)
+    }
+
+    /// The identifier of a concept by its number, which is below `concept_count`.
+    pub fn id_at(&self, concept: u32) -> SctId
+        requires { concept < length self.now.release.concepts }
+        ensures { result ≡ slice_index self.now.release.concepts concept }
+    {
+        self.concepts.id_at(concept)
+    }
+
+    /// The name of a concept by its number, which is below `concept_count`: the term of its fully
+    /// specified name, of several the one in the asked language, and of these the one with the least
+    /// identifier. `None` where it has none (Release File Specification, "Description file").
+    pub fn name(&self, concept: u32) -> Option<&str>
+        requires { concept < length self.now.release.concepts }
+        ensures { text_lent result ≡ name_of self.now.release self.now.language (slice_index self.now.release.concepts concept) }
+    {
+        self.lines.name(concept, self.concepts.id_at(concept))
+    }
+
+    /// The line of a concept by its number, which is below `concept_count`: its identifier, behind a
+    /// space its name between bars where it has one, and LF.
+    pub fn line(&self, concept: u32) -> &[u8]
+        requires { concept < length self.now.release.concepts }
+        ensures { result.now ≡ concept_line (name_of self.now.release self.now.language) (slice_index self.now.release.concepts concept) }
+    {
+        self.lines.line(concept)
+    }
+
+    /// Child and parent of each is-a row in force by their numbers, in the order of the files and
+    /// their lines.
+    pub fn isa_rows(&self) -> &[(u32, u32)]
+        ensures rows { map (row_of_numbers self.now.release.concepts) result.now ≡ self.now.release.isa }
+        ensures within { IsWithin (length self.now.release.concepts) result.now }
+    {
+        self.isa.as_slice()
+    }
+
+    /// The numbers of the concepts in an order in which parents come before their children: each of
+    /// them once, and no is-a row leads to a concept that stands later.
+    pub fn parents_first(&self) -> &[u32]
+        ensures { (rows : List (ℕ × ℕ)) → map (row_of_numbers self.now.release.concepts) rows ≡ self.now.release.isa
+            → IsWithin (length self.now.release.concepts) rows
+            → IsParentsFirst (length self.now.release.concepts) rows result.now }
+    {
+        self.order.as_slice()
+    }
+
+    /// Reference set and component of each member row in force by their numbers, in the order of the
+    /// files and their lines (Release File Specification, "Simple reference set").
+    pub fn member_rows(&self) -> &[(u32, u32)]
+        ensures rows { map (row_of_numbers self.now.release.concepts) result.now ≡ self.now.release.members }
+        ensures within { IsWithin (length self.now.release.concepts) result.now }
+    {
+        self.members.as_slice()
+    }
+
+    /// How many attribute rows are in force: fewer than 2^31, and as many by source. Each value that is
+    /// a concept is in force.
+    pub fn attribute_count(&self) -> u32
+        ensures count { result ≡ length self.now.release.attributes }
+        ensures few { length self.now.release.attributes < 2 ^ 31 }
+        ensures by_source { length (attributes_by_source self.now.release) ≡ length self.now.release.attributes }
+        ensures values { AreValuesInForce self.now.release }
+    {
+        self.attributes.len() as u32
+    }
+
+    /// An attribute row in force by its number, which is below `attribute_count`. The rows are
+    /// numbered by source: those of the first concept come first, and those of one concept are in the
+    /// order of the files and their lines. A value that is a concept is in force.
+    pub fn attribute_row(&self, n: u32) -> AttributeRow<'_>
+        requires { n < length self.now.release.attributes }
+        ensures row { slice_get (attributes_by_source self.now.release) n ≡ Some (with_source self.now.release.concepts (attribute_of result)) }
+        ensures source { result.source < length self.now.release.concepts }
+        ensures value { is_value_among self.now.release.concepts (value_lent result.value) ≡ true }
+    {
+        self.attributes.row(n as usize)
+    }
+
+    /// How many files the release was loaded from, and how many of its rows are in force or passed
+    /// over.
+    pub fn report(&self) -> Report
+        ensures files { result.files ≡ self.now.files }
+        ensures concepts { result.concepts ≡ length self.now.release.concepts }
+        ensures isa { result.isa ≡ length self.now.release.isa }
+        ensures attributes { result.attributes ≡ length self.now.release.attributes }
+        ensures members { result.members ≡ length self.now.release.members }
+        ensures names { result.names ≡ length self.now.release.names }
+        ensures passed { result.passed ≡ self.now.passed }
+    {
+        Report {
+            files: self.files,
+            concepts: u64::from(self.concepts.len()),
+            isa: self.isa.len() as u64,
+            attributes: self.attributes.len() as u64,
+            members: self.members.len() as u64,
+            names: self.lines.name_count() as u64,
+            passed: self.passed,
+        }
+    }
+}
