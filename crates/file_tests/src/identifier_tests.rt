@@ -1,9 +1,10 @@
 //! Texts that are identifiers, and texts that are none.
 use arrayvec::ArrayVec;
 use sctid::{IdFault, Part, SctId};
+use std::process::Abort;
 
 // What each text is parsed to: its part, or the number of its fault.
-const TEXTS: [(&[u8], Result<Part, IdFault>); 21] = [
+const TEXTS: &[(&[u8], Result<Part, IdFault>)] = &[
     (b"100005", Ok(Part::Concept)),
     (b"138875005", Ok(Part::Concept)),
     (b"116680003", Ok(Part::Concept)),
@@ -27,27 +28,35 @@ const TEXTS: [(&[u8], Result<Part, IdFault>); 21] = [
     (b"100016", Err(IdFault::Check)),
 ];
 
+fn part_of(text: &[u8]) -> Result<Part, IdFault> {
+    Ok(SctId::parse(text)?.part())
+}
+
+fn assert_parsed(rt: &impl Abort, texts: &[(&[u8], Result<Part, IdFault>)]) {
+    for (text, want) in texts {
+        assert!(rt; part_of(text) == *want, "{text:?}");
+    }
+}
+
 #[test]
 fn parses(rt: HostRuntime) {
-    for (text, want) in TEXTS {
-        let found = match SctId::parse(text) {
-            Ok(id) => Ok(id.part()),
-            Err(fault) => Err(fault),
-        };
-        assert!(rt; found == want, "{text:?}");
-    }
+    assert_parsed(&rt, TEXTS);
+}
+
+// The number of the identifier, whose digits are written twice over.
+fn number_written(digits: &mut ArrayVec<u8, 18>, text: &[u8]) -> Result<u64, IdFault> {
+    let id = SctId::parse(text)?;
+    id.write_to(digits);
+    id.write_to(digits);
+    Ok(id.number())
 }
 
 #[test]
 fn writes_digits(rt: HostRuntime) {
     let mut digits = ArrayVec::new();
-    match SctId::parse(b"138875005") {
-        Ok(id) => {
-            assert_eq!(rt; id.number(), 138875005);
-            id.write_to(&mut digits);
-            id.write_to(&mut digits);
-            assert!(rt; digits.as_slice() == b"138875005".as_slice());
-        }
-        Err(_) => assert!(rt; false, "138875005 is valid"),
-    }
+    let number = number_written(&mut digits, b"138875005");
+    assert!(rt;
+        number == Ok(138875005) && digits.as_slice() == b"138875005".as_slice(),
+        "138875005 is valid"
+    );
 }

@@ -4,26 +4,34 @@
 //! failing in its turn.
 ghost use Rattle.std.specs.Prelude.{◌≤◌};
 
-use release_files::{FileSource, Lines, MemoryFiles, NamedBytes, PieceLines, SourceFault};
+use release_files::{FileSource, Line, Lines, MemoryFiles, NamedBytes, PieceLines, SourceFault};
 use std::alloc::{AllocError, Global};
 use std::process::Abort;
-use std::test::Fail;
 
-// The bytes have these lines and no more: number, end and text of each.
+fn is_same(found: Option<Line<'_>>, expected: Line<'_>) -> bool {
+    match found {
+        Some(line) => {
+            line.number == expected.number
+                && line.end == expected.end
+                && line.bytes == expected.bytes
+        }
+        None => false,
+    }
+}
+
+// These lines come next: number, end and text of each.
+fn check_next(rt: &impl Abort, lines: &mut Lines<'_>, expected: &[(u64, u64, &[u8])]) {
+    for &(number, end, bytes) in expected {
+        let line = Line { number, end, bytes };
+        assert!(rt; is_same(lines.next(), line), "line {number}");
+    }
+}
+
+// The bytes have these lines and no more.
 fn assert_lines(rt: &impl Abort, bytes: &[u8], expected: &[(u64, u64, &[u8])]) {
     let mut lines = Lines::new(bytes);
-    for (number, end, text) in expected {
-        match lines.next() {
-            Some(line) => {
-                assert_eq!(rt; line.number, *number);
-                assert_eq!(rt; line.end, *end);
-                assert!(rt; line.bytes == *text);
-            }
-            None => assert!(rt; false, "line {number} is missing"),
-        }
-    }
-    assert!(rt; lines.next().is_none());
-    assert!(rt; lines.next().is_none());
+    check_next(rt, &mut lines, expected);
+    assert!(rt; lines.next().is_none() && lines.next().is_none());
 }
 
 #[test]
@@ -89,9 +97,35 @@ fn files() -> [NamedBytes<'static>; 3] {
 }
 
 // No fault is expected but that memory was refused.
-fn refused(rt: &impl Abort, fault: SourceFault) -> AllocError {
-    assert!(rt; fault == SourceFault::Memory, "no call fails");
-    AllocError
+fn but_for_memory(rt: &impl Abort, checked: Result<(), SourceFault>) -> Result<(), AllocError> {
+    assert!(rt; checked != Err(SourceFault::Device), "no call fails");
+    match checked {
+        Ok(()) => Ok(()),
+        Err(_) => Err(AllocError),
+    }
+}
+
+fn has_line<S: FileSource>(
+    lines: &mut PieceLines,
+    source: &mut S,
+    expected: Line<'_>,
+) -> Result<bool, SourceFault> {
+    Ok(is_same(lines.next_line(source)?, expected))
+}
+
+fn has_no_line<S: FileSource>(lines: &mut PieceLines, source: &mut S) -> Result<bool, SourceFault> {
+    Ok(lines.next_line(source)?.is_none())
+}
+
+fn check_line<S: FileSource>(
+    rt: &impl Abort,
+    lines: &mut PieceLines,
+    source: &mut S,
+    expected: Line<'_>,
+) -> Result<(), SourceFault> {
+    let is_there = has_line(lines, source, expected)?;
+    assert!(rt; is_there, "line {}", expected.number);
+    Ok(())
 }
 
 // The open file has the lines of these bytes. After the last of them, and after a fault, none comes.
@@ -101,26 +135,31 @@ fn check_lines<S: FileSource>(
     source: &mut S,
     bytes: &[u8],
 ) -> Result<(), SourceFault> {
-    for expected in Lines::new(bytes) {
-        let given = lines.next_line(source);
-        match given {
-            Ok(Some(line)) => {
-                assert_eq!(rt; line.number, expected.number);
-                assert_eq!(rt; line.end, expected.end);
-                assert!(rt; line.bytes == expected.bytes);
-            }
-            Ok(None) => assert!(rt; false, "line {} is missing", expected.number),
-            Err(fault) => return Err(fault),
-        }
+    for line in Lines::new(bytes) {
+        check_line(rt, lines, source, line)?;
     }
-    match lines.next_line(source) {
-        Ok(None) => Ok(()),
-        Ok(Some(line)) => {
-            assert!(rt; false, "line {} is one too many", line.number);
-            Ok(())
-        }
-        Err(fault) => Err(fault),
-    }
+    check_end(rt, lines, source)
+}
+
+fn check_end<S: FileSource>(
+    rt: &impl Abort,
+    lines: &mut PieceLines,
+    source: &mut S,
+) -> Result<(), SourceFault> {
+    let is_end = has_no_line(lines, source)?;
+    assert!(rt; is_end, "one line too many");
+    Ok(())
+}
+
+fn check_whole<S: FileSource>(
+    rt: &impl Abort,
+    lines: &mut PieceLines,
+    source: &mut S,
+    bytes: &[u8],
+) -> Result<(), SourceFault> {
+    let checked = check_lines(rt, lines, source, bytes);
+    assert!(rt; has_no_line(lines, source) == Ok(true));
+    checked
 }
 
 // The same of a file of a source, which is opened first.
@@ -133,9 +172,7 @@ fn check_file<S: FileSource>(
 ) -> Result<(), SourceFault> {
     source.open(name)?;
     let mut lines = PieceLines::new(alloc);
-    let checked = check_lines(rt, &mut lines, source, bytes);
-    assert!(rt; matches!(lines.next_line(source), Ok(None)));
-    checked
+    check_whole(rt, &mut lines, source, bytes)
 }
 
 // A file in memory, read by pieces of this many bytes, has its lines.
@@ -149,26 +186,34 @@ fn check_pieces(
     requires { 1 ≤ piece }
 {
     let mut source = MemoryFiles::new(alloc, files, piece, 0);
-    match check_file(rt, alloc, &mut source, NAME, bytes) {
-        Ok(()) => {}
-        Err(fault) => {
-            refused(rt, fault);
-            match check_file(rt, alloc, &mut source, NAME, bytes) {
-                Ok(()) => {}
-                Err(fault) => return Err(refused(rt, fault)),
-            }
-        }
-    }
-    assert_eq!(rt; source.failures(), 0);
+    check_twice(rt, alloc, &mut source, bytes)?;
+    assert!(rt; source.failures() == 0);
     Ok(())
 }
 
+// Where memory was refused the file is checked once more.
+fn check_twice(
+    rt: &impl Abort,
+    alloc: Global,
+    source: &mut MemoryFiles<'_>,
+    bytes: &[u8],
+) -> Result<(), AllocError> {
+    match but_for_memory(rt, check_file(rt, alloc, source, NAME, bytes)) {
+        Ok(()) => Ok(()),
+        Err(AllocError) => but_for_memory(rt, check_file(rt, alloc, source, NAME, bytes)),
+    }
+}
+
 #[test]
-fn reads_lines_in_pieces(rt: HostRuntime) -> Result<(), Fail> {
+fn reads_lines_in_pieces(rt: HostRuntime) -> Result<(), AllocError> {
     for piece in [1, 2, 3, 7, 4_096] {
         check_pieces(&rt, rt.alloc(), &files(), piece, TEXT)?;
     }
     Ok(())
+}
+
+fn front(limit: usize) -> &'static [u8] {
+    &TEXT[..limit.min(TEXT.len())]
 }
 
 // The first bytes of a file have the lines of a file that has no others.
@@ -180,21 +225,18 @@ fn check_front<S: FileSource>(
 ) -> Result<(), SourceFault> {
     source.open(NAME)?;
     let mut lines = PieceLines::within(alloc, limit as u64);
-    check_lines(rt, &mut lines, source, &TEXT[..limit.min(TEXT.len())])
+    check_lines(rt, &mut lines, source, front(limit))
 }
 
 // The same of a file in memory, where no call fails.
 fn check_limit(rt: &impl Abort, alloc: Global, limit: usize) -> Result<(), AllocError> {
     let files = files();
     let mut source = MemoryFiles::new(alloc, &files, 4_096, 0);
-    match check_front(rt, alloc, &mut source, limit) {
-        Ok(()) => Ok(()),
-        Err(fault) => Err(refused(rt, fault)),
-    }
+    but_for_memory(rt, check_front(rt, alloc, &mut source, limit))
 }
 
 #[test]
-fn reads_no_more_than_the_limit(rt: HostRuntime) -> Result<(), Fail> {
+fn reads_no_more_than_the_limit(rt: HostRuntime) -> Result<(), AllocError> {
     for limit in 0..TEXT.len() + 2 {
         match check_limit(&rt, rt.alloc(), limit) {
             Ok(()) => {}
@@ -213,42 +255,45 @@ fn long_text(alloc: Global, count: usize) -> Result<Vec<u8>, AllocError> {
 }
 
 #[test]
-fn reads_a_line_longer_than_a_piece(rt: HostRuntime) -> Result<(), Fail> {
+fn reads_a_line_longer_than_a_piece(rt: HostRuntime) -> Result<(), AllocError> {
     let alloc = rt.alloc();
     let text = match long_text(alloc, 200_000) {
         Ok(text) => text,
         Err(AllocError) => long_text(alloc, 200_000)?,
     };
-    for piece in [4_096, 1_000_000] {
-        let files = [NamedBytes {
-            name: NAME,
-            bytes: text.as_slice(),
-        }];
-        check_pieces(&rt, alloc, &files, piece, text.as_slice())?;
-    }
-    Ok(())
+    check_long(&rt, alloc, text.as_slice())
+}
+
+fn check_long(rt: &impl Abort, alloc: Global, bytes: &[u8]) -> Result<(), AllocError> {
+    let files = [NamedBytes { name: NAME, bytes }];
+    check_pieces(rt, alloc, &files, 4_096, bytes)?;
+    check_pieces(rt, alloc, &files, 1_000_000, bytes)
 }
 
 // Where a call fails, that is what is answered, and what is counted; then no line comes. Answers
 // whether no call failed.
+fn check_counted(
+    rt: &impl Abort,
+    alloc: Global,
+    source: &mut MemoryFiles<'_>,
+) -> Result<bool, AllocError> {
+    let checked = check_file(rt, alloc, source, NAME, TEXT);
+    if checked == Err(SourceFault::Memory) {
+        return Err(AllocError);
+    }
+    let is_whole = checked.is_ok();
+    assert!(rt; source.failures() == if is_whole { 0 } else { 1 });
+    Ok(is_whole)
+}
+
 fn check_failure(rt: &impl Abort, alloc: Global, fail_at: u64) -> Result<bool, AllocError> {
     let files = files();
     let mut source = MemoryFiles::new(alloc, &files, 7, fail_at);
-    match check_file(rt, alloc, &mut source, NAME, TEXT) {
-        Ok(()) => {
-            assert_eq!(rt; source.failures(), 0);
-            Ok(true)
-        }
-        Err(SourceFault::Memory) => Err(AllocError),
-        Err(SourceFault::Device) => {
-            assert_eq!(rt; source.failures(), 1);
-            Ok(false)
-        }
-    }
+    check_counted(rt, alloc, &mut source)
 }
 
 #[test]
-fn answers_each_failure(rt: HostRuntime) -> Result<(), Fail> {
+fn answers_each_failure(rt: HostRuntime) -> Result<(), AllocError> {
     let mut failed = 0u64;
     for fail_at in 1..100 {
         let whole = match check_failure(&rt, rt.alloc(), fail_at) {
@@ -265,51 +310,63 @@ fn answers_each_failure(rt: HostRuntime) -> Result<(), Fail> {
     Ok(())
 }
 
+fn are_names_of(names: &[String], files: &[NamedBytes<'_>]) -> bool {
+    names.len() == 3
+        && names
+            .iter()
+            .zip(files)
+            .all(|(name, file)| name.as_str() == file.name)
+}
+
 // The names of the files.
 fn check_names(rt: &impl Abort, source: &mut MemoryFiles<'_>) -> Result<(), SourceFault> {
     let names = source.list()?;
-    assert_eq!(rt; names.len(), 3);
-    for (name, file) in names.iter().zip(files().iter()) {
-        assert!(rt; name.as_str() == file.name);
-    }
+    assert!(rt; are_names_of(&names, &files()));
     Ok(())
 }
 
+// The same once more where memory was refused.
+fn check_names_twice(rt: &impl Abort, source: &mut MemoryFiles<'_>) -> Result<(), AllocError> {
+    match but_for_memory(rt, check_names(rt, source)) {
+        Ok(()) => Ok(()),
+        Err(AllocError) => but_for_memory(rt, check_names(rt, source)),
+    }
+}
+
 #[test]
-fn lists_names(rt: HostRuntime) -> Result<(), Fail> {
+fn lists_names(rt: HostRuntime) -> Result<(), AllocError> {
     let files = files();
     let mut source = MemoryFiles::new(rt.alloc(), &files, 1, 0);
-    match check_names(&rt, &mut source) {
-        Ok(()) => {}
-        Err(fault) => {
-            refused(&rt, fault);
-            if let Err(fault) = check_names(&rt, &mut source) {
-                return Err(Fail::from(refused(&rt, fault)));
-            }
-        }
-    }
-    assert_eq!(&rt; source.failures(), 0);
+    check_names_twice(&rt, &mut source)?;
+    assert!(&rt; source.failures() == 0);
     Ok(())
+}
+
+fn fails_at_another_name(source: &mut MemoryFiles<'_>) -> bool {
+    source.open(NAME) == Ok(())
+        && source.open("lines.txt") == Err(SourceFault::Device)
+        && source.failures() == 1
+        && source.read(&mut [0; 4]) == Ok(0)
 }
 
 #[test]
 fn fails_at_a_name_that_no_file_has(rt: HostRuntime) {
     let files = files();
     let mut source = MemoryFiles::new(rt.alloc(), &files, 1, 0);
-    assert!(&rt; source.open(NAME) == Ok(()));
-    assert!(&rt; source.open("lines.txt") == Err(SourceFault::Device));
-    assert_eq!(&rt; source.failures(), 1);
-    assert_eq!(&rt; SourceFault::Device.number(), 1);
-    assert_eq!(&rt; SourceFault::Memory.number(), 2);
-    assert!(&rt; source.read(&mut [0; 4]) == Ok(0));
+    assert!(&rt; fails_at_another_name(&mut source));
+    assert!(&rt; SourceFault::Device.number() == 1 && SourceFault::Memory.number() == 2);
+}
+
+fn fails_once(source: &mut MemoryFiles<'_>) -> bool {
+    source.open(NAME) == Ok(())
+        && source.list().is_err()
+        && source.failures() == 1
+        && source.open(NAME) == Ok(())
 }
 
 #[test]
 fn fails_the_call_of_a_number(rt: HostRuntime) {
     let files = files();
     let mut source = MemoryFiles::new(rt.alloc(), &files, 1, 2);
-    assert!(&rt; source.open(NAME) == Ok(()));
-    assert!(&rt; source.list().is_err());
-    assert_eq!(&rt; source.failures(), 1);
-    assert!(&rt; source.open(NAME) == Ok(()));
+    assert!(&rt; fails_once(&mut source));
 }

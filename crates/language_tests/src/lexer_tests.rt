@@ -4,7 +4,7 @@ use std::alloc::{AllocError, Global};
 use std::process::Abort;
 
 // Each token alone.
-const SPELLINGS: [(&[u8], TokenKind); 40] = [
+const SPELLINGS: &[(&[u8], TokenKind)] = &[
     (b"<", TokenKind::DescendantOf),
     (b"<<", TokenKind::DescendantOrSelfOf),
     (b"<!", TokenKind::ChildOf),
@@ -48,7 +48,7 @@ const SPELLINGS: [(&[u8], TokenKind); 40] = [
 ];
 
 // A word, which is followed by a blank.
-const WORDS: [(&[u8], TokenKind, usize); 8] = [
+const WORDS: &[(&[u8], TokenKind, usize)] = &[
     (b"AND ", TokenKind::And, 3),
     (b"and\t", TokenKind::And, 3),
     (b"aNd\r", TokenKind::And, 3),
@@ -60,7 +60,7 @@ const WORDS: [(&[u8], TokenKind, usize); 8] = [
 ];
 
 // Texts and their tokens, by kind and span.
-const TOKENS: [(&[u8], &[(TokenKind, usize, usize)]); 15] = [
+const TOKENS: &[(&[u8], &[(TokenKind, usize, usize)])] = &[
     (b"", &[]),
     (b" \t\r\n/**//* c */ ", &[]),
     (
@@ -171,7 +171,7 @@ const TOKENS: [(&[u8], &[(TokenKind, usize, usize)]); 15] = [
 ];
 
 // Texts that are refused.
-const REFUSALS: [(&[u8], QueryFault); 52] = [
+const REFUSALS: &[(&[u8], QueryFault)] = &[
     (
         b"*{{C active=1}}",
         QueryFault::Unsupported(1, Feature::Filter),
@@ -262,55 +262,91 @@ fn read(alloc: Global, text: &[u8]) -> Result<Vec<Token<'_>>, QueryFault> {
     }
 }
 
+// The token of a text that has no other.
+fn only_token(alloc: Global, text: &[u8]) -> Option<Token<'_>> {
+    match read(alloc, text) {
+        Ok(tokens) => sole(&tokens),
+        Err(_) => None,
+    }
+}
+
+fn sole<'a>(tokens: &[Token<'a>]) -> Option<Token<'a>> {
+    match tokens {
+        [token] => Some(*token),
+        _ => None,
+    }
+}
+
 // The one token of a text, which may have blanks behind it.
 fn assert_token(rt: &impl Abort, alloc: Global, text: &[u8], kind: TokenKind, end: usize) {
-    match read(alloc, text) {
-        Ok(tokens) => {
-            assert!(rt; tokens.len() == 1, "{text:?}");
-            let token = tokens[0];
-            assert!(rt; token.kind == kind, "{text:?}");
-            assert!(rt; token.span == (0, end), "{text:?}");
-            assert!(rt; end <= text.len(), "{text:?}");
-            assert!(rt; token.text == &text[..end], "{text:?}");
-        }
-        Err(_) => panic!(rt; "{text:?}"),
+    assert!(rt; end <= text.len());
+    let token = Token {
+        kind,
+        span: (0, end),
+        text: &text[..end],
+    };
+    assert!(rt; only_token(alloc, text) == Some(token), "{text:?}");
+}
+
+fn assert_spellings(rt: &impl Abort, alloc: Global, spellings: &[(&[u8], TokenKind)]) {
+    for (text, kind) in spellings {
+        assert_token(rt, alloc, text, *kind, text.len());
+    }
+}
+
+fn assert_words(rt: &impl Abort, alloc: Global, words: &[(&[u8], TokenKind, usize)]) {
+    for (text, kind, end) in words {
+        assert_token(rt, alloc, text, *kind, *end);
     }
 }
 
 #[test]
 fn spellings(rt: HostRuntime) {
-    for (text, kind) in SPELLINGS {
-        assert_token(&rt, rt.alloc(), text, kind, text.len());
+    assert_spellings(&rt, rt.alloc(), SPELLINGS);
+    assert_words(&rt, rt.alloc(), WORDS);
+}
+
+fn stand_at(tokens: &[Token<'_>], places: &[(TokenKind, usize, usize)]) -> bool {
+    tokens.len() == places.len()
+        && tokens.iter().zip(places).all(|(token, place)| (token.kind, token.span.0, token.span.1)
+            == *place)
+}
+
+fn has_tokens(alloc: Global, text: &[u8], places: &[(TokenKind, usize, usize)]) -> bool {
+    match read(alloc, text) {
+        Ok(tokens) => stand_at(&tokens, places),
+        Err(_) => false,
     }
-    for (text, kind, end) in WORDS {
-        assert_token(&rt, rt.alloc(), text, kind, end);
+}
+
+fn assert_tokens(rt: &impl Abort, alloc: Global, rows: &[(&[u8], &[(TokenKind, usize, usize)])]) {
+    for (text, places) in rows {
+        assert!(rt; has_tokens(alloc, text, places), "{text:?}");
     }
 }
 
 #[test]
 fn tokens(rt: HostRuntime) {
-    for (text, want) in TOKENS {
-        match read(rt.alloc(), text) {
-            Ok(tokens) => {
-                assert!(rt; tokens.len() == want.len(), "{text:?}");
-                for (token, place) in tokens.iter().zip(want) {
-                    assert!(rt; token.kind == place.0, "{text:?}");
-                    assert!(rt; token.span == (place.1, place.2), "{text:?}");
-                }
-            }
-            Err(_) => panic!(rt; "{text:?}"),
-        }
+    assert_tokens(&rt, rt.alloc(), TOKENS);
+}
+
+// How many tokens a text has, or its refusal.
+fn count(alloc: Global, text: &[u8]) -> Result<usize, QueryFault> {
+    match read(alloc, text) {
+        Ok(tokens) => Ok(tokens.len()),
+        Err(fault) => Err(fault),
+    }
+}
+
+fn assert_refused(rt: &impl Abort, alloc: Global, rows: &[(&[u8], QueryFault)]) {
+    for (text, fault) in rows {
+        assert!(rt; count(alloc, text) == Err(*fault), "{text:?}");
     }
 }
 
 #[test]
 fn refusals(rt: HostRuntime) {
-    for (text, want) in REFUSALS {
-        match read(rt.alloc(), text) {
-            Ok(_) => panic!(rt; "{text:?}"),
-            Err(fault) => assert!(rt; fault == want, "{text:?}"),
-        }
-    }
+    assert_refused(&rt, rt.alloc(), REFUSALS);
 }
 
 // A text of many times the same bytes, with others before and behind them.
@@ -329,56 +365,76 @@ fn repeated(
     Ok(text)
 }
 
-// How many tokens a long text has, or its refusal.
-fn count(alloc: Global, text: &[u8]) -> Result<usize, QueryFault> {
-    match read(alloc, text) {
-        Ok(tokens) => Ok(tokens.len()),
-        Err(fault) => Err(fault),
+// Whether a text that is made first is answered so. Memory that is refused to the test itself tells nothing.
+fn is_counted(
+    alloc: Global,
+    (front, bytes, times, back): (&[u8], &[u8], usize, &[u8]),
+    want: Result<usize, QueryFault>,
+) -> bool {
+    match repeated(alloc, front, bytes, times, back) {
+        Ok(text) => count(alloc, &text) == want,
+        Err(AllocError) => true,
+    }
+}
+
+fn assert_counted(
+    rt: &impl Abort,
+    alloc: Global,
+    rows: &[(&[u8], &[u8], usize, &[u8], Result<usize, QueryFault>)],
+) {
+    for &(front, bytes, times, back, want) in rows {
+        assert!(rt;
+            is_counted(alloc, (front, bytes, times, back), want),
+            "{bytes:?} {times} times"
+        );
     }
 }
 
 #[test]
 fn long_texts(rt: HostRuntime) {
-    let alloc = rt.alloc();
-    for (front, bytes, times, back, want) in [
-        (
-            b"".as_slice(),
-            b" ".as_slice(),
-            65_535,
-            b"".as_slice(),
-            Ok(0),
-        ),
-        (b"", b" ", 65_536, b"", Err(QueryFault::Long)),
-        (b"", b"\xff", 65_536, b"", Err(QueryFault::Long)),
-        (b"", b"(", 65_535, b"", Ok(65_535)),
-        (b"", b"R1", 32_767, b"", Ok(65_534)),
-        (b"", b"(", 65, b"?", Err(QueryFault::Token(65))),
-        (b"*:", b"{ ", 65, b"", Ok(67)),
-        (
-            b"*",
-            b"/**/",
-            16_000,
-            b"{{+",
-            Err(QueryFault::Unsupported(64_001, Feature::History)),
-        ),
-    ] {
-        // Memory that is refused to the test itself tells nothing.
-        if let Ok(text) = repeated(alloc, front, bytes, times, back) {
-            assert!(rt;
-                count(alloc, &text) == want,
-                "{front:?} {bytes:?} {times} {back:?}"
-            );
-        }
+    assert_counted(
+        &rt,
+        rt.alloc(),
+        &[
+            (b"", b" ", 65_535, b"", Ok(0)),
+            (b"", b" ", 65_536, b"", Err(QueryFault::Long)),
+            (b"", b"\xff", 65_536, b"", Err(QueryFault::Long)),
+            (b"", b"(", 65_535, b"", Ok(65_535)),
+            (b"", b"R1", 32_767, b"", Ok(65_534)),
+            (b"", b"(", 65, b"?", Err(QueryFault::Token(65))),
+            (b"*:", b"{ ", 65, b"", Ok(67)),
+            (
+                b"*",
+                b"/**/",
+                16_000,
+                b"{{+",
+                Err(QueryFault::Unsupported(64_001, Feature::History)),
+            ),
+        ],
+    );
+}
+
+// Whether a fault is told in these words, unless memory is refused.
+fn is_told(alloc: Global, fault: QueryFault, words: &str) -> bool {
+    match format!(in alloc; "{fault}") {
+        Ok(text) => text.as_str() == words,
+        Err(AllocError) => true,
     }
 }
 
 #[test]
 fn words_of_faults(rt: HostRuntime) {
     let fault = QueryFault::Unsupported(12, Feature::History);
-    if let Ok(text) = format!(in rt.alloc(); "{fault}") {
-        assert!(rt; text.as_str() == "at byte 12 a form begins that is not read: history");
-    }
-    assert_eq!(rt; fault.number(), 3);
-    assert!(rt; Feature::Identifier.name() == "identifier");
-    assert_eq!(rt; QueryFault::Memory.number(), 6);
+    assert!(rt;
+        is_told(
+            rt.alloc(),
+            fault,
+            "at byte 12 a form begins that is not read: history"
+        )
+    );
+    assert!(rt;
+        fault.number() == 3
+            && Feature::Identifier.name() == "identifier"
+            && QueryFault::Memory.number() == 6
+    );
 }

@@ -12,3 +12,5 @@ mod parser_tests;
 mod plan_tests;
 #[cfg(test)]
 mod tree_tests;
+#[cfg(test)]
+mod trees;

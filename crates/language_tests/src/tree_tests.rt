@@ -1,30 +1,13 @@
 //! Constraints as trees: their depth and their text.
+use crate::trees::{
+    SOME, attribute, boxed, by_value, either, members, pair_of, refined, reversed, walk,
+};
 use constraint_tree::{
     Attribute, AttributeSet, Cardinality, Compare, Constraint, Operator, Refinement, Test,
 };
 use rf2_rows::Decimal;
 use std::alloc::{AllocError, Global};
 use std::process::Abort;
-
-// `<100005 : 104001 = 106004`, `<100005 : { 105000 = #2 }` or `<100005 : [0..0] 105000 != <<106004`.
-fn refined(alloc: Global, refinement: Refinement) -> Result<Constraint, AllocError> {
-    let focus = Constraint::Walk(
-        Operator::Descendants,
-        Box::new(alloc, Constraint::Concept(100005))?,
-    );
-    Ok(Constraint::Refined(Box::new(alloc, focus)?, Box::new(alloc, refinement)?))
-}
-
-fn attribute(count: Cardinality, type_id: u64, test: Test) -> Attribute {
-    Attribute {
-        count,
-        reverse: false,
-        name: Constraint::Concept(type_id),
-        test,
-    }
-}
-
-const SOME: Cardinality = Cardinality { min: 1, max: None };
 
 const NONE: Cardinality = Cardinality {
     min: 0,
@@ -33,83 +16,86 @@ const NONE: Cardinality = Cardinality {
 
 #[test]
 fn depth_of_a_leaf(rt: HostRuntime) {
-    assert_eq!(rt; Constraint::Any.depth(), 1);
-    assert_eq!(rt; Constraint::Concept(100005).depth(), 1);
+    let depths = [Constraint::Any.depth(), Constraint::Concept(100005).depth()];
+    assert!(rt; depths == [1, 1]);
+}
+
+// `<100005 : { 105000 = #2 }`
+fn in_braces(alloc: Global) -> Result<Constraint, AllocError> {
+    let number = attribute(SOME, 105000, Test::Number(Compare::Equal, Decimal(2)));
+    refined(alloc, Refinement::Group(SOME, AttributeSet::One(number)))
+}
+
+// `<100005 : [0..0] 105000 != <<106004`
+fn without(alloc: Global) -> Result<Constraint, AllocError> {
+    let values = walk(
+        alloc,
+        Operator::DescendantsOrSelf,
+        Constraint::Concept(106004),
+    )?;
+    let outside = Test::Outside(boxed(alloc, values)?);
+    refined(alloc, Refinement::One(attribute(NONE, 105000, outside)))
+}
+
+fn depth_of(built: Result<Constraint, AllocError>) -> Result<u64, AllocError> {
+    Ok(built?.depth())
 }
 
 #[test]
 fn depth_of_a_refinement(rt: HostRuntime) -> Result<(), AllocError> {
     let alloc = rt.alloc();
-    let within = Test::Within(Box::new(alloc, Constraint::Concept(106004))?);
-    let plain = refined(alloc, Refinement::One(attribute(SOME, 104001, within)))?;
-    assert_eq!(rt; plain.depth(), 3);
-
-    let number = attribute(SOME, 105000, Test::Number(Compare::Equal, Decimal(2)));
-    let braces = refined(alloc, Refinement::Group(SOME, AttributeSet::One(number)))?;
-    assert_eq!(rt; braces.depth(), 4);
-
-    let values = Constraint::Walk(
-        Operator::DescendantsOrSelf,
-        Box::new(alloc, Constraint::Concept(106004))?,
-    );
-    let outside = Test::Outside(Box::new(alloc, values)?);
-    let none = refined(alloc, Refinement::One(attribute(NONE, 105000, outside)))?;
-    assert_eq!(rt; none.depth(), 4);
+    let depths = [
+        depth_of(by_value(alloc))?,
+        depth_of(in_braces(alloc))?,
+        depth_of(without(alloc))?,
+    ];
+    assert!(rt; depths == [3, 4, 4]);
     Ok(())
+}
+
+// `* OR ^108003 OR 100005`
+fn deeper(alloc: Global) -> Result<Constraint, AllocError> {
+    let members = members(alloc, Constraint::Concept(108003))?;
+    let parts = vec![in alloc; Constraint::Any, members, Constraint::Concept(100005)]?;
+    Ok(Constraint::Or(parts))
 }
 
 #[test]
 fn depth_of_lists(rt: HostRuntime) -> Result<(), AllocError> {
     let alloc = rt.alloc();
-    assert_eq!(rt; Constraint::And(Vec::new(alloc)).depth(), 1);
-    let deeper = Constraint::MemberOf(Box::new(alloc, Constraint::Concept(108003))?);
-    let parts = vec![in alloc; Constraint::Any, deeper, Constraint::Concept(100005)]?;
-    assert_eq!(rt; Constraint::Or(parts).depth(), 3);
+    let empty = Ok(Constraint::And(Vec::new(alloc)));
+    let depths = [depth_of(empty)?, depth_of(deeper(alloc))?];
+    assert!(rt; depths == [1, 3]);
     Ok(())
 }
 
-// Checks the text of a tree behind a `|` that stands there before. Where memory is refused, the `|` alone is left.
+// Whether a tree has this text behind a `|` that stands there before. Where memory is refused, the `|` alone is left.
+fn is_printed(alloc: Global, tree: &Constraint, text: &[u8]) -> Result<bool, AllocError> {
+    let mut output = Vec::from_slice(alloc, b"|")?;
+    let is_whole = tree.print(alloc, &mut output).is_ok();
+    Ok(output.as_slice() == if is_whole { text } else { b"|".as_slice() })
+}
+
+fn is_built(
+    alloc: Global,
+    built: Result<Constraint, AllocError>,
+    text: &[u8],
+) -> Result<bool, AllocError> {
+    is_printed(alloc, &built?, text)
+}
+
+// Checks the text of a tree, unless memory is refused.
 fn check_text(rt: &impl Abort, alloc: Global, built: Result<Constraint, AllocError>, text: &[u8]) {
-    let Ok(tree) = built else {
-        return;
-    };
-    let Ok(mut output) = Vec::from_slice(alloc, b"|") else {
-        return;
-    };
-    match tree.print(alloc, &mut output) {
-        Ok(()) => assert!(rt; output.as_slice() == text, "{text:?}"),
-        Err(AllocError) => assert!(rt; output.as_slice() == b"|".as_slice(), "{text:?}"),
-    }
-}
-
-fn walk(alloc: Global, operator: Operator, operand: Constraint) -> Result<Constraint, AllocError> {
-    Ok(Constraint::Walk(operator, Box::new(alloc, operand)?))
-}
-
-fn members(alloc: Global, operand: Constraint) -> Result<Constraint, AllocError> {
-    Ok(Constraint::MemberOf(Box::new(alloc, operand)?))
+    assert!(rt; is_built(alloc, built, text) != Ok(false), "{text:?}");
 }
 
 fn dotted(alloc: Global, start: Constraint, name: u64) -> Result<Constraint, AllocError> {
     let names = vec![in alloc; Constraint::Concept(name)]?;
-    Ok(Constraint::Dotted(Box::new(alloc, start)?, names))
-}
-
-fn either(alloc: Global, other: Constraint) -> Result<Constraint, AllocError> {
-    Ok(Constraint::Or(vec![in alloc; Constraint::Concept(101009), other]?))
+    Ok(Constraint::Dotted(boxed(alloc, start)?, names))
 }
 
 fn number(compare: Compare, value: i128) -> Attribute {
     attribute(SOME, 105000, Test::Number(compare, Decimal(value)))
-}
-
-fn reversed(alloc: Global) -> Result<Constraint, AllocError> {
-    let any = Test::Within(Box::new(alloc, Constraint::Any)?);
-    let backwards = Attribute {
-        reverse: true,
-        ..attribute(SOME, 105000, any)
-    };
-    refined(alloc, Refinement::One(backwards))
 }
 
 fn dotted_refined(alloc: Global) -> Result<Constraint, AllocError> {
@@ -118,8 +104,12 @@ fn dotted_refined(alloc: Global) -> Result<Constraint, AllocError> {
 
 fn dotted_twice(alloc: Global) -> Result<Constraint, AllocError> {
     let start = walk(alloc, Operator::Children, Constraint::Concept(100005))?;
-    let names = vec![in alloc; Constraint::Concept(104001), Constraint::Concept(105000)]?;
-    Ok(Constraint::Dotted(Box::new(alloc, start)?, names))
+    let names = pair_of(
+        alloc,
+        Constraint::Concept(104001),
+        Constraint::Concept(105000),
+    )?;
+    Ok(Constraint::Dotted(boxed(alloc, start)?, names))
 }
 
 fn walked(alloc: Global) -> Result<Constraint, AllocError> {
@@ -135,39 +125,72 @@ fn twice_members(alloc: Global) -> Result<Constraint, AllocError> {
 
 fn conjoined(alloc: Global) -> Result<Constraint, AllocError> {
     let first = walk(alloc, Operator::Ancestors, Constraint::Concept(100005))?;
-    let second = either(alloc, Constraint::Concept(102002))?;
+    let second = either(alloc, 101009, 102002)?;
     Ok(Constraint::And(vec![in alloc; first, second, Constraint::Any]?))
 }
 
 fn excluded(alloc: Global) -> Result<Constraint, AllocError> {
-    let first = Box::new(alloc, Constraint::Any)?;
-    let second = Box::new(alloc, dotted(alloc, Constraint::Concept(100005), 104001)?)?;
+    let first = boxed(alloc, Constraint::Any)?;
+    let second = boxed(alloc, dotted(alloc, Constraint::Concept(100005), 104001)?)?;
     Ok(Constraint::Minus(first, second))
+}
+
+fn sets(
+    alloc: Global,
+    first: AttributeSet,
+    second: AttributeSet,
+) -> Result<Vec<AttributeSet>, AllocError> {
+    Ok(vec![in alloc; first, second]?)
+}
+
+// `105000>=#2 OR 105000!=#0.25`
+fn either_number(alloc: Global) -> Result<AttributeSet, AllocError> {
+    let two = number(Compare::GreaterOrEqual, 2_000_000_000_000_000_000);
+    let quarter = number(Compare::NotEqual, 250_000_000_000_000_000);
+    Ok(AttributeSet::Or(sets(alloc, AttributeSet::One(two), AttributeSet::One(quarter))?))
 }
 
 // `{[0..0]105000=#-0.5,(105000>=#2 OR 105000!=#0.25)}` as a set
 fn numbers(alloc: Global) -> Result<AttributeSet, AllocError> {
-    let less = Attribute {
-        count: NONE,
-        ..number(Compare::Equal, -500_000_000_000_000_000)
-    };
-    let two = number(Compare::GreaterOrEqual, 2_000_000_000_000_000_000);
-    let quarter = number(Compare::NotEqual, 250_000_000_000_000_000);
-    let inner = vec![in alloc; AttributeSet::One(two), AttributeSet::One(quarter)]?;
-    Ok(AttributeSet::And(vec![in alloc; AttributeSet::One(less), AttributeSet::Or(inner)]?))
+    let half = Test::Number(Compare::Equal, Decimal(-500_000_000_000_000_000));
+    let either = either_number(alloc)?;
+    Ok(AttributeSet::And(sets(
+        alloc,
+        AttributeSet::One(attribute(NONE, 105000, half)),
+        either,
+    )?))
+}
+
+// `[2..*]{..}` of these numbers
+fn group(alloc: Global) -> Result<Refinement, AllocError> {
+    let count = Cardinality { min: 2, max: None };
+    Ok(Refinement::Group(count, numbers(alloc)?))
+}
+
+// `104001!=(101009 OR 106004)`
+fn outside(alloc: Global) -> Result<Refinement, AllocError> {
+    let values = boxed(alloc, either(alloc, 101009, 106004)?)?;
+    Ok(Refinement::One(attribute(SOME, 104001, Test::Outside(values))))
+}
+
+fn both(
+    alloc: Global,
+    first: Refinement,
+    second: Refinement,
+) -> Result<Vec<Refinement>, AllocError> {
+    Ok(vec![in alloc; first, second]?)
+}
+
+// The same and `105000<#0.000000000000000001`.
+fn outside_and_less(alloc: Global) -> Result<Refinement, AllocError> {
+    let least = Refinement::One(number(Compare::Less, 1));
+    Ok(Refinement::And(both(alloc, outside(alloc)?, least)?))
 }
 
 fn grouped(alloc: Global) -> Result<Constraint, AllocError> {
-    let count = Cardinality { min: 2, max: None };
-    let group = Refinement::Group(count, numbers(alloc)?);
-    let values = either(alloc, Constraint::Concept(106004))?;
-    let outside = attribute(SOME, 104001, Test::Outside(Box::new(alloc, values)?));
-    let least = number(Compare::Less, 1);
-    let inner = vec![in alloc; Refinement::One(outside), Refinement::One(least)]?;
-    refined(
-        alloc,
-        Refinement::Or(vec![in alloc; group, Refinement::And(inner)]?),
-    )
+    let group = group(alloc)?;
+    let parts = both(alloc, group, outside_and_less(alloc)?)?;
+    refined(alloc, Refinement::Or(parts))
 }
 
 #[test]
