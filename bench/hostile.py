@@ -34,7 +34,7 @@ passed, failed = 0, 0
 
 def sample_files():
     """The built-in files, by their names, as their source has them."""
-    with open(f"{ROOT}/crates/query_tool/src/sample.rt", encoding="utf-8") as it:
+    with open(f"{ROOT}/crates/sample_release/src/lib.rt", encoding="utf-8") as it:
         source = it.read()
     texts = {}
     for name, text in re.findall(r'const (\w+): &\[u8\] =\s*b"(.*?)";', source, re.S):
