@@ -3,7 +3,7 @@
 
     bench/hostile.py [PROGRAM]
 
-PROGRAM is the built program, crates/query_tool/out/query_tool where it is left out. A line is printed for each case,
+PROGRAM is the built program, crates/hosecrag/out/hosecrag where it is left out. A line is printed for each case,
 and at the end `N passed, M failed`. The folders are made below a new temporary folder, which is removed.
 """
 import contextlib
@@ -287,7 +287,7 @@ def memory():
 
 
 if __name__ == "__main__":
-    given = sys.argv[1] if len(sys.argv) > 1 else f"{ROOT}/crates/query_tool/out/query_tool"
+    given = sys.argv[1] if len(sys.argv) > 1 else f"{ROOT}/crates/hosecrag/out/hosecrag"
     FILES = sample_files()
     started = time.time()
     with tempfile.TemporaryDirectory(prefix="hostile-program-") as at:

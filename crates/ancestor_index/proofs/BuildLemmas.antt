@@ -7,19 +7,19 @@ use Rattle.std.proofs.lemmas.Bool.{cases_eq, cases_lt, eq-eqb, ne_eqb}
 use Rattle.std.proofs.lemmas.List.{get_or_default}
 use Rattle.std.proofs.lemmas.List.Elements.{Contains-get_or}
 use Rattle.std.proofs.lemmas.Map.Steps.{length-le_from_distinct_below, le-length_from_below}
-use Rattle.rf2_rows.specs.Hierarchy.{Reaches, reaches}
+use Rattle.hierarchy.specs.Hierarchy.{IsWithin, Reaches, reaches}
 use Rattle.rf2_rows.specs.Release.{Release}
-use Rattle.rf2_rows.proofs.HierarchyLemmas.{chain_from_test, test_from_chain}
+use Rattle.hierarchy.proofs.HierarchyLemmas.{chain_from_test, test_from_chain}
 use Rattle.idset.specs.Sets.{has_item, listed_numbers, numbers_where}
 use Rattle.idset.proofs.Normal.{numbers_where-agree}
-use Rattle.snapshot.specs.KeyedLists.{AreItemsBelow, items_of, lists_by, list_of, turned, turned_from, with_key}
-use Rattle.snapshot.specs.Numbering.{IsWithin, row_of_numbers}
-use Rattle.snapshot.specs.ParentsFirst.{IsParentsFirst}
-use Rattle.snapshot.proofs.CutLemmas.{same_maps}
-use Rattle.snapshot.proofs.KeyedLemmas.{items_of-append}
+use Rattle.hierarchy.specs.KeyedLists.{AreItemsBelow, items_of, lists_by, list_of, turned, turned_from, with_key}
+use Rattle.snapshot.specs.Numbering.{row_of_numbers}
+use Rattle.hierarchy.specs.ParentsFirst.{IsParentsFirst}
+use Rattle.hierarchy.proofs.CutLemmas.{same_maps}
+use Rattle.hierarchy.proofs.KeyedLemmas.{items_of-append}
 use Rattle.snapshot.proofs.NumberingLemmas.{Reaches-map, contains_map, numbers_again, place_of, place_of-get_or, row_by}
-use Rattle.snapshot.proofs.ReleaseLemmas.{contains_had, had_contained}
-use Rattle.snapshot.proofs.WayLemmas.{contained_items_of, items_of-contained}
+use Rattle.hierarchy.proofs.ReleaseLemmas.{contains_had, had_contained}
+use Rattle.hierarchy.proofs.WayLemmas.{contained_items_of, items_of-contained}
 use Rattle.ancestor_index.specs.HierarchyLists.{hierarchy_of, is_child, lists_where}
 use Rattle.ancestor_index.specs.Parents.{AreParentsBy}
 use Rattle.ancestor_index.proofs.ClosureLemmas.{both_ways, item_there, length-where, list_of-where, row_there, there_item, there_row, there_where}

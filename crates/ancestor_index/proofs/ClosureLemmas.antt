@@ -5,11 +5,11 @@ use Rattle.std.proofs.lemmas.Bool.{cases_lt, eq-eqb, eqb-true}
 use Rattle.std.proofs.lemmas.List.{get_or-map, get_or_default, length-map, same_lists}
 use Rattle.std.proofs.lemmas.List.Elements.{All-contains, Contains-append_right, Contains-get_or}
 use Rattle.std.proofs.lemmas.List.FromFn.{get_or-map-range_with_len, length-map-range_with_len}
-use Rattle.rf2_rows.specs.Hierarchy.{Reaches, one_row, more_rows, reaches}
-use Rattle.rf2_rows.proofs.HierarchyLemmas.{chain_from_test, test_from_chain}
+use Rattle.hierarchy.specs.Hierarchy.{Reaches, one_row, more_rows, reaches}
+use Rattle.hierarchy.proofs.HierarchyLemmas.{chain_from_test, test_from_chain}
 use Rattle.idset.specs.Sets.{has_item, listed_numbers, numbers_where}
 use Rattle.idset.proofs.Normal.{has_item-numbers_where, has_item-numbers_where_past, numbers_where-agree}
-use Rattle.snapshot.specs.KeyedLists.{list_of}
+use Rattle.hierarchy.specs.KeyedLists.{list_of}
 use Rattle.ancestor_index.specs.HierarchyLists.{is_child, lists_where}
 use Rattle.ancestor_index.specs.Parents.{AreParentsBy}
 

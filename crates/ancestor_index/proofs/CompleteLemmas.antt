@@ -6,9 +6,9 @@ use Rattle.std.specs.List.Sorted.{IsStrictlyIncreasing}
 use Rattle.std.proofs.lemmas.List.{get_or_default}
 use Rattle.std.proofs.lemmas.List.FromFn.{get_or-range_with_len, length-range_with_len}
 use Rattle.std.proofs.lemmas.List.Kept.{IsStrictlyIncreasing-filter}
-use Rattle.rf2_rows.specs.Hierarchy.{reaches}
-use Rattle.rf2_rows.proofs.HierarchyLemmas.{chain_from_test, test_from_chain}
-use Rattle.snapshot.specs.KeyedLists.{list_of}
+use Rattle.hierarchy.specs.Hierarchy.{reaches}
+use Rattle.hierarchy.proofs.HierarchyLemmas.{chain_from_test, test_from_chain}
+use Rattle.hierarchy.specs.KeyedLists.{list_of}
 use Rattle.ancestor_index.specs.Complete.{AreComplete, AreRisingLists, AreSingleSteps}
 use Rattle.ancestor_index.specs.HierarchyLists.{is_child, lists_where}
 use Rattle.ancestor_index.proofs.ClosureLemmas.{length-where, list_of-where, row_there, there_row, there_where, where_there}

@@ -6,8 +6,8 @@ use Rattle.std.proofs.lemmas.Bool.{cases_eq, cases_lt}
 use Rattle.std.proofs.lemmas.List.{drop_at, take_all, get_or_append_left, get_or_push}
 use Rattle.idset.specs.Sets.{has_item}
 use Rattle.idset.specs.Words.{MarkedBelow, words_for}
-use Rattle.snapshot.specs.KeyedLists.{list_of}
-use Rattle.snapshot.proofs.CutLemmas.{slice_range-append}
+use Rattle.hierarchy.specs.KeyedLists.{list_of}
+use Rattle.hierarchy.proofs.CutLemmas.{slice_range-append}
 use Rattle.ancestor_index.specs.Wide.{IsKept, IsWide}
 
 -- words stay when more come behind

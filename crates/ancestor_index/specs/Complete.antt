@@ -1,9 +1,9 @@
 -- What the lists of a hierarchy have, in the words of the release: chains of is-a rows, and rows.
 use Rattle.std.specs.Prelude.{ℕ, ◌↔◌, ◌<◌, All, Contains, length, slice_index}
 use Rattle.std.specs.List.Sorted.{IsStrictlyIncreasing}
-use Rattle.rf2_rows.specs.Hierarchy.{Reaches}
+use Rattle.hierarchy.specs.Hierarchy.{Reaches}
 use Rattle.rf2_rows.specs.Release.{Release}
-use Rattle.snapshot.specs.KeyedLists.{list_of}
+use Rattle.hierarchy.specs.KeyedLists.{list_of}
 use Rattle.ancestor_index.specs.HierarchyLists.{hierarchy_of}
 
 -- each list rises strictly

@@ -2,7 +2,7 @@
 -- each concept those above it and below it, whole, and one is-a row away.
 use Rattle.std.specs.Prelude.{ℕ, ◌==◌, ◌&&◌, Bool, List, length, map, slice_index}
 use Rattle.std.specs.List.{list_any, range_with_len}
-use Rattle.rf2_rows.specs.Hierarchy.{reaches}
+use Rattle.hierarchy.specs.Hierarchy.{reaches}
 use Rattle.rf2_rows.specs.Release.{Release}
 use Rattle.idset.specs.Sets.{numbers_where}
 

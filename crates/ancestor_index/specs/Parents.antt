@@ -1,7 +1,7 @@
 -- What the search for all ancestors is given.
 use Rattle.std.specs.Prelude.{ℕ, ◌≡◌, List, length}
-use Rattle.snapshot.specs.ParentsFirst.{IsParentsFirst}
-use Rattle.snapshot.specs.Numbering.{IsWithin}
+use Rattle.hierarchy.specs.ParentsFirst.{IsParentsFirst}
+use Rattle.hierarchy.specs.Hierarchy.{IsWithin}
 use Rattle.ancestor_index.specs.HierarchyLists.{is_child, lists_where}
 
 -- the parents of each concept by some is-a rows, and an order of the concepts in which parents come first

@@ -2,7 +2,7 @@
 use Rattle.std.specs.Prelude.{ℕ, ◌≡◌, ◌⊎◌, ◌*◌, ◌-◌, ◌≤◌, ◌<◌, List, length, slice_index, slice_range}
 use Rattle.idset.specs.Sets.{has_item}
 use Rattle.idset.specs.Words.{MarkedBelow, words_for}
-use Rattle.snapshot.specs.KeyedLists.{list_of}
+use Rattle.hierarchy.specs.KeyedLists.{list_of}
 
 -- a list of more than a 32nd of all concepts
 abbrev pub IsWide : ℕ → List ℕ → Type 0

@@ -1,14 +1,14 @@
 //! The ancestors of each concept: its parents, and the ancestors of these.
 ghost use Rattle.std.specs.Prelude.{ℕ, ◌≡◌, ◌<◌, ◌++◌, ◌∷◌, ◌^◌, List, All, IfOk, OnOk, flat_map, length, map, nat_eq, slice_index, vec_len};
 ghost use Rattle.std.specs.List.{IsDistinct};
-ghost use Rattle.rf2_rows.specs.Hierarchy.{reaches};
+ghost use Rattle.hierarchy.specs.Hierarchy.{reaches};
 ghost use Rattle.idset.specs.Sets.{numbers_where};
-ghost use Rattle.snapshot.specs.KeyedLists.{list_of};
+ghost use Rattle.hierarchy.specs.KeyedLists.{list_of};
 ghost use Rattle.ancestor_index.specs.HierarchyLists.{lists_where};
 ghost use Rattle.ancestor_index.specs.Parents.{AreParentsBy};
 
 use crate::rising::keep_rising;
-use snapshot::KeyedLists;
+use hierarchy::KeyedLists;
 use std::alloc::{AllocError, Global};
 
 /// The ancestors of each concept, by the parents of each and an order in which parents come first.

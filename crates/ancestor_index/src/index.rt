@@ -1,19 +1,20 @@
 //! The index of a hierarchy, and its look-ups.
 ghost use Rattle.std.specs.Prelude.{◌≡◌, ◌↔◌, ◌<◌, IfOk, IfSome, IsSome, length};
 ghost use Rattle.std.specs.List.Sorted.{IsStrictlyIncreasing};
-ghost use Rattle.snapshot.specs.KeyedLists.{list_of};
+ghost use Rattle.hierarchy.specs.KeyedLists.{list_of};
 ghost use Rattle.ancestor_index.specs.HierarchyLists.{hierarchy_of};
 ghost use Rattle.ancestor_index.specs.Wide.{AreWordsOf, IsWide};
 
 use crate::closure::ancestor_lists;
 use crate::linked::linked_lists;
 use crate::wide::{WideLists, wide_lists};
-use snapshot::{KeyedLists, Snapshot};
+use hierarchy::KeyedLists;
+use snapshot::Snapshot;
 use std::alloc::{AllocError, Global};
 use std::marker::Model;
 
 /// The hierarchy of a release. Contracts see its four families of lists.
-#[derive(Drop, Debug)]
+#[derive(Drop)]
 pub struct AncestorIndex {
     ancestors: KeyedLists,
     descendants: KeyedLists,

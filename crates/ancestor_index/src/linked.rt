@@ -1,10 +1,10 @@
 //! What rows between concepts lead to, as lists.
 ghost use Rattle.std.specs.Prelude.{◌≡◌, IfOk};
-ghost use Rattle.snapshot.specs.Numbering.{IsWithin};
+ghost use Rattle.hierarchy.specs.Hierarchy.{IsWithin};
 ghost use Rattle.ancestor_index.specs.HierarchyLists.{is_child, lists_where};
 
 use crate::rising::rising_lists;
-use snapshot::KeyedLists;
+use hierarchy::KeyedLists;
 use std::alloc::{AllocError, Global};
 
 /// For each concept the concepts that some rows lead to, in rising order and once each. Both ends of

@@ -1,9 +1,9 @@
 //! Lists in rising order, without repeats.
 ghost use Rattle.std.specs.Prelude.{ℕ, ◌≡◌, ◌<◌, ◌^◌, All, IfOk, length, map};
 ghost use Rattle.idset.specs.Sets.{listed_numbers};
-ghost use Rattle.snapshot.specs.KeyedLists.{AreItemsBelow};
+ghost use Rattle.hierarchy.specs.KeyedLists.{AreItemsBelow};
 
-use snapshot::KeyedLists;
+use hierarchy::KeyedLists;
 use std::alloc::{AllocError, Global};
 
 /// Each of some lists in rising order, without repeats. All items are below `bound`.

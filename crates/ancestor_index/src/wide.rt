@@ -2,15 +2,15 @@
 ghost use Rattle.std.specs.Prelude.{ℕ, ◌≡◌, ◌↔◌, ◌<◌, ◌++◌, ◌^◌, List, All, IfOk, IfSome, IsSome, IsTrue, length};
 ghost use Rattle.idset.specs.Sets.{has_item};
 ghost use Rattle.idset.specs.Words.{MarkedBelow};
-ghost use Rattle.snapshot.specs.KeyedLists.{AreItemsBelow, list_of};
+ghost use Rattle.hierarchy.specs.KeyedLists.{AreItemsBelow, list_of};
 ghost use Rattle.ancestor_index.specs.Wide.{AreWide, IsKept, IsWide};
 
+use hierarchy::KeyedLists;
 use idset::{marks_of, word_count};
-use snapshot::KeyedLists;
 use std::alloc::{AllocError, Global};
 
 /// The lists of more than a 32nd of all concepts, as words of bits.
-#[derive(Drop, Debug)]
+#[derive(Drop)]
 pub struct WideLists {
     // the words of all these lists, one list behind the other
     words: Vec<u64>,

@@ -2,8 +2,8 @@
 use Rattle.std.proofs.Common.{◌≡◌, ◌==◌, ◌&&◌, inl, inr, Bool, true, List, [], ◌∷◌, Contains, refl, sym, subst, arith}
 use Rattle.std.specs.List.{list_any}
 use Rattle.std.proofs.lemmas.Bool.{false≢true, or_cases, or_left, or_right, and_parts, and_from, eqb-true, eq-eqb}
-use Rattle.rf2_rows.specs.Hierarchy.{reaches}
-use Rattle.rf2_rows.proofs.HierarchyLemmas.{first_contained, rest_contained, contained_cases, tells_reaches}
+use Rattle.hierarchy.specs.Hierarchy.{reaches}
+use Rattle.hierarchy.proofs.HierarchyLemmas.{first_contained, rest_contained, contained_cases, tells_reaches}
 use Rattle.constraint_tree.specs.Walks.{TellsInForce, TellsBelow, TellsAbove, TellsChild}
 
 -- where some item of a list passes a test, one that does is in the list

@@ -3,7 +3,7 @@
 use Rattle.std.specs.Prelude.{ℕ, ◌↔◌, ◌==◌, ◌&&◌, ◌||◌, Bool, not, IsTrue, Contains}
 use Rattle.std.specs.List.{list_any}
 use Rattle.rf2_rows.specs.Release.{Release}
-use Rattle.rf2_rows.specs.Hierarchy.{Reaches, reaches}
+use Rattle.hierarchy.specs.Hierarchy.{Reaches, reaches}
 use Rattle.constraint_tree.specs.declared.operator.Operator.{Operator}
 use Rattle.constraint_tree.specs.declared.operator.Operator.TheVariants.{Descendants, DescendantsOrSelf, Children, ChildrenOrSelf, Ancestors, AncestorsOrSelf, Parents, ParentsOrSelf, Top, Bottom}
 

@@ -5,17 +5,16 @@ use Rattle.std.specs.Bool.{beq}
 use Rattle.std.specs.List.{list_any}
 use Rattle.std.proofs.lemmas.Bool.{cases_lt, false≢true, le-ltb, lt-ltb}
 use Rattle.std.proofs.lemmas.List.{get_or_default, get_or_past}
-use Rattle.rf2_rows.specs.Hierarchy.{reaches}
+use Rattle.hierarchy.specs.Hierarchy.{one_row, reaches}
 use Rattle.rf2_rows.specs.Release.{Release}
-use Rattle.rf2_rows.proofs.HierarchyLemmas.{chain_from_test, chain_of_two, test_from_chain}
-use Rattle.rf2_rows.specs.Hierarchy.{one_row}
+use Rattle.hierarchy.proofs.HierarchyLemmas.{chain_from_test, chain_of_two, test_from_chain}
 use Rattle.constraint_tree.proofs.WalkLemmas.{passing_item, some_item_passes}
 use Rattle.idset.specs.Sets.{all_items, has_item, IsRisingBelow, numbers_where}
 use Rattle.idset.specs.Words.{is_set}
 use Rattle.idset.proofs.Normal.{has_item-numbers_where_any, numbers_where-agree}
 use Rattle.idset.proofs.Places.{filter_step, get_or-below}
 use Rattle.idset.proofs.Rising.{has_item-past_bound, numbers_where-rising, rising_is_numbers_where, rising_is_where}
-use Rattle.snapshot.specs.KeyedLists.{list_of}
+use Rattle.hierarchy.specs.KeyedLists.{list_of}
 use Rattle.ancestor_index.specs.HierarchyLists.{Hierarchy, hierarchy_of, is_child, lists_where}
 use Rattle.ancestor_index.proofs.ClosureLemmas.{item_there, length-where, list_of-where, row_there, there_item, there_where, where_there}
 use Rattle.executor.specs.Joined.{AreJoined, is_long, is_whole, near_of, with_length}

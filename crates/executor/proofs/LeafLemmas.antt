@@ -18,10 +18,10 @@ use Rattle.constraint_tree.specs.declared.operator.Cardinality.{Cardinality}
 use Rattle.idset.specs.Sets.{has_item, numbers_where}
 use Rattle.idset.proofs.Normal.{numbers_where-agree}
 use Rattle.set_algebra.specs.Meaning.{has_pairs}
-use Rattle.snapshot.specs.InForce.{has}
+use Rattle.hierarchy.specs.Members.{has}
 use Rattle.snapshot.specs.AttributesBySource.{attributes_by_source}
 use Rattle.snapshot.proofs.NumberingLemmas.{contains_map}
-use Rattle.snapshot.proofs.ReleaseLemmas.{had_contained}
+use Rattle.hierarchy.proofs.ReleaseLemmas.{had_contained}
 use Rattle.snapshot.proofs.RisingLemmas.{earlier_below}
 use Rattle.postings.specs.Entries.{Entry, entries_of}
 use Rattle.postings.specs.Groups.{ConceptGroup, all_groups, groups_in, is_in_group, pairs_of_group, rows_alone}

@@ -5,7 +5,7 @@ use Rattle.std.specs.List.{list_any}
 use Rattle.std.proofs.lemmas.Bool.{and_from, and_parts}
 use Rattle.std.proofs.lemmas.List.{get_or_default}
 use Rattle.std.proofs.lemmas.List.Elements.{Contains-get_or}
-use Rattle.rf2_rows.specs.Hierarchy.{reaches}
+use Rattle.hierarchy.specs.Hierarchy.{reaches}
 use Rattle.rf2_rows.specs.Release.{Release}
 use Rattle.constraint_tree.specs.Walks.{is_above, is_below, is_child, is_just_above, is_just_below, some_member, walks}
 use Rattle.constraint_tree.specs.declared.operator.Operator.{Operator}
@@ -13,7 +13,7 @@ use Rattle.constraint_tree.specs.declared.operator.Operator.TheVariants.{Descend
 use Rattle.constraint_tree.proofs.WalkLemmas.{passing_item, some_item_passes}
 use Rattle.idset.specs.Sets.{all_items, has_item}
 use Rattle.idset.proofs.Normal.{filter-numbers_where, has_item-numbers_where, numbers_where-agree}
-use Rattle.snapshot.specs.KeyedLists.{list_of}
+use Rattle.hierarchy.specs.KeyedLists.{list_of}
 use Rattle.ancestor_index.specs.HierarchyLists.{hierarchy_of, lists_where}
 use Rattle.ancestor_index.proofs.ClosureLemmas.{both_ways, item_there, list_of-where, there_item, there_where, where_there}
 use Rattle.executor.specs.Numbers.{numbers_in}

@@ -2,14 +2,14 @@
 ghost use Rattle.std.specs.Prelude.{◌≡◌, ◌↔◌, ◌<◌, IfSome, IsSome, length};
 ghost use Rattle.idset.specs.Sets.{has_item};
 ghost use Rattle.idset.specs.Words.{MarkedBelow};
-ghost use Rattle.snapshot.specs.KeyedLists.{list_of};
+ghost use Rattle.hierarchy.specs.KeyedLists.{list_of};
 ghost use Rattle.executor.specs.Joined.{is_whole as is_whole_of, near_of};
 ghost use Rattle.executor.specs.Steps.{HasWords, lists_of};
 
 use ancestor_index::AncestorIndex;
 
 /// A family of lists, one for each concept.
-#[derive(Clone, Copy, Debug)]
+#[derive(Clone, Copy)]
 pub enum Family {
     /// The concepts that a concept reaches.
     Ancestors,

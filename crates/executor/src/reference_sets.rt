@@ -3,7 +3,7 @@ ghost use Rattle.std.specs.Prelude.{ℕ, ◌≡◌, ◌<◌, All, IfOk, length};
 ghost use Rattle.std.specs.List.{flat_map};
 ghost use Rattle.idset.specs.Sets.{has_item};
 ghost use Rattle.idset.specs.Words.{is_set};
-ghost use Rattle.snapshot.specs.KeyedLists.{list_of};
+ghost use Rattle.hierarchy.specs.KeyedLists.{list_of};
 ghost use Rattle.postings.specs.Indexed.{IsIndexOf};
 ghost use Rattle.executor.specs.Members.{components_of};
 

@@ -8,7 +8,7 @@ use postings::Indexes;
 use std::alloc::{AllocError, Global};
 
 /// The types of rows that are in a set.
-#[derive(Drop, Debug)]
+#[derive(Drop)]
 pub struct TypesIn {
     /// Their identifiers, each once.
     pub ids: Vec<u64>,

@@ -2,7 +2,7 @@
 ghost use Rattle.std.specs.Prelude.{ℕ, ◌≡◌, ◌<◌, ◌++◌, ◌∷◌, [], not, List, All, IfOk, OnOk, filter};
 ghost use Rattle.std.specs.List.{list_any};
 ghost use Rattle.idset.specs.Sets.{all_items, has_item};
-ghost use Rattle.snapshot.specs.KeyedLists.{list_of};
+ghost use Rattle.hierarchy.specs.KeyedLists.{list_of};
 ghost use Rattle.executor.specs.Joined.{AreJoined, is_long as is_long_of, with_length};
 ghost use Rattle.executor.specs.Steps.{apart as apart_of, IsOver, joined, led_to, lists_of};
 

@@ -10,7 +10,7 @@ use Rattle.std.proofs.lemmas.List.FromFn.{get_or-map-range_with_len, length-map-
 use Rattle.std.proofs.lemmas.Option.{slice_get_within}
 use Rattle.rf2_rows.specs.Release.{Attribute, Release}
 use Rattle.snapshot.specs.AttributesBySource.{attributes_by_source}
-use Rattle.snapshot.proofs.CutLemmas.{same_maps}
+use Rattle.hierarchy.proofs.CutLemmas.{same_maps}
 use Rattle.postings.specs.Coded.{AreCoded, AreCodedRows, AreRowMarks, has_same_pair, of_source, row_coded, source_marks}
 use Rattle.postings.specs.Cells.{AreRowLists}
 use Rattle.postings.specs.Columns.{AreGroups, Mark}

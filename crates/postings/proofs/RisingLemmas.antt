@@ -6,7 +6,8 @@ use Rattle.std.proofs.lemmas.Bool.{cases_eq, cases_order, eq-eqb, le-ltb, lt-ltb
 use Rattle.std.proofs.lemmas.List.Elements.{All-cons, All-head, All-nil, All-tail, All-weaker}
 use Rattle.idset.specs.Sets.{IsRisingBelow, has_item, listed_numbers, rises_within}
 use Rattle.idset.proofs.Rising.{rises_from_on, rises_on, rising_is_where}
-use Rattle.snapshot.specs.InForce.{has, put, rising}
+use Rattle.hierarchy.specs.Members.{has}
+use Rattle.snapshot.specs.InForce.{put, rising}
 use Rattle.snapshot.proofs.SortLemmas.{has-rising}
 
 -- a number put into a rising list leaves one that rises within the same limits

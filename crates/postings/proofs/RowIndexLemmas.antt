@@ -8,7 +8,7 @@ use Rattle.rf2_rows.specs.Pairs.{value_eq}
 use Rattle.rf2_rows.specs.Release.{Attribute, Release, Value}
 use Rattle.rf2_rows.proofs.DistinctLemmas.{keeps_each_number_once}
 use Rattle.snapshot.specs.AttributesBySource.{attributes_by_source}
-use Rattle.snapshot.proofs.CutLemmas.{same_maps}
+use Rattle.hierarchy.proofs.CutLemmas.{same_maps}
 use Rattle.postings.specs.Coded.{AreCodedRows, AreRowMarks, IsBySource, IsCoded, all_group_marks, all_source_marks}
 use Rattle.postings.specs.Coded.{row_coded}
 use Rattle.postings.specs.Columns.{AreGroups, AreSources, Mark}

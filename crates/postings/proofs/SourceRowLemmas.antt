@@ -14,9 +14,9 @@ use Rattle.std.proofs.lemmas.Option.{get_or_from_slice_get, slice_get_within}
 use Rattle.std.proofs.lemmas.Simd.{map-map}
 use Rattle.rf2_rows.specs.Release.{Attribute, Release}
 use Rattle.snapshot.specs.AttributesBySource.{attributes_by_source}
-use Rattle.snapshot.specs.KeyedLists.{list_of}
+use Rattle.hierarchy.specs.KeyedLists.{list_of}
 use Rattle.snapshot.proofs.NumberingLemmas.{place_of, place_of-get_or}
-use Rattle.snapshot.proofs.SpanLemmas.{concat-take_more}
+use Rattle.hierarchy.proofs.SpanLemmas.{concat-take_more}
 use Rattle.postings.specs.Coded.{AreCodedRows, AreRowMarks, row_coded}
 use Rattle.postings.specs.Columns.{Mark}
 use Rattle.postings.specs.Groups.{ConceptGroup, all_groups, group_of, groups_among, keys_of, rows_alone}

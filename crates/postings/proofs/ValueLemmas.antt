@@ -24,7 +24,7 @@ use Rattle.rf2_rows.specs.Release.{Value, concept_value, number_value, text_valu
 use Rattle.rf2_rows.proofs.PairLemmas.{tells_same_value}
 use Rattle.snapshot.specs.Numbering.{concept_number}
 use Rattle.snapshot.proofs.NumberingLemmas.{contains_map, concept_number-has}
-use Rattle.snapshot.proofs.ReleaseLemmas.{had_contained}
+use Rattle.hierarchy.proofs.ReleaseLemmas.{had_contained}
 use Rattle.snapshot.proofs.RisingLemmas.{earlier_below}
 use Rattle.postings.specs.Indexed.{value_at, values_among}
 use Rattle.postings.specs.ValueTables.{AreTables, texts_in, values_in}

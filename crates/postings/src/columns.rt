@@ -6,7 +6,7 @@ ghost use Rattle.postings.specs.Cells.{AreColumns, AreOfOneLength, AreRowLists, 
 use crate::groups::RowMarks;
 use crate::lists::{column, places_by_key};
 use crate::mark::Mark;
-use snapshot::KeyedLists;
+use hierarchy::KeyedLists;
 use std::alloc::{AllocError, Global};
 
 /// Columns of the rows of a type, cell by cell in the order of the rows.
@@ -32,7 +32,7 @@ pub struct ValueColumns<'a> {
 }
 
 /// The columns of the rows of a key.
-#[derive(Clone, Copy, Debug)]
+#[derive(Clone, Copy)]
 pub struct KeyColumns<'a> {
     pub sources: &'a [Mark],
     /// By type the numbers of the values, by value the places of the types.
@@ -41,7 +41,7 @@ pub struct KeyColumns<'a> {
 }
 
 /// The rows of each key, with columns in the order of these lists.
-#[derive(Drop, Debug)]
+#[derive(Drop)]
 pub struct RowLists {
     pub rows: KeyedLists,
     pub sources: Vec<Mark>,

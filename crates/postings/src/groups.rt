@@ -9,13 +9,13 @@ ghost use Rattle.postings.specs.Places.{places_by};
 use crate::mark::Mark;
 use crate::rows::CodedRow;
 use ancestor_index::keep_rising;
+use hierarchy::KeyedLists;
 use indexmap::IndexSet;
-use snapshot::KeyedLists;
 use std::alloc::{AllocError, Global};
 
 /// For each attribute row the number of its source and that of its group, and for each source how many groups
 /// the sources before it have.
-#[derive(Drop, Debug)]
+#[derive(Drop)]
 pub struct RowMarks {
     /// The source of each row, and whether the row is the first with its pair in its source.
     pub sources: Vec<Mark>,

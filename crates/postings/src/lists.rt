@@ -4,7 +4,7 @@ ghost use Rattle.postings.specs.Cells.{IsColumn};
 ghost use Rattle.postings.specs.KeyedPlaces.{keyed_places};
 ghost use Rattle.postings.specs.Places.{places_by};
 
-use snapshot::KeyedLists;
+use hierarchy::KeyedLists;
 use std::alloc::{AllocError, Global};
 
 /// Of the keys of some rows, for each key below `count` the places of the rows that have it, in rising order.

@@ -1,5 +1,6 @@
 //! The indexes of attribute rows.
-ghost use Rattle.std.specs.Prelude.{◌≡◌, ◌+◌, ◌-◌, ◌≤◌, ◌<◌, ◌^◌, All, IfOk, length, map, slice_index, vec_len};
+ghost use Rattle.std.specs.Prelude.{ℕ, ◌≡◌, ◌+◌, ◌-◌, ◌≤◌, ◌<◌, ◌^◌, All, IfOk, Some, length, map, slice_get, slice_index, vec_len};
+ghost use Rattle.postings.specs.Cells.{AreOfOneLength, AreRowLists};
 ghost use Rattle.std.specs.List.{concat};
 ghost use Rattle.snapshot.specs.AttributesBySource.{attributes_by_source};
 ghost use Rattle.postings.specs.Coded.{AreRowMarks, IsBySource};
@@ -14,7 +15,8 @@ use crate::lists::{places_among, places_by_key};
 use crate::mark::Mark;
 use crate::rows::{CodedRow, Types, coded_rows};
 use crate::values::Values;
-use snapshot::{KeyedLists, Snapshot};
+use hierarchy::KeyedLists;
+use snapshot::Snapshot;
 use std::alloc::{AllocError, Global};
 
 /// The attribute rows of a release, and the rows of each source, type, value and group. A row is told by the place
@@ -37,7 +39,7 @@ pub struct RowIndexes {
 }
 
 /// The groups of all concepts.
-#[derive(Drop, Debug)]
+#[derive(Drop)]
 pub struct GroupLists {
     /// The number of each group, 0 where it has none.
     pub numbers: Vec<u32>,
@@ -92,33 +94,73 @@ pub fn row_indexes(alloc: Global, snapshot: &Snapshot) -> Result<RowIndexes, All
     let count = snapshot.concept_count();
     let (marks, row_numbers) = marks_by_source(alloc, count, coded.rows.as_slice())?;
     let groups = group_lists(alloc, &marks, coded.rows.as_slice())?;
-    let type_places = type_places_of(alloc, coded.rows.as_slice())?;
-    let cells = values_of(alloc, coded.rows.as_slice())?;
+    let keys = row_keys(alloc, coded.rows.as_slice())?;
     let (types, values) = coded.into_tables();
-    let by_type = row_lists(
-        alloc,
-        types.ids.len() as u32,
-        type_places.as_slice(),
-        cells.as_slice(),
-        &marks,
-    )?;
-    let places = places_among(alloc, type_places.len(), by_type.rows.flat())?;
-    let by_value = row_lists(
-        alloc,
-        count,
-        cells.as_slice(),
-        type_places.as_slice(),
-        &marks,
-    )?;
+    let lists = lists_by_keys(alloc, types.ids.len() as u32, count, &keys, &marks)?;
     Ok(RowIndexes {
         types,
         values,
-        type_places,
-        places,
+        type_places: keys.type_places,
+        places: lists.places,
         row_numbers,
+        by_type: lists.by_type,
+        by_value: lists.by_value,
+        groups,
+    })
+}
+
+// Of each row the place of its type, and the number of its value.
+#[derive(Drop)]
+struct RowKeys {
+    type_places: Vec<u32>,
+    values: Vec<u32>,
+}
+
+// The rows by type and by value, and the place of each row among those by type.
+#[derive(Drop)]
+struct ListsByKeys {
+    places: Vec<u32>,
+    by_type: RowLists,
+    by_value: RowLists,
+}
+
+fn row_keys(alloc: Global, rows: &[CodedRow]) -> Result<RowKeys, AllocError>
+    ensures types { IfOk result (λ keys. keys.type_places.items ≡ map (λ (row : CodedRow). row.type_place) rows.now) }
+    ensures values { IfOk result (λ keys. keys.values.items ≡ map (λ (row : CodedRow). row.value) rows.now) }
+{
+    let type_places = type_places_of(alloc, rows)?;
+    let values = values_of(alloc, rows)?;
+    Ok(RowKeys {
+        type_places,
+        values,
+    })
+}
+
+// The rows of so many types, and of so many concepts as their values.
+fn lists_by_keys(
+    alloc: Global,
+    types: u32,
+    concepts: u32,
+    keys: &RowKeys,
+    marks: &RowMarks,
+) -> Result<ListsByKeys, AllocError>
+    requires long { AreOfOneLength keys.now.type_places.items keys.now.values.items marks.now }
+    requires types { All (λ place. place < types) keys.now.type_places.items }
+    ensures by_type { IfOk result (λ lists. AreRowLists types keys.now.type_places.items keys.now.values.items marks.now lists.by_type) }
+    ensures by_value { IfOk result (λ lists. AreRowLists concepts keys.now.values.items keys.now.type_places.items marks.now lists.by_value) }
+    ensures len { IfOk result (λ lists. vec_len lists.places ≡ vec_len keys.now.type_places) }
+    ensures found { IfOk result (λ lists. (n : ℕ) → n < vec_len keys.now.type_places
+        → slice_get (concat lists.by_type.rows) (slice_index lists.places.items n) ≡ Some n) }
+{
+    let type_places = keys.type_places.as_slice();
+    let values = keys.values.as_slice();
+    let by_type = row_lists(alloc, types, type_places, values, marks)?;
+    let places = places_among(alloc, type_places.len(), by_type.rows.flat())?;
+    let by_value = row_lists(alloc, concepts, values, type_places, marks)?;
+    Ok(ListsByKeys {
+        places,
         by_type,
         by_value,
-        groups,
     })
 }
 

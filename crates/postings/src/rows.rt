@@ -11,7 +11,7 @@ use snapshot::Snapshot;
 use std::alloc::{AllocError, Global};
 
 /// An attribute row: the number of its source, the place of its type among all types, its group, and the number of its value.
-#[derive(Clone, Copy, Debug)]
+#[derive(Clone, Copy)]
 pub struct CodedRow {
     pub source: u32,
     pub type_place: u32,

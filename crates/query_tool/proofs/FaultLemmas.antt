@@ -10,8 +10,8 @@ use Rattle.snapshot.specs.Contents.{Contents}
 use Rattle.query_tool.specs.Answer.{IsAnswer}
 use Rattle.query_tool.specs.Lines.{AreAnswers, AreWritten}
 use Rattle.query_tool.specs.Fault.{WritesFirst, WritesPart, LeavesWritten, IsAnswerFault, HaveFailed, CountsTurns, AnswersEnded, whole_answers}
-use Rattle.query_tool.specs.declared.run.RunFault.{RunFault}
-use Rattle.query_tool.specs.declared.run.RunFault.TheVariants.{Read, Write, Memory, Turns}
+use Rattle.query_tool.specs.declared.query_run.RunFault.{RunFault}
+use Rattle.query_tool.specs.declared.query_run.RunFault.TheVariants.{Read, Write, Memory, Turns}
 
 -- what holds of a result that is no error
 pub on_ok_here : {T E : Type 0} {P : Type 0} (result : Result T E) → is_err result ≡ false → OnOk result P → P

@@ -13,8 +13,8 @@ use Rattle.query_tool.specs.Answer.{IsAnswer}
 use Rattle.query_tool.specs.Fault.{LeavesWritten}
 use Rattle.query_tool.specs.KeptLine.{kept_of}
 use Rattle.query_tool.specs.Lines.{AreWritten, HasNoFeed, query_lines}
-use Rattle.query_tool.specs.declared.run.RunFault.{RunFault}
-use Rattle.query_tool.specs.declared.run.RunFault.TheVariants as run
+use Rattle.query_tool.specs.declared.query_run.RunFault.{RunFault}
+use Rattle.query_tool.specs.declared.query_run.RunFault.TheVariants as run
 use Rattle.query_tool.proofs.LineLemmas.{query_lines_pending}
 
 -- a line that is not too long to be kept is kept whole

@@ -6,7 +6,7 @@ use Rattle.std.proofs.lemmas.List.{take_at}
 use Rattle.snapshot.specs.Contents.{Contents}
 use Rattle.query_tool.specs.Lines.{AreWritten, line_feed_count, query_lines, IsCutInto}
 use Rattle.query_tool.specs.Fault.{AnswersEnded, IsAnswerFault, LeavesWritten, WritesFirst, whole_answers}
-use Rattle.query_tool.specs.declared.run.RunFault.{RunFault}
+use Rattle.query_tool.specs.declared.query_run.RunFault.{RunFault}
 use Rattle.query_tool.proofs.LineLemmas.{query_lines_cut}
 use Rattle.query_tool.proofs.FaultLemmas.{answers_then, LeavesWritten_after, AnswerFault-count, AnswerFault-ended}
 

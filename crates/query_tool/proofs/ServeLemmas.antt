@@ -1,5 +1,5 @@
 -- What a request ends with, by the status and the faults that it met.
-use Rattle.std.proofs.Common.{ℕ, ◌≡◌, ◌<◌, ◌⊎◌, inl, inr, false, true, List, [], codes, length, map, take, Option, None, Some, Result, Ok, Err, refl, sym, ap, subst, ◌∙◌}
+use Rattle.std.proofs.Common.{ℕ, ◌≡◌, ◌<◌, ◌⊎◌, inl, inr, false, true, List, [], length, map, take, Option, None, Some, Result, Ok, Err, refl, sym, ap, subst, ◌∙◌}
 use Rattle.std.specs.Prelude.{IfSome}
 use Rattle.std.proofs.lemmas.Bool.{true≢false}
 use Rattle.std.proofs.lemmas.List.{length-map}
@@ -12,17 +12,16 @@ use Rattle.snapshot.specs.Taking.{FailsBelow, is_device}
 use Rattle.snapshot.specs.declared.fault.LoadFault.{LoadFault}
 use Rattle.snapshot.specs.declared.fault.LoadFault.TheVariants as load
 use Rattle.snapshot.specs.declared.limits.Limits.{Limits}
-use Rattle.snapshot.specs.declared.report.Report.{Report}
 use Rattle.answer_printer.specs.ReportText.{report_text}
 use Rattle.query_tool.specs.Fault.{CountsTurns, HaveFailed}
 use Rattle.query_tool.specs.Report.{report_of}
 use Rattle.sample_release.specs.SampleContents.{sample_contents}
 use Rattle.query_tool.specs.Serve.{CountsDevice, EndsWith, IsCut, IsLoadOf, IsServed, IsTask, ServesWith, Task, TellsLoadFault, fault_text, refusal_status_of, sample_task, status_of}
 use Rattle.query_tool.specs.Streams.{IsTold, Streams, streams}
-use Rattle.query_tool.specs.declared.run.RunFault.{RunFault}
-use Rattle.query_tool.specs.declared.run.RunFault.TheVariants.{Read, Write, Memory, Turns}
-use Rattle.query_tool.specs.declared.serve.Status.{Status}
-use Rattle.query_tool.specs.declared.serve.Status.TheVariants.{Done, DeviceFault, WordsFault, ReleaseRefused, MemoryRefused}
+use Rattle.query_tool.specs.declared.query_run.RunFault.{RunFault}
+use Rattle.query_tool.specs.declared.query_run.RunFault.TheVariants.{Read, Write, Memory, Turns}
+use Rattle.query_tool.specs.declared.service.Status.{Status}
+use Rattle.query_tool.specs.declared.service.Status.TheVariants.{Done, DeviceFault, WordsFault, ReleaseRefused, MemoryRefused}
 use Rattle.query_tool.specs.declared.streams.AnswerOutput.{Ghosts as Output}
 use Rattle.query_tool.specs.declared.streams.QueryInput.{Ghosts as Input}
 use Rattle.query_tool.specs.declared.words.Mode.{Mode}
@@ -67,32 +66,35 @@ serves_sample r w e contents ReleaseRefused before after none = none
 serves_sample r w e contents MemoryRefused before after stopped =
     record { fault = stopped.fault; ends = stopped.ends; served = stopped.served; failed = stopped.failed; turns = stopped.turns; told = stopped.told }
 
+-- what is loaded is one thing, and a fault of it that of what is loaded
+pub same_contents : (loaded : Result Contents LoadFault) (own contents : Contents) → loaded ≡ Ok own → loaded ≡ Ok contents → contents ≡ own
+same_contents loaded own contents is loads = let same : Ok contents ≡ Ok own = sym loads ∙ is in (cc)
+
+pub same_fault : (loaded : Result Contents LoadFault) (own : Contents) (fault : LoadFault) → loaded ≡ Ok own → IsFaultOf fault loaded → IsFaultOf fault (Ok own)
+same_fault loaded own fault is said other = sym is ∙ said other
+
 -- the release that is built in was loaded and served
-pub ends_sample : {R W E : Type 0} (r : Input R) (w : Output W) (e : Output E) (own : List FileText) (limits : Limits) (contents : Contents) (status : Status) (before after : Streams R W E)
-    → limits ≡ standard_limits → load_of standard_limits (codes "en") own ≡ Ok sample_contents → load_of limits (codes "en") own ≡ Ok contents
-    → ServesWith r w e Query contents status before after → EndsWith r w e sample_task status before after
-ends_sample r w e own limits contents status before after same sample loads served = inl (record {
+pub ends_sample : {R W E : Type 0} (r : Input R) (w : Output W) (e : Output E) (contents : Contents) (status : Status) (before after : Streams R W E)
+    → contents ≡ sample_contents → ServesWith r w e Query contents status before after → EndsWith r w e sample_task status before after
+ends_sample r w e contents status before after same served = inl (record {
   contents = contents;
-  loaded = sym sample ∙ ap (λ (l : Limits). load_of l (codes "en") own) (sym same) ∙ loads;
+  loaded = ap Ok (sym same);
   ended = serves_sample r w e contents status before after served;
 })
 
-only_memory : (fault : LoadFault) (loaded : Result Contents LoadFault) → loaded ≡ Ok sample_contents → IsFaultOf fault loaded → (fault ≡ load.Memory → ⊥) → ⊥
-only_memory fault loaded is said other = let clash : Ok sample_contents ≡ Err fault = sym is ∙ said other in (cc)
+only_memory : (fault : LoadFault) → IsFaultOf fault (Ok sample_contents) → (fault ≡ load.Memory → ⊥) → ⊥
+only_memory fault said other = let clash : Ok sample_contents ≡ Err fault = said other in (cc)
 
 -- only for want of memory it is not
-pub refuses_sample : {R W E : Type 0} (r : Input R) (w : Output W) (e : Output E) (own : List FileText) (limits : Limits) (fault : LoadFault) (status : Status) (input : R) (output : W) (before after : E)
-    → limits ≡ standard_limits → load_of standard_limits (codes "en") own ≡ Ok sample_contents → IsFaultOf fault (load_of limits (codes "en") own)
-    → TellsLoadFault e [] fault status before after → EndsWith r w e sample_task status (streams input output before) (streams input output after)
-refuses_sample r w e own limits fault Done input output before after same sample said told = absurd told
-refuses_sample r w e own limits fault DeviceFault input output before after same sample said told =
-    absurd (only_memory fault (load_of limits (codes "en") own) (ap (λ (l : Limits). load_of l (codes "en") own) same ∙ sample) said
-    (λ memory. let clash : MemoryRefused ≡ DeviceFault = ap refusal_status_of (sym memory) ∙ told.0 in (cc)))
-refuses_sample r w e own limits fault WordsFault input output before after same sample said told = absurd told
-refuses_sample r w e own limits fault ReleaseRefused input output before after same sample said told =
-    absurd (only_memory fault (load_of limits (codes "en") own) (ap (λ (l : Limits). load_of l (codes "en") own) same ∙ sample) said
-    (λ memory. let clash : MemoryRefused ≡ ReleaseRefused = ap refusal_status_of (sym memory) ∙ told.0 in (cc)))
-refuses_sample r w e own limits fault MemoryRefused input output before after same sample said told = inr (record { read = refl; written = refl; told = told })
+pub refuses_sample : {R W E : Type 0} (r : Input R) (w : Output W) (e : Output E) (fault : LoadFault) (status : Status) (input : R) (output : W) (before after : E)
+    → IsFaultOf fault (Ok sample_contents) → TellsLoadFault e [] fault status before after → EndsWith r w e sample_task status (streams input output before) (streams input output after)
+refuses_sample r w e fault Done input output before after said told = absurd told
+refuses_sample r w e fault DeviceFault input output before after said told =
+    absurd (only_memory fault said (λ memory. let clash : MemoryRefused ≡ DeviceFault = ap refusal_status_of (sym memory) ∙ told.0 in (cc)))
+refuses_sample r w e fault WordsFault input output before after said told = absurd told
+refuses_sample r w e fault ReleaseRefused input output before after said told =
+    absurd (only_memory fault said (λ memory. let clash : MemoryRefused ≡ ReleaseRefused = ap refusal_status_of (sym memory) ∙ told.0 in (cc)))
+refuses_sample r w e fault MemoryRefused input output before after said told = inr (record { read = refl; written = refl; told = told })
 
 -- what a load of a source's files answered, where it tells its files
 pub loaded_whole : (told : Option (List FileText)) (limits : Limits) (language : List ℕ) (names : List (List ℕ)) (contents : Contents) → limits ≡ standard_limits
@@ -130,13 +132,6 @@ pub asked_as : (told : Option (List FileText)) (old new : ℕ) (lent language : 
     → IsTask told old new lent mode task → IsTask told old new language asked task
 asked_as told old new lent language mode asked task is same task_is =
     subst (λ (m : Mode). IsTask told old new language m task) (sym is) (subst (λ (code : List ℕ). IsTask told old new code mode task) same task_is)
-
--- the numbers of a report are those of what was loaded, and so is its text
-pub report_is : (contents : Contents) (report : Report) → report.files ≡ contents.files → report.concepts ≡ length contents.release.concepts
-    → report.isa ≡ length contents.release.isa → report.attributes ≡ length contents.release.attributes → report.members ≡ length contents.release.members
-    → report.names ≡ length contents.release.names → report.passed ≡ contents.passed → report_text report ≡ report_text (report_of contents)
-report_is contents report files concepts isa attributes members names passed =
-    ap report_text (λ i. record { files = files i; concepts = concepts i; isa = isa i; attributes = attributes i; members = members i; names = names i; passed = passed i })
 
 -- a report that was written whole
 pub ends_reported : {R W E : Type 0} (r : Input R) (w : Output W) (e : Output E) (task : Task) (contents : Contents) (text : List ℕ) (input : R) (before after : W) (errors : E)

@@ -4,8 +4,8 @@ use Rattle.std.specs.Io.KnownBytes.{Appends, Consumes}
 use Rattle.snapshot.specs.Contents.{Contents}
 use Rattle.query_tool.specs.Answer.{IsAnswer}
 use Rattle.query_tool.specs.Lines.{AreAnswers, AreWritten, line_feed_count, query_lines}
-use Rattle.query_tool.specs.declared.run.RunFault.{RunFault}
-use Rattle.query_tool.specs.declared.run.RunFault.TheVariants.{Read, Write, Memory, Turns}
+use Rattle.query_tool.specs.declared.query_run.RunFault.{RunFault}
+use Rattle.query_tool.specs.declared.query_run.RunFault.TheVariants.{Read, Write, Memory, Turns}
 
 -- the numbers of the faults
 abbrev pub run_fault_number : RunFault → ℕ

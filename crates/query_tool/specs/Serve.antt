@@ -15,10 +15,10 @@ use Rattle.query_tool.specs.Lines.{AreWritten, query_lines}
 use Rattle.query_tool.specs.Report.{report_of}
 use Rattle.sample_release.specs.SampleContents.{sample_contents}
 use Rattle.query_tool.specs.Streams.{IsTold, Streams}
-use Rattle.query_tool.specs.declared.run.RunFault.{RunFault}
-use Rattle.query_tool.specs.declared.run.RunFault.TheVariants.{Read, Write, Memory, Turns}
-use Rattle.query_tool.specs.declared.serve.Status.{Status}
-use Rattle.query_tool.specs.declared.serve.Status.TheVariants.{Done, DeviceFault, WordsFault, ReleaseRefused, MemoryRefused}
+use Rattle.query_tool.specs.declared.query_run.RunFault.{RunFault}
+use Rattle.query_tool.specs.declared.query_run.RunFault.TheVariants.{Read, Write, Memory, Turns}
+use Rattle.query_tool.specs.declared.service.Status.{Status}
+use Rattle.query_tool.specs.declared.service.Status.TheVariants.{Done, DeviceFault, WordsFault, ReleaseRefused, MemoryRefused}
 use Rattle.query_tool.specs.declared.streams.AnswerOutput.{Ghosts as Output}
 use Rattle.query_tool.specs.declared.streams.QueryInput.{Ghosts as Input}
 use Rattle.query_tool.specs.declared.words.Mode.{Mode}

@@ -3,9 +3,9 @@ use Rattle.std.specs.Prelude.{ℕ, ◌≡◌, ◌<◌, true, false, List, length
 use Rattle.std.specs.Io.KnownBytes.{Appends}
 use Rattle.query_tool.specs.Serve.{fault_text}
 use Rattle.query_tool.specs.Streams.{IsTold, Outputs}
-use Rattle.query_tool.specs.declared.run.RunFault.TheVariants.{Write, Memory as no_memory}
-use Rattle.query_tool.specs.declared.serve.Status.{Status}
-use Rattle.query_tool.specs.declared.serve.Status.TheVariants.{Done, DeviceFault, WordsFault, MemoryRefused}
+use Rattle.query_tool.specs.declared.query_run.RunFault.TheVariants.{Write, Memory as no_memory}
+use Rattle.query_tool.specs.declared.service.Status.{Status}
+use Rattle.query_tool.specs.declared.service.Status.TheVariants.{Done, DeviceFault, WordsFault, MemoryRefused}
 use Rattle.query_tool.specs.declared.streams.AnswerOutput.{Ghosts as Output}
 use Rattle.query_tool.specs.declared.words.WordFault.{WordFault}
 use Rattle.query_tool.specs.declared.words.WordFault.TheVariants.{Usage, Help, Memory}

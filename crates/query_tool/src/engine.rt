@@ -103,8 +103,10 @@ fn with_indexes(alloc: Global, snapshot: Snapshot) -> Result<Engine, LoadFault>
 {
     // its contract says that the concepts rise
     let _ = snapshot.concept_count();
-    let indexes = Indexes::build(alloc, &snapshot)?;
-    Ok(Engine { snapshot, indexes })
+    match Indexes::build(alloc, &snapshot) {
+        Ok(indexes) => Ok(Engine { snapshot, indexes }),
+        Err(AllocError) => Err(LoadFault::Memory),
+    }
 }
 
 // Appends what answers a line over a release.

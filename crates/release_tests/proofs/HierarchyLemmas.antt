@@ -1,6 +1,6 @@
 -- The hierarchy of a release has its lists for each concept.
 use Rattle.std.proofs.Common.{ℕ, ◌≡◌, ◌<◌, Bool, length, get_or, subst, sym, arith}
-use Rattle.rf2_rows.specs.Hierarchy.{reaches}
+use Rattle.hierarchy.specs.Hierarchy.{reaches}
 use Rattle.rf2_rows.specs.Release.{Release}
 use Rattle.ancestor_index.specs.HierarchyLists.{Hierarchy, hierarchy_of, is_child, lists_where}
 use Rattle.ancestor_index.proofs.ClosureLemmas.{length-where}

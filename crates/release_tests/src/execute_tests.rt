@@ -5,12 +5,13 @@
 ghost use Rattle.postings.specs.Indexed.{IsIndexOf};
 
 use crate::load_tests::{chain_of, files_of, sample};
+use constraint_tree::Constraint;
 use ecl_parser::parse;
 use executor::execute;
 use idset::{ConceptSet, MixedSet, SortedSet, WordSet};
 use postings::Indexes;
 use release_files::NamedBytes;
-use set_algebra::lower;
+use set_algebra::{ConceptPlan, lower};
 use snapshot::{Limits, LoadFault, Snapshot};
 use std::alloc::{AllocError, Global};
 use std::process::Abort;
@@ -55,21 +56,47 @@ const ROWS: [Row; 29] = [
 // How many concepts are in the chain.
 const CHAIN: u32 = 300;
 
-// The numbers of the concepts that answer a line, or nothing where it is no constraint.
-fn executed<S: ConceptSet>(
+// Whether a set that was made has just some numbers.
+fn is_found<S: ConceptSet>(
+    alloc: Global,
+    made: Result<S, AllocError>,
+    want: &[u32],
+) -> Result<bool, AllocError> {
+    let found = made?;
+    Ok(found.items(alloc)?.as_slice() == want)
+}
+
+// Whether a plan gives just the concepts with some numbers, in each form of set.
+fn is_executed(
     alloc: Global,
     snapshot: &Snapshot,
     indexes: &Indexes,
-    line: &[u8],
-) -> Result<Option<Vec<u32>>, AllocError>
+    plan: &ConceptPlan,
+    want: &[u32],
+) -> Result<bool, AllocError>
     requires { IsIndexOf indexes.now snapshot.now.release }
 {
-    let Ok(constraint) = parse(alloc, line) else {
-        return Ok(None);
-    };
-    let plan = lower(alloc, &constraint)?;
-    let found: S = execute(alloc, &plan, snapshot, indexes)?;
-    Ok(Some(found.items(alloc)?))
+    Ok(
+        is_found::<SortedSet>(alloc, execute(alloc, plan, snapshot, indexes), want)?
+            && is_found::<WordSet>(alloc, execute(alloc, plan, snapshot, indexes), want)?
+            && is_found::<MixedSet>(alloc, execute(alloc, plan, snapshot, indexes), want)?,
+    )
+}
+
+// Whether just the concepts with some numbers answer a constraint.
+fn is_answered(
+    alloc: Global,
+    snapshot: &Snapshot,
+    indexes: &Indexes,
+    constraint: &Constraint,
+    want: &[u32],
+) -> Result<bool, AllocError>
+    requires { IsIndexOf indexes.now snapshot.now.release }
+{
+    match lower(alloc, constraint) {
+        Ok(plan) => is_executed(alloc, snapshot, indexes, &plan, want),
+        Err(AllocError) => Err(AllocError),
+    }
 }
 
 fn assert_executed(
@@ -82,33 +109,43 @@ fn assert_executed(
 ) -> Result<(), AllocError>
     requires { IsIndexOf indexes.now snapshot.now.release }
 {
-    let found = [
-        executed::<SortedSet>(alloc, snapshot, indexes, line)?,
-        executed::<WordSet>(alloc, snapshot, indexes, line)?,
-        executed::<MixedSet>(alloc, snapshot, indexes, line)?,
-    ];
-    for numbers in &found {
-        match numbers {
-            Some(numbers) => assert!(rt; numbers.as_slice() == want),
-            // no constraint, or there was no memory to read it
-            None => return Err(AllocError),
+    match parse(alloc, line) {
+        Ok(constraint) => {
+            assert!(rt; is_answered(alloc, snapshot, indexes, &constraint, want)?);
+            Ok(())
         }
+        // no constraint, or there was no memory to read it
+        Err(_) => Err(AllocError),
+    }
+}
+
+// Queries over a release and its indexes, each by its numbers of concepts.
+fn assert_rows_by(
+    rt: &impl Abort,
+    alloc: Global,
+    snapshot: &Snapshot,
+    indexes: &Indexes,
+    rows: &[(&[u8], &[u32])],
+) -> Result<(), AllocError>
+    requires { IsIndexOf indexes.now snapshot.now.release }
+{
+    for (line, want) in rows {
+        assert_executed(rt, alloc, snapshot, indexes, line, want)?;
     }
     Ok(())
 }
 
-// Queries over a loaded release, each by its numbers of concepts.
+// Queries over a loaded release.
 fn assert_rows(
     rt: &impl Abort,
     alloc: Global,
     snapshot: &Snapshot,
     rows: &[(&[u8], &[u32])],
 ) -> Result<(), AllocError> {
-    let indexes = Indexes::build(alloc, snapshot)?;
-    for (line, want) in rows {
-        assert_executed(rt, alloc, snapshot, &indexes, line, want)?;
+    match Indexes::build(alloc, snapshot) {
+        Ok(indexes) => assert_rows_by(rt, alloc, snapshot, &indexes, rows),
+        Err(AllocError) => Err(AllocError),
     }
-    Ok(())
 }
 
 // Queries over a release, each by its numbers of concepts.
@@ -120,11 +157,14 @@ fn assert_all_executed(
 ) -> Result<(), AllocError> {
     match Snapshot::load(alloc, files, "en", Limits::standard()) {
         Ok(snapshot) => assert_rows(rt, alloc, &snapshot, rows),
-        Err(fault) => {
-            assert!(rt; fault == LoadFault::Memory, "the release loads");
-            Err(AllocError)
-        }
+        Err(fault) => memory_alone(rt, fault),
     }
+}
+
+// Looks at whether a release that loads was refused for want of memory.
+fn memory_alone(rt: &impl Abort, fault: LoadFault) -> Result<(), AllocError> {
+    assert!(rt; fault == LoadFault::Memory, "the release loads");
+    Err(AllocError)
 }
 
 fn assert_sample(rt: &impl Abort, alloc: Global) -> Result<(), AllocError> {

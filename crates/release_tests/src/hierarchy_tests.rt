@@ -5,7 +5,7 @@ ghost use Rattle.ancestor_index.specs.HierarchyLists.{hierarchy_of};
 use crate::load_tests::{RELATIONSHIPS, chain_of, files_of, replaced, sample, sample_with};
 use ancestor_index::AncestorIndex;
 use release_files::NamedBytes;
-use snapshot::{Limits, Snapshot};
+use snapshot::{Limits, LoadFault, Snapshot};
 use std::alloc::{AllocError, Global};
 use std::process::Abort;
 use std::test::Fail;
@@ -34,50 +34,35 @@ const CHAIN: u32 = 300;
 const D_IS_B: &[u8] =
     b"122026\t20240101\t1\t900000000000207008\t103007\t101009\t0\t116680003\t900000000000011006\t900000000000451002\r\n121022\t";
 
-// Looks at what a hierarchy has of a concept.
-fn assert_around(
-    rt: &impl Abort,
-    snapshot: &Snapshot,
-    index: &AncestorIndex,
-    concept: u32,
-    want: &Around<'_>,
-)
+// Whether a hierarchy has this of a concept.
+fn is_around(snapshot: &Snapshot, index: &AncestorIndex, concept: u32, want: &Around<'_>) -> bool
     requires { index.now ≡ hierarchy_of snapshot.now.release }
 {
-    assert!(rt; concept < snapshot.concept_count());
-    assert!(rt;
-        index.ancestors(concept) == want[0],
-        "ancestors of {concept}"
-    );
-    assert!(rt;
-        index.descendants(concept) == want[1],
-        "descendants of {concept}"
-    );
-    assert!(rt; index.parents(concept) == want[2], "parents of {concept}");
-    assert!(rt; index.children(concept) == want[3], "children of {concept}");
+    concept < snapshot.concept_count()
+        && index.ancestors(concept) == want[0]
+        && index.descendants(concept) == want[1]
+        && index.parents(concept) == want[2]
+        && index.children(concept) == want[3]
 }
 
-// Looks at whether the descendants of a concept are kept as words, and whether these are they.
-fn assert_words(
-    rt: &impl Abort,
-    snapshot: &Snapshot,
-    index: &AncestorIndex,
-    concept: u32,
-    is_wide: bool,
-)
+// Whether the descendants of a concept are kept as words where it is so wanted, and these are they.
+fn has_words(snapshot: &Snapshot, index: &AncestorIndex, concept: u32, is_wide: bool) -> bool
     requires { index.now ≡ hierarchy_of snapshot.now.release }
 {
-    assert!(rt; concept < snapshot.concept_count());
-    let words = index.descendant_words(concept);
-    assert!(rt; words.is_some() == is_wide, "words of {concept}");
-    let Some(words) = words else { return };
-    for number in 0..snapshot.concept_count() {
-        let is_below = index.descendants(concept).contains(&number);
-        assert!(rt;
-            is_set(words, number) == is_below,
-            "{number} below {concept}"
-        );
+    if concept >= snapshot.concept_count() {
+        return false;
     }
+    match index.descendant_words(concept) {
+        Some(words) => {
+            is_wide && are_words_of(words, index.descendants(concept), snapshot.concept_count())
+        }
+        None => !is_wide,
+    }
+}
+
+// Whether words have the bits of just some numbers, of those below a count.
+fn are_words_of(words: &[u64], numbers: &[u32], count: u32) -> bool {
+    (0..count).all(|number| is_set(words, number) == numbers.contains(&number))
 }
 
 // Whether the bit of a number is set: the words have 64 each, the lowest first.
@@ -88,44 +73,78 @@ fn is_set(words: &[u64], number: u32) -> bool {
     }
 }
 
-// Looks at whether each concept stands once in the order, and each parent before its child.
-fn assert_parents_first(rt: &impl Abort, snapshot: &Snapshot) {
-    let order = snapshot.parents_first();
-    assert!(rt; order.len() == snapshot.concept_count() as usize);
-    for concept in 0..snapshot.concept_count() {
-        assert!(rt; order.contains(&concept), "{concept}");
-    }
-    for (child, parent) in snapshot.isa_rows() {
-        let place = order.iter().position(|concept| concept == child);
-        let before = order.iter().position(|concept| concept == parent);
-        assert!(rt; before < place, "{parent} before {child}");
+// Whether each number below a count stands once in an order, and each parent before its child.
+fn is_parents_first(order: &[u32], count: u32, rows: &[(u32, u32)]) -> bool {
+    order.len() == count as usize
+        && (0..count).all(|concept| order.contains(&concept))
+        && rows.iter().all(|(child, parent)| {
+            let place = order.iter().position(|concept| concept == child);
+            let before = order.iter().position(|concept| concept == parent);
+            before < place
+        })
+}
+
+// Looks at what a hierarchy has of each concept. Lists of more than a 32nd of all concepts are kept as words.
+fn assert_lists(rt: &impl Abort, snapshot: &Snapshot, index: &AncestorIndex, wants: &[Around<'_>])
+    requires { index.now ≡ hierarchy_of snapshot.now.release }
+{
+    for (number, want) in (0u32..).zip(wants) {
+        let is_wide = want[1].len() > wants.len() / 32;
+        assert!(rt;
+            is_around(snapshot, index, number, want) && has_words(snapshot, index, number, is_wide),
+            "{number}"
+        );
     }
 }
 
-// Looks at the hierarchy of a release of some is-a rows, which of each concept is as wanted. Lists of more
-// than a 32nd of all concepts are kept as words.
+// Looks at the hierarchy of a release.
+fn assert_index(
+    rt: &impl Abort,
+    alloc: Global,
+    snapshot: &Snapshot,
+    wants: &[Around<'_>],
+) -> Result<(), LoadFault> {
+    match AncestorIndex::build(alloc, snapshot) {
+        Ok(index) => {
+            assert_lists(rt, snapshot, &index, wants);
+            Ok(())
+        }
+        Err(AllocError) => Err(LoadFault::Memory),
+    }
+}
+
+// Looks at the order of a release of so many is-a rows and concepts.
+fn assert_order(rt: &impl Abort, snapshot: &Snapshot, rows: usize, concepts: usize) {
+    assert_eq!(rt; snapshot.isa_rows().len(), rows);
+    assert_eq!(rt; snapshot.concept_count() as usize, concepts);
+    assert!(rt;
+        is_parents_first(
+            snapshot.parents_first(),
+            snapshot.concept_count(),
+            snapshot.isa_rows(),
+        )
+    );
+}
+
+// Looks at a release of so many is-a rows, whose hierarchy is as wanted of each concept.
 fn assert_hierarchy(
     rt: &impl Abort,
     alloc: Global,
     files: &[NamedBytes<'_>],
     rows: usize,
     wants: &[Around<'_>],
-) -> Result<(), Fail> {
-    let snapshot = Snapshot::load(alloc, files, "en", Limits::standard())?;
-    let index = AncestorIndex::build(alloc, &snapshot)?;
-    assert_eq!(rt; snapshot.isa_rows().len(), rows);
-    assert_eq!(rt; snapshot.concept_count() as usize, wants.len());
-    for (number, want) in (0u32..).zip(wants) {
-        let is_wide = want[1].len() > wants.len() / 32;
-        assert_around(rt, &snapshot, &index, number, want);
-        assert_words(rt, &snapshot, &index, number, is_wide);
+) -> Result<(), LoadFault> {
+    match Snapshot::load(alloc, files, "en", Limits::standard()) {
+        Ok(snapshot) => {
+            assert_order(rt, &snapshot, rows, wants.len());
+            assert_index(rt, alloc, &snapshot, wants)
+        }
+        Err(fault) => Err(fault),
     }
-    assert_parents_first(rt, &snapshot);
-    Ok(())
 }
 
 #[test]
-fn lists_the_sample_hierarchy(rt: HostRuntime) -> Result<(), Fail> {
+fn lists_the_sample_hierarchy(rt: HostRuntime) -> Result<(), LoadFault> {
     assert_hierarchy(&rt, rt.alloc(), &sample(), 10, &SAMPLE)
 }
 
@@ -135,7 +154,8 @@ fn lists_a_repeated_row_once(rt: HostRuntime) -> Result<(), Fail> {
     let rows = sample()[RELATIONSHIPS].bytes;
     let changed = replaced(rt.alloc(), rows, b"121022\t", D_IS_B)?;
     let files = sample_with(rt.alloc(), RELATIONSHIPS, changed.as_slice())?;
-    assert_hierarchy(&rt, rt.alloc(), files.as_slice(), 11, &SAMPLE)
+    assert_hierarchy(&rt, rt.alloc(), files.as_slice(), 11, &SAMPLE)?;
+    Ok(())
 }
 
 // In a chain each concept has all before it as ancestors and all behind it as descendants.
@@ -146,7 +166,8 @@ fn lists_a_chain(rt: HostRuntime) -> Result<(), Fail> {
     let files = files_of(concepts.as_slice(), rows.as_slice());
     let numbers: Vec<u32> = (0..CHAIN).collect(alloc)?;
     let wants = arounds_in_a_chain(alloc, numbers.as_slice())?;
-    assert_hierarchy(&rt, alloc, &files, 299, wants.as_slice())
+    assert_hierarchy(&rt, alloc, &files, 299, wants.as_slice())?;
+    Ok(())
 }
 
 // What stands around each of some numbers in a chain of them.

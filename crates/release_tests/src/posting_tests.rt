@@ -294,9 +294,13 @@ fn assert_release(
     files: &[NamedBytes<'_>],
     wants: &Wants<'_>,
 ) -> Result<(), LoadFault> {
-    let indexes = indexes_of(alloc, files)?;
-    assert_indexes(rt, &indexes, wants);
-    Ok(())
+    match indexes_of(alloc, files) {
+        Ok(indexes) => {
+            assert_indexes(rt, &indexes, wants);
+            Ok(())
+        }
+        Err(fault) => Err(fault),
+    }
 }
 
 #[test]

@@ -33,6 +33,13 @@ const DESCRIPTIONS: &[u8] =
 102018\t20240101\t1\t900000000000207008\t1000004\ten\t900000000000003001\t\t900000000000448009\r\n\
 103011\t20240101\t1\t900000000000207008\t138875005\ten\t900000000000003001\tR\xc3\xb6\xc3\xb6t (test)\t900000000000448009\r\n";
 
+// The answers of the first and the last of them, and of all.
+const ENDS: &[u8] =
+    b"before\nOK 2\n100005 |Alpha (finding)|\n138875005 |R\xc3\xb6\xc3\xb6t (test)|\n";
+
+const ALL: &[u8] =
+    b"before\nOK 4\n100005 |Alpha (finding)|\n101009\n1000004 ||\n138875005 |R\xc3\xb6\xc3\xb6t (test)|\n";
+
 // The two files, of which nothing is known beforehand.
 fn files() -> [NamedBytes<'static>; 2] {
     [
@@ -92,17 +99,23 @@ fn check_answer<S: ConceptSet>(
     Ok(())
 }
 
-// Sets of concepts, as one form of set, and their answers.
+// Sets of concepts of a release, as one form of set, and their answers.
+fn check_answers_of<S: ConceptSet>(
+    rt: &impl Abort,
+    alloc: Global,
+    snapshot: &Snapshot,
+) -> Result<(), AllocError> {
+    check_answer::<S>(rt, alloc, snapshot, &[], b"before\nOK 0\n")?;
+    check_answer::<S>(rt, alloc, snapshot, &[1], b"before\nOK 1\n101009\n")?;
+    check_answer::<S>(rt, alloc, snapshot, &[0, 3], ENDS)?;
+    check_answer::<S>(rt, alloc, snapshot, &[0, 1, 2, 3], ALL)
+}
+
 fn check_answers<S: ConceptSet>(rt: &impl Abort, alloc: Global) -> Result<(), AllocError> {
-    let snapshot = loaded(rt, alloc)?;
-    check_answer::<S>(rt, alloc, &snapshot, &[], b"before\nOK 0\n")?;
-    check_answer::<S>(rt, alloc, &snapshot, &[1], b"before\nOK 1\n101009\n")?;
-    let ends =
-        b"before\nOK 2\n100005 |Alpha (finding)|\n138875005 |R\xc3\xb6\xc3\xb6t (test)|\n".as_slice();
-    check_answer::<S>(rt, alloc, &snapshot, &[0, 3], ends)?;
-    let all =
-        b"before\nOK 4\n100005 |Alpha (finding)|\n101009\n1000004 ||\n138875005 |R\xc3\xb6\xc3\xb6t (test)|\n".as_slice();
-    check_answer::<S>(rt, alloc, &snapshot, &[0, 1, 2, 3], all)
+    match loaded(rt, alloc) {
+        Ok(snapshot) => check_answers_of::<S>(rt, alloc, &snapshot),
+        Err(AllocError) => Err(AllocError),
+    }
 }
 
 fn check_answers_again<S: ConceptSet>(rt: &impl Abort, alloc: Global) -> Result<(), AllocError> {

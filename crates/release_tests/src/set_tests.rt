@@ -15,23 +15,29 @@ fn is_of<S: ConceptSet>(alloc: Global, set: &S, wanted: &[u32]) -> Result<bool, 
     Ok(items.as_slice() == wanted && set.count() as usize == wanted.len())
 }
 
+// Whether a set that was made has just these items.
+fn holds<S: ConceptSet>(
+    alloc: Global,
+    made: Result<S, AllocError>,
+    wanted: &[u32],
+) -> Result<bool, AllocError> {
+    match made {
+        Ok(set) => is_of(alloc, &set, wanted),
+        Err(AllocError) => Err(AllocError),
+    }
+}
+
 // The operations on x = 0 2 5 and y = 2 5 9 below 10.
 fn operations_hold<S: ConceptSet>(alloc: Global, x: &S, y: &S) -> Result<bool, AllocError>
     requires { S.bound_of x.now ≡ S.bound_of y.now }
 {
-    let both = x.and(alloc, y)?;
-    let either = x.or(alloc, y)?;
-    let left = x.minus(alloc, y)?;
-    let right = y.minus(alloc, x)?;
-    let missing = x.others(alloc)?;
-    let copy = x.copy(alloc)?;
     Ok(
-        is_of(alloc, &both, &[2, 5])?
-            && is_of(alloc, &either, &[0, 2, 5, 9])?
-            && is_of(alloc, &left, &[0])?
-            && is_of(alloc, &right, &[9])?
-            && is_of(alloc, &missing, &[1, 3, 4, 6, 7, 8, 9])?
-            && is_of(alloc, &copy, &[0, 2, 5])?,
+        holds(alloc, x.and(alloc, y), &[2, 5])?
+            && holds(alloc, x.or(alloc, y), &[0, 2, 5, 9])?
+            && holds(alloc, x.minus(alloc, y), &[0])?
+            && holds(alloc, y.minus(alloc, x), &[9])?
+            && holds(alloc, x.others(alloc), &[1, 3, 4, 6, 7, 8, 9])?
+            && holds(alloc, x.copy(alloc), &[0, 2, 5])?,
     )
 }
 
@@ -45,16 +51,25 @@ fn tells<S: ConceptSet>(x: &S) -> bool {
         && !x.has(4_000_000_000)
 }
 
+// The same set made of the words of another.
+fn made_of_words<S: ConceptSet>(alloc: Global) -> Result<bool, AllocError> {
+    let marks = WordSet::from_items(alloc, &[0, 2, 5], 10)?;
+    holds::<S>(
+        alloc,
+        S::from_words(alloc, marks.words(), marks.bound()),
+        &[0, 2, 5],
+    )
+}
+
 // The same set made in other ways.
 fn made_alike<S: ConceptSet>(alloc: Global) -> Result<bool, AllocError> {
-    let unsorted = S::from_numbers(alloc, &[5, 0, 2, 0, 5], 10)?;
-    let marks = WordSet::from_items(alloc, &[0, 2, 5], 10)?;
-    let marked = S::from_words(alloc, marks.words(), marks.bound())?;
-    let every = S::every(alloc, 10)?;
     Ok(
-        is_of(alloc, &unsorted, &[0, 2, 5])?
-            && is_of(alloc, &marked, &[0, 2, 5])?
-            && is_of(alloc, &every, &[0, 1, 2, 3, 4, 5, 6, 7, 8, 9])?,
+        holds::<S>(
+            alloc,
+            S::from_numbers(alloc, &[5, 0, 2, 0, 5], 10),
+            &[0, 2, 5],
+        )? && made_of_words::<S>(alloc)?
+            && holds::<S>(alloc, S::every(alloc, 10), &[0, 1, 2, 3, 4, 5, 6, 7, 8, 9])?,
     )
 }
 
@@ -70,14 +85,11 @@ fn grows<S: ConceptSet>(alloc: Global, set: &mut S) -> Result<bool, AllocError>
 
 // Sets at the ends of words, and the empty set.
 fn ends_hold<S: ConceptSet>(alloc: Global) -> Result<bool, AllocError> {
-    let set = S::from_items(alloc, &[0, 63, 64, 127, 128, 129], 130)?;
-    let empty = S::from_items(alloc, &[], 0)?;
-    let every = S::every(alloc, 0)?;
+    let ends = [0, 63, 64, 127, 128, 129];
     Ok(
-        set.count() == 6
-            && is_of(alloc, &set, &[0, 63, 64, 127, 128, 129])?
-            && is_of(alloc, &empty, &[])?
-            && is_of(alloc, &every, &[])?,
+        holds::<S>(alloc, S::from_items(alloc, &ends, 130), &ends)?
+            && holds::<S>(alloc, S::from_items(alloc, &[], 0), &[])?
+            && holds::<S>(alloc, S::every(alloc, 0), &[])?,
     )
 }
 
@@ -140,6 +152,34 @@ fn multiples(alloc: Global, of: u32, bound: u32) -> Result<Vec<u32>, AllocError>
     Ok(multiples)
 }
 
+// Adds the items of a set that was made.
+fn push_items<S: ConceptSet>(
+    alloc: Global,
+    made: Result<S, AllocError>,
+    items: &mut Vec<u32>,
+) -> Result<(), AllocError> {
+    let set = made?;
+    items.extend_from_slice(&set.items(alloc)?)
+}
+
+// Adds the items of what each operation gives, one after another.
+fn push_answers<S: ConceptSet>(
+    alloc: Global,
+    x: &S,
+    y: &S,
+    answers: &mut Vec<u32>,
+) -> Result<(), AllocError>
+    requires { S.bound_of x.now ≡ S.bound_of y.now }
+{
+    push_items(alloc, x.and(alloc, y), answers)?;
+    push_items(alloc, x.or(alloc, y), answers)?;
+    push_items(alloc, x.minus(alloc, y), answers)?;
+    push_items(alloc, y.minus(alloc, x), answers)?;
+    push_items(alloc, x.others(alloc), answers)?;
+    push_items(alloc, x.copy(alloc), answers)?;
+    answers.push(y.count())
+}
+
 // The items of what each operation gives, one after another.
 fn answers<S: ConceptSet>(
     alloc: Global,
@@ -152,13 +192,8 @@ fn answers<S: ConceptSet>(
 {
     let x = S::from_items(alloc, xs, bound)?;
     let y = S::from_items(alloc, ys, bound)?;
-    let mut answers = x.and(alloc, &y)?.items(alloc)?;
-    answers.extend_from_slice(&x.or(alloc, &y)?.items(alloc)?)?;
-    answers.extend_from_slice(&x.minus(alloc, &y)?.items(alloc)?)?;
-    answers.extend_from_slice(&y.minus(alloc, &x)?.items(alloc)?)?;
-    answers.extend_from_slice(&x.others(alloc)?.items(alloc)?)?;
-    answers.extend_from_slice(&x.copy(alloc)?.items(alloc)?)?;
-    answers.push(y.count())?;
+    let mut answers = Vec::new(alloc);
+    push_answers(alloc, &x, &y, &mut answers)?;
     Ok(answers)
 }
 

@@ -2,7 +2,6 @@ pub mod Accepted
 pub mod Columns
 pub mod DistinctLemmas
 pub mod Examples
-pub mod HierarchyLemmas
 pub mod Identifiers
 pub mod PairLemmas
 pub mod Parts

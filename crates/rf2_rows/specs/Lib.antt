@@ -2,7 +2,6 @@ pub mod Columns
 pub mod Files
 pub mod Formats
 pub mod Groups
-pub mod Hierarchy
 pub mod Numbers
 pub mod Pairs
 pub mod Parts

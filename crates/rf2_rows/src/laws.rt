@@ -1,12 +1,6 @@
 //! Laws about the definitions of this crate: functions that do nothing, each with the law as its contract.
-ghost use Rattle.rf2_rows.specs.Hierarchy.{TellsReaches};
 ghost use Rattle.rf2_rows.specs.Pairs.{KeepsEachNumberOnce, KeepsEachPairOnce, TellsSamePair, TellsSameValue};
 ghost use Rattle.rf2_rows.specs.Versions.{IsEquivalenceOfRows};
-
-/// The test of what a concept reaches, which computes, says exactly that a chain of is-a rows leads there.
-pub fn reaches_tells_chains()
-    ensures { TellsReaches }
-{}
 
 /// The test whether two pairs of a type and a value are the same says exactly that they are equal.
 pub fn same_pairs_are_told()

@@ -21,9 +21,7 @@ pub use crate::concrete::decimal;
 pub use crate::fault::{RowCause, RowFault};
 pub use crate::fields::digits;
 pub use crate::kind::{FileKind, file_kind, header};
-pub use crate::laws::{
-    distinct_keeps_each_once, reaches_tells_chains, same_pairs_are_told, same_row_is_an_equivalence,
-};
+pub use crate::laws::{distinct_keeps_each_once, same_pairs_are_told, same_row_is_an_equivalence};
 pub use crate::read::{RowReader, read_row};
 pub use crate::row::{ConceptRow, ConcreteRow, DescriptionRow, MemberRow, RelationshipRow, Row};
 pub use crate::value::{Decimal, Value};

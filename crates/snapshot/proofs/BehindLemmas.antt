@@ -8,7 +8,7 @@ use Rattle.std.proofs.lemmas.List.Kept.{Contains-dedup_nat}
 use Rattle.std.proofs.lemmas.List.Sorted.{Contains-permutation}
 use Rattle.std.proofs.lemmas.List.Sums.{count_by_more_no, count_by_more_yes, sum_by-cons, sum_by_more, sum_by_push}
 use Rattle.indexmap.proofs.CallerLemmas.{Contains-list_any}
-use Rattle.snapshot.specs.InForce.{has}
+use Rattle.hierarchy.specs.Members.{has}
 use Rattle.snapshot.proofs.NeighbourLemmas.{count_of, count_of-other, count_of-some}
 use Rattle.snapshot.proofs.SplitLemmas.{any_of}
 

@@ -9,7 +9,7 @@ use Rattle.std.proofs.lemmas.List.{length_push}
 use Rattle.std.proofs.lemmas.List.Elements.{All-contains, Contains-append_cases}
 use Rattle.std.proofs.lemmas.List.Folds.{Any-from_list_any}
 use Rattle.std.proofs.lemmas.List.Sums.{sum_by-cons}
-use Rattle.snapshot.specs.InForce.{has}
+use Rattle.hierarchy.specs.Members.{has}
 use Rattle.snapshot.specs.Noted.{Covers, Noted, choices, is_later, is_repeated, is_superseded}
 use Rattle.snapshot.specs.Taken.{HasTaken, IsCodeOf, IsOfVersion, IsVersionAmong, Taken, Version, firsts, is_older, is_outdated, without}
 use Rattle.snapshot.proofs.CodeLemmas.{has-code, is_later-version, same_version-code}

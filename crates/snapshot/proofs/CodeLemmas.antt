@@ -7,7 +7,7 @@ use Rattle.std.proofs.lemmas.Bool.{cases_order, eq-eqb, ne_eqb}
 use Rattle.std.proofs.lemmas.Bool.Decides.{nat_tests}
 use Rattle.std.proofs.lemmas.List.Folds.{list_any_at}
 use Rattle.rf2_rows.specs.Versions.{same_time}
-use Rattle.snapshot.specs.InForce.{has}
+use Rattle.hierarchy.specs.Members.{has}
 use Rattle.snapshot.specs.Noted.{Noted, is_later, same_version}
 use Rattle.snapshot.specs.Taken.{IsCodeOf, time_code}
 use Rattle.snapshot.proofs.RisingLemmas.{earlier_below}

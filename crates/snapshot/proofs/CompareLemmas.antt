@@ -15,7 +15,7 @@ use Rattle.snapshot.specs.declared.comparing.Comparing.{Comparing}
 use Rattle.snapshot.specs.Contents.{text_of_row}
 use Rattle.snapshot.specs.Faults.{first_of}
 use Rattle.snapshot.specs.Files.{Place, RowAt, row_at, rows_of}
-use Rattle.snapshot.specs.InForce.{has}
+use Rattle.hierarchy.specs.Members.{has}
 use Rattle.snapshot.specs.Keys.{IsMet, IsShort, Keyed, key_in, uuids_behind}
 use Rattle.snapshot.specs.Noted as by_key
 use Rattle.snapshot.specs.Noted.{AreOfItsKind, Covers, Noted}
@@ -24,7 +24,7 @@ use Rattle.snapshot.specs.Taking.{StopsAt, TakesAll, next, taken}
 use Rattle.snapshot.specs.declared.fault.LoadFault.{LoadFault}
 use Rattle.snapshot.specs.declared.fault.LoadFault.TheVariants.{Conflict}
 use Rattle.snapshot.specs.Seen.{AreSeen, AreShort, first_conflict, keys_behind, uuids_after}
-use Rattle.snapshot.proofs.ReleaseLemmas.{had_contained, times, times-append}
+use Rattle.hierarchy.proofs.ReleaseLemmas.{had_contained, times, times-append}
 use Rattle.snapshot.proofs.SingleLemmas.{any-none, key-among, key-later, keys_behind-append, met-has, times-one, uuids_after-more}
 use Rattle.snapshot.proofs.WentLemmas.{kind_same}
 

@@ -7,10 +7,11 @@ use Rattle.std.proofs.lemmas.List.Sums.{length-filter, count_by-le-length}
 use Rattle.std.specs.Prelude.{option_map}
 use Rattle.std.specs.List.{filter_map}
 use Rattle.std.specs.List.Sorted.{IsStrictlyIncreasing}
-use Rattle.snapshot.specs.Search.{IsLeastCycle}
+use Rattle.snapshot.specs.LeastCycle.{IsLeastCycle}
 use Rattle.rf2_rows.specs.Release.{Attribute, Name}
 use Rattle.snapshot.specs.Contents.{Contents, IsFaultOf, first_cyclic, unless_cyclic}
-use Rattle.snapshot.specs.InForce.{has, put, rising, rows_among}
+use Rattle.hierarchy.specs.Members.{has}
+use Rattle.snapshot.specs.InForce.{put, rising, rows_among}
 use Rattle.snapshot.specs.Kept.{IsCycle, attributes_among, contents_from, finished, is_value_among, names_among}
 use Rattle.snapshot.specs.Listed.{Listed}
 use Rattle.snapshot.specs.Numbering.{numbered_row, row_of_numbers}

@@ -4,9 +4,9 @@ use Rattle.std.specs.Prelude.{Contains, find}
 use Rattle.std.specs.List.Sorted.{IsStrictlyIncreasing}
 use Rattle.std.proofs.lemmas.Bool.{cases_Bool, cases_lt, false≢true}
 use Rattle.std.proofs.lemmas.List.{append-nil}
-use Rattle.rf2_rows.specs.Hierarchy.{Reaches, reaches}
+use Rattle.hierarchy.specs.Hierarchy.{Reaches, reaches}
 use Rattle.rf2_rows.specs.Release.{Release}
-use Rattle.rf2_rows.proofs.HierarchyLemmas.{chain_from_test, test_from_chain, contained_cases}
+use Rattle.hierarchy.proofs.HierarchyLemmas.{chain_from_test, test_from_chain, contained_cases}
 use Rattle.snapshot.specs.Contents.{NamesLeastCyclic, least_cyclic}
 use Rattle.snapshot.specs.Faults.{NamesFirstFault, fault_at, first_fault, first_of}
 use Rattle.snapshot.specs.Files.{Place}

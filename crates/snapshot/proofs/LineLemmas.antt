@@ -6,10 +6,10 @@ use Rattle.std.proofs.lemmas.List.{get_or-map, get_or_default, get_or_read, map_
 use Rattle.std.proofs.lemmas.Option.{slice_get_within}
 use Rattle.rf2_rows.specs.Release.{Name}
 use Rattle.snapshot.specs.FirstRows.{AreFirstPlaces}
-use Rattle.snapshot.specs.KeyedListsInside.{AreStarts}
+use Rattle.hierarchy.specs.KeyedListsInside.{AreStarts}
 use Rattle.snapshot.specs.Line.{concept_line}
 use Rattle.snapshot.specs.Name.{first_name, name_among, names_of}
-use Rattle.snapshot.proofs.CutLemmas.{below_cut, cut, cut-push, end_within, found, same_maps, slice_range-append, starts-push}
+use Rattle.hierarchy.proofs.CutLemmas.{below_cut, cut, cut-push, end_within, found, same_maps, slice_range-append, starts-push}
 
 -- the place of the row that comes first is that of a row, and the term there is its term
 place_within : (names : List Name) (place : Option ℕ) (first : Option Name) → option_map (slice_get names) place ≡ option_map Some first → IfSome place (λ at. at < length names)

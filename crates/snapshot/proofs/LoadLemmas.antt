@@ -18,7 +18,8 @@ use Rattle.snapshot.specs.Contents.{Contents, contents_of, least_cyclic, load_of
 use Rattle.snapshot.specs.Faults.{first_fault}
 use Rattle.rf2_rows.specs.Files.{file_kind_of}
 use Rattle.snapshot.specs.Files.{Place, RowAt, is_concept_file, is_concept_kind, has_kind, places_from, rows_of}
-use Rattle.snapshot.specs.InForce.{attribute_in, attribute_of_concrete, attribute_of_relationship, attributes_in_force, concept_in, concept_rows, concepts_in_force, concrete_attribute, description_in, description_rows, has, is_in_force, is_member_in_force, is_name, isa_in_force, listed_count, member_in, member_rows, members_in_force, name_on, names_in_force, relationship_attribute, relationship_in, relationship_rows, release_of, rising, rows_among}
+use Rattle.hierarchy.specs.Members.{has}
+use Rattle.snapshot.specs.InForce.{attribute_in, attribute_of_concrete, attribute_of_relationship, attributes_in_force, concept_in, concept_rows, concepts_in_force, concrete_attribute, description_in, description_rows, is_in_force, is_member_in_force, is_name, isa_in_force, listed_count, member_in, member_rows, members_in_force, name_on, names_in_force, relationship_attribute, relationship_in, relationship_rows, release_of, rising, rows_among}
 use Rattle.snapshot.specs.Kept.{IsReadFrom, attributes_among, contents_from, finished, is_value_among, names_among, release_from}
 use Rattle.snapshot.specs.Limits.{limits_in_force}
 use Rattle.snapshot.specs.Listed.{Listed, attribute_listed, concept_listed, is_isa, isa_listed, listed_of, member_listed, name_listed}

@@ -4,7 +4,7 @@ use Rattle.std.specs.Prelude.{codes, decimal}
 use Rattle.std.specs.List.{slice_range}
 use Rattle.std.proofs.lemmas.List.{append_cancel_left, append_cancel_right, drop-drop, drop-take, drop_at, get_or_at, take-take, take_at}
 use Rattle.snapshot.specs.Line.{concept_line, name_text}
-use Rattle.snapshot.proofs.CutLemmas.{length-range}
+use Rattle.hierarchy.proofs.CutLemmas.{length-range}
 
 -- what is between two places of a part
 part_of_range : (texts : List ℕ) (from to a b : ℕ) → a ≤ b → from + b ≤ to → slice_range texts (from + a) (from + b) ≡ slice_range (slice_range texts from to) a b

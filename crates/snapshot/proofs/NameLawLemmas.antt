@@ -3,7 +3,7 @@ use Rattle.std.proofs.Common.{ℕ, ◌≡◌, inl, inr, List, [], ◌∷◌, Opt
 use Rattle.std.specs.Prelude.{Contains}
 use Rattle.std.proofs.lemmas.Bool.Decides.{nat_tests}
 use Rattle.rf2_rows.specs.Release.{Name}
-use Rattle.rf2_rows.proofs.HierarchyLemmas.{contained_cases, first_contained, rest_contained}
+use Rattle.hierarchy.proofs.HierarchyLemmas.{contained_cases, first_contained, rest_contained}
 use Rattle.snapshot.specs.Name.{NamesFirstRow, comes_before, first_name, first_of_two, is_in}
 
 -- the order of two rows by what it depends on: whether each is in the language, and their identifiers

@@ -13,7 +13,7 @@ use Rattle.std.proofs.lemmas.List.Sorted.{IsNonDecreasingBy-from_sort, sum_by-Is
 use Rattle.std.proofs.lemmas.List.Sums.{sum_by-cons}
 use Rattle.std.proofs.lemmas.Map.Keys.{IsStrictlyIncreasing-dedup}
 use Rattle.indexmap.proofs.CallerLemmas.{Contains-list_any}
-use Rattle.snapshot.specs.InForce.{has}
+use Rattle.hierarchy.specs.Members.{has}
 use Rattle.snapshot.specs.Repeated.{equal_neighbours}
 use Rattle.snapshot.proofs.RisingLemmas.{earlier_below}
 use Rattle.snapshot.proofs.SplitLemmas.{any_of}

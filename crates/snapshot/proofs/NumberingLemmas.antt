@@ -8,12 +8,13 @@ use Rattle.std.proofs.lemmas.List.Folds.{find_at}
 use Rattle.std.proofs.lemmas.Option.{slice_get-get_or}
 use Rattle.std.proofs.lemmas.Bool.{cases_Bool, eqb-true, eq-eqb, ltb-true, lt-ltb}
 use Rattle.std.proofs.lemmas.Bool.Decides.{nat_tests}
-use Rattle.rf2_rows.specs.Hierarchy.{Reaches, one_row, more_rows, reaches}
-use Rattle.rf2_rows.proofs.HierarchyLemmas.{chain_from_test, test_from_chain, rest_contained}
+use Rattle.hierarchy.specs.Hierarchy.{IsWithin, Reaches, more_rows, one_row, reaches}
+use Rattle.hierarchy.proofs.HierarchyLemmas.{chain_from_test, test_from_chain, rest_contained}
 use Rattle.std.proofs.lemmas.List.{get_or-map, length-map, same_lists}
 use Rattle.snapshot.specs.Contents.{first_cyclic}
-use Rattle.snapshot.specs.InForce.{has, rows_among}
-use Rattle.snapshot.specs.Numbering.{concept_number, IsWithin, numbered_row, row_of_numbers}
+use Rattle.hierarchy.specs.Members.{has}
+use Rattle.snapshot.specs.InForce.{rows_among}
+use Rattle.snapshot.specs.Numbering.{concept_number, numbered_row, row_of_numbers}
 use Rattle.snapshot.proofs.RisingLemmas.{earlier_below, has-between}
 
 -- the place of an identifier among concepts, or their number where it is not among them

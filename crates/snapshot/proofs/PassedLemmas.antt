@@ -17,7 +17,8 @@ use Rattle.rf2_rows.specs.declared.row.RelationshipRow.{RelationshipRow}
 use Rattle.snapshot.specs.Chosen.{choices, chosen, is_chosen, marked}
 use Rattle.snapshot.specs.Contents.{text_of_row}
 use Rattle.snapshot.specs.Files.{RowAt, rows_of}
-use Rattle.snapshot.specs.InForce.{KeepsRising, attributes_in_force, concept_rows, concepts_in_force, concrete_attribute, concrete_rows, description_rows, has, is_concrete_in_force, is_in_force, is_member_in_force, is_name, isa_in_force, listed_count, member_rows, members_in_force, name_on, names_in_force, put, relationship_attribute, relationship_rows, release_of, rising}
+use Rattle.hierarchy.specs.Members.{has}
+use Rattle.snapshot.specs.InForce.{KeepsRising, attributes_in_force, concept_rows, concepts_in_force, concrete_attribute, concrete_rows, description_rows, is_concrete_in_force, is_in_force, is_member_in_force, is_name, isa_in_force, listed_count, member_rows, members_in_force, name_on, names_in_force, put, relationship_attribute, relationship_rows, release_of, rising}
 use Rattle.snapshot.specs.Metadata.{is_a}
 use Rattle.snapshot.specs.Passed.{CountsPassedRows, failing, passed_texts, superseded_rows}
 use Rattle.snapshot.proofs.ApartLemmas.{active-distinct}

@@ -19,7 +19,7 @@ use Rattle.snapshot.specs.declared.row_lists.Listing.{Listing}
 use Rattle.snapshot.specs.declared.row_lists.Listing.TheVariants as listing
 use Rattle.snapshot.proofs.ChosenItemLemmas.{chosen-picked, map-marked}
 use Rattle.snapshot.proofs.ListedLemmas.{listed-rows}
-use Rattle.snapshot.proofs.ReleaseLemmas.{times}
+use Rattle.hierarchy.proofs.ReleaseLemmas.{times}
 use Rattle.snapshot.proofs.SingleLemmas.{no_conflict, single-choices, single-keys}
 use Rattle.snapshot.proofs.WentLemmas.{kept_rows-keys, kept_rows-uuids}
 

@@ -12,10 +12,10 @@ use Rattle.rf2_rows.specs.declared.kind.FileKind.TheVariants.{Concept, Concrete,
 use Rattle.snapshot.specs.Chosen.{choices, conflicts, is_later, is_repeated, is_superseded, marked, same_component, same_kind, same_version, time_of, id_of}
 use Rattle.snapshot.specs.Contents.{text_of_row}
 use Rattle.snapshot.specs.Files.{RowAt}
-use Rattle.snapshot.specs.InForce.{has}
+use Rattle.hierarchy.specs.Members.{has}
 use Rattle.snapshot.specs.Keys.{key_in, uuids_behind}
 use Rattle.snapshot.specs.Seen.{first_conflict, keys_behind, uuids_after}
-use Rattle.snapshot.proofs.ReleaseLemmas.{times, times-append, times-own}
+use Rattle.hierarchy.proofs.ReleaseLemmas.{times, times-append, times-own}
 
 -- UUIDs that were met stay at their places
 pos-kept : (n : ℕ) (uuids more : List ℕ) → has uuids n ≡ true → position_or_len (λ other. n == other) (uuids ++ more) ≡ position_or_len (λ other. n == other) uuids

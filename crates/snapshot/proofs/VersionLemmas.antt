@@ -13,7 +13,7 @@ use Rattle.rf2_rows.specs.Rows.{row_fault}
 use Rattle.rf2_rows.specs.Versions.{same_row}
 use Rattle.rf2_rows.proofs.VersionLemmas.{same_row-refl, same_row-sym, same_row-trans}
 use Rattle.rf2_rows.specs.declared.kind.FileKind.{FileKind}
-use Rattle.snapshot.specs.InForce.{has}
+use Rattle.hierarchy.specs.Members.{has}
 use Rattle.snapshot.specs.Noted.{AreOfItsKind, Noted, conflicts, is_repeated, same_version}
 use Rattle.snapshot.specs.Taken.{AgreesWith, HasTaken, IsCodeOf, IsOfVersion, IsVersionAmong, Taken, Version, firsts}
 use Rattle.snapshot.proofs.CodeLemmas.{has-code, same_version-code}

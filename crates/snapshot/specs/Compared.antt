@@ -6,7 +6,7 @@ use Rattle.rf2_rows.specs.Rows.{row_fault}
 use Rattle.rf2_rows.specs.Versions.{time_on}
 use Rattle.rf2_rows.specs.declared.kind.FileKind.{FileKind}
 use Rattle.snapshot.specs.Files.{Place, RowAt, row_at}
-use Rattle.snapshot.specs.InForce.{has}
+use Rattle.hierarchy.specs.Members.{has}
 use Rattle.snapshot.specs.Keys.{IsMet, key_in}
 use Rattle.snapshot.specs.Noted.{AreOfItsKind, Noted, conflicts}
 use Rattle.snapshot.specs.Taken.{HasTaken, Taken}

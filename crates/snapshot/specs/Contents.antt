@@ -2,7 +2,7 @@
 use Rattle.std.specs.Prelude.{◌↔◌, ◌<◌, Contains, ℕ, ◌-◌, ◌≡◌, ◌≢◌, if◌then◌else◌, List, [], length, map, filter, find, Option, None, Some, Result, Ok, Err}
 use Rattle.std.specs.List.{list_any}
 use Rattle.std.specs.List.Sorted.{IsStrictlyIncreasing}
-use Rattle.rf2_rows.specs.Hierarchy.{Reaches, reaches}
+use Rattle.hierarchy.specs.Hierarchy.{Reaches, reaches}
 use Rattle.release_files.specs.Source.{FileText}
 use Rattle.rf2_rows.specs.Release.{Release}
 use Rattle.rf2_rows.specs.RowTexts.{RowText, row_text}

@@ -2,8 +2,9 @@
 -- file", "Relationship file", "Relationship concrete values file" and "Simple reference set"; the
 -- inferred view).
 use Rattle.std.specs.Prelude.{◌↔◌, ℕ, ◌+◌, ◌==◌, ◌&&◌, Bool, not, nat_lt, if◌then◌else◌, List, [], ◌∷◌, length, map, filter, Option, None, Some}
-use Rattle.std.specs.List.{Contains, filter_map, list_any}
+use Rattle.std.specs.List.{Contains, filter_map}
 use Rattle.std.specs.List.Sorted.{IsStrictlyIncreasing}
+use Rattle.hierarchy.specs.Members.{has}
 use Rattle.rf2_rows.specs.RowTexts.{RowText, of_concept, of_concrete, of_description, of_member, of_relationship}
 use Rattle.rf2_rows.specs.Rows.{ConcreteText, DescriptionText}
 use Rattle.rf2_rows.specs.Release.{Attribute, Name, Release, concept_value}
@@ -52,10 +53,6 @@ concrete_rows rows = filter_map concrete_in rows
 
 abbrev pub member_rows : List RowText → List MemberRow
 member_rows rows = filter_map member_in rows
-
--- a number is among others
-abbrev pub has : List ℕ → ℕ → Bool
-has ids id = list_any (λ other. id == other) ids
 
 -- a number put into a rising list of numbers at its place, unless it is there
 abbrev pub put : ℕ → List ℕ → List ℕ

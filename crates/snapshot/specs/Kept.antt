@@ -8,7 +8,8 @@ use Rattle.snapshot.specs.Contents.{Contents, least_cyclic, text_of_row, unless_
 use Rattle.snapshot.specs.Chosen.{chosen}
 use Rattle.snapshot.specs.Faults.{fault_here, first_fault, first_of}
 use Rattle.snapshot.specs.Files.{Place, RowAt, row_at, rows_of}
-use Rattle.snapshot.specs.InForce.{has, listed_count, rising, rows_among}
+use Rattle.hierarchy.specs.Members.{has}
+use Rattle.snapshot.specs.InForce.{listed_count, rising, rows_among}
 use Rattle.snapshot.specs.Keys.{IsShort, Keyed, keyed_behind, no_keys}
 use Rattle.snapshot.specs.Limits.{left_behind, row_limit}
 use Rattle.snapshot.specs.Listed.{Listed, listed_behind, listed_of}

@@ -1,5 +1,5 @@
 -- The numbers of concepts: their places, from 0, in the rising list of the concepts in force.
-use Rattle.std.specs.Prelude.{ℕ, ◌==◌, ◌<◌, All, List, position, slice_index, Option, None, Some}
+use Rattle.std.specs.Prelude.{ℕ, ◌==◌, List, position, slice_index, Option, None, Some}
 
 -- the number of the concept with an identifier, if it is in force
 abbrev pub concept_number : List ℕ → ℕ → Option ℕ
@@ -16,7 +16,3 @@ numbered_row concepts row = both (concept_number concepts row.0) (concept_number
 -- a row by the identifiers of its ends
 abbrev pub row_of_numbers : List ℕ → ℕ × ℕ → ℕ × ℕ
 row_of_numbers concepts row = (slice_index concepts row.0, slice_index concepts row.1)
-
--- each row has both its ends among the concepts below a number
-abbrev pub IsWithin : ℕ → List (ℕ × ℕ) → Type 0
-IsWithin count rows = All (λ (row : ℕ × ℕ). (row.0 < count) × (row.1 < count)) rows

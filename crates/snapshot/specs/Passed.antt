@@ -7,7 +7,8 @@ use Rattle.snapshot.specs.Chosen.{choices, chosen}
 use Rattle.snapshot.specs.Contents.{contents_of, text_of_row}
 use Rattle.snapshot.specs.Faults.{first_fault}
 use Rattle.snapshot.specs.Files.{Place, RowAt, rows_of}
-use Rattle.snapshot.specs.InForce.{concept_rows, concepts_in_force, concrete_rows, description_rows, has, is_concrete_in_force, is_in_force, is_member_in_force, is_name, member_rows, relationship_rows}
+use Rattle.hierarchy.specs.Members.{has}
+use Rattle.snapshot.specs.InForce.{concept_rows, concepts_in_force, concrete_rows, description_rows, is_concrete_in_force, is_in_force, is_member_in_force, is_name, member_rows, relationship_rows}
 use Rattle.snapshot.specs.Metadata.{is_a}
 use Rattle.snapshot.specs.declared.limits.Limits.{Limits}
 

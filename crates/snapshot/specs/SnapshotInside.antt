@@ -6,8 +6,9 @@ use Rattle.snapshot.specs.Contents.{Contents}
 use Rattle.snapshot.specs.Kept.{is_value_among}
 use Rattle.snapshot.specs.Line.{concept_line}
 use Rattle.snapshot.specs.Name.{name_among}
-use Rattle.snapshot.specs.Numbering.{IsWithin, row_of_numbers}
-use Rattle.snapshot.specs.ParentsFirst.{IsParentsFirst}
+use Rattle.hierarchy.specs.Hierarchy.{IsWithin}
+use Rattle.snapshot.specs.Numbering.{row_of_numbers}
+use Rattle.hierarchy.specs.ParentsFirst.{IsParentsFirst}
 use Rattle.snapshot.specs.Sorted.{IsSortedBySource, in_file_order}
 use Rattle.snapshot.specs.declared.held_release.Snapshot.TheInside.{Inside}
 

@@ -1,8 +1,9 @@
 -- What the fields of versions say, and what they keep.
-use Rattle.std.specs.Prelude.{◌≡◌, ◌≤◌, ◌<◌, ℕ, ◌/◌, ◌^◌, List, All, length, map, slice_range, None}
+use Rattle.std.specs.Prelude.{◌≡◌, ◌≤◌, ◌<◌, ℕ, ◌/◌, ◌^◌, List, All, length, map, None}
 use Rattle.std.specs.List.Sorted.{IsStrictlyIncreasing}
 use Rattle.rf2_rows.specs.Rows.{row_fault}
 use Rattle.snapshot.specs.Noted.{Noted}
+use Rattle.snapshot.specs.Spans.{IsSpanOf, text_at}
 use Rattle.snapshot.specs.Taken.{Taken, Version}
 use Rattle.snapshot.specs.declared.versions.NotedRow.{NotedRow}
 use Rattle.snapshot.specs.declared.versions.VersionRow.{VersionRow}
@@ -13,23 +14,22 @@ use Rattle.snapshot.specs.declared.versions.Versions.TheInside.{Inside}
 abbrev pub noted : NotedRow → Noted
 noted row = record { key = row.key; time = row.time; kind = row.kind; text = row.text.now }
 
--- the version whose first row has its line between two places of the buffer
+-- the version whose first row has its line in the buffer
 abbrev pub version_in : List ℕ → VersionRow → Version
 version_in lines row = record {
   code = row.code;
   place = row.place;
   kind = row.kind;
-  text = slice_range lines row.start row.end;
+  text = text_at lines row.line;
 }
 
 abbrev pub versions_in : RowsInside → List Version
 versions_in inside = map (version_in inside.lines.items) inside.rows.items
 
--- between the two places is a row of the kind
+-- its line stands in the buffer, and is a row of its kind
 pub record IsLineOf (lines : List ℕ) (row : VersionRow) : Type 0 where
-  pub ordered : row.start ≤ row.end
-  pub within : row.end ≤ length lines
-  pub accepted : row_fault row.kind (slice_range lines row.start row.end) ≡ None
+  pub placed : IsSpanOf lines row.line
+  pub accepted : row_fault row.kind (text_at lines row.line) ≡ None
 
 abbrev pub AreLines : RowsInside → Type 0
 AreLines inside = All (IsLineOf inside.lines.items) inside.rows.items

@@ -3,27 +3,29 @@ ghost use Rattle.std.specs.Prelude.{ℕ, ◌≡◌, ◌<◌, ◌&&◌, ◌++◌,
 ghost use Rattle.rf2_rows.specs.Release.{Attribute};
 ghost use Rattle.rf2_rows.specs.Rows.{value_lent};
 ghost use Rattle.snapshot.specs.AttributesInside.{IsWithinTexts, attribute_read, value_in};
-ghost use Rattle.snapshot.specs.InForce.{has};
+ghost use Rattle.hierarchy.specs.Members.{has};
 ghost use Rattle.snapshot.specs.Kept.{attributes_among, is_value_among};
 ghost use Rattle.snapshot.specs.Listed.{in_list, items_chosen};
+ghost use Rattle.snapshot.specs.Spans.{Extends};
 
 use crate::concepts::Concepts;
 use crate::row_lists::{Listing, chosen_items};
+use crate::spans::{Span, push_bytes};
 use rf2_rows::{Decimal, Value};
 use sctid::SctId;
 use std::alloc::{AllocError, Global};
 use std::marker::Model;
 
 /// The value of an attribute, whose text stands in the buffer of all texts.
-#[derive(Clone, Copy, Debug)]
+#[derive(Clone, Copy)]
 pub enum KeptValue {
     Concept(SctId),
     Decimal(Decimal),
-    Other { start: usize, end: usize },
+    Other(Span),
 }
 
 /// An attribute row: its source, type, group and value.
-#[derive(Clone, Copy, Debug)]
+#[derive(Clone, Copy)]
 struct KeptRow {
     source: SctId,
     type_id: SctId,
@@ -41,7 +43,7 @@ pub struct ReadRow<'a> {
 }
 
 /// Attribute rows in the order in which they were read. Contracts see the list of them.
-#[derive(Drop, Debug)]
+#[derive(Drop)]
 pub struct Attributes {
     rows: Vec<KeptRow>,
     // the texts of values, one behind the other
@@ -143,21 +145,14 @@ impl Attributes {
 
 /// Puts the text of a value behind the others.
 pub fn keep_value(texts: &mut Vec<u8>, value: &Value<'_>) -> Result<KeptValue, AllocError>
-    ensures grown { (added : List ℕ) × (texts.new.items ≡ texts.old.items ++ added) }
+    ensures grown { Extends texts.old.items texts.new.items }
     ensures value { IfOk result (λ kept. value_in texts.new.items kept ≡ value_lent value.now) }
     ensures within { IfOk result (λ kept. IsWithinTexts texts.new.items kept) }
 {
     match value {
         Value::Concept(concept) => Ok(KeptValue::Concept(*concept)),
         Value::Decimal(decimal) => Ok(KeptValue::Decimal(*decimal)),
-        Value::Other(text) => {
-            let start = texts.len();
-            texts.extend_from_slice(text)?;
-            Ok(KeptValue::Other {
-                start,
-                end: texts.len(),
-            })
-        }
+        Value::Other(text) => Ok(KeptValue::Other(push_bytes(texts, text)?)),
     }
 }
 
@@ -169,7 +164,7 @@ pub fn lend_value(texts: &[u8], value: KeptValue) -> Value<'_>
     match value {
         KeptValue::Concept(concept) => Value::Concept(concept),
         KeptValue::Decimal(decimal) => Value::Decimal(decimal),
-        KeptValue::Other { start, end } => Value::Other(&texts[start..end]),
+        KeptValue::Other(text) => Value::Other(text.bytes_in(texts)),
     }
 }
 
@@ -186,6 +181,6 @@ fn is_value_among(concepts: &Concepts, value: KeptValue) -> bool
 {
     match value {
         KeptValue::Concept(concept) => concepts.has(concept.number()),
-        KeptValue::Decimal(_) | KeptValue::Other { .. } => true,
+        KeptValue::Decimal(_) | KeptValue::Other(_) => true,
     }
 }

@@ -2,7 +2,7 @@
 ghost use Rattle.std.specs.Prelude.{ℕ, ◌≡◌, ◌≤◌, ◌<◌, ◌^◌, IfOk, length, slice_index};
 ghost use Rattle.std.specs.List.Sorted.{IsStrictlyIncreasing};
 ghost use Rattle.snapshot.specs.Buckets.{AreBucketStarts, IsBucketStart, bucket_count, bucket_of};
-ghost use Rattle.snapshot.specs.InForce.{has};
+ghost use Rattle.hierarchy.specs.Members.{has};
 ghost use Rattle.snapshot.specs.Numbering.{concept_number};
 
 use sctid::SctId;
@@ -20,7 +20,7 @@ const BUCKETS: usize = LAST_BUCKET as usize + 1;
 
 /// The concepts in force: fewer than 2^31. Each has the number of its place, from 0, in the rising order of
 /// their identifiers. Contracts see the list of these identifiers.
-#[derive(Drop, Debug)]
+#[derive(Drop)]
 pub struct Concepts {
     // the identifiers in rising order
     ids: Vec<SctId>,

@@ -6,9 +6,10 @@ ghost use Rattle.snapshot.specs.AttributesBySource.{attribute_of, attributes_by_
 ghost use Rattle.snapshot.specs.Kept.{AreValuesInForce, is_value_among};
 ghost use Rattle.snapshot.specs.Line.{concept_line};
 ghost use Rattle.snapshot.specs.Name.{name_of, text_lent};
-ghost use Rattle.snapshot.specs.Numbering.{concept_number, IsWithin, row_of_numbers};
+ghost use Rattle.hierarchy.specs.Hierarchy.{IsWithin};
+ghost use Rattle.snapshot.specs.Numbering.{concept_number, row_of_numbers};
 ghost use Rattle.rf2_rows.specs.Rows.{value_lent};
-ghost use Rattle.snapshot.specs.ParentsFirst.{IsParentsFirst};
+ghost use Rattle.hierarchy.specs.ParentsFirst.{IsParentsFirst};
 
 use crate::concepts::Concepts;
 use crate::lines::ConceptLines;
@@ -20,7 +21,7 @@ use std::marker::Model;
 /// The rows in force of a release. Its concepts have the numbers from 0, in the rising order of
 /// their identifiers. Contracts see the release, the asked language, and the counts of files and of
 /// rows that are passed over.
-#[derive(Drop, Debug)]
+#[derive(Drop)]
 pub struct Snapshot {
     // the concepts in force
     pub(crate) concepts: Concepts,

@@ -1,22 +1,17 @@
 //! Name rows whose texts stand in a buffer that begins with lines.
-ghost use Rattle.std.specs.Prelude.{◌≡◌, ◌≤◌, ◌<◌, ◌+◌, ◌-◌, ◌^◌, ◌++◌, [], true, All, IfOk, IfSome, OnOk, length, map, slice_index_or, string_bytes};
-ghost use Rattle.snapshot.specs.KeptNames.{AreNoted, AreSpansOf, Extends, IsKept, IsSpanOf, StandsAt, name_kept, no_span, text_at};
+ghost use Rattle.std.specs.Prelude.{◌≡◌, ◌≤◌, ◌<◌, ◌+◌, ◌-◌, ◌^◌, [], true, All, IfOk, IfSome, OnOk, length, map, slice_index_or, string_bytes};
+ghost use Rattle.snapshot.specs.KeptNames.{AreNoted, IsKept, name_kept};
 ghost use Rattle.snapshot.specs.NamesInside.{name_read};
+ghost use Rattle.snapshot.specs.Spans.{AreSpansOf, Extends, StandsAt, no_span, text_at};
 
 use crate::names::{Names, ReadName};
+use crate::spans::{Span, push_text};
 use sctid::SctId;
 use std::alloc::{AllocError, Global};
 
-/// Where a text stands in a buffer.
-#[derive(Clone, Copy, Debug)]
-pub struct Span {
-    start: usize,
-    end: usize,
-}
-
 /// A name row: the description, the concept that it names, its language code by the number of the span
 /// where this stands, and where its term stands.
-#[derive(Clone, Copy, Debug)]
+#[derive(Clone, Copy)]
 pub struct KeptName {
     id: SctId,
     concept: SctId,
@@ -117,17 +112,5 @@ fn is_last(text: &[u8], texts: &[u8], spans: &[Span]) -> bool
     if spans.is_empty() {
         return false;
     }
-    let last = spans[spans.len() - 1];
-    &texts[last.start..last.end] == text
-}
-
-/// Puts a text behind the others, and answers where it stands.
-pub fn push_text(texts: &mut String, text: &str) -> Result<Span, AllocError>
-    ensures grown { OnOk result (string_bytes texts.new ≡ string_bytes texts.old ++ text.now) }
-    ensures span { IfOk result (StandsAt (string_bytes texts.new) text.now) }
-{
-    let start = texts.len();
-    texts.push_str(text)?;
-    let end = texts.len();
-    Ok(Span { start, end })
+    spans[spans.len() - 1].bytes_in(texts) == text
 }

@@ -20,7 +20,7 @@ const RELATIONSHIPS: u64 = 12_223_372_036_854_775_808;
 
 /// The keys of rows in the order in which they were read. Rows of one kind have one key where their
 /// identifiers are one. In the usual order of files and rows the keys rise.
-#[derive(Drop, Debug)]
+#[derive(Drop)]
 pub struct RowKeys {
     // the UUIDs of members, which have the numbers from 0
     uuids: IndexSet<u128>,

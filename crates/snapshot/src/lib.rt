@@ -4,13 +4,10 @@
 mod attributes;
 mod choosing;
 mod comparing;
-mod components;
 mod concepts;
-mod cycle;
 mod fault;
 mod held_release;
 mod kept_names;
-mod keyed_lists;
 mod keys;
 mod laws;
 mod limits;
@@ -18,7 +15,6 @@ mod lines;
 mod load;
 mod names;
 mod numbering;
-mod order;
 mod pieces;
 mod places;
 mod repeated;
@@ -27,11 +23,11 @@ mod rising_keys;
 mod row_lists;
 mod rows;
 mod sorted_attributes;
+mod spans;
 mod versions;
 
 pub use crate::fault::LoadFault;
 pub use crate::held_release::Snapshot;
-pub use crate::keyed_lists::KeyedLists;
 pub use crate::laws::{
     cyclic_concept_is_the_least, first_fault_is_the_first, naming_row_comes_first,
     rising_keeps_the_members, rows_are_listed_or_passed,

@@ -5,16 +5,18 @@ ghost use Rattle.std.specs.List.{slice_get};
 ghost use Rattle.rf2_rows.specs.Release.{Name};
 ghost use Rattle.snapshot.specs.FirstRows.{AreFirstPlaces};
 ghost use Rattle.snapshot.specs.Kept.{names_among};
-ghost use Rattle.snapshot.specs.KeptNames.{AreNoted, StandsAt};
-ghost use Rattle.snapshot.specs.KeyedLists.{list_of};
-ghost use Rattle.snapshot.specs.KeyedListsInside.{AreStarts};
+ghost use Rattle.snapshot.specs.KeptNames.{AreNoted};
+ghost use Rattle.hierarchy.specs.KeyedLists.{list_of};
+ghost use Rattle.hierarchy.specs.KeyedListsInside.{AreStarts};
 ghost use Rattle.snapshot.specs.Line.{concept_line};
 ghost use Rattle.snapshot.specs.LinesInside.{lines_between};
 ghost use Rattle.snapshot.specs.Name.{name_among, text_lent};
+ghost use Rattle.snapshot.specs.Spans.{StandsAt};
 
 use crate::concepts::Concepts;
-use crate::kept_names::{KeptName, Span, keep_names, push_text};
+use crate::kept_names::{KeptName, keep_names};
 use crate::names::Names;
+use crate::spans::{Span, push_text};
 use sctid::SctId;
 use std::alloc::{AllocError, Global};
 use std::marker::Model;
@@ -24,7 +26,7 @@ const BYTES_OF_LINE: usize = 72;
 
 /// A line for each concept, in the order of their numbers, and name rows. Contracts see the lists of
 /// both.
-#[derive(Drop, Debug)]
+#[derive(Drop)]
 pub struct ConceptLines {
     // the place of each line's first byte, and where the last line ends
     starts: Vec<usize>,

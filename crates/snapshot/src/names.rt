@@ -2,7 +2,7 @@
 ghost use Rattle.std.specs.Prelude.{◌≡◌, ◌<◌, ◌^◌, ◌++◌, ◌∷◌, [], All, IfOk, IfSome, OnOk, length, map, slice_index_or};
 ghost use Rattle.rf2_rows.specs.Release.{Name};
 ghost use Rattle.snapshot.specs.FirstRows.{AreFirstPlaces, IsFirstOfTwo};
-ghost use Rattle.snapshot.specs.InForce.{has};
+ghost use Rattle.hierarchy.specs.Members.{has};
 ghost use Rattle.snapshot.specs.Kept.{names_among};
 ghost use Rattle.snapshot.specs.Listed.{in_list, items_chosen};
 ghost use Rattle.snapshot.specs.Name.{comes_before as comes_before_of};
@@ -10,18 +10,18 @@ ghost use Rattle.snapshot.specs.NamesInside.{IsPlaced, name_in, name_read};
 
 use crate::concepts::Concepts;
 use crate::row_lists::{Listing, chosen_items};
+use crate::spans::{Span, push_text};
 use sctid::SctId;
 use std::alloc::{AllocError, Global};
 use std::marker::Model;
 
 /// A name row: the description, the concept that it names, and where its texts stand in the buffer.
-#[derive(Clone, Copy, Debug)]
+#[derive(Clone, Copy)]
 struct NameRow {
     id: SctId,
     concept: SctId,
-    language_start: usize,
-    term_start: usize,
-    term_end: usize,
+    language: Span,
+    term: Span,
 }
 
 /// A name row as it was read, whose texts are lent.
@@ -34,7 +34,7 @@ pub struct ReadName<'a> {
 }
 
 /// Name rows in the order in which they were read. Contracts see the list of them.
-#[derive(Drop, Debug)]
+#[derive(Drop)]
 pub struct Names {
     rows: Vec<NameRow>,
     // the language code and the term of each row, one behind the other
@@ -81,17 +81,13 @@ impl Names {
     ) -> Result<(), AllocError>
         ensures { OnOk result (self.new ≡ self.old ++ record { id = id; concept = concept; language = language.now; term = term.now } ∷ []) }
     {
-        let language_start = self.texts.len();
-        self.texts.push_str(language)?;
-        let term_start = self.texts.len();
-        self.texts.push_str(term)?;
-        let term_end = self.texts.len();
+        let language = push_text(&mut self.texts, language)?;
+        let term = push_text(&mut self.texts, term)?;
         self.rows.push(NameRow {
             id,
             concept,
-            language_start,
-            term_start,
-            term_end,
+            language,
+            term,
         })?;
         Ok(())
     }
@@ -157,7 +153,7 @@ fn language_of<'a>(texts: &'a str, row: &NameRow) -> &'a str
     requires { IsPlaced texts.now row.now }
     ensures { result.now ≡ (name_in texts.now row.now).language }
 {
-    &texts[row.language_start..row.term_start]
+    row.language.text_in(texts)
 }
 
 // The term of a row.
@@ -165,7 +161,7 @@ fn term_of<'a>(texts: &'a str, row: &NameRow) -> &'a str
     requires { IsPlaced texts.now row.now }
     ensures { result.now ≡ (name_in texts.now row.now).term }
 {
-    &texts[row.term_start..row.term_end]
+    row.term.text_in(texts)
 }
 
 // Whether a row comes before another as a name in a language.

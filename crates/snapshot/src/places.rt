@@ -10,7 +10,7 @@ use release_files::{Line, Lines, NamedBytes};
 use rf2_rows::{FileKind, file_kind};
 
 /// What is met in a file that has a kind.
-#[derive(Clone, Copy, Debug)]
+#[derive(Clone, Copy)]
 pub enum Met<'a> {
     /// That it has no line.
     NoLine,
@@ -72,7 +72,7 @@ pub trait PlaceSource {
 }
 
 /// Files in memory as places.
-#[derive(Debug, Drop)]
+#[derive(Drop)]
 pub struct MemoryPlaces<'a> {
     pub files: &'a [NamedBytes<'a>],
 }

@@ -2,7 +2,7 @@
 ghost use Rattle.std.specs.Prelude.{◌≡◌, ◌==◌, ◌≤◌, ◌+◌, ◌↔◌, ℕ, Contains, IfOk, count_by, filter, length};
 ghost use Rattle.std.specs.Bool.{OnTrue};
 ghost use Rattle.std.specs.List.Sorted.{IsStrictlyIncreasing};
-ghost use Rattle.snapshot.specs.InForce.{has};
+ghost use Rattle.hierarchy.specs.Members.{has};
 ghost use Rattle.snapshot.specs.Repeated.{equal_neighbours};
 
 use crate::rising_keys::RisingKeys;

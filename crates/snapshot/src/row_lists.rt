@@ -23,7 +23,7 @@ const INFERRED: u64 = 900000000000011006;
 const FULLY_SPECIFIED_NAME: u64 = 900000000000003001;
 
 /// The list that a row is in.
-#[derive(Clone, Copy, Debug, PartialEq, Eq)]
+#[derive(Clone, Copy, PartialEq, Eq)]
 pub enum Listing {
     Nowhere,
     Concept,

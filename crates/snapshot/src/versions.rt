@@ -5,11 +5,12 @@ ghost use Rattle.std.specs.List.{list_any};
 ghost use Rattle.std.specs.List.Sorted.{IsStrictlyIncreasing};
 ghost use Rattle.rf2_rows.specs.Rows.{row_fault};
 ghost use Rattle.rf2_rows.specs.Versions.{same_row as same_row_of};
-ghost use Rattle.snapshot.specs.InForce.{has};
+ghost use Rattle.hierarchy.specs.Members.{has};
 ghost use Rattle.snapshot.specs.Noted.{Noted, choices, conflicts, AreOfItsKind, Covers};
 ghost use Rattle.snapshot.specs.Taken.{IsCodeOf, Version, is_older, is_outdated, time_code, without};
 
 use crate::rising_keys::RisingKeys;
+use crate::spans::{Span, push_bytes};
 use indexmap::IndexSet;
 use rf2_rows::{FileKind, same_row};
 use std::alloc::{AllocError, Global};
@@ -32,17 +33,16 @@ pub struct NotedRow<'a> {
 
 // A version: its code, and of its first row the place among all rows, the kind, and where its line
 // stands in the buffer.
-#[derive(Clone, Copy, Debug)]
+#[derive(Clone, Copy)]
 struct VersionRow {
     code: u64,
     place: usize,
     kind: FileKind,
-    start: usize,
-    end: usize,
+    line: Span,
 }
 
 // Versions in the order in which they were first seen. Contracts see the list of them.
-#[derive(Drop, Debug)]
+#[derive(Drop)]
 struct VersionRows {
     rows: Vec<VersionRow>,
     // the line of each version's first row, one behind the other
@@ -91,15 +91,12 @@ impl VersionRows {
         ensures ok { OnOk result (self.new ≡ self.old ++ record { code = code; place = place; kind = kind; text = text.now } ∷ []) }
         ensures err { OnErr result (self.new ≡ self.old) }
     {
-        let start = self.lines.len();
-        self.lines.extend_from_slice(text)?;
-        let end = self.lines.len();
+        let line = push_bytes(&mut self.lines, text)?;
         self.rows.push(VersionRow {
             code,
             place,
             kind,
-            start,
-            end,
+            line,
         })?;
         Ok(())
     }
@@ -122,7 +119,7 @@ impl VersionRows {
             → result ≡ same_row_of kind (slice_index_or self.now number default).text text.now }
     {
         let row = self.rows[number];
-        row.kind == kind && same_row(kind, &self.lines[row.start..row.end], text)
+        row.kind == kind && same_row(kind, row.line.bytes_in(self.lines.as_slice()), text)
     }
 }
 

@@ -2,8 +2,8 @@ use Rattle.std.proofs.Common.{ℕ, ◌≡◌, ◌<◌, ◌∙◌, List, length, 
 use Rattle.std.proofs.lemmas.List.{get_or_default, length-map}
 use Rattle.std.proofs.lemmas.Result.{IfOk-weaker}
 use Rattle.idset.specs.Sets.{numbers_where}
-use Rattle.rf2_rows.specs.Hierarchy.{reaches}
-use Rattle.snapshot.specs.KeyedLists.{list_of}
+use Rattle.hierarchy.specs.Hierarchy.{reaches}
+use Rattle.hierarchy.specs.KeyedLists.{list_of}
 use Rattle.ancestor_index.proofs.ClosureLemmas.{lists_reordered, order_below, place_at}
 use Rattle.ancestor_index.proofs.closure.ancestor_lists.Goals as goal
 

@@ -3,7 +3,7 @@ use Rattle.std.specs.Prelude.{All, Contains}
 use Rattle.std.proofs.lemmas.List.{take_all}
 use Rattle.std.proofs.lemmas.List.Elements.{Contains-get_or}
 use Rattle.idset.specs.Sets.{listed_numbers, numbers_where}
-use Rattle.rf2_rows.specs.Hierarchy.{reaches}
+use Rattle.hierarchy.specs.Hierarchy.{reaches}
 use Rattle.ancestor_index.specs.HierarchyLists.{is_child}
 use Rattle.ancestor_index.proofs.ClosureLemmas.{Turn, gathered_below, gathered_by, gathered_listed, length-where, order_below, own_parents, parent_placed}
 use Rattle.ancestor_index.proofs.ListLemmas.{map_more}

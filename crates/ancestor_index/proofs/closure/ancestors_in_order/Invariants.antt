@@ -1,5 +1,5 @@
 use Rattle.std.proofs.Common.{ℕ, ◌≡◌, List, length, map, take}
-use Rattle.rf2_rows.specs.Hierarchy.{reaches}
+use Rattle.hierarchy.specs.Hierarchy.{reaches}
 use Rattle.idset.specs.Sets.{numbers_where}
 use Rattle.ancestor_index.specs.Parents.{AreParentsBy}
 use Rattle.ancestor_index.proofs.closure.ancestors_in_order.Given as goal

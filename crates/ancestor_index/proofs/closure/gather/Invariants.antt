@@ -1,6 +1,6 @@
 use Rattle.std.proofs.Common.{◌≡◌, ◌++◌, ◌∷◌, take, slice_index}
 use Rattle.std.specs.Prelude.{flat_map}
-use Rattle.snapshot.specs.KeyedLists.{list_of}
+use Rattle.hierarchy.specs.KeyedLists.{list_of}
 use Rattle.ancestor_index.proofs.closure.gather.Given as goal
 
 abbrev pub invariant-loop-concept : goal.invariant-loop-concept

@@ -1,5 +1,5 @@
 use Rattle.std.proofs.Common.{ℕ, ◌++◌, ◌∷◌, [], ◌∙◌, List, length, get_or, sym, subst, ap, arith, length-append}
-use Rattle.snapshot.specs.KeyedLists.{list_of}
+use Rattle.hierarchy.specs.KeyedLists.{list_of}
 use Rattle.ancestor_index.specs.Wide.{IsKept}
 use Rattle.ancestor_index.proofs.WideLemmas.{kept_step}
 use Rattle.ancestor_index.proofs.wide.wide_lists.Goals as goal

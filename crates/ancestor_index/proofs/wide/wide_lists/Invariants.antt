@@ -1,5 +1,5 @@
 use Rattle.std.proofs.Common.{ℕ, ◌≡◌, ◌<◌, length, slice_index}
-use Rattle.snapshot.specs.KeyedLists.{list_of}
+use Rattle.hierarchy.specs.KeyedLists.{list_of}
 use Rattle.ancestor_index.specs.Wide.{IsKept}
 use Rattle.ancestor_index.proofs.wide.wide_lists.Given as goal
 

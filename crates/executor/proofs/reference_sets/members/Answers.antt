@@ -3,7 +3,7 @@ use Rattle.std.specs.Prelude.{All}
 use Rattle.std.specs.List.{flat_map}
 use Rattle.std.proofs.lemmas.Result.{IfOk-weaker}
 use Rattle.idset.specs.Sets.{listed_numbers}
-use Rattle.snapshot.specs.KeyedLists.{list_of}
+use Rattle.hierarchy.specs.KeyedLists.{list_of}
 use Rattle.postings.specs.Indexed.{members_of}
 use Rattle.executor.proofs.JoinedLemmas.{all_below}
 use Rattle.executor.proofs.MemberLemmas.{members_below, members_listed}

@@ -3,7 +3,7 @@ use Rattle.std.specs.Prelude.{All, filter}
 use Rattle.std.specs.List.{list_any}
 use Rattle.idset.specs.Sets.{has_item, IsRisingBelow}
 use Rattle.idset.proofs.Rising.{rises_within-filter}
-use Rattle.snapshot.specs.KeyedLists.{list_of}
+use Rattle.hierarchy.specs.KeyedLists.{list_of}
 use Rattle.executor.specs.Steps.{lists_of}
 use Rattle.executor.proofs.JoinedLemmas.{all_below}
 use Rattle.executor.proofs.walks.apart.Goals as goal

@@ -1,7 +1,7 @@
 use Rattle.std.proofs.Common.{true, not, ◌≡◌, ◌∙◌, sym, ap, arith}
 use Rattle.std.specs.List.{list_any}
 use Rattle.idset.specs.Sets.{has_item}
-use Rattle.snapshot.specs.KeyedLists.{list_of}
+use Rattle.hierarchy.specs.KeyedLists.{list_of}
 use Rattle.executor.specs.Joined.{near_of}
 use Rattle.executor.specs.Steps.{lists_of}
 use Rattle.executor.proofs.JoinedLemmas.{over_length, over_near}

@@ -2,7 +2,7 @@ use Rattle.std.proofs.Common.{ℕ, Vec, Bool, true, false, not, ◌∙◌, sym, 
 use Rattle.std.specs.List.{list_any}
 use Rattle.idset.specs.Sets.{has_item}
 use Rattle.idset.proofs.Places.{filter_step}
-use Rattle.snapshot.specs.KeyedLists.{list_of}
+use Rattle.hierarchy.specs.KeyedLists.{list_of}
 use Rattle.executor.specs.Steps.{lists_of}
 use Rattle.executor.proofs.walks.kept_apart.Goals as goal
 use Rattle.executor.proofs.walks.kept_apart.Goals.{then-is_apart+in_ok-push, else-is_apart}

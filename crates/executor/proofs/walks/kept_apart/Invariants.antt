@@ -2,7 +2,7 @@ use Rattle.std.proofs.Common.{◌≡◌, not, take}
 use Rattle.std.specs.Prelude.{filter}
 use Rattle.std.specs.List.{list_any}
 use Rattle.idset.specs.Sets.{has_item}
-use Rattle.snapshot.specs.KeyedLists.{list_of}
+use Rattle.hierarchy.specs.KeyedLists.{list_of}
 use Rattle.executor.specs.Steps.{lists_of}
 use Rattle.executor.proofs.walks.kept_apart.Given as goal
 

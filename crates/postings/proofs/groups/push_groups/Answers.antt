@@ -3,7 +3,7 @@ use Rattle.std.proofs.Common.{get_or, length, length-take, not, sym, take}
 use Rattle.std.specs.List.{list_any}
 use Rattle.std.proofs.lemmas.List.{take_all, take_more}
 use Rattle.indexmap.specs.IndexSet.{insert_key}
-use Rattle.snapshot.proofs.KeyedLemmas.{split_at}
+use Rattle.hierarchy.proofs.KeyedLemmas.{split_at}
 use Rattle.postings.specs.Coded.{group_codes, has_same_in_group, ungrouped_pairs, marks_after, numbers_of_groups, place_in_source}
 use Rattle.postings.specs.declared.rows.CodedRow.{CodedRow}
 use Rattle.postings.proofs.DistinctLemmas.{distinct-map_more}

@@ -1,5 +1,5 @@
 use Rattle.std.proofs.Common.{ℕ, ◌-◌, ◌≡◌, ◌<◌, ◌∙◌, List, Some, length, get_or, map, take, vec_len, sym, ap, subst, arith}
-use Rattle.std.specs.Prelude.{All, Contains, slice_get, slice_index}
+use Rattle.std.specs.Prelude.{All, slice_get, slice_index}
 use Rattle.std.specs.List.{concat}
 use Rattle.std.proofs.lemmas.List.{length-map}
 use Rattle.snapshot.specs.AttributesBySource.{attributes_by_source}
@@ -14,15 +14,13 @@ use Rattle.postings.specs.declared.row_indexes.RowIndexes.{RowIndexes}
 use Rattle.postings.specs.declared.rows.CodedRow.{CodedRow}
 use Rattle.postings.specs.declared.rows.Types.{Types}
 use Rattle.postings.specs.declared.values.Values.{Values}
-use Rattle.postings.proofs.ColumnLemmas.{places_by-within}
 use Rattle.postings.proofs.IndexLemmas.{few_types}
-use Rattle.postings.proofs.InverseLemmas.{each_place}
 use Rattle.postings.proofs.KeptLemmas.{coded_kept, each_kept, many_groups, one_number, units_are, units_below}
-use Rattle.postings.proofs.RowIndexLemmas.{by_source_are, few_codes, is_sorted, starts_last}
+use Rattle.postings.proofs.RowIndexLemmas.{by_source_are, is_sorted, starts_last}
 use Rattle.postings.proofs.RowListLemmas.{by_type_told, by_value_told, group_lists_told, of_one_length, type_places_below}
-use Rattle.postings.proofs.SourceRowLemmas.{ahead_told, length-places, start_within}
+use Rattle.postings.proofs.SourceRowLemmas.{ahead_told, start_within}
 use Rattle.postings.proofs.row_indexes.row_indexes.Goals as goal
-use Rattle.postings.proofs.row_indexes.row_indexes.Goals.{In_ok-by_type, In_ok-cells, In_ok-marks, In_ok-type_places}
+use Rattle.postings.proofs.row_indexes.row_indexes.Goals.{In_ok-keys, In_ok-marks}
 
 -- the marks are those of the rows of all concepts
 marked : (c : In_ok-marks)
@@ -32,17 +30,12 @@ marked c =
     (subst (λ (n : ℕ). AreRowMarks n c.as_slice.result.now c.in_ok-marks.marks) c.concept_count-count.ensures.count
     c.in_ok-marks.ensures.marks)
 
--- the keys and the cells are those of the rows
-typed : (c : In_ok-type_places)
-    → c.in_ok-type_places.type_places.items ≡ map (λ (row : CodedRow). row.type_place) c.in_ok-coded.coded.rows.items
-typed c = c.in_ok-type_places.ensures ∙ ap (map (λ (row : CodedRow). row.type_place)) c.as_slice-3.ensures.value
+-- the keys are those of the rows
+typed : (c : In_ok-keys) → c.in_ok-keys.keys.type_places.items ≡ map (λ (row : CodedRow). row.type_place) c.in_ok-coded.coded.rows.items
+typed c = c.in_ok-keys.ensures.types ∙ ap (map (λ (row : CodedRow). row.type_place)) c.as_slice-3.ensures.value
 
-valued : (c : In_ok-cells) → c.in_ok-cells.cells.items ≡ map (λ (row : CodedRow). row.value) c.in_ok-coded.coded.rows.items
-valued c = c.in_ok-cells.ensures ∙ ap (map (λ (row : CodedRow). row.value)) c.as_slice-4.ensures.value
-
--- the rows by type are listed by the keys
-listed : (c : In_ok-by_type) → c.in_ok-by_type.by_type.rows ≡ places_by c.len.result c.in_ok-type_places.type_places.items
-listed c = c.in_ok-by_type.ensures.rows ∙ ap (places_by c.len.result) c.as_slice-5.ensures.value
+valued : (c : In_ok-keys) → c.in_ok-keys.keys.values.items ≡ map (λ (row : CodedRow). row.value) c.in_ok-coded.coded.rows.items
+valued c = c.in_ok-keys.ensures.values ∙ ap (map (λ (row : CodedRow). row.value)) c.as_slice-3.ensures.value
 
 pub marks_by_source-requires-clause-sorted : goal.marks_by_source-requires-clause-sorted
 marks_by_source-requires-clause-sorted c =
@@ -86,58 +79,23 @@ overflow_cast-len c =
       c.in_ok-coded.ensures.few,
     )
 
-pub row_lists-requires : goal.row_lists-requires
-row_lists-requires c =
+pub lists_by_keys-requires-clause-long : goal.lists_by_keys-requires-clause-long
+lists_by_keys-requires-clause-long c =
+    let at = goal.at.lists_by_keys-requires-clause-long c in
     of_one_length c.args.snapshot.now.release c.concept_count-count.ensures.rising c.in_ok-coded.coded c.in_ok-coded.ensures
-    c.in_ok-marks.marks (marked (goal.at.row_lists-requires c).In_ok-marks) c.as_slice-5.result.now c.as_slice-6.result.now
-    (λ row. row.type_place) (λ row. row.value)
-    (c.as_slice-5.ensures.value ∙ typed (goal.at.row_lists-requires c).In_ok-type_places)
-    (c.as_slice-6.ensures.value ∙ valued (goal.at.row_lists-requires c).In_ok-cells)
+    c.in_ok-marks.marks (marked at.In_ok-marks) c.in_ok-keys.keys.type_places.items c.in_ok-keys.keys.values.items
+    (λ row. row.type_place) (λ row. row.value) (typed at.In_ok-keys) (valued at.In_ok-keys)
 
-pub row_lists-requires-2 : goal.row_lists-requires-2
-row_lists-requires-2 c =
-    of_one_length c.args.snapshot.now.release c.concept_count-count.ensures.rising c.in_ok-coded.coded c.in_ok-coded.ensures
-    c.in_ok-marks.marks (marked (goal.at.row_lists-requires-2 c).In_ok-marks) c.as_slice-7.result.now c.as_slice-8.result.now
-    (λ row. row.value) (λ row. row.type_place)
-    (c.as_slice-7.ensures.value ∙ valued (goal.at.row_lists-requires-2 c).In_ok-cells)
-    (c.as_slice-8.ensures.value ∙ typed (goal.at.row_lists-requires-2 c).In_ok-type_places)
-
-pub places_among-requires-clause-few : goal.places_among-requires-clause-few
-places_among-requires-clause-few c =
-    let at = goal.at.places_among-requires-clause-few c in
-    let keys = c.in_ok-type_places.type_places.items in
-    omega (
-      arith,
-      ap (λ (xs : List ℕ). length xs) (c.flat.ensures ∙ ap concat (listed at.In_ok-by_type)),
-      length-places c.len.result keys,
-      ap (λ (xs : List ℕ). length xs) (typed at.In_ok-type_places),
-      length-map c.in_ok-coded.coded.rows.items (λ (row : CodedRow). row.type_place),
-      few_codes c.args.snapshot.now.release c.concept_count-count.ensures.rising c.in_ok-coded.coded c.in_ok-coded.ensures,
-    )
-
-pub places_among-requires-clause-within : goal.places_among-requires-clause-within
-places_among-requires-clause-within c =
-    let keys = c.in_ok-type_places.type_places.items in
-    let many : length keys ≡ c.len-2.result = omega (arith, c.len-2.ensures) in
-    subst (λ (xs : List ℕ). All (λ n. n < c.len-2.result) xs)
-    (sym (c.flat.ensures ∙ ap concat (listed (goal.at.places_among-requires-clause-within c).In_ok-by_type)))
-    (subst (λ (count : ℕ). All (λ n. n < count) (concat (places_by c.len.result keys))) many (places_by-within c.len.result keys))
-
-pub places_among-requires-clause-all : goal.places_among-requires-clause-all
-places_among-requires-clause-all c = λ number below.
-    let at = goal.at.places_among-requires-clause-all c in
-    let keys = c.in_ok-type_places.type_places.items in
-    subst (λ (xs : List ℕ). Contains xs number) (sym (c.flat.ensures ∙ ap concat (listed at.In_ok-by_type)))
-    (each_place c.len.result keys
-    (subst (λ (xs : List ℕ). All (λ key. key < c.len.result) xs) (sym (typed at.In_ok-type_places))
+pub lists_by_keys-requires-clause-types : goal.lists_by_keys-requires-clause-types
+lists_by_keys-requires-clause-types c =
+    subst (λ (xs : List ℕ). All (λ key. key < c.len.result) xs) (sym (typed (goal.at.lists_by_keys-requires-clause-types c).In_ok-keys))
     (type_places_below c.args.snapshot.now.release c.concept_count-count.ensures.rising c.in_ok-coded.coded c.in_ok-coded.ensures
     c.len.result (omega (
       arith,
       c.len.ensures,
       ap (λ (types : Types). length types.ids.items) c.into_tables-types.ensures.types,
       ap (λ (xs : List ℕ). length xs) c.in_ok-coded.ensures.ids,
-    ))))
-    number (omega (arith, below, c.len-2.ensures)))
+    )))
 
 pub returns : goal.returns
 returns c =
@@ -151,29 +109,28 @@ returns c =
     let marks_are = marked at.In_ok-marks in
     let starts = marks.starts.items in
     let last : vec_len marks.starts - 1 ≡ length starts - 1 = omega arith in
-    let keys_are = typed at.In_ok-type_places in
-    let cells_are = valued at.In_ok-cells in
+    let keys = c.in_ok-keys.keys in
+    let keys_are = typed at.In_ok-keys in
+    let cells_are = valued at.In_ok-keys in
+    let lists = c.in_ok-lists.lists in
+    let listed = c.in_ok-lists.ensures in
     let indexes : RowIndexes = record {
       types = c.into_tables-types.result.0;
       values = c.into_tables-types.result.1;
-      type_places = c.in_ok-type_places.type_places;
-      places = c.in_ok-places.places;
+      type_places = keys.type_places;
+      places = lists.places;
       row_numbers = c.in_ok-marks.row_numbers;
-      by_type = c.in_ok-by_type.by_type;
-      by_value = c.in_ok-by_value.by_value;
+      by_type = lists.by_type;
+      by_value = lists.by_value;
       groups = c.in_ok-groups.groups;
     } in
     let by_type : AreRowLists c.len.result indexes.type_places.items (map (λ (row : CodedRow). row.value) codes) marks indexes.by_type =
-    subst (λ (keys : List ℕ). AreRowLists c.len.result keys (map (λ (row : CodedRow). row.value) codes) marks indexes.by_type)
-    c.as_slice-5.ensures.value
-    (subst (λ (cells : List ℕ). AreRowLists c.len.result c.as_slice-5.result.now cells marks indexes.by_type)
-    (c.as_slice-6.ensures.value ∙ cells_are) c.in_ok-by_type.ensures) in
-    let many : c.len-2.result ≡ length codes =
-    omega (arith, c.len-2.ensures, ap (λ (xs : List ℕ). length xs) keys_are, length-map codes (λ (row : CodedRow). row.type_place)) in
-    let places_len : length indexes.places.items ≡ length codes = omega (arith, many, c.in_ok-places.ensures.len) in
+    subst (λ (cells : List ℕ). AreRowLists c.len.result indexes.type_places.items cells marks indexes.by_type) cells_are listed.by_type in
+    let many : vec_len keys.type_places ≡ length codes =
+    omega (arith, ap (λ (xs : List ℕ). length xs) keys_are, length-map codes (λ (row : CodedRow). row.type_place)) in
+    let places_len : length indexes.places.items ≡ length codes = omega (arith, many, listed.len) in
     let found : (n : ℕ) → n < length codes → slice_get (concat indexes.by_type.rows) (slice_index indexes.places.items n) ≡ Some n =
-    λ n below. subst (λ (xs : List ℕ). slice_get xs (slice_index indexes.places.items n) ≡ Some n) c.flat.ensures
-    (c.in_ok-places.ensures.found n (omega (arith, below, many))) in
+    λ n below. listed.found n (omega (arith, below, many)) in
     let kept_len : length indexes.groups.numbers.items ≡ get_or starts (length starts - 1) 0 =
     omega (arith, c.in_ok-groups.ensures.len, ap (λ (n : ℕ). get_or starts n 0) last) in
     let numbers_len = kept_len ∙ starts_last release rises coded are marks marks_are in
@@ -203,18 +160,16 @@ returns c =
           ∙ ap (λ (lists : List (List ℕ)). length (concat (take concept lists))) sources;
       by_type = subst (λ (values : Values). AreByType release.concepts (values_in release.concepts values)
           (attributes_by_source release) indexes.by_type) (sym c.into_tables-types.ensures.values)
-          (by_type_told release rises coded are marks marks_are c.in_ok-by_type.by_type c.len.result c.as_slice-5.result.now
-          c.as_slice-6.result.now c.in_ok-by_type.ensures
+          (by_type_told release rises coded are marks marks_are lists.by_type c.len.result keys.type_places.items keys.values.items listed.by_type
           (omega (
             arith,
             c.len.ensures,
             ap (λ (types : Types). length types.ids.items) c.into_tables-types.ensures.types,
             ap (λ (xs : List ℕ). length xs) are.ids,
           ))
-          (c.as_slice-5.ensures.value ∙ keys_are) (c.as_slice-6.ensures.value ∙ cells_are));
-      by_value = by_value_told release rises coded are marks marks_are c.in_ok-by_value.by_value c.concept_count-count.result
-          c.as_slice-7.result.now c.as_slice-8.result.now c.in_ok-by_value.ensures c.concept_count-count.ensures.count
-          (c.as_slice-7.ensures.value ∙ cells_are) (c.as_slice-8.ensures.value ∙ keys_are);
+          keys_are cells_are);
+      by_value = by_value_told release rises coded are marks marks_are lists.by_value c.concept_count-count.result
+          keys.values.items keys.type_places.items listed.by_value c.concept_count-count.ensures.count cells_are keys_are;
       groups = group_lists_told release rises coded are marks marks_are c.in_ok-groups.groups kept_len c.in_ok-groups.ensures.starts
           (c.in_ok-groups.ensures.rows
           ∙ ap (λ (n : ℕ). places_by (get_or starts n 0) (map (λ (mark : Marked). mark.number) marks.groups.items)) last);

@@ -3,7 +3,8 @@ use Rattle.std.specs.List.{slice_get}
 use Rattle.std.proofs.lemmas.Option.{slice_get-get_or}
 use Rattle.rf2_rows.specs.Release.{Name}
 use Rattle.snapshot.specs.NamesInside.{name_read}
-use Rattle.snapshot.proofs.KeptNameLemmas.{extends-both, kept-push, names-push, noted-extends}
+use Rattle.snapshot.proofs.KeptNameLemmas.{kept-push, names-push, noted-extends}
+use Rattle.snapshot.proofs.SpanLemmas.{extends-both}
 use Rattle.snapshot.proofs.kept_names.keep_names.Goals as goal
 
 pub keep_name-requires-clause-span : goal.keep_name-requires-clause-span

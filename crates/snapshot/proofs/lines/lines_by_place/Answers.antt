@@ -1,5 +1,5 @@
 use Rattle.std.proofs.Common.{ℕ, ◌∙◌, List, ap, string_bytes}
-use Rattle.snapshot.proofs.CutLemmas.{cut}
+use Rattle.hierarchy.proofs.CutLemmas.{cut}
 use Rattle.snapshot.proofs.LineLemmas.{lines-append}
 use Rattle.snapshot.proofs.lines.lines_by_place.Goals as goal
 

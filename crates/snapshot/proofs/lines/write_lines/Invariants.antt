@@ -2,7 +2,7 @@
 use Rattle.std.proofs.Common.{ℕ, ◌≡◌, List, map, take, string_bytes}
 use Rattle.snapshot.specs.FirstRows.{AreFirstPlaces}
 use Rattle.snapshot.specs.KeptNames.{AreNoted}
-use Rattle.snapshot.specs.KeyedListsInside.{AreStarts}
+use Rattle.hierarchy.specs.KeyedListsInside.{AreStarts}
 use Rattle.snapshot.specs.Line.{concept_line}
 use Rattle.snapshot.specs.LinesInside.{lines_between}
 use Rattle.snapshot.specs.Name.{name_among}

@@ -9,7 +9,8 @@ use Rattle.snapshot.specs.Kept.{IsCycle, is_value_among}
 use Rattle.snapshot.specs.Line.{concept_line}
 use Rattle.snapshot.specs.ListsInside.{listed_in}
 use Rattle.snapshot.specs.Name.{name_among}
-use Rattle.snapshot.specs.Numbering.{IsWithin, numbered_row}
+use Rattle.hierarchy.specs.Hierarchy.{IsWithin}
+use Rattle.snapshot.specs.Numbering.{numbered_row}
 use Rattle.snapshot.specs.Sorted.{in_file_order}
 use Rattle.snapshot.proofs.FinishLemmas.{attributes_among-values, finished-Ok, finished-Err, length-attributes_among, length-rising}
 use Rattle.snapshot.proofs.NumberingLemmas.{IsWithin-numbered}

@@ -1,6 +1,6 @@
 use Rattle.std.proofs.Common.{◌≡◌, ◌≤◌, List, All, true, length, ap, sym, subst, arith}
 use Rattle.rf2_rows.specs.Release.{Attribute}
-use Rattle.snapshot.specs.InForce.{has}
+use Rattle.hierarchy.specs.Members.{has}
 use Rattle.snapshot.specs.Kept.{attributes_among}
 use Rattle.snapshot.proofs.FinishLemmas.{attributes_among-known, length-attributes_among}
 use Rattle.snapshot.proofs.load.lists_among.Goals as goal

@@ -1,11 +1,11 @@
 use Rattle.std.proofs.Common.{ℕ, ◌≡◌, List, length, sym, ◌∙◌, subst, arith}
 use Rattle.std.specs.List.{filter_map}
-use Rattle.rf2_rows.specs.Hierarchy.{Reaches}
-use Rattle.snapshot.specs.Numbering.{IsWithin, numbered_row}
-use Rattle.snapshot.specs.Search.{IsLeastCycle}
+use Rattle.hierarchy.specs.Hierarchy.{IsWithin, Reaches}
+use Rattle.snapshot.specs.Numbering.{numbered_row}
+use Rattle.snapshot.specs.LeastCycle.{IsLeastCycle}
 use Rattle.snapshot.proofs.FinishLemmas.{least_cycle}
 use Rattle.snapshot.proofs.NumberingLemmas.{IsWithin-numbered, first_cyclic-None}
-use Rattle.snapshot.proofs.WayLemmas.{ordered_acyclic}
+use Rattle.hierarchy.proofs.WayLemmas.{ordered_acyclic}
 use Rattle.snapshot.proofs.load.number_hierarchy.Goals as goal
 
 -- the rows that the search is given are those by the numbers of the concepts

@@ -1,6 +1,6 @@
 use Rattle.std.proofs.Common.{◌≡◌, take}
 use Rattle.std.specs.List.{filter}
-use Rattle.snapshot.specs.InForce.{has}
+use Rattle.hierarchy.specs.Members.{has}
 use Rattle.snapshot.proofs.repeated.keys_among.Given as goal
 
 abbrev pub invariant-loop-key : goal.invariant-loop-key

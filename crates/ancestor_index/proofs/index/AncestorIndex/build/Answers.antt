@@ -1,8 +1,7 @@
 use Rattle.std.proofs.Common.{ℕ, ◌≡◌, ◌<◌, ◌^◌, ◌∙◌, List, length, sym, subst, ap, arith}
-use Rattle.rf2_rows.specs.Hierarchy.{reaches}
-use Rattle.snapshot.specs.KeyedLists.{turned, turned_from}
-use Rattle.snapshot.specs.Numbering.{IsWithin}
-use Rattle.snapshot.proofs.KeyedLemmas.{length-lists_by}
+use Rattle.hierarchy.specs.Hierarchy.{IsWithin, reaches}
+use Rattle.hierarchy.specs.KeyedLists.{turned, turned_from}
+use Rattle.hierarchy.proofs.KeyedLemmas.{length-lists_by}
 use Rattle.ancestor_index.specs.HierarchyLists.{is_child, lists_where}
 use Rattle.ancestor_index.specs.Wide.{AreWide}
 use Rattle.ancestor_index.proofs.BuildLemmas.{ancestors_told, given_parents, hierarchy_told, order_count, turned_where, where_below}

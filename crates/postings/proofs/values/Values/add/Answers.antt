@@ -8,7 +8,7 @@ use Rattle.indexmap.proofs.CallerLemmas.{Contains-insert_key}
 use Rattle.rf2_rows.specs.Rows.{value_lent}
 use Rattle.rf2_rows.specs.declared.value.Value.{Value as LentValue}
 use Rattle.snapshot.specs.Kept.{is_value_among}
-use Rattle.snapshot.proofs.ReleaseLemmas.{contains_had}
+use Rattle.hierarchy.proofs.ReleaseLemmas.{contains_had}
 use Rattle.postings.specs.Indexed.{values_among}
 use Rattle.postings.specs.ValueTables.{texts_in, values_in}
 use Rattle.postings.proofs.ValueLemmas.{bytes_added, bytes_of, bytes_stay, concept_there, decimal_there, distinct_map, stays, text_had}

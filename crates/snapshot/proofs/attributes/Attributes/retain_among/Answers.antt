@@ -3,7 +3,7 @@ use Rattle.std.specs.Prelude.{filter}
 use Rattle.std.proofs.lemmas.Fn.{filter_same}
 use Rattle.std.proofs.lemmas.List.Elements.{All-filter}
 use Rattle.snapshot.specs.AttributesInside.{IsPlacedIn, attribute_in, value_in}
-use Rattle.snapshot.specs.InForce.{has}
+use Rattle.hierarchy.specs.Members.{has}
 use Rattle.snapshot.specs.Kept.{attributes_among, is_value_among}
 use Rattle.snapshot.specs.declared.attributes.KeptRow.{KeptRow}
 use Rattle.snapshot.proofs.AttributeLemmas.{attributes-retained}

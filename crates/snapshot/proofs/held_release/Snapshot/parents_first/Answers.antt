@@ -1,7 +1,8 @@
 use Rattle.std.proofs.Common.{ℕ, ◌≡◌, ◌∙◌, List, length, map, sym, subst, ap}
 use Rattle.snapshot.specs.Contents.{Contents}
-use Rattle.snapshot.specs.Numbering.{IsWithin, row_of_numbers}
-use Rattle.snapshot.specs.ParentsFirst.{IsParentsFirst}
+use Rattle.hierarchy.specs.Hierarchy.{IsWithin}
+use Rattle.snapshot.specs.Numbering.{row_of_numbers}
+use Rattle.hierarchy.specs.ParentsFirst.{IsParentsFirst}
 use Rattle.snapshot.proofs.NumberingLemmas.{same_numbers}
 use Rattle.snapshot.proofs.held_release.Snapshot.parents_first.Goals as goal
 

@@ -1,7 +1,7 @@
 use Rattle.std.proofs.Common.{ℕ, ◌≡◌, ◌≤◌, ◌<◌, ◌+◌, ◌∙◌, List, length, get_or, sym, subst, ap, string_bytes}
 use Rattle.std.specs.List.{slice_range}
 use Rattle.snapshot.specs.Lined.{Lined}
-use Rattle.snapshot.proofs.CutLemmas.{cut}
+use Rattle.hierarchy.proofs.CutLemmas.{cut}
 use Rattle.snapshot.proofs.LineLemmas.{line_at, line_ends, line_rises, line_starts}
 use Rattle.snapshot.proofs.lines.ConceptLines.line.Goals as goal
 

@@ -1,9 +1,9 @@
 use Rattle.std.proofs.Common.{ℕ, ◌≡◌, ◌<◌, ◌+◌, ◌++◌, ◌∙◌, List, [], length, get_or, sym, arith, ap, string_bytes}
 use Rattle.std.specs.List.{slice_range}
 use Rattle.std.proofs.lemmas.List.{get_or_read}
-use Rattle.snapshot.specs.KeyedListsInside.{AreStarts}
+use Rattle.hierarchy.specs.KeyedListsInside.{AreStarts}
 use Rattle.snapshot.specs.Lined.{Lined}
-use Rattle.snapshot.proofs.CutLemmas.{cut}
+use Rattle.hierarchy.proofs.CutLemmas.{cut}
 use Rattle.snapshot.proofs.LineLemmas.{line_at, line_ends, line_rises, line_starts}
 use Rattle.snapshot.proofs.lines.ConceptLines.name.Goals as goal
 

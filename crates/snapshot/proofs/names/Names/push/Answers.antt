@@ -1,28 +1,57 @@
-use Rattle.std.proofs.Common.{◌++◌, ◌∷◌, [], ◌∙◌, ap, string_bytes}
-use Rattle.std.proofs.lemmas.Str.{IsUtf8-append, IsUtf8-string_bytes}
-use Rattle.snapshot.proofs.NameLemmas.{all_placed-append, all_placed-push, names-push}
+use Rattle.std.proofs.Common.{◌++◌, ◌∷◌, [], ◌∙◌, All, ap, string_bytes, subst, sym}
+use Rattle.std.proofs.lemmas.List.Elements.{All-weaker}
+use Rattle.std.proofs.lemmas.Str.{IsUtf8-string_bytes}
+use Rattle.snapshot.specs.NamesInside.{IsPlaced, name_in}
+use Rattle.snapshot.specs.Spans.{Extends}
+use Rattle.snapshot.proofs.NameLemmas.{name-extends, placed-extends}
+use Rattle.snapshot.proofs.SpanLemmas.{all-push, extends-both, rows-push, text-extends, text_span-extends}
 use Rattle.snapshot.proofs.names.Names.push.Goals as goal
 
-pub invariant_of-self-in_err-push_str-2 : goal.invariant_of-self-in_err-push_str-2
-invariant_of-self-in_err-push_str-2 c =
-    rw (c.in_err-push_str-2.ensures.bytes, c.in_ok-push_str.ensures.bytes)
-    (all_placed-append (string_bytes c.self.inside.texts) c.args.language.now c.self.inside.rows.items (IsUtf8-string_bytes c.self.inside.texts) c.utf8.language c.self.invariant)
+pub invariant_of-self-in_err-term : goal.invariant_of-self-in_err-term
+invariant_of-self-in_err-term c =
+    let texts = string_bytes c.self.inside.texts in
+    let grown = string_bytes c.push_text-2.new.texts in
+    All-weaker (IsPlaced texts) (IsPlaced grown)
+    (placed-extends texts grown (c.args.language.now, c.in_err-term.ensures.same ∙ c.in_ok-language.ensures.grown)
+    (IsUtf8-string_bytes c.self.inside.texts) (IsUtf8-string_bytes c.push_text-2.new.texts)) c.self.inside.rows.items c.self.invariant
 
 pub invariant_of-self-in_err-push : goal.invariant_of-self-in_err-push
 invariant_of-self-in_err-push c =
     let texts = string_bytes c.self.inside.texts in
-    let whole = IsUtf8-string_bytes c.self.inside.texts in
-    rw (c.in_err-push.ensures.items, c.in_ok-push_str-2.ensures.bytes, c.in_ok-push_str.ensures.bytes)
-    (all_placed-append (texts ++ c.args.language.now) c.args.term.now c.self.inside.rows.items (IsUtf8-append texts c.args.language.now whole c.utf8.language) c.utf8.term
-    (all_placed-append texts c.args.language.now c.self.inside.rows.items whole c.utf8.language c.self.invariant))
+    let grown = string_bytes c.push_text-2.new.texts in
+    let extends = extends-both texts (string_bytes c.push_text.new.texts) grown (c.args.language.now, c.in_ok-language.ensures.grown) (c.args.term.now, c.in_ok-term.ensures.grown) in
+    subst (All (IsPlaced grown)) (sym c.in_err-push.ensures.items)
+    (All-weaker (IsPlaced texts) (IsPlaced grown)
+    (placed-extends texts grown extends (IsUtf8-string_bytes c.self.inside.texts) (IsUtf8-string_bytes c.push_text-2.new.texts)) c.self.inside.rows.items c.self.invariant)
 
 pub invariant_of-self-2 : goal.invariant_of-self-2
 invariant_of-self-2 c =
-    all_placed-push c.args.id c.args.concept c.len-language_start.result c.len-term_start.result c.len-term_end.result (string_bytes c.self.inside.texts) (string_bytes c.push_str.new.self) (string_bytes c.push_str-2.new.self) c.args.language.now c.args.term.now c.self.inside.rows.items c.push.new.self.items
-    (c.len-language_start.ensures ∙ c.self.inside.texts.bytes.ok.0) (c.len-term_start.ensures ∙ c.push_str.new.self.bytes.ok.0) (c.len-term_end.ensures ∙ c.push_str-2.new.self.bytes.ok.0) c.in_ok-push_str.ensures.bytes c.in_ok-push_str-2.ensures.bytes c.in_ok-push.ensures.items (IsUtf8-string_bytes c.self.inside.texts) c.utf8.language c.utf8.term c.self.invariant
+    let texts = string_bytes c.self.inside.texts in
+    let spoken = string_bytes c.push_text.new.texts in
+    let grown = string_bytes c.push_text-2.new.texts in
+    let more : Extends spoken grown = (c.args.term.now, c.in_ok-term.ensures.grown) in
+    let whole = IsUtf8-string_bytes c.push_text-2.new.texts in
+    let extends = extends-both texts spoken grown (c.args.language.now, c.in_ok-language.ensures.grown) more in
+    all-push (IsPlaced texts) (IsPlaced grown) (placed-extends texts grown extends (IsUtf8-string_bytes c.self.inside.texts) whole)
+    c.self.inside.rows.items c.push.new.self.items _ c.in_ok-push.ensures.items c.self.invariant
+    (record {
+      language = text_span-extends spoken grown more (IsUtf8-string_bytes c.push_text.new.texts) whole c.in_ok-language.language c.in_ok-language.ensures.text;
+      term = c.in_ok-term.ensures.text;
+    })
 
 pub returns : goal.returns
 returns c =
-    names-push c.args.id c.args.concept c.len-language_start.result c.len-term_start.result c.len-term_end.result (string_bytes c.self.inside.texts) (string_bytes c.push_str.new.self) (string_bytes c.push_str-2.new.self) c.args.language.now c.args.term.now c.self.inside.rows.items c.push.new.self.items
-    (c.len-language_start.ensures ∙ c.self.inside.texts.bytes.ok.0) (c.len-term_start.ensures ∙ c.push_str.new.self.bytes.ok.0) (c.len-term_end.ensures ∙ c.push_str-2.new.self.bytes.ok.0) c.in_ok-push_str.ensures.bytes c.in_ok-push_str-2.ensures.bytes c.in_ok-push.ensures.items (IsUtf8-string_bytes c.self.inside.texts) c.utf8.language c.self.invariant
+    let texts = string_bytes c.self.inside.texts in
+    let spoken = string_bytes c.push_text.new.texts in
+    let grown = string_bytes c.push_text-2.new.texts in
+    let more : Extends spoken grown = (c.args.term.now, c.in_ok-term.ensures.grown) in
+    let language = c.in_ok-language.ensures.span in
+    let extends = extends-both texts spoken grown (c.args.language.now, c.in_ok-language.ensures.grown) more in
+    rows-push (name_in texts) (name_in grown) (IsPlaced texts) (name-extends texts grown extends) c.self.inside.rows.items c.push.new.self.items _ _ c.in_ok-push.ensures.items c.self.invariant
+    (λ i. record {
+      id = c.args.id;
+      concept = c.args.concept;
+      language = (text-extends spoken grown more c.in_ok-language.language language.placed ∙ language.same) i;
+      term = c.in_ok-term.ensures.span.same i;
+    })
     ∙ ap (λ names. names ++ record { id = c.args.id; concept = c.args.concept; language = c.args.language.now; term = c.args.term.now } ∷ []) c.self.view_is

@@ -3,7 +3,7 @@ use Rattle.std.specs.Prelude.{filter, string_bytes}
 use Rattle.std.proofs.lemmas.Fn.{filter_same}
 use Rattle.std.proofs.lemmas.List.Elements.{All-filter}
 use Rattle.rf2_rows.specs.Release.{Name}
-use Rattle.snapshot.specs.InForce.{has}
+use Rattle.hierarchy.specs.Members.{has}
 use Rattle.snapshot.specs.Kept.{names_among}
 use Rattle.snapshot.specs.NamesInside.{IsPlaced, name_in}
 use Rattle.snapshot.specs.declared.names.NameRow.{NameRow}

@@ -1,8 +1,8 @@
 use Rattle.std.proofs.Common.{◌<◌, ◌∙◌, List, length, get_or, sym, ap, arith, string_bytes}
-use Rattle.std.specs.List.{slice_range}
 use Rattle.std.proofs.lemmas.List.{get_or-map, length-map}
 use Rattle.rf2_rows.specs.Release.{Name}
 use Rattle.snapshot.specs.NamesInside.{name_in}
+use Rattle.snapshot.specs.Spans.{text_at}
 use Rattle.snapshot.proofs.names.Names.row.Goals as goal
 
 pub returns : goal.returns
@@ -14,8 +14,8 @@ returns c = λ default.
     (λ i. record {
       id = row.id;
       concept = row.concept;
-      language = (c.language_of.ensures ∙ ap (λ texts. slice_range texts row.language_start row.term_start) c.as_str.ensures.value) i;
-      term = (c.term_of.ensures ∙ ap (λ texts. slice_range texts row.term_start row.term_end) c.as_str-2.ensures.value) i;
+      language = (c.language_of.ensures ∙ ap (λ texts. text_at texts row.language) c.as_str.ensures.value) i;
+      term = (c.term_of.ensures ∙ ap (λ texts. text_at texts row.term) c.as_str-2.ensures.value) i;
     })
     ∙ ap (name_in texts) c.index.ensures
     ∙ sym (get_or-map (name_in texts) rows c.args.place row default below)

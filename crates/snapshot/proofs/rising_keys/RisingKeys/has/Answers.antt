@@ -1,6 +1,6 @@
 use Rattle.std.proofs.Common.{ℕ, List, ◌∙◌, Err, Ok, ap, subst, sym}
 use Rattle.std.specs.List.Sorted.{IsStrictlyIncreasing}
-use Rattle.snapshot.specs.InForce.{has}
+use Rattle.hierarchy.specs.Members.{has}
 use Rattle.snapshot.proofs.RisingLemmas.{has-searched}
 use Rattle.snapshot.proofs.rising_keys.RisingKeys.has.Goals as goal
 

@@ -1,5 +1,5 @@
 use Rattle.std.proofs.Common.{ℕ, ◌++◌, ◌∷◌, [], ◌∙◌, ap, sym, subst}
-use Rattle.snapshot.specs.InForce.{has}
+use Rattle.hierarchy.specs.Members.{has}
 use Rattle.snapshot.specs.Taken.{HasTaken, IsCodeOf, Taken}
 use Rattle.snapshot.specs.VersionsInside.{noted, taken_in}
 use Rattle.snapshot.proofs.VersionLemmas.{taken_first}

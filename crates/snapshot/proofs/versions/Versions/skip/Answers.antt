@@ -1,5 +1,5 @@
 use Rattle.std.proofs.Common.{◌∙◌, ap, sym, subst}
-use Rattle.snapshot.specs.InForce.{has}
+use Rattle.hierarchy.specs.Members.{has}
 use Rattle.snapshot.specs.Taken.{HasTaken, Taken}
 use Rattle.snapshot.specs.VersionsInside.{taken_in}
 use Rattle.snapshot.proofs.VersionLemmas.{taken_skip}

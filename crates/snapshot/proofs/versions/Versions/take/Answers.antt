@@ -3,7 +3,7 @@ use Rattle.std.specs.List.{list_any}
 use Rattle.snapshot.specs.Noted.{conflicts}
 use Rattle.snapshot.proofs.CodeLemmas.{has-code}
 use Rattle.std.proofs.lemmas.Bool.{and_left}
-use Rattle.snapshot.specs.InForce.{has}
+use Rattle.hierarchy.specs.Members.{has}
 use Rattle.snapshot.specs.Taken.{HasTaken, Taken}
 use Rattle.snapshot.specs.VersionsInside.{noted, taken_in}
 use Rattle.snapshot.proofs.VersionLemmas.{taken_skip}

@@ -1,0 +1,9 @@
+pub mod CutLemmas
+pub mod HierarchyLemmas
+pub mod KeyedBlockLemmas
+pub mod KeyedLemmas
+pub mod OrderLemmas
+pub mod ReleaseLemmas
+pub mod SearchLemmas
+pub mod SpanLemmas
+pub mod WayLemmas

@@ -1,0 +1,5 @@
+use Rattle.hierarchy.specs.KeyedLists.{AreKeysBelow}
+use Rattle.hierarchy.proofs.components.places_by_child.Given as goal
+
+abbrev pub invariant-loop-place : goal.invariant-loop-place
+invariant-loop-place l = AreKeysBelow l.count l.pairs.items

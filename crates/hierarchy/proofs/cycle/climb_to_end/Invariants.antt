@@ -1,0 +1,8 @@
+use Rattle.hierarchy.specs.Search.{MarksReached, unmarked_count}
+use Rattle.hierarchy.proofs.cycle.climb_to_end.Given as goal
+
+abbrev pub invariant-loop : goal.invariant-loop
+invariant-loop l = MarksReached l.rows l.start l.initial.reached → MarksReached l.rows l.start l.reached
+
+abbrev pub decreases-loop : goal.decreases-loop
+decreases-loop l = unmarked_count l.reached

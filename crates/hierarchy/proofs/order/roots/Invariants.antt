@@ -1,0 +1,5 @@
+use Rattle.hierarchy.specs.Released.{AreRoots}
+use Rattle.hierarchy.proofs.order.roots.Given as goal
+
+abbrev pub invariant-loop-concept : goal.invariant-loop-concept
+invariant-loop-concept l = AreRoots l.concept l.waiting l.roots.items

@@ -1,0 +1,178 @@
+//! Cycles among is-a rows. A search that is not proved suggests where to look, and what it suggests
+//! is tested here: a wrong suggestion would cost time and no answer.
+ghost use Rattle.std.specs.Prelude.{◌≡◌, ◌<◌, ◌↔◌, ◌⊎◌, ℕ, false, true, List, All, Contains, IfOk, IfSome, IfNone, IsTrue, length, vec_len};
+ghost use Rattle.std.specs.Bool.{OnFalse, OnTrue};
+ghost use Rattle.hierarchy.specs.Hierarchy.{IsWithin, Reaches};
+ghost use Rattle.hierarchy.specs.Search.{IsMarked, IsFollowed, MarksReached, NoneFalls, rank_in, unmarked_count};
+
+use crate::components::{component_ranks, rows_from};
+use std::alloc::{AllocError, Global};
+
+/// The least of `count` concepts that reaches itself by the rows, each a child and its parent.
+/// Takes time linear in the rows, whether there is a cycle or not.
+pub fn least_cyclic(
+    alloc: Global,
+    rows: &[(u32, u32)],
+    count: u32,
+) -> Result<Option<u32>, AllocError>
+    requires { IsWithin count rows.now }
+    ensures none { IfOk result (λ found. IfNone found ((c : ℕ) → c < count → ¬ Reaches rows.now c c)) }
+    ensures found { IfOk result (λ found. IfSome found (λ c. (c < count) × Reaches rows.now c c)) }
+    ensures least { IfOk result (λ found. IfSome found (λ c. (d : ℕ) → d < c → ¬ Reaches rows.now d d)) }
+{
+    let ranks = component_ranks(alloc, rows, count)?;
+    let suspects = suspects(alloc, rows, ranks.as_slice(), count)?;
+    for concept in 0..count {
+        if suspects[concept as usize] {
+            if reaches_itself(alloc, rows, concept, count)? {
+                return Ok(Some(concept));
+            }
+        }
+    }
+    Ok(None)
+}
+
+// Which concepts may reach themselves. Where no row falls in rank, a concept whose rows all rise
+// does not.
+fn suspects(
+    alloc: Global,
+    rows: &[(u32, u32)],
+    ranks: &[u32],
+    count: u32,
+) -> Result<Vec<bool>, AllocError>
+    requires { IsWithin count rows.now }
+    ensures len { IfOk result (λ suspects. vec_len suspects ≡ count) }
+    ensures others { IfOk result (λ suspects. (c : ℕ) → c < count → ¬ IsMarked suspects.items c → ¬ Reaches rows.now c c) }
+{
+    let all_rise = none_falls(rows, ranks);
+    let mut suspects = vec![in alloc; false; count as usize]?;
+    for row in rows {
+        if !all_rise || rank_of(ranks, row.0) == rank_of(ranks, row.1) {
+            suspects[row.0 as usize] = true;
+        }
+    }
+    Ok(suspects)
+}
+
+// Whether no row leads to a lower rank.
+fn none_falls(rows: &[(u32, u32)], ranks: &[u32]) -> bool
+    ensures { OnTrue result (NoneFalls ranks.now rows.now) }
+{
+    rows.iter()
+        .all(|row| rank_of(ranks, row.0) <= rank_of(ranks, row.1))
+}
+
+fn rank_of(ranks: &[u32], concept: u32) -> u32
+    ensures { result ≡ rank_in ranks.now concept }
+{
+    ranks.get(concept as usize).copied().unwrap_or(0)
+}
+
+// Whether a concept reaches itself by the rows. The rows are gone through in the order in which a
+// search meets them, and then, as often as something new is found, in theirs.
+fn reaches_itself(
+    alloc: Global,
+    rows: &[(u32, u32)],
+    concept: u32,
+    count: u32,
+) -> Result<bool, AllocError>
+    requires within { IsWithin count rows.now }
+    requires below { concept < count }
+    ensures { IfOk result (λ reaches. IsTrue reaches ↔ Reaches rows.now concept concept) }
+{
+    let order = rows_from(alloc, rows, concept, count)?;
+    let mut reached = vec![in alloc; false; count as usize]?;
+    let reaches = is_reached_at_last(reached.as_mut_slice(), rows, order.as_slice(), concept);
+    Ok(reaches)
+}
+
+// Whether a concept reaches itself by the rows, with no concept marked at first.
+fn is_reached_at_last(
+    reached: &mut [bool],
+    rows: &[(u32, u32)],
+    order: &[u32],
+    concept: u32,
+) -> bool
+    requires within { IsWithin (length reached.old) rows.now }
+    requires below { concept < length reached.old }
+    requires none { (c : ℕ) → ¬ IsMarked reached.old c }
+    ensures { IsTrue result ↔ Reaches rows.now concept concept }
+{
+    climb_in(reached, rows, order, concept);
+    if reached[concept as usize] {
+        return true;
+    }
+    climb_to_end(reached, rows, concept);
+    reached[concept as usize]
+}
+
+// Follows the rows at some places.
+fn climb_in(reached: &mut [bool], rows: &[(u32, u32)], order: &[u32], start: u32)
+    requires { IsWithin (length reached.old) rows.now }
+    ensures { MarksReached rows.now start reached.old → MarksReached rows.now start reached.new }
+{
+    for place in order {
+        climb_at(reached, rows, *place, start);
+    }
+}
+
+// Follows the row at a place, if there is one.
+fn climb_at(reached: &mut [bool], rows: &[(u32, u32)], place: u32, start: u32)
+    requires { IsWithin (length reached.old) rows.now }
+    ensures { MarksReached rows.now start reached.old → MarksReached rows.now start reached.new }
+{
+    let place = place as usize;
+    if place < rows.len() {
+        climb(reached, rows[place], start);
+    }
+}
+
+// Follows all rows as often as something new is reached.
+fn climb_to_end(reached: &mut [bool], rows: &[(u32, u32)], start: u32)
+    requires { IsWithin (length reached.old) rows.now }
+    ensures reached { MarksReached rows.now start reached.old → MarksReached rows.now start reached.new }
+    ensures followed { All (IsFollowed start reached.new) rows.now }
+{
+    while climb_all(reached, rows, start) {}
+}
+
+// Follows all rows once, and tells whether something new was reached.
+fn climb_all(reached: &mut [bool], rows: &[(u32, u32)], start: u32) -> bool
+    requires { IsWithin (length reached.old) rows.now }
+    ensures reached { MarksReached rows.now start reached.old → MarksReached rows.now start reached.new }
+    ensures fewer { OnTrue result (unmarked_count reached.new < unmarked_count reached.old) }
+    ensures followed { OnFalse result (All (IsFollowed start reached.new) rows.now) }
+{
+    let mut found = false;
+    for row in rows {
+        if climb(reached, *row, start) {
+            found = true;
+        }
+    }
+    found
+}
+
+// Follows a row from the start or from what it reached, and tells whether its parent is new.
+fn climb(reached: &mut [bool], row: (u32, u32), start: u32) -> bool
+    requires child { row.0 < length reached.old }
+    requires parent { row.1 < length reached.old }
+    ensures reached { (rows : List (ℕ × ℕ)) → Contains rows row → MarksReached rows start reached.old → MarksReached rows start reached.new }
+    ensures fewer { OnTrue result (unmarked_count reached.new < unmarked_count reached.old) }
+    ensures same { OnFalse result (reached.new ≡ reached.old) }
+    ensures followed { IsFollowed start reached.new row }
+{
+    let (child, parent) = row;
+    if reached[parent as usize] || !is_reached(reached, child, start) {
+        return false;
+    }
+    reached[parent as usize] = true;
+    true
+}
+
+// Whether a concept is the start or marked.
+fn is_reached(reached: &[bool], concept: u32, start: u32) -> bool
+    requires { concept < length reached.now }
+    ensures { IsTrue result ↔ ((concept ≡ start) ⊎ IsMarked reached.now concept) }
+{
+    concept == start || reached[concept as usize]
+}

@@ -1,0 +1,7 @@
+//! The law of this crate's definitions: a function that does nothing, with the law as its contract.
+ghost use Rattle.hierarchy.specs.Hierarchy.{TellsReaches};
+
+/// The test of what a concept reaches, which computes, says exactly that a chain of is-a rows leads there.
+pub fn reaches_tells_chains()
+    ensures { TellsReaches }
+{}

@@ -1,0 +1,382 @@
+//! What the program answers to its words, and to releases that are refused.
+use crate::test_release::{sample, sample_and};
+use crate::test_streams::{PieceInput, PieceOutput, ROOM};
+use query_tool::{Mode, QueryInput, Request, Status, WordFault, read_words, refuse_words, serve};
+use release_files::{MemoryFiles, NamedBytes};
+use std::alloc::{AllocError, Global};
+use std::process::Abort;
+use std::test::Fail;
+
+// How many bytes a source reads at once.
+const PIECE: usize = 4_096;
+
+const ANSWER: &[u8] =
+    b"OK 3\n101009 |Beta (finding)|\n102002 |Gamma (finding)|\n103007 |Delta (finding)|\n";
+
+const REPORT: &[u8] =
+    b"FILES 5\nCONCEPTS 10\nISA 10\nATTRIBUTES 9\nMEMBERS 2\nNAMES 10\nPASSED 6\n";
+
+const DANISH: &[u8] =
+    b"OK 3\n101009 |Beta (finding)|\n102002 |Gamma (finding)|\n103007 |Delta (fund)|\n";
+
+// The report without the files of relationships and concrete values.
+const SHORT_REPORT: &[u8] =
+    b"FILES 3\nCONCEPTS 10\nISA 0\nATTRIBUTES 0\nMEMBERS 2\nNAMES 10\nPASSED 3\n";
+
+// What serving no file ends with.
+const NO_CONCEPT_FILE: Ended<'static> = (Status::ReleaseRefused, b"", b"REFUSED no-concept-file\n");
+
+// The lines that tell that the files could not be listed, and that the first could not be read.
+const LISTING: &[u8] = b"REFUSED device\n";
+
+const FIRST_FILE: &[u8] = b"REFUSED device der2_Refset_SimpleSnapshot_INT_20240101.txt\n";
+
+// A file of concepts and one of relationships behind those of the sample.
+const CONCEPTS: &str = "xsct2_Concept_Snapshot_XX.txt";
+
+const RELATIONSHIPS: &str = "xsct2_Relationship_Snapshot_XX.txt";
+
+// Ten folders behind a command.
+const TEN_FOLDERS: [&str; 12] = [
+    "hosecrag", "check", "1", "2", "3", "4", "5", "6", "7", "8", "9", "10",
+];
+
+#[test]
+fn reads_words(rt: HostRuntime) {
+    let requests = [
+        (["hosecrag"].as_slice(), Mode::Sample, [].as_slice(), "en"),
+        (&["hosecrag", "query", "F"], Mode::Query, &["F"], "en"),
+        (
+            &["hosecrag", "query", "F", "G", "--lang", "da"],
+            Mode::Query,
+            &["F", "G"],
+            "da",
+        ),
+        (
+            &["hosecrag", "query", "--lang=da", "G", "F"],
+            Mode::Query,
+            &["G", "F"],
+            "da",
+        ),
+        (
+            &["hosecrag", "query", "F", "--lang", "da", "F"],
+            Mode::Query,
+            &["F", "F"],
+            "da",
+        ),
+        (
+            &["hosecrag", "query", "", "--lang", ""],
+            Mode::Query,
+            &[""],
+            "",
+        ),
+        (
+            &["hosecrag", "check", "F", "G"],
+            Mode::Check,
+            &["F", "G"],
+            "en",
+        ),
+        (&TEN_FOLDERS[..11], Mode::Check, &TEN_FOLDERS[2..11], "en"),
+    ];
+    for (words, mode, folders, lang) in requests {
+        match read_words(rt.alloc(), words) {
+            Ok(request) => {
+                assert!(rt; request.mode == mode);
+                assert!(rt; are_texts(request.folders.as_slice(), folders));
+                assert!(rt; request.lang.as_str() == lang);
+            }
+            Err(_) => assert!(rt; false, "words of a request"),
+        }
+    }
+}
+
+fn are_texts(texts: &[String], wanted: &[&str]) -> bool {
+    texts.len() == wanted.len()
+        && texts
+            .iter()
+            .zip(wanted)
+            .all(|(text, other)| text.as_str() == *other)
+}
+
+#[test]
+fn refuses_words(rt: HostRuntime) {
+    let refused = [
+        ["hosecrag", "query"].as_slice(),
+        &["hosecrag", "explain", "F"],
+        &["hosecrag", "query", "F", "--lang"],
+        &["hosecrag", "query", "--lang", "da"],
+        &["hosecrag", "check"],
+        &["hosecrag", "check", "F", "--lang", "da"],
+        &["hosecrag", "--"],
+    ];
+    for words in refused {
+        assert!(rt; matches!(read_words(rt.alloc(), words), Err(WordFault::Usage(_))));
+    }
+    for words in [
+        ["hosecrag", "--help"].as_slice(),
+        &["hosecrag", "query", "-h"],
+        &["hosecrag", "check", "-h"],
+        &["hosecrag", "--version"],
+        &["hosecrag", "-V"],
+    ] {
+        assert!(rt; matches!(read_words(rt.alloc(), words), Err(WordFault::Help(_))));
+    }
+}
+
+#[test]
+fn refuses_ten_folders(rt: HostRuntime) {
+    match read_words(rt.alloc(), &TEN_FOLDERS) {
+        Err(WordFault::Usage(text)) => assert!(rt; text.as_str() == "at most 9 folders\n"),
+        _other => assert!(rt; false, "ten folders"),
+    }
+}
+
+// The status that serving ends with, and what it writes as answers and as errors.
+type Ended<'a> = (Status, &'a [u8], &'a [u8]);
+
+// Whether serving a line ends so, where the output has room for so many bytes. At `check` no query is read.
+fn is_served(
+    alloc: Global,
+    request: &Request,
+    source: &mut MemoryFiles<'_>,
+    room: usize,
+    ended: Ended<'_>,
+) -> bool {
+    let mut input = PieceInput::new(b"<100005\n", ROOM, ROOM);
+    let mut output = PieceOutput::new(alloc, ROOM, room);
+    let mut errors = PieceOutput::new(alloc, ROOM, ROOM);
+    let status = serve(alloc, request, source, &mut input, &mut output, &mut errors);
+    status == ended.0
+        && output.bytes.as_slice() == ended.1
+        && errors.bytes.as_slice() == ended.2
+        && (request.mode != Mode::Check || input.reads() == 0)
+}
+
+// What is asked of the files of no folder.
+fn asked(alloc: Global, mode: Mode, lang: &str) -> Result<Request, AllocError> {
+    Ok(Request {
+        mode,
+        folders: Vec::new(alloc),
+        lang: String::from_str(alloc, lang)?,
+    })
+}
+
+// Looks at how serving over files ends, where the call with a number fails; 0 is none.
+fn check_served(
+    rt: &impl Abort,
+    alloc: Global,
+    asked: Result<Request, AllocError>,
+    files: &[NamedBytes<'_>],
+    fail_at: u64,
+    room: usize,
+    ended: Ended<'_>,
+) -> Result<(), AllocError> {
+    match asked {
+        Ok(request) => {
+            let mut source = MemoryFiles::new(alloc, files, PIECE, fail_at);
+            assert!(rt; is_served(alloc, &request, &mut source, room, ended));
+            Ok(())
+        }
+        Err(AllocError) => Err(AllocError),
+    }
+}
+
+// Looks at how answering over files ends, with the names of a language.
+fn check_query(
+    rt: &impl Abort,
+    alloc: Global,
+    lang: &str,
+    files: &[NamedBytes<'_>],
+    ended: Ended<'_>,
+) -> Result<(), AllocError> {
+    let asked = asked(alloc, Mode::Query, lang);
+    check_served(rt, alloc, asked, files, 0, ROOM, ended)
+}
+
+// Looks at how the report of files ends, where the output has room for so many bytes.
+fn check_report(
+    rt: &impl Abort,
+    alloc: Global,
+    files: &[NamedBytes<'_>],
+    room: usize,
+    ended: Ended<'_>,
+) -> Result<(), AllocError> {
+    let asked = asked(alloc, Mode::Check, "en");
+    check_served(rt, alloc, asked, files, 0, room, ended)
+}
+
+#[test]
+fn serves_releases(rt: HostRuntime) -> Result<(), Fail> {
+    let alloc = rt.alloc();
+    let own = asked(alloc, Mode::Sample, "en");
+    check_served(&rt, alloc, own, &[], 0, ROOM, (Status::Done, ANSWER, b""))?;
+    check_query(&rt, alloc, "en", &sample(), (Status::Done, ANSWER, b""))?;
+    check_query(&rt, alloc, "da", &sample(), (Status::Done, DANISH, b""))?;
+    Ok(())
+}
+
+#[test]
+fn reports_releases(rt: HostRuntime) -> Result<(), Fail> {
+    let alloc = rt.alloc();
+    check_report(&rt, alloc, &sample(), ROOM, (Status::Done, REPORT, b""))?;
+    check_report(
+        &rt,
+        alloc,
+        &sample()[..3],
+        ROOM,
+        (Status::Done, SHORT_REPORT, b""),
+    )?;
+    let cut = (
+        Status::DeviceFault,
+        b"FILES 5\nCO".as_slice(),
+        b"FAULT write\n".as_slice(),
+    );
+    check_report(&rt, alloc, &sample(), 10, cut)?;
+    check_report(&rt, alloc, &[], ROOM, NO_CONCEPT_FILE)?;
+    Ok(())
+}
+
+// The sample release with one file more is refused by a line.
+fn check_refused(
+    rt: &impl Abort,
+    alloc: Global,
+    name: &str,
+    bytes: &[u8],
+    line: &[u8],
+) -> Result<(), AllocError> {
+    match sample_and(alloc, name, bytes) {
+        Ok(files) => check_query(
+            rt,
+            alloc,
+            "en",
+            files.as_slice(),
+            (Status::ReleaseRefused, b"", line),
+        ),
+        Err(AllocError) => Err(AllocError),
+    }
+}
+
+// What stands in the file more, and the line that refuses it.
+const REFUSED: [(&str, &[u8], &[u8]); 5] = [
+    (
+        CONCEPTS,
+        b"id\teffectiveTime\tactive\tmoduleId\tdefinitionStatusId\r\n100006\t20240101\t1\t900000000000207008\t900000000000074008\r\n",
+        b"REFUSED row xsct2_Concept_Snapshot_XX.txt 2 1 id-check\n",
+    ),
+    (
+        CONCEPTS,
+        b"id\teffectiveTime\tactive\tmoduleId\tdefinitionStatusId\r\n100005\t20240101\t0\t900000000000207008\t900000000000074008\r\n",
+        b"REFUSED conflict xsct2_Concept_Snapshot_XX.txt 2\n",
+    ),
+    (
+        CONCEPTS,
+        b"id\teffectiveTime\tactive\tmoduleId\r\n",
+        b"REFUSED header xsct2_Concept_Snapshot_XX.txt\n",
+    ),
+    (
+        CONCEPTS,
+        b"id\teffectiveTime\tactive\tmoduleId\tdefinitionStatusId\r\n109006\t20240101\t",
+        b"REFUSED row xsct2_Concept_Snapshot_XX.txt 2 0 fields\n",
+    ),
+    (
+        RELATIONSHIPS,
+        b"id\teffectiveTime\tactive\tmoduleId\tsourceId\tdestinationId\trelationshipGroup\ttypeId\tcharacteristicTypeId\tmodifierId\r\n122026\t20240101\t1\t900000000000207008\t100005\t103007\t0\t116680003\t900000000000011006\t900000000000451002\r\n",
+        b"REFUSED cycle 100005\n",
+    ),
+];
+
+fn check_all_refused(
+    rt: &impl Abort,
+    alloc: Global,
+    files: &[(&str, &[u8], &[u8])],
+) -> Result<(), AllocError> {
+    for (name, bytes, line) in files {
+        check_refused(rt, alloc, name, bytes, line)?;
+    }
+    Ok(())
+}
+
+#[test]
+fn refuses_releases(rt: HostRuntime) -> Result<(), Fail> {
+    check_all_refused(&rt, rt.alloc(), &REFUSED)?;
+    check_query(&rt, rt.alloc(), "en", &[], NO_CONCEPT_FILE)?;
+    Ok(())
+}
+
+#[test]
+fn ends_with_its_status(rt: HostRuntime) {
+    assert!(rt; Status::Done.code() == 0 && Status::DeviceFault.code() == 1);
+    assert!(rt; Status::WordsFault.code() == 2 && Status::ReleaseRefused.code() == 3);
+    assert!(rt; Status::MemoryRefused.code() == 4);
+}
+
+// Whether words that are no request end so, where the output takes so many bytes.
+fn is_refused(alloc: Global, fault: &WordFault, sound: usize, ended: Ended<'_>) -> bool {
+    let mut output = PieceOutput::new(alloc, ROOM, sound);
+    let mut errors = PieceOutput::new(alloc, ROOM, ROOM);
+    let status = refuse_words(fault, &mut output, &mut errors);
+    status == ended.0 && output.bytes.as_slice() == ended.1 && errors.bytes.as_slice() == ended.2
+}
+
+// What a call for help or for the version writes, and where it is told that it could not.
+#[test]
+fn writes_what_is_called_for(rt: HostRuntime) -> Result<(), Fail> {
+    let alloc = rt.alloc();
+    let help = WordFault::Help(String::from_str(alloc, "how it is used\n")?);
+    let whole = (Status::Done, b"how it is used\n".as_slice(), b"".as_slice());
+    let cut = (
+        Status::DeviceFault,
+        b"how".as_slice(),
+        b"FAULT write\n".as_slice(),
+    );
+    assert!(rt; is_refused(alloc, &help, ROOM, whole) && is_refused(alloc, &help, 3, cut));
+    Ok(())
+}
+
+// Where it is told of words that are wrong.
+#[test]
+fn tells_of_wrong_words(rt: HostRuntime) -> Result<(), Fail> {
+    let alloc = rt.alloc();
+    let usage = WordFault::Usage(String::from_str(alloc, "no command\n")?);
+    let told = (
+        Status::WordsFault,
+        b"".as_slice(),
+        b"no command\n".as_slice(),
+    );
+    assert!(rt; is_refused(alloc, &usage, ROOM, told));
+    let memory = (
+        Status::MemoryRefused,
+        b"".as_slice(),
+        b"FAULT memory\n".as_slice(),
+    );
+    assert!(rt; is_refused(alloc, &WordFault::Memory, ROOM, memory));
+    Ok(())
+}
+
+// What the sample ends with where a call of its source fails, and what is told.
+fn check_failed(
+    rt: &impl Abort,
+    alloc: Global,
+    mode: Mode,
+    fail_at: u64,
+    line: &[u8],
+) -> Result<(), AllocError> {
+    let asked = asked(alloc, mode, "en");
+    let ended = (Status::DeviceFault, b"".as_slice(), line);
+    check_served(rt, alloc, asked, &sample(), fail_at, ROOM, ended)
+}
+
+// The first call lists the files, the second opens the first of them, and the next ones read it.
+fn check_devices(rt: &impl Abort, alloc: Global) -> Result<(), AllocError> {
+    check_failed(rt, alloc, Mode::Query, 1, LISTING)?;
+    check_failed(rt, alloc, Mode::Check, 1, LISTING)?;
+    check_failed(rt, alloc, Mode::Query, 2, FIRST_FILE)?;
+    check_failed(rt, alloc, Mode::Query, 3, FIRST_FILE)?;
+    check_failed(rt, alloc, Mode::Check, 2, FIRST_FILE)
+}
+
+#[test]
+fn tells_of_a_device(rt: HostRuntime) -> Result<(), Fail> {
+    check_devices(&rt, rt.alloc())?;
+    Ok(())
+}

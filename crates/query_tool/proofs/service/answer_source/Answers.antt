@@ -1,0 +1,38 @@
+use Rattle.std.proofs.Common.{Global, List, ℕ, Ok, Err, String, inl, map, refl, string_bytes, subst}
+use Rattle.query_tool.specs.Serve.{Task, TellsLoadFault}
+use Rattle.query_tool.specs.declared.words.Mode.TheVariants.{Query}
+use Rattle.query_tool.proofs.ServeLemmas.{counts_device, loaded_not, loaded_whole, refuses_with}
+use Rattle.query_tool.proofs.service.answer_source.Goals as goal
+
+-- the release was loaded, and served by the run
+pub returns-in-Ok : goal.returns-in-Ok
+returns-in-Ok g c =
+    let names : List (List ℕ) = map string_bytes c.load_from.new.names.items in
+    let task : Task = record { mode = Query; loaded = Ok c.in-Ok.engine; names = names } in (
+      task,
+      record {
+        mode_is = refl;
+        loaded = record {
+          loaded = loaded_whole _ c.standard.result c.args.lang.now names c.in-Ok.engine c.standard.ensures c.in-Ok.ensures.ok c.in-Ok.ensures.names;
+          device = tt;
+        };
+      },
+      inl (record { contents = c.in-Ok.engine; loaded = refl; ended = c.answer_all.ensures }),
+    )
+
+-- the files were refused
+pub returns : goal.returns
+returns g c =
+    let names : List (List ℕ) = map string_bytes c.load_from.new.names.items in
+    let task : Task = record { mode = Query; loaded = Err c.in-Err.fault; names = names } in (
+      task,
+      record {
+        mode_is = refl;
+        loaded = record {
+          loaded = loaded_not _ c.standard.result c.args.lang.now names c.in-Err.fault c.standard.ensures c.in-Err.ensures.err c.in-Err.ensures.names;
+          device = counts_device string_bytes c.load_from.new.names.items _ _ c.in-Err.fault c.in-Err.ensures.device;
+        };
+      },
+      refuses_with g.R.QueryInput g.W.AnswerOutput g.E.AnswerOutput task c.in-Err.fault c.refuse.result _ _ _ _ refl
+          (subst (λ (texts : List (String Global)). TellsLoadFault g.E.AnswerOutput (map string_bytes texts) c.in-Err.fault c.refuse.result c.args.errors.now c.refuse.new.errors) c.as_slice.ensures.value c.refuse.ensures),
+    )

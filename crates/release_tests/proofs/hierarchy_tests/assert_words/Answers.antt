@@ -1,8 +1,0 @@
-use Rattle.std.proofs.Common.{◌<◌, length, arith}
-use Rattle.release_tests.proofs.HierarchyLemmas.{concept_has_lists}
-use Rattle.release_tests.proofs.hierarchy_tests.assert_words.Goals as goal
-
-pub descendant_words-words-requires : goal.descendant_words-words-requires
-descendant_words-words-requires g c =
-    let below : c.args.concept < length c.args.snapshot.now.release.concepts = omega arith in
-    (concept_has_lists c.args.snapshot.now.release c.args.index.now c.args.concept c.requires below).descendants

@@ -1,5 +1,0 @@
-use Rattle.snapshot.specs.KeyedLists.{AreKeysBelow}
-use Rattle.snapshot.proofs.components.places_by_child.Given as goal
-
-abbrev pub invariant-loop-place : goal.invariant-loop-place
-invariant-loop-place l = AreKeysBelow l.count l.pairs.items

@@ -1,6 +1,0 @@
-use Rattle.snapshot.specs.Search.{MarksReached}
-use Rattle.snapshot.proofs.cycle.climb_in.Given as goal
-
-abbrev pub invariant-loop-place : goal.invariant-loop-place
-invariant-loop-place l =
-    MarksReached l.rows l.start l.initial.reached → MarksReached l.rows l.start l.reached

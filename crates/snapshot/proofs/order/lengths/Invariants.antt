@@ -1,5 +1,0 @@
-use Rattle.std.proofs.Common.{ℕ, ◌≡◌, List, length, map, take}
-use Rattle.snapshot.proofs.order.lengths.Given as goal
-
-abbrev pub invariant-loop-key : goal.invariant-loop-key
-invariant-loop-key l = l.lengths.items ≡ map (λ (xs : List ℕ). length xs) (take l.key l.lists)
