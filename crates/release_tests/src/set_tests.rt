@@ -177,7 +177,8 @@ fn push_answers<S: ConceptSet>(
     push_items(alloc, y.minus(alloc, x), answers)?;
     push_items(alloc, x.others(alloc), answers)?;
     push_items(alloc, x.copy(alloc), answers)?;
-    answers.push(y.count())
+    answers.push(y.count())?;
+    Ok(())
 }
 
 // The items of what each operation gives, one after another.
