@@ -9,7 +9,6 @@ use crate::components::{component_ranks, rows_from};
 use std::alloc::{AllocError, Global};
 
 /// The least of `count` concepts that reaches itself by the rows, each a child and its parent.
-/// Takes time linear in the rows, whether there is a cycle or not.
 pub fn least_cyclic(
     alloc: Global,
     rows: &[(u32, u32)],

@@ -70,22 +70,22 @@ numbered_more marks rows numbers k some none within long one room so_far n mark 
         (λ (before : n ≢ k). omega (arith, below, before)) (cases_eq n k))
 
 -- ---- the number of a row's group by the group
-number_of : GroupKey → ℕ
-number_of (numbered number) = number
-number_of (ungrouped pair) = 0
+key_number : GroupKey → ℕ
+key_number (numbered number) = number
+key_number (ungrouped pair) = 0
 
-number_of_own : (row : Attribute) → number_of (key_of row) ≡ row.group
-unfolding number_of
+number_of_own : (row : Attribute) → key_number (key_of row) ≡ row.group
+unfolding key_number
 number_of_own row = by (row.group == 0) refl
   where
-    by : (b : Bool) → (row.group == 0) ≡ b → number_of (cond b (ungrouped (record { type_id = row.type_id; value = row.value })) (numbered row.group))
+    by : (b : Bool) → (row.group == 0) ≡ b → key_number (cond b (ungrouped (record { type_id = row.type_id; value = row.value })) (numbered row.group))
         ≡ row.group
     by true is = sym (eqb-true row.group 0 is)
     by false is = refl
 
 same_number : (row other : Attribute) → group_of row ≡ group_of other → row.group ≡ other.group
 same_number row other same =
-    sym (number_of_own row) ∙ ap (λ (group : ConceptGroup). number_of group.key) same ∙ number_of_own other
+    sym (number_of_own row) ∙ ap (λ (group : ConceptGroup). key_number group.key) same ∙ number_of_own other
 
 -- ---- the row with a number
 pub length-kept : (indexes : RowIndexes) → length (rows_kept indexes) ≡ length indexes.type_places.items

@@ -546,22 +546,32 @@ fn joins_files_of_a_kind(rt: HostRuntime) -> Result<(), Fail> {
     let alloc = rt.alloc();
     let one = concept_file(alloc, &[id(&rt, b"1000004")])?;
     let other = concept_file(alloc, &[id(&rt, b"100005")])?;
-    let both = numbers_in(alloc, one.as_slice(), other.as_slice());
+    let both = numbers_in(
+        alloc,
+        one.as_slice(),
+        "xsct2_Concept_Snapshot_XX.txt",
+        other.as_slice(),
+    );
     assert!(rt; both == (2, Some(0), Some(1)));
-    let twice = numbers_in(alloc, one.as_slice(), one.as_slice());
+    let twice = numbers_in(alloc, one.as_slice(), NAME, one.as_slice());
     assert!(rt; twice == (1, None, Some(0)));
     Ok(())
 }
 
 // How many concepts a release of two concept files has, and the numbers of 100005 and of 1000004.
-fn numbers_in(alloc: Global, one: &[u8], other: &[u8]) -> (u32, Option<u32>, Option<u32>) {
+fn numbers_in(
+    alloc: Global,
+    one: &[u8],
+    other_name: &str,
+    other: &[u8],
+) -> (u32, Option<u32>, Option<u32>) {
     let files = [
         NamedBytes {
             name: NAME,
             bytes: one,
         },
         NamedBytes {
-            name: "xsct2_Concept_Snapshot_XX.txt",
+            name: other_name,
             bytes: other,
         },
     ];
