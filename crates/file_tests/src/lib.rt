@@ -9,6 +9,8 @@ mod identifier_tests;
 #[cfg(test)]
 mod line_tests;
 #[cfg(test)]
+mod row_fault_tests;
+#[cfg(test)]
 mod row_tests;
 #[cfg(test)]
 mod version_tests;

@@ -10,6 +10,8 @@ mod execute_tests;
 #[cfg(test)]
 mod hierarchy_tests;
 #[cfg(test)]
+mod keyed_list_tests;
+#[cfg(test)]
 mod load_tests;
 #[cfg(test)]
 mod many_rows_tests;

@@ -1,58 +1,44 @@
 -- The distinct items of a list are its members, each once.
-use Rattle.std.proofs.Common.{◌≡◌, Bool, true, false, not, ◌||◌, List, [], ◌∷◌, filter, nat_eq, refl, sym, ap, ◌∙◌, cond}
+use Rattle.std.proofs.Common.{◌≡◌, Bool, true, false, not, List, [], ◌∷◌, filter, nat_eq, refl, sym, ap, ◌∙◌, inl, inr}
 use Rattle.std.specs.Cmp.{IsEquivalence, equiv, both_ways}
-use Rattle.std.specs.List.{AllByRecursion, IsDistinct, list_any}
-use Rattle.std.proofs.lemmas.Bool.{eqb-true}
+use Rattle.std.specs.List.{IsDistinct, list_any}
+use Rattle.std.proofs.lemmas.Bool.{cases_Bool, eqb-true, not-true}
 use Rattle.std.proofs.lemmas.Cmp.{nat_eq_equiv}
+use Rattle.std.proofs.lemmas.List.Elements.{All-weaker, filter_passes, recursion_from_All}
+use Rattle.std.proofs.lemmas.List.Kept.{AllPairs-filter}
+use Rattle.std.proofs.lemmas.Map.Keys.{IsDistinct-cons, IsDistinct-from_apart, apart_from_distinct}
 use Rattle.std.proofs.lemmas.Map.Views.{Contains-from_any, any-filter_same, list_any-from_Contains}
 use Rattle.rf2_rows.specs.Pairs.{KeepsEachOnce, KeepsEachNumberOnce, KeepsEachPairOnce, distinct, pair_eq}
 use Rattle.rf2_rows.proofs.PairLemmas.{tells_same_pair}
 
 module _ {X : Type 0} (same : X → X → Bool) where
-  -- what stays beside an item is not the same as it
-  kept_apart : (x y : X) (ys : List X) (b : Bool) → same x y ≡ b → AllByRecursion (λ z. same x z ≡ false) ys
-      → AllByRecursion (λ z. same x z ≡ false) (cond (not b) (y ∷ ys) ys)
-  kept_apart x y ys true is rest = rest
-  kept_apart x y ys false is rest = (is, rest)
-
-  apart_filter : (x : X) (ys : List X) → AllByRecursion (λ z. same x z ≡ false) (filter (λ z. not (same x z)) ys)
-  apart_filter x [] = tt
-  apart_filter x (y ∷ ys) = kept_apart x y (filter (λ z. not (same x z)) ys) (same x y) refl (apart_filter x ys)
-
-  -- what is left of items of which all pass passes
-  all_kept : (P : X → Type 0) (test : X → Bool) (ys : List X) → AllByRecursion P ys → AllByRecursion P (filter test ys)
-  all_kept P test [] all = tt
-  all_kept P test (y ∷ ys) all =
-      elim (test y) as (λ b. AllByRecursion P (cond b (y ∷ filter test ys) (filter test ys)))
-      [ true ↦ (all.0, all_kept P test ys all.1) | false ↦ all_kept P test ys all.1 ]
-
+  -- what a test leaves of distinct items is distinct
   distinct_kept : (test : X → Bool) (ys : List X) → IsDistinct same ys → IsDistinct same (filter test ys)
-  unfolding IsDistinct
-  distinct_kept test [] apart = tt
-  distinct_kept test (y ∷ ys) apart =
-      elim (test y) as (λ b. IsDistinct same (cond b (y ∷ filter test ys) (filter test ys)))
-      [ true ↦ (all_kept (λ z. same y z ≡ false) test ys apart.0, distinct_kept test ys apart.1) | false ↦ distinct_kept test ys apart.1 ]
+  distinct_kept test ys apart =
+      IsDistinct-from_apart same (filter test ys) (AllPairs-filter (λ x y. same x y ≡ false) test ys (λ i j d before within. apart_from_distinct same ys i j d apart before within))
 
   distinct_once : (xs : List X) → IsDistinct same (distinct same xs)
   unfolding IsDistinct
   distinct_once [] = tt
-  distinct_once (x ∷ xs) = (apart_filter x (distinct same xs), distinct_kept (λ z. not (same x z)) (distinct same xs) (distinct_once xs))
+  distinct_once (x ∷ xs) =
+      let other = λ (y : X). not (same x y) in
+      let left = filter other (distinct same xs) in
+      IsDistinct-cons same x left
+      (recursion_from_All (λ y. same x y ≡ false) left (All-weaker (λ y. other y ≡ true) (λ y. same x y ≡ false) (λ y. not-true (same x y)) left (filter_passes other (distinct same xs))))
+      (distinct_kept other (distinct same xs) (distinct_once xs))
 
   module _ (is : IsEquivalence same) where
     -- an item that is the same as one that is not the same as x stays beside x
     beside : (q x k : X) → same q x ≡ false → same q k ≡ true → not (same x k) ≡ true
     beside q x k apart alike = ap not (is.symm x k ∙ sym (is.congr q k x alike) ∙ apart)
 
-    found_behind : (q x : X) (xs : List X) (b : Bool) → same q x ≡ b → list_any (same q) (distinct same xs) ≡ list_any (same q) xs
-        → (b || list_any (same q) (filter (λ z. not (same x z)) (distinct same xs))) ≡ (b || list_any (same q) xs)
-    found_behind q x xs true here rest = refl
-    found_behind q x xs false here rest =
-        any-filter_same (same q) (λ z. not (same x z)) true (λ k alike. beside q x k here alike) (distinct same xs) ∙ rest
-
     -- an item is the same as one of the distinct items exactly where it is the same as one of all
     pub any_distinct : (q : X) (xs : List X) → list_any (same q) (distinct same xs) ≡ list_any (same q) xs
     any_distinct q [] = refl
-    any_distinct q (x ∷ xs) = found_behind q x xs (same q x) refl (any_distinct q xs)
+    any_distinct q (x ∷ xs) = elim (cases_Bool (same q x)) [
+      | inl here ↦ rw here refl
+      | inr apart ↦ rw apart (any-filter_same (same q) (λ y. not (same x y)) true (λ k alike. beside q x k apart alike) (distinct same xs) ∙ any_distinct q xs)
+    ]
 
     keeps_each_once : ((x y : X) → same x y ≡ true → x ≡ y) → (xs : List X) → KeepsEachOnce same xs
     keeps_each_once exact xs = (

@@ -9,27 +9,8 @@ use Rattle.rf2_rows.specs.declared.row.Row.TheVariants.{Concept, Concrete, Descr
 
 pub text_in-row : (kind : FileKind) (line : List ℕ) (row : Row) → IsRow kind line row → text_in row ≡ row_text kind line
 text_in-row file.Concept line (Concept row) is = ap of_concept is
-text_in-row file.Concept line (Description row) is = absurd is
-text_in-row file.Concept line (Relationship row) is = absurd is
-text_in-row file.Concept line (Concrete row) is = absurd is
-text_in-row file.Concept line (Member row) is = absurd is
-text_in-row file.Description line (Concept row) is = absurd is
 text_in-row file.Description line (Description row) is = ap of_description is
-text_in-row file.Description line (Relationship row) is = absurd is
-text_in-row file.Description line (Concrete row) is = absurd is
-text_in-row file.Description line (Member row) is = absurd is
-text_in-row file.Relationship line (Concept row) is = absurd is
-text_in-row file.Relationship line (Description row) is = absurd is
 text_in-row file.Relationship line (Relationship row) is = ap of_relationship is
-text_in-row file.Relationship line (Concrete row) is = absurd is
-text_in-row file.Relationship line (Member row) is = absurd is
-text_in-row file.Concrete line (Concept row) is = absurd is
-text_in-row file.Concrete line (Description row) is = absurd is
-text_in-row file.Concrete line (Relationship row) is = absurd is
 text_in-row file.Concrete line (Concrete row) is = ap of_concrete is
-text_in-row file.Concrete line (Member row) is = absurd is
-text_in-row file.Member line (Concept row) is = absurd is
-text_in-row file.Member line (Description row) is = absurd is
-text_in-row file.Member line (Relationship row) is = absurd is
-text_in-row file.Member line (Concrete row) is = absurd is
 text_in-row file.Member line (Member row) is = ap of_member is
+text_in-row _ line _ is = absurd is

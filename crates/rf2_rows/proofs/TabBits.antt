@@ -1,15 +1,18 @@
 -- The tabs of a line as bits: what a shift leaves of them, and where the lowest stands.
-use Rattle.std.proofs.Common.{◌≡◌, ℕ, zero, suc, ◌+◌, ◌-◌, ◌*◌, ◌/◌, ◌^◌, ◌<◌, ◌≤◌, Bool, true, false, cond, not, eqb, List, [], ◌∷◌, ◌++◌, length, get_or, take, drop, replicate, min, refl, sym, ap, subst, ◌∙◌, arith, length-drop, inl, inr, Bor, append_assoc, length-append}
+use Rattle.std.proofs.Common.{◌≡◌, ℕ, zero, suc, ◌+◌, ◌-◌, ◌*◌, ◌/◌, ◌^◌, ◌<◌, ◌≤◌, Bool, true, false, cond, not, eqb, ◌==◌, List, [], ◌∷◌, ◌++◌, length, get_or, take, drop, replicate, min, refl, sym, ap, subst, ◌∙◌, arith, length-drop, inl, inr, Bor, append_assoc, length-append}
 use Rattle.std.proofs.Math.Nat.{div-div-eq-div-mul, pow-suc, pow-succ', zero-div, div-one}
-use Rattle.std.proofs.lemmas.List.{drop-take, drop-drop, drop-replicate, get_or-drop, get_or-take, get_or_past, length-take, length-map, map-append, take_all}
-use Rattle.std.proofs.lemmas.List.Sums.{prefix_len_passes, prefix_len_stops}
+use Rattle.std.proofs.lemmas.List.{drop-take, drop-drop, drop-replicate, get_or-drop, get_or-take, get_or_past, length-take, length-map, map-append, map_push, take_all, take_rest}
+use Rattle.std.proofs.lemmas.Slice.{between_to_end}
+use Rattle.std.proofs.lemmas.List.Elements.{All-from_get_or}
+use Rattle.std.proofs.lemmas.List.Splits.{slice_split_none}
+use Rattle.std.proofs.lemmas.List.Sums.{prefix_len-le-length, prefix_len_passes, prefix_len_stops}
 use Rattle.std.proofs.lemmas.Simd.{trailing_mask_l, leading_from_mask_l}
 use Rattle.std.specs.Int.Count.{count_trailing_zeros}
 use Rattle.std.specs.List.{prefix_len}
-use Rattle.rf2_rows.specs.Parts.{parts_at, texts_of}
+use Rattle.rf2_rows.specs.Parts.{parts_at}
 use Rattle.rf2_rows.specs.Tabs.{NoTab, tab_bits, tabs_in, parts_from}
-use Rattle.rf2_rows.proofs.Parts.{HasNone, parts_cut, parts_whole}
-use Rattle.std.proofs.lemmas.Bool.{false≢true, cases_lt}
+use Rattle.rf2_rows.proofs.Parts.{parts_cut}
+use Rattle.std.proofs.lemmas.Bool.{cases_lt, not-false, not-true}
 
 -- what a shift by one leaves of a bit and those above it
 halved : (b : Bool) (n : ℕ) → (cond b 1 0 + 2 * n) / 2 ≡ n
@@ -31,8 +34,8 @@ tab_bits-padded [] zero = refl
 tab_bits-padded [] (suc count) = let rest = tab_bits-padded [] count in omega (arith, rest)
 tab_bits-padded (byte ∷ bytes) count = ap (λ n. cond (eqb byte 9) 1 0 + 2 * n) (tab_bits-padded bytes count)
 
-pub tab_bits-in_zeros : (bytes : List ℕ) (n k : ℕ) → tab_bits (bytes ++ drop k (replicate n 0)) ≡ tab_bits bytes
-tab_bits-in_zeros bytes n k = ap (λ zeros. tab_bits (bytes ++ zeros)) (drop-replicate k n 0) ∙ tab_bits-padded bytes (n - k)
+pub padded_block : (bytes : List ℕ) (k : ℕ) → tab_bits (bytes ++ drop k (replicate 32 0)) ≡ tab_bits bytes
+padded_block bytes k = ap (λ zeros. tab_bits (bytes ++ zeros)) (drop-replicate k 32 0) ∙ tab_bits-padded bytes (32 - k)
 
 module _ (line : List ℕ) where
   pub tabs_in-shifted : (from to k : ℕ) → from + k ≤ to → tabs_in line from to / 2 ^ k ≡ tabs_in line (from + k) to
@@ -62,71 +65,55 @@ module _ (line : List ℕ) where
       ∙ sym (tabs_in-past from (from + 32) (omega arith))
 
 -- where a bit is set, a tab stands among the bytes
-some_tab-of : (b : Bool) (bits count size : ℕ) → (0 < bits → count < size) → 0 < cond b 1 0 + 2 * bits → cond (not b) (1 + count) 0 < suc size
-some_tab-of true bits count size later some = omega arith
-some_tab-of false bits count size later some = let more = later (omega arith) in omega arith
-
-some_tab : (bytes : List ℕ) → 0 < tab_bits bytes → prefix_len (λ byte. not (eqb byte 9)) bytes < length bytes
+some_tab : (bytes : List ℕ) → 0 < tab_bits bytes → prefix_len (λ byte. not (byte == 9)) bytes < length bytes
 some_tab [] some = absurd (omega arith)
-some_tab (byte ∷ bytes) some = some_tab-of (eqb byte 9) (tab_bits bytes) (prefix_len (λ byte. not (eqb byte 9)) bytes) (length bytes) (some_tab bytes) some
-
-not_false : (b : Bool) → not b ≡ true → b ≡ false
-not_false false is = refl
-not_false true is = sym is
-
-not_true : (b : Bool) → not b ≡ false → b ≡ true
-not_true true is = refl
-not_true false is = sym is
+some_tab (byte ∷ bytes) some = grind (arith, some_tab bytes)
 
 -- the lowest bit is the first tab
-pub record FirstTab (line : List ℕ) (from to at : ℕ) : Type 0 where
-  pub before : at < to
-  pub in_line : at < length line
-  pub clear : NoTab line from at
-  pub is : eqb (get_or line at 0) 9 ≡ true
+record FirstTab (line : List ℕ) (from to at : ℕ) : Type 0 where
+  before : at < to
+  in_line : at < length line
+  clear : NoTab line from at
+  is : (get_or line at 0 == 9) ≡ true
 
-pub first_tab : (line : List ℕ) (from to marks : ℕ) → marks ≡ tabs_in line from to → to ≤ from + 32 → 0 < marks → FirstTab line from to (from + count_trailing_zeros 64 marks)
-first_tab line from to marks is_marks few set =
-    let some : 0 < tabs_in line from to = omega (arith, is_marks, set) in
-    let bytes = take (to - from) (drop from line) in
-    let other = λ (byte : ℕ). not (eqb byte 9) in
-    let size : length bytes ≡ min (to - from) (length line - from) = length-take (to - from) (drop from line) ∙ ap (min (to - from)) (length-drop from line) in
-    let counted : count_trailing_zeros 64 (tabs_in line from to) ≡ prefix_len other bytes = trailing_mask_l (λ byte. eqb byte 9) 64 bytes (omega (arith, size)) some in
-    let found = some_tab bytes some in
-    let byte_at : (k : ℕ) → k < to - from → get_or bytes k 0 ≡ get_or line (from + k) 0 = λ k below. get_or-take (to - from) (drop from line) k 0 below ∙ get_or-drop from line k 0 in
-    let passes : (k : ℕ) → k < prefix_len other bytes → eqb (get_or line (from + k) 0) 9 ≡ false = λ k below.
-    sym (ap (λ byte. eqb byte 9) (byte_at k (omega (arith, size, found)))) ∙ not_false (eqb (get_or bytes k 0) 9) (prefix_len_passes other bytes k 0 below) in
-    let stops : eqb (get_or line (from + prefix_len other bytes) 0) 9 ≡ true =
-    sym (ap (λ byte. eqb byte 9) (byte_at (prefix_len other bytes) (omega (arith, size, found)))) ∙ not_true (eqb (get_or bytes (prefix_len other bytes) 0) 9) (prefix_len_stops other bytes 0 found) in
-    subst (λ r. FirstTab line from to (from + r)) (sym (ap (count_trailing_zeros 64) is_marks ∙ counted)) (record {
-      before = omega (arith, size, found);
-      in_line = omega (arith, size, found);
-      clear = λ k above below. subst (λ n. eqb (get_or line n 0) 9 ≡ false) (omega arith) (passes (k - from) (omega arith));
-      is = stops;
-    })
+abbrev next_tab : List ℕ → ℕ → ℕ → ℕ
+next_tab line from to = from + count_trailing_zeros 64 (tabs_in line from to)
 
--- what is left behind the first tab
-pub marks_behind : (line : List ℕ) (from to marks lane : ℕ) → marks ≡ tabs_in line from to → from + lane < to → marks / 2 ^ lane / 2 ≡ tabs_in line (from + lane + 1) to
-marks_behind line from to marks lane is_marks below =
-    div-div-eq-div-mul marks (2 ^ lane) 2
-    ∙ ap (λ n. marks / n) (sym (pow-suc 2 lane))
-    ∙ ap (λ n. n / 2 ^ suc lane) is_marks
-    ∙ tabs_in-shifted line from to (suc lane) (omega arith)
-    ∙ ap (λ n. tabs_in line n to) (omega arith)
+module _ (line : List ℕ) (from to : ℕ) where
+  size : length (take (to - from) (drop from line)) ≡ min (to - from) (length line - from)
+  size = length-take (to - from) (drop from line) ∙ ap (min (to - from)) (length-drop from line)
 
--- where no bit is set, there is no tab
-no_tab : (line : List ℕ) (from to : ℕ) → tabs_in line from to ≡ 0 → NoTab line from (min to (length line))
-no_tab line from to none k above below =
-    let bytes = take (to - from) (drop from line) in
-    let other = λ (byte : ℕ). not (eqb byte 9) in
-    let size : length bytes ≡ min (to - from) (length line - from) = length-take (to - from) (drop from line) ∙ ap (min (to - from)) (length-drop from line) in
-    let all = leading_from_mask_l (λ byte. eqb byte 9) bytes none in
-    let byte_at : get_or bytes (k - from) 0 ≡ get_or line (from + (k - from)) 0 = get_or-take (to - from) (drop from line) (k - from) 0 (omega arith) ∙ get_or-drop from line (k - from) 0 in
-    let place : from + (k - from) ≡ k = omega arith in
-    sym (ap (λ n. eqb (get_or line n 0) 9) place) ∙ sym (ap (λ byte. eqb byte 9) byte_at) ∙ not_false (eqb (get_or bytes (k - from) 0) 9) (prefix_len_passes other bytes (k - from) 0 (omega (arith, size, all)))
+  byte_at : (k : ℕ) → k < to - from → (get_or (take (to - from) (drop from line)) k 0 == 9) ≡ (get_or line (from + k) 0 == 9)
+  byte_at k below = ap (λ byte. byte == 9) (get_or-take (to - from) (drop from line) k 0 below ∙ get_or-drop from line k 0)
+
+  clear_front : NoTab line from (from + prefix_len (λ byte. not (byte == 9)) (take (to - from) (drop from line)))
+  clear_front k above below =
+      let bytes = take (to - from) (drop from line) in
+      let inside = prefix_len-le-length (λ byte. not (byte == 9)) bytes in
+      let place : from + (k - from) ≡ k = omega arith in
+      subst (λ n. (get_or line n 0 == 9) ≡ false) place
+      (sym (byte_at (k - from) (omega (arith, size, inside))) ∙ not-true (get_or bytes (k - from) 0 == 9) (prefix_len_passes (λ byte. not (byte == 9)) bytes (k - from) 0 (omega arith)))
+
+  first_tab : to ≤ from + 32 → 0 < tabs_in line from to → FirstTab line from to (next_tab line from to)
+  first_tab few some =
+      let bytes = take (to - from) (drop from line) in
+      let other = λ (byte : ℕ). not (byte == 9) in
+      let counted : count_trailing_zeros 64 (tabs_in line from to) ≡ prefix_len other bytes = trailing_mask_l (λ byte. byte == 9) 64 bytes (omega (arith, size)) some in
+      let found = some_tab bytes some in
+      subst (λ r. FirstTab line from to (from + r)) (sym counted) (record {
+        before = omega (arith, size, found);
+        in_line = omega (arith, size, found);
+        clear = clear_front;
+        is = sym (byte_at (prefix_len other bytes) (omega (arith, size, found))) ∙ not-false (get_or bytes (prefix_len other bytes) 0 == 9) (prefix_len_stops other bytes 0 found);
+      })
+
+  -- where no bit is set, there is no tab
+  no_tab : tabs_in line from to ≡ 0 → NoTab line from (min to (length line))
+  no_tab none k above below =
+      clear_front k above (omega (arith, size, leading_from_mask_l (λ byte. byte == 9) (take (to - from) (drop from line)) none))
 
 -- up to a place and from there on there is no tab
-pub clear_then : (line : List ℕ) (from place to : ℕ) → NoTab line from place → NoTab line place to → NoTab line from to
+clear_then : (line : List ℕ) (from place to : ℕ) → NoTab line from place → NoTab line place to → NoTab line from to
 clear_then line from place to before behind k above below = elim (cases_lt k place) [ inl near ↦ before k above near | inr far ↦ behind k far below ]
 
 -- there is none in what no bit is left of, nor behind the end of the line
@@ -139,35 +126,46 @@ none_left line from place to before none =
 
 -- the parts that are left behind a place, where a tab or the end of the line is next
 module _ (line : List ℕ) where
-  has_none : (start to : ℕ) → NoTab line start to → HasNone 9 (drop start line) (to - start)
-  has_none start to clear k below is =
-      let none = clear (start + k) (omega arith) (omega arith) in
-      false≢true (sym none ∙ (sym (ap (λ byte. eqb byte 9) (get_or-drop start line k 0)) ∙ is))
-
-  pub next_part : (start at : ℕ) → start ≤ at → at < length line → NoTab line start at → eqb (get_or line at 0) 9 ≡ true → parts_from line start ≡ take (at - start) (drop start line) ∷ parts_from line (at + 1)
+  next_part : (start at : ℕ) → start ≤ at → at < length line → NoTab line start at → eqb (get_or line at 0) 9 ≡ true → parts_from line start ≡ take (at - start) (drop start line) ∷ parts_from line (at + 1)
   next_part start at le in_line clear is =
       let rest = drop start line in
       let count = at - start in
       let place : start + count ≡ at = omega arith in
       let tab : eqb (get_or rest count 0) 9 ≡ true = ap (λ byte. eqb byte 9) (get_or-drop start line count 0) ∙ ap (λ k. eqb (get_or line k 0) 9) place ∙ is in
-      let behind : drop (suc count) rest ≡ drop (at + 1) line = drop-drop (suc count) start line ∙ ap (λ k. drop k line) (omega arith) in
-      parts_cut 9 rest count (omega (arith, length-drop start line)) (has_none start at clear) tab
+      let behind : drop (count + 1) rest ≡ drop (at + 1) line = drop-drop (count + 1) start line ∙ ap (λ k. drop k line) (omega arith) in
+      parts_cut 9 rest count (omega (arith, length-drop start line)) (λ k below. rw get_or-drop (clear (start + k) (omega arith) (omega arith))) tab
       ∙ ap (λ left. take count rest ∷ left) (ap (parts_at 9) behind)
 
   pub last_part : (start : ℕ) → start ≤ length line → NoTab line start (length line) → parts_from line start ≡ take (length line - start) (drop start line) ∷ []
   last_part start le clear =
       let rest = drop start line in
-      let whole : rest ≡ take (length line - start) rest = sym (take_all (length line - start) rest (omega (arith, length-drop start line))) in
-      parts_whole 9 rest (subst (HasNone 9 rest) (sym (length-drop start line)) (has_none start (length line) clear))
-      ∙ ap (λ part. part ∷ []) whole
+      slice_split_none (λ byte. byte == 9) rest
+      (All-from_get_or (λ byte. (byte == 9) ≡ false) rest 0 (λ k below. rw get_or-drop (clear (start + k) (omega arith) (omega (arith, length-drop start line)))))
+      ∙ ap (λ part. part ∷ []) (sym (take_rest line start))
 
--- where the fields are as many as there is room for, and a part is left, the parts are more
-pub no_room : (items : List (Bor (List ℕ))) (part : List ℕ) (rest : List (List ℕ)) → length items ≡ 10 → 10 < length (texts_of items ++ part ∷ rest)
-no_room items part rest full = omega (arith, full, length-append (texts_of items) (part ∷ rest), length-map items (λ (text : Bor (List ℕ)). text.now))
+-- what `grind` takes where the fields of a line are put into a list: of the lowest bit that is left, and of the parts
+pub lowest_tab : (line : List ℕ) (from to : ℕ) → to ≤ from + 32 → 0 < tabs_in line from to
+    → (tabs_in line from to ≡ tabs_in line from to) × (next_tab line from to < to) × (next_tab line from to < length line)
+    × (tabs_in line from to / 2 ^ count_trailing_zeros 64 (tabs_in line from to) / 2 ≡ tabs_in line (next_tab line from to + 1) to)
+lowest_tab line from to few some =
+    let tab = first_tab line from to few some in
+    let lane = count_trailing_zeros 64 (tabs_in line from to) in
+    let behind : tabs_in line from to / 2 ^ lane / 2 ≡ tabs_in line (from + lane + 1) to =
+    div-div-eq-div-mul (tabs_in line from to) (2 ^ lane) 2
+    ∙ ap (λ n. tabs_in line from to / n) (sym (pow-suc 2 lane))
+    ∙ tabs_in-shifted line from to (suc lane) (omega (arith, tab.before))
+    ∙ ap (λ n. tabs_in line n to) (omega arith) in
+    (refl, tab.before, tab.in_line, behind)
 
--- the part that was pushed stands before those that are left
-pub pushed : (items new : List (Bor (List ℕ))) (part : Bor (List ℕ)) (rest : List (List ℕ)) → new ≡ items ++ part ∷ [] → texts_of new ++ rest ≡ texts_of items ++ part.now ∷ rest
-pushed items new part rest is =
-    ap (λ all. texts_of all ++ rest) is
-    ∙ ap (λ all. all ++ rest) (map-append (λ (text : Bor (List ℕ)). text.now) items (part ∷ []))
-    ∙ append_assoc (texts_of items) (part.now ∷ []) rest
+pub next_field : (line : List ℕ) (start from to : ℕ) → start ≤ from → NoTab line start from → to ≤ from + 32 → 0 < tabs_in line from to
+    → take (next_tab line from to - start) (drop start line) ∷ parts_from line (next_tab line from to + 1) ≡ parts_from line start
+next_field line start from to ahead clear few some =
+    let tab = first_tab line from to few some in
+    sym (next_part line start (next_tab line from to) (omega arith) tab.in_line (clear_then line start from (next_tab line from to) clear tab.clear) tab.is)
+
+pub ruleset fields_cut = (lowest_tab, next_field, map_push, append_assoc, length-append, length-map)
+
+pub ruleset last_field = (last_part, map_push, between_to_end, take_rest)
+
+-- and where the tabs of a line's next bytes are told
+pub ruleset shifts = (tab_bits-shifted, tabs_in-last, tabs_in-past)

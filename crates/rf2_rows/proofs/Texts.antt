@@ -1,52 +1,82 @@
 -- Words that stand in texts.
-use Rattle.std.proofs.Common.{◌≡◌, ℕ, zero, suc, ◌<◌, true, List, [], ◌∷◌, length, get_or, drop, refl, sym, ap, ◌∙◌, inl, inr, zero-add, suc-add, arith}
-use Rattle.std.specs.Prelude.{nat_eq}
-use Rattle.std.specs.List.{starts_with}
-use Rattle.std.proofs.lemmas.Bool.{or_cases, or_left, or_right}
+use Rattle.std.proofs.Common.{◌≡◌, ℕ, zero, suc, ◌+◌, ◌-◌, ◌<◌, ◌≤◌, get_or, add-sub_cancel, true, false, List, [], ◌∷◌, Option, None, Some, length, drop, refl, ◌∙◌, inl, inr, arith, length-drop}
+use Rattle.std.specs.Prelude.{nat_eq, not, ◌==◌, ◌↔◌}
+use Rattle.std.specs.List.{after_last, starts_with}
+use Rattle.std.proofs.lemmas.List.Sums.{suffix_len_is}
+use Rattle.std.proofs.lemmas.Slice.{between_to_end}
+use Rattle.std.specs.Option.{is_some}
+use Rattle.std.proofs.lemmas.Bool.{false_from_ne_true, not_from_false, not_from_true, or_cases, or_left, or_right}
 use Rattle.std.proofs.lemmas.Bool.Decides.{Decides-eqb}
 use Rattle.std.proofs.lemmas.Slice.Eq.{starts_is}
-use Rattle.std.proofs.lemmas.List.Prefix.{front_fits, front_reads, front_from_reads}
+use Rattle.std.proofs.lemmas.List.Prefix.{at_from_reads, at_reads, front_fits}
+use Rattle.std.proofs.lemmas.Str.{IsUtf8-from_is_utf8, is_utf8-from_IsUtf8}
 use Rattle.bstr.specs.Find.{OccursAt}
 use Rattle.rf2_rows.specs.Files.{holds}
+use Rattle.uuid.specs.Text.{parsed, parsed_hyphenated}
 
-module _ (word : List ℕ) where
-  -- a text begins with the word exactly where the word stands at its place 0
-  begins_OccursAt : (text : List ℕ) → starts_with nat_eq text word ≡ true → OccursAt text word 0
-  begins_OccursAt text begins =
-      let front = (starts_is Decides-eqb text word (starts_with nat_eq text word) refl).0 begins in
+-- the test of UTF-8 holds exactly where the text is accepted
+pub ruleset utf8_tests = (is_utf8-from_IsUtf8, IsUtf8-from_is_utf8)
+
+-- a text of 36 bytes is read in the hyphenated form alone
+parsed_at_36 : (text : List ℕ) → length text ≡ 36 → parsed text ≡ parsed_hyphenated text
+parsed_at_36 text long = rw long refl
+
+pub not_hyphenated : (text : List ℕ) → length text ≡ 36 → ((id : List ℕ) × (parsed text ≡ Some id) → ⊥) → (length text ≡ length text) × (is_some (parsed_hyphenated text) ≡ false)
+not_hyphenated text long none = (refl, by (parsed_hyphenated text) refl)
+  where
+    by : (found : Option (List ℕ)) → parsed_hyphenated text ≡ found → is_some found ≡ false
+    by None is = refl
+    by (Some id) is = absurd (none (id, parsed_at_36 text long ∙ is))
+
+-- what stands behind the last `/` of a path, or all of it where there is none
+behind_from : (path : List ℕ) (n : ℕ) → n ≤ length path → ((k : ℕ) → n ≤ k → k < length path → (get_or path k 0 == 47) ≡ true → ⊥) → (0 < n → (get_or path (n - 1) 0 == 47) ≡ true) → after_last (λ byte. byte == 47) path ≡ drop n path
+behind_from path n fits none ends =
+    let behind = suffix_len_is (λ byte. not (byte == 47)) path n 0 fits (λ k low high. not_from_false _ (false_from_ne_true _ (none k low high))) (λ some. not_from_true _ (ends some)) in
+    let front : length path - (length path - n) ≡ n = omega arith in
+    rw (behind, front) refl
+
+pub behind_last : (path : List ℕ) (at : ℕ) → at < length path → (get_or path at 0 == 47) ≡ true → ((k : ℕ) → at + 1 ≤ k → k < length path → (get_or path k 0 == 47) ≡ true → ⊥) → (get_or path at 0 ≡ get_or path at 0) × (after_last (λ byte. byte == 47) path ≡ drop (at + 1) path)
+behind_last path at within is none = (refl, behind_from path (at + 1) (omega arith) none (λ some. rw add-sub_cancel is))
+
+pub behind_none : (path : List ℕ) → ((k : ℕ) → 0 ≤ k → k < length path → (get_or path k 0 == 47) ≡ true → ⊥) → (length path ≡ length path) × (after_last (λ byte. byte == 47) path ≡ path)
+behind_none path none = (refl, behind_from path 0 (omega arith) none (λ some. absurd (omega arith)))
+
+pub ruleset names_in_paths = (behind_last, behind_none, between_to_end)
+
+module _ (word : List ℕ) (some : 0 < length word) where
+  -- what is left behind a place begins with the word exactly where the word stands at the place
+  begins_OccursAt : (text : List ℕ) (k : ℕ) → starts_with nat_eq (drop k text) word ≡ true → OccursAt text word k
+  begins_OccursAt text k begins =
+      let rest = drop (length word) (drop k text) in
+      let front = (starts_is Decides-eqb (drop k text) word (starts_with nat_eq (drop k text) word) refl).0 begins in
       record {
-        fits = omega (arith, front_fits text word (drop (length word) text) front);
-        reads = λ j below. rw zero-add (front_reads 0 text word (drop (length word) text) front j below);
+        fits = omega (arith, length-drop k text, front_fits (drop k text) word rest front);
+        reads = at_reads 0 text word k rest front;
       }
 
-  OccursAt_begins : (text : List ℕ) → OccursAt text word 0 → starts_with nat_eq text word ≡ true
-  OccursAt_begins text occurs =
-      let front = front_from_reads 0 text word (omega (arith, occurs.fits)) (λ j below. rw zero-add at (occurs.reads j below)) in
-      (starts_is Decides-eqb text word (starts_with nat_eq text word) refl).1 (drop (length word) text) front
-
-  -- a byte in front moves the word by one place
-  OccursAt-cons : (byte : ℕ) (text : List ℕ) (k : ℕ) → OccursAt text word k → OccursAt (byte ∷ text) word (suc k)
-  OccursAt-cons byte text k occurs = record {
-    fits = omega (arith, occurs.fits);
-    reads = λ j below. ap (λ place. get_or (byte ∷ text) place 0) (suc-add k j) ∙ occurs.reads j below;
-  }
-
-  OccursAt-tail : (byte : ℕ) (text : List ℕ) (k : ℕ) → OccursAt (byte ∷ text) word (suc k) → OccursAt text word k
-  OccursAt-tail byte text k occurs = record {
-    fits = omega (arith, occurs.fits);
-    reads = λ j below. ap (λ place. get_or (byte ∷ text) place 0) (sym (suc-add k j)) ∙ occurs.reads j below;
-  }
+  OccursAt_begins : (text : List ℕ) (k : ℕ) → OccursAt text word k → starts_with nat_eq (drop k text) word ≡ true
+  OccursAt_begins text k occurs =
+      (starts_is Decides-eqb (drop k text) word (starts_with nat_eq (drop k text) word) refl).1 (drop (k + length word) text) (at_from_reads 0 text word k occurs.fits occurs.reads)
 
   -- where a text holds the word, it stands somewhere
-  pub holds_occurs : (text : List ℕ) → holds word text ≡ true → (k : ℕ) × OccursAt text word k
-  holds_occurs [] is = cc
-  holds_occurs (byte ∷ text) is = elim (or_cases (starts_with nat_eq (byte ∷ text) word) (holds word text) is) [
-    | inl here ↦ (0, begins_OccursAt (byte ∷ text) here)
-    | inr later ↦ let found = holds_occurs text later in (suc found.0, OccursAt-cons byte text found.0 found.1)
+  holds_begins : (text : List ℕ) → holds word text ≡ true → (k : ℕ) × (starts_with nat_eq (drop k text) word ≡ true)
+  holds_begins [] is = cc
+  holds_begins (byte ∷ text) is = elim (or_cases (starts_with nat_eq (byte ∷ text) word) (holds word text) is) [
+    | inl here ↦ (0, here)
+    | inr later ↦ let found = holds_begins text later in (suc found.0, found.1)
   ]
 
-  -- and where a word of a byte at least stands somewhere, the text holds it
-  pub occurs_holds : (text : List ℕ) (k : ℕ) → 0 < length word → OccursAt text word k → holds word text ≡ true
-  occurs_holds [] k some occurs = absurd (omega (arith, occurs.fits))
-  occurs_holds (byte ∷ text) zero some occurs = or_left _ _ (OccursAt_begins (byte ∷ text) occurs)
-  occurs_holds (byte ∷ text) (suc k) some occurs = or_right _ _ (occurs_holds text k some (OccursAt-tail byte text k occurs))
+  pub holds_occurs : (text : List ℕ) → holds word text ≡ true → (k : ℕ) × OccursAt text word k
+  holds_occurs text is = let found = holds_begins text is in (found.0, begins_OccursAt text found.0 found.1)
+
+  -- and where it stands somewhere, the text holds it
+  begins_holds : (text : List ℕ) (k : ℕ) → starts_with nat_eq (drop k text) word ≡ true → holds word text ≡ true
+  begins_holds [] k begins = absurd (omega (arith, (begins_OccursAt [] k begins).fits))
+  begins_holds (byte ∷ text) zero begins = or_left _ _ begins
+  begins_holds (byte ∷ text) (suc k) begins = or_right _ _ (begins_holds text k begins)
+
+  pub occurs_holds : (text : List ℕ) (k : ℕ) → OccursAt text word k → holds word text ≡ true
+  occurs_holds text k occurs = begins_holds text k (OccursAt_begins text k occurs)
+
+  pub holds_tells : (text : List ℕ) → (holds word text ≡ holds word text) × ((holds word text ≡ true) ↔ ((k : ℕ) × OccursAt text word k))
+  holds_tells text = (refl, (holds_occurs text, λ (k, occurs). occurs_holds text k occurs))

@@ -1,57 +1,49 @@
 -- The numbers among the values of attributes.
-use Rattle.std.proofs.Common.{◌≡◌, ℕ, ◌+◌, ◌-◌, ◌*◌, ◌^◌, ◌<◌, ◌≤◌, ◌⊎◌, inl, inr, true, false, eqb, List, [], ◌∷◌, length, get_or, drop, Option, None, Some, refl, sym, ap, ◌∙◌, subst, arith}
-use Rattle.std.specs.Prelude.{nat_eq, nat_le, ◌&&◌, ℤ, pos, neg_ℤ, ◌+ℤ◌, ◌-ℤ◌, ◌*ℤ◌}
+use Rattle.std.proofs.Common.{◌≡◌, ℕ, ◌+◌, ◌-◌, ◌*◌, ◌^◌, ◌<◌, ◌≤◌, ◌==◌, true, false, List, [], ◌∷◌, length, get_or, take, drop, Option, None, Some, refl, sym, ap, ◌∙◌, arith}
+use Rattle.std.specs.Prelude.{nat_eq, ℤ, pos, neg_ℤ, ◌+ℤ◌, ◌-ℤ◌, ◌*ℤ◌}
 use Rattle.std.specs.Char.{is_ascii_digit}
-use Rattle.std.specs.List.{list_all, onto_first, starts_with}
+use Rattle.std.specs.List.{join_with_byte, list_all, starts_with}
 use Rattle.std.specs.Option.{option_map}
-use Rattle.std.proofs.lemmas.Bool.{and_from, and_parts, cases_Bool, eq-eqb, eqb-true, leb-true}
+use Rattle.std.specs.Str.Parse.{digits_value}
+use Rattle.std.proofs.lemmas.Bool.{and_from, and_parts, eq-eqb}
+use Rattle.std.proofs.lemmas.Bool.Decides.{nat_tests}
 use Rattle.std.proofs.lemmas.Int.{ints}
+use Rattle.std.proofs.lemmas.List.Elements.{All-from_get_or}
+use Rattle.std.proofs.lemmas.List.Splits.{join_with_byte-slice_split, length-slice_split, slice_split_none}
 use Rattle.std.proofs.lemmas.Nat.{pow-add}
 use Rattle.std.proofs.lemmas.Str.Parse.{digits_value_short}
-use Rattle.std.proofs.Math.Nat.{mul-lt-mul_of_pos_right}
+use Rattle.std.proofs.Math.Nat.{mul-lt-mul_of_pos_right, one-le-pow}
 use mir.Syntax.{w128}
 use mir.Val.{SFits, to_z, of_z}
-use Rattle.sctid.proofs.Numerals.{numerals}
-use Rattle.rf2_rows.proofs.Identifiers.{ten_pow}
-use Rattle.rf2_rows.proofs.Parts.{parts_onto}
+use Rattle.sctid.proofs.Numerals.{digits_more, front_small, numerals, value_more}
+use Rattle.sctid.proofs.Product.{digit_in}
 use Rattle.rf2_rows.specs.Numbers.{is_number, number_of}
 use Rattle.rf2_rows.specs.Parts.{parts_at}
 use Rattle.rf2_rows.specs.Values.{point, whole_of, fraction_of, number_in, unsigned_of, decimal_of}
 
+-- a number of at most 17 digits has room for one more
+pub front_of_17 : (text : List ℕ) (i : ℕ) → i ≤ 17 → list_all is_ascii_digit (take i text) ≡ true → digits_value 10 (take i text) < 10 ^ 17
+front_of_17 text i few digits = front_small text i 17 few digits
+
+-- what `grind` takes where a digit is read
+pub ruleset digit_steps = (digits_more, value_more, front_of_17)
+
 -- a fraction is less than one
 pub fraction_small : (text : List ℕ) → is_number 1 18 text ≡ true → fraction_of text < 10 ^ 18
 fraction_small text is =
-    let tests = and_parts (nat_le 1 (length text) && nat_le (length text) 18) (list_all is_ascii_digit text) is in
-    let lengths = and_parts (nat_le 1 (length text)) (nat_le (length text) 18) tests.0 in
-    let short : length text ≤ 18 = leb-true (length text) 18 lengths.1 in
-    let small : number_of text < 10 ^ length text = digits_value_short numerals text (length text) tests.1 (omega arith) in
-    let split : 18 ≡ length text + (18 - length text) = omega arith in
-    let one : 10 ^ 18 ≡ 10 ^ length text * 10 ^ (18 - length text) = ap (λ n. 10 ^ n) split ∙ pow-add 10 (length text) (18 - length text) in
-    let P : ℕ → Type 0 = λ n. fraction_of text < n in
-    subst P (sym one) (mul-lt-mul_of_pos_right small (ten_pow (18 - length text)))
+    let digits : list_all is_ascii_digit text ≡ true = grind (arith, nat_tests) in
+    let short : length text ≤ 18 = grind (arith, nat_tests) in
+    let small : number_of text < 10 ^ length text = digits_value_short numerals text (length text) digits (omega arith) in
+    let split : length text + (18 - length text) ≡ 18 = omega arith in
+    omega (arith, mul-lt-mul_of_pos_right small (one-le-pow (18 - length text) 10 (omega arith)), ap (λ (n : ℕ). 10 ^ n) split, pow-add 10 (length text) (18 - length text))
 
 -- among digits there is no point
-digits_one_part : (text : List ℕ) → list_all is_ascii_digit text ≡ true → parts_at point text ≡ text ∷ []
-digits_one_part [] digits = refl
-digits_one_part (byte ∷ text) digits =
-    let tests = and_parts _ _ digits in
-    let bounds = and_parts _ _ tests.0 in
-    let low : 48 ≤ byte = leb-true 48 byte bounds.0 in
-    rw (parts_onto point byte text (λ is. absurd (omega (arith, eqb-true byte point is))), digits_one_part text tests.1) refl
+no_point : (byte : ℕ) → is_ascii_digit byte ≡ true → (byte == point) ≡ false
+no_point byte digit = grind (arith, nat_tests)
 
--- a text is one part, or there are two at least
-one_or_more : (text : List ℕ) → (parts_at point text ≡ text ∷ []) ⊎ ((first : List ℕ) × (second : List ℕ) × (others : List (List ℕ)) × (parts_at point text ≡ first ∷ second ∷ others))
-one_or_more [] = inl refl
-one_or_more (byte ∷ text) = elim (cases_Bool (eqb byte point)) [
-  | inl is ↦ rw is (elim (one_or_more text) [
-    | inl one ↦ inr ([], text, [], ap (λ parts. [] ∷ parts) one)
-    | inr more ↦ inr ([], more.0, more.1 ∷ more.2, ap (λ parts. [] ∷ parts) more.3)
-  ])
-  | inr other ↦ rw other (elim (one_or_more text) [
-    | inl one ↦ inl (ap (onto_first byte) one)
-    | inr more ↦ inr (byte ∷ more.0, more.1, more.2, ap (onto_first byte) more.3)
-  ])
-]
+digits_one_part : (text : List ℕ) → list_all is_ascii_digit text ≡ true → parts_at point text ≡ text ∷ []
+digits_one_part text digits =
+    slice_split_none (λ byte. byte == point) text (All-from_get_or (λ byte. (byte == point) ≡ false) text 0 (λ k within. no_point (get_or text k 0) (digit_in text k within digits)))
 
 -- the number with a whole part and a fraction
 pub number_with_fraction : (whole behind : List ℕ) → is_number 1 18 whole ≡ true → is_number 1 18 behind ≡ true → number_in (whole ∷ parts_at point behind) ≡ Some (whole_of whole + fraction_of behind)
@@ -61,10 +53,14 @@ number_with_fraction whole behind one other =
 
 -- there is none where what stands behind the first point is no fraction
 pub number_without_fraction : (whole behind : List ℕ) → is_number 1 18 whole ≡ true → is_number 1 18 behind ≡ false → number_in (whole ∷ parts_at point behind) ≡ None
-number_without_fraction whole behind one no_number = elim (one_or_more behind) [
-  | inl alone ↦ rw (alone, one, no_number) refl
-  | inr more ↦ rw more.3 refl
-]
+number_without_fraction whole behind one no_number = by (parts_at point behind) refl
+  where
+    by : (parts : List (List ℕ)) → parts_at point behind ≡ parts → number_in (whole ∷ parts) ≡ None
+    by [] is = absurd (omega (arith, length-slice_split (λ byte. byte == point) behind, ap length is))
+    by (only ∷ []) is =
+        let all : only ≡ behind = sym (ap (join_with_byte point) is) ∙ join_with_byte-slice_split point behind in
+        rw (all, one, no_number) refl
+    by (first ∷ second ∷ others) is = refl
 
 -- a text that begins with a byte
 pub begins_with : (byte : ℕ) (text : List ℕ) → 0 < length text → get_or text 0 0 ≡ byte → starts_with nat_eq text (byte ∷ []) ≡ true
@@ -87,3 +83,6 @@ negation None number fits same = cc
 negation (Some size) number fits same =
     let is : number ≡ pos size = cc in
     rw is (ap Some (signed_negation size (rw is at fits)))
+
+-- what `grind` takes where the parts of a number are put together
+pub ruleset parts_of_number = (number_with_fraction, number_without_fraction, signed_sum)

@@ -1,10 +1,10 @@
 -- Being one row is an equivalence of the lines of a kind, and the effective time of a row is that of its line.
-use Rattle.std.proofs.Common.{◌≡◌, ℕ, Bool, true, false, IsTrue, List, [], ◌∷◌, length, Option, None, Some, refl, sym, ap, ◌∙◌, arith}
+use Rattle.std.proofs.Common.{◌≡◌, ℕ, Bool, true, false, not, IsTrue, List, [], ◌∷◌, length, Option, None, Some, refl, sym, ap, ◌∙◌, arith}
 use Rattle.std.specs.Bool.{Decides}
-use Rattle.std.proofs.lemmas.Bool.{false≢true, and_parts, and_from}
-use Rattle.std.proofs.lemmas.Bool.Decides.{Decides-eqb}
+use Rattle.std.proofs.lemmas.Bool.{false≢true, and_parts, and_from, not-true}
+use Rattle.std.proofs.lemmas.Bool.Decides.{Decides-eqb, Decides-like}
 use Rattle.std.proofs.lemmas.Slice.Eq.{bytes_eq-Decides}
-use Rattle.rf2_rows.specs.Columns.{Column, Format, columns_of, id_format, component_format, uuid_format, time_format, active_format, group_format, text_format, value_format}
+use Rattle.rf2_rows.specs.Columns.{Column, Format, columns_of, uuid_format, time_format, active_format, text_format, value_format}
 use Rattle.rf2_rows.specs.Numbers.{number_of}
 use Rattle.rf2_rows.specs.Release.{Value}
 use Rattle.rf2_rows.specs.Rows.{IsRow, active_of, fields_of, row_fault, time_of, uuid_of}
@@ -14,22 +14,17 @@ use Rattle.rf2_rows.specs.declared.kind.FileKind.{FileKind}
 use Rattle.rf2_rows.specs.declared.kind.FileKind.TheVariants.{Concept, Concrete, Description, Member, Relationship}
 use Rattle.rf2_rows.specs.declared.row.Row.{Row}
 use Rattle.rf2_rows.specs.declared.row.Row.TheVariants as typed
-use Rattle.rf2_rows.proofs.Accepted.{width_of_line}
+use Rattle.rf2_rows.proofs.Accepted.{few_fields, width_of_line}
 use Rattle.rf2_rows.proofs.PairLemmas.{tells_same_value}
 
 same_time_tells : (one other : Option ℕ) → Decides (same_time one other) (one ≡ other)
 same_time_tells None None = (λ is. refl, λ same. refl)
-same_time_tells None (Some other) = (λ is. absurd (false≢true is), λ same. cc)
-same_time_tells (Some one) None = (λ is. absurd (false≢true is), λ same. cc)
-same_time_tells (Some one) (Some other) =
-    let tells = Decides-eqb one other in
-    (λ is. ap Some (tells.0 is), λ same. tells.1 cc)
+same_time_tells (Some one) (Some other) = Decides-like (same_time (Some one) (Some other)) (λ same. ap Some same) (λ same. cc) (Decides-eqb one other)
+same_time_tells one other = (λ is. absurd (false≢true is), λ same. cc)
 
 same_flag_tells : (one other : Bool) → Decides (same_flag one other) (one ≡ other)
-same_flag_tells true true = (λ is. refl, λ same. refl)
-same_flag_tells true false = (λ is. sym is, λ same. sym same)
-same_flag_tells false true = (λ is. is, λ same. same)
-same_flag_tells false false = (λ is. refl, λ same. refl)
+same_flag_tells true other = (λ is. sym is, λ same. sym same)
+same_flag_tells false other = (λ is. sym (not-true other is), λ same. ap not (sym same))
 
 -- what the texts of a column are read as, and what a text is read as
 abbrev Meaning : Format → Type 0
@@ -38,9 +33,7 @@ Meaning time_format = Option ℕ
 Meaning active_format = Bool
 Meaning text_format = List ℕ
 Meaning value_format = Value
-Meaning (id_format part) = ℕ
-Meaning component_format = ℕ
-Meaning group_format = ℕ
+Meaning _ = ℕ
 
 abbrev meaning : (format : Format) → List ℕ → Meaning format
 meaning uuid_format text = uuid_of text
@@ -48,63 +41,46 @@ meaning time_format text = time_of text
 meaning active_format text = active_of text
 meaning text_format text = text
 meaning value_format text = value_of text
-meaning (id_format part) text = number_of text
-meaning component_format text = number_of text
-meaning group_format text = number_of text
+meaning _ text = number_of text
 
 -- texts have one value exactly where they are read as the same
-same_value_tells : (format : Format) (one other : List ℕ) → Decides (same_value format one other) (meaning format one ≡ meaning format other)
-same_value_tells uuid_format one other = bytes_eq-Decides (uuid_of one) (uuid_of other)
-same_value_tells time_format one other = same_time_tells (time_of one) (time_of other)
-same_value_tells active_format one other = same_flag_tells (active_of one) (active_of other)
-same_value_tells text_format one other = bytes_eq-Decides one other
-same_value_tells value_format one other = tells_same_value (value_of one) (value_of other)
-same_value_tells (id_format part) one other = Decides-eqb (number_of one) (number_of other)
-same_value_tells component_format one other = Decides-eqb (number_of one) (number_of other)
-same_value_tells group_format one other = Decides-eqb (number_of one) (number_of other)
-
-same_value-refl : (format : Format) (one : List ℕ) → same_value format one one ≡ true
-same_value-refl format one = (same_value_tells format one one).1 refl
-
-same_value-sym : (format : Format) (one other : List ℕ) → same_value format one other ≡ true → same_value format other one ≡ true
-same_value-sym format one other is = (same_value_tells format other one).1 (sym ((same_value_tells format one other).0 is))
-
-same_value-trans : (format : Format) (one other third : List ℕ) → same_value format one other ≡ true → same_value format other third ≡ true → same_value format one third ≡ true
-same_value-trans format one other third is also =
-    (same_value_tells format one third).1 ((same_value_tells format one other).0 is ∙ (same_value_tells format other third).0 also)
+tells : (format : Format) (one other : List ℕ) → Decides (same_value format one other) (meaning format one ≡ meaning format other)
+tells uuid_format one other = bytes_eq-Decides (uuid_of one) (uuid_of other)
+tells time_format one other = same_time_tells (time_of one) (time_of other)
+tells active_format one other = same_flag_tells (active_of one) (active_of other)
+tells text_format one other = bytes_eq-Decides one other
+tells value_format one other = tells_same_value (value_of one) (value_of other)
+tells _ one other = Decides-eqb (number_of one) (number_of other)
 
 same_values-refl : (columns : List Column) (ones : List (List ℕ)) → length ones ≡ length columns → same_values columns ones ones ≡ true
 same_values-refl [] [] width = refl
-same_values-refl [] (one ∷ ones) width = absurd (omega arith)
-same_values-refl (column ∷ columns) [] width = absurd (omega arith)
 same_values-refl (column ∷ columns) (one ∷ ones) width =
-    and_from _ _ (same_value-refl column.format one) (same_values-refl columns ones (omega arith))
+    and_from _ _ ((tells column.format one one).1 refl) (same_values-refl columns ones (omega arith))
+same_values-refl _ _ width = absurd (omega arith)
 
 same_values-sym : (columns : List Column) (ones others : List (List ℕ)) → same_values columns ones others ≡ true → same_values columns others ones ≡ true
 same_values-sym [] [] [] is = is
-same_values-sym [] [] (other ∷ others) is = absurd (false≢true is)
-same_values-sym [] (one ∷ ones) others is = absurd (false≢true is)
-same_values-sym (column ∷ columns) [] others is = absurd (false≢true is)
-same_values-sym (column ∷ columns) (one ∷ ones) [] is = absurd (false≢true is)
 same_values-sym (column ∷ columns) (one ∷ ones) (other ∷ others) is =
     let parts = and_parts (same_value column.format one other) (same_values columns ones others) is in
-    and_from _ _ (same_value-sym column.format one other parts.0) (same_values-sym columns ones others parts.1)
+    and_from _ _ ((tells column.format other one).1 (sym ((tells column.format one other).0 parts.0))) (same_values-sym columns ones others parts.1)
+same_values-sym _ _ _ is = absurd (false≢true is)
 
 same_values-trans : (columns : List Column) (ones others thirds : List (List ℕ)) → same_values columns ones others ≡ true → same_values columns others thirds ≡ true → same_values columns ones thirds ≡ true
 same_values-trans [] [] [] thirds is also = also
-same_values-trans [] [] (other ∷ others) thirds is also = absurd (false≢true is)
-same_values-trans [] (one ∷ ones) others thirds is also = absurd (false≢true is)
-same_values-trans (column ∷ columns) [] others thirds is also = absurd (false≢true is)
-same_values-trans (column ∷ columns) (one ∷ ones) [] thirds is also = absurd (false≢true is)
-same_values-trans (column ∷ columns) (one ∷ ones) (other ∷ others) [] is also = absurd (false≢true also)
 same_values-trans (column ∷ columns) (one ∷ ones) (other ∷ others) (third ∷ thirds) is also =
     let parts = and_parts (same_value column.format one other) (same_values columns ones others) is in
     let more = and_parts (same_value column.format other third) (same_values columns others thirds) also in
-    and_from _ _ (same_value-trans column.format one other third parts.0 more.0) (same_values-trans columns ones others thirds parts.1 more.1)
+    and_from _ _ ((tells column.format one third).1 ((tells column.format one other).0 parts.0 ∙ (tells column.format other third).0 more.0))
+    (same_values-trans columns ones others thirds parts.1 more.1)
+same_values-trans (column ∷ columns) (one ∷ ones) (other ∷ others) [] is also = absurd (false≢true also)
+same_values-trans _ _ _ thirds is also = absurd (false≢true is)
 
 -- an accepted line is one row with itself
 pub same_row-refl : (kind : FileKind) (one : List ℕ) → row_fault kind one ≡ None → IsTrue (same_row kind one one)
 same_row-refl kind one accepted = same_values-refl (columns_of kind) (fields_of one) (width_of_line kind one accepted)
+
+-- what `grind` takes of accepted lines
+pub ruleset accepted_lines = (few_fields, same_row-refl)
 
 pub same_row-sym : (kind : FileKind) (one other : List ℕ) → IsTrue (same_row kind one other) → IsTrue (same_row kind other one)
 same_row-sym kind one other is = same_values-sym (columns_of kind) (fields_of one) (fields_of other) is
@@ -114,8 +90,8 @@ same_row-trans kind one other third is also =
     same_values-trans (columns_of kind) (fields_of one) (fields_of other) (fields_of third) is also
 
 -- so being one row is an equivalence
-pub same_row-equivalence : IsEquivalenceOfRows
-same_row-equivalence kind = (same_row-refl kind, same_row-sym kind, same_row-trans kind)
+pub rows_are_equivalent : IsEquivalenceOfRows
+rows_are_equivalent kind = (same_row-refl kind, same_row-sym kind, same_row-trans kind)
 
 -- the effective time of a row is that of the line that it was read from
 pub time_in-on : (kind : FileKind) (line : List ℕ) (row : Row) → IsRow kind line row → time_in row ≡ time_on kind line

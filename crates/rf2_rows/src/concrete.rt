@@ -16,6 +16,7 @@ use crate::value::{Decimal, Value};
 use sctid::Part;
 
 /// The row of the Relationship concrete values file that the fields of a line stand for.
+#[tactic(auto, using(crate::proofs::Columns::ten_texts))]
 pub fn read_concrete<'a>(
     recent: &mut RecentConcepts,
     fields: &[&'a [u8]],
@@ -107,6 +108,7 @@ pub fn decimal(text: &[u8]) -> Option<Decimal>
 }
 
 // The number that a text without a sign writes, as so many times 10^-18.
+#[tactic(auto, using(crate::proofs::Values::parts_of_number))]
 fn unsigned(text: &[u8]) -> Option<i128>
     ensures { result ≡ option_map pos (unsigned_of text.now) }
 {
@@ -120,6 +122,7 @@ fn unsigned(text: &[u8]) -> Option<i128>
 }
 
 // The fraction that the text behind a point writes, as so many times 10^-18.
+#[tactic(auto, using(crate::proofs::Values::fraction_small))]
 fn fraction(text: &[u8]) -> Option<u64>
     ensures digits { is_some result ≡ is_number 1 18 text.now }
     ensures value { IfSome result (λ number. number ≡ fraction_of text.now) }

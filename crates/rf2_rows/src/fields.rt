@@ -9,7 +9,7 @@ use sctid::{IdFault, Part, SctId};
 use uuid::Uuid;
 
 /// An identifier of the part that the column asks for.
-#[tactic(auto, unfolding(crate::specs::Columns::cause_of))]
+#[tactic(auto, unfolding(crate::specs::Columns::cause_of), using(crate::proofs::Identifiers::number_read))]
 pub fn identifier(text: &[u8], part: Part, column: u8) -> Result<SctId, RowFault>
     ensures { IsReading (column_fault column (cause_of (id_format part) text.now)) (number_of text.now)
         result }
@@ -22,7 +22,7 @@ pub fn identifier(text: &[u8], part: Part, column: u8) -> Result<SctId, RowFault
 }
 
 /// An identifier of a component of any part.
-#[tactic(auto, unfolding(crate::specs::Columns::cause_of))]
+#[tactic(auto, unfolding(crate::specs::Columns::cause_of), using(crate::proofs::Identifiers::number_read))]
 pub fn component(text: &[u8], column: u8) -> Result<SctId, RowFault>
     ensures { IsReading (column_fault column (cause_of component_format text.now)) (number_of text.now) result }
 {
@@ -33,7 +33,7 @@ pub fn component(text: &[u8], column: u8) -> Result<SctId, RowFault>
 }
 
 /// A UUID of 36 characters: the other forms of a UUID have other lengths.
-#[tactic(auto, unfolding(crate::specs::Columns::cause_of))]
+#[tactic(auto, unfolding(crate::specs::Columns::cause_of), using(crate::proofs::Texts::not_hyphenated))]
 pub fn hyphenated(text: &[u8], column: u8) -> Result<Uuid, RowFault>
     ensures { IsReading (column_fault column (cause_of uuid_format text.now)) (uuid_of text.now) result }
 {
@@ -84,7 +84,7 @@ pub fn group(text: &[u8], column: u8) -> Result<u32, RowFault>
 }
 
 /// A text in UTF-8.
-#[tactic(auto, unfolding(crate::specs::Columns::cause_of))]
+#[tactic(auto, unfolding(crate::specs::Columns::cause_of), using(crate::proofs::Texts::utf8_tests))]
 pub fn text(text: &[u8], column: u8) -> Result<&str, RowFault>
     ensures { IsReadingLent (λ found. found.now) (column_fault column (cause_of text_format text.now)) text.now
         result }
@@ -97,6 +97,7 @@ pub fn text(text: &[u8], column: u8) -> Result<&str, RowFault>
 
 /// The number that a text of ASCII digits writes, of `least` to `most` digits, of which 18 may be the
 /// most; `None` for any other text. Takes no memory.
+#[tactic(auto, using(crate::proofs::Values::digit_steps))]
 pub fn digits(text: &[u8], least: usize, most: usize) -> Option<u64>
     requires { most ≤ 18 }
     ensures digits { is_some result ≡ is_number least most text.now }

@@ -53,6 +53,7 @@ pub fn header(kind: FileKind) -> &'static str
 }
 
 // What follows the last `/` of a path.
+#[tactic(auto, using(crate::proofs::Texts::names_in_paths))]
 fn file_name(path: &[u8]) -> &[u8]
     ensures { result.now ≡ file_name path.now }
 {
@@ -145,6 +146,7 @@ fn reference_set_kind(content: &[u8]) -> Option<FileKind>
 
 // Whether the third element of a file's name is that of a Snapshot file, with or without a
 // language or the mark of an extension.
+#[tactic(auto, using(crate::proofs::Texts::holds_tells))]
 fn is_snapshot(subtype: &[u8]) -> bool
     ensures { result ≡ is_snapshot subtype.now }
 {

@@ -3,6 +3,7 @@ ghost use Rattle.rf2_rows.specs.Pairs.{KeepsEachNumberOnce, KeepsEachPairOnce, T
 ghost use Rattle.rf2_rows.specs.Versions.{IsEquivalenceOfRows};
 
 /// The test whether two pairs of a type and a value are the same says exactly that they are equal.
+#[tactic(auto, using(crate::proofs::PairLemmas::tells_same_value, crate::proofs::PairLemmas::tells_same_pair))]
 pub fn same_pairs_are_told()
     ensures value { TellsSameValue }
     ensures pair { TellsSamePair }

@@ -22,6 +22,7 @@ pub fn cut_fields(line: &[u8]) -> Option<Fields<'_>>
 
 /// Puts the fields of a line between its tabs where none were, or tells `None` where there are more than 10: who
 /// has a place for them spares the copy that `cut_fields` hands out. Takes no memory.
+#[tactic(auto, using(crate::proofs::TabBits::last_field))]
 pub fn push_fields<'a>(fields: &mut Fields<'a>, line: &'a [u8]) -> Option<()>
     requires empty { fields.old.items ≡ [] }
     ensures more { IsNone result → 10 < length (fields_of line.now) }
@@ -43,6 +44,7 @@ pub fn push_fields<'a>(fields: &mut Fields<'a>, line: &'a [u8]) -> Option<()>
 // Adds the fields that end at the tabs among 32 bytes of a line, which are marked, one bit to a byte.
 // Tells where the field behind them starts, or `None` where there is no room.
 #[inline]
+#[tactic(auto, using(crate::proofs::TabBits::fields_cut))]
 fn push_ended<'a>(
     fields: &mut Fields<'a>,
     line: &'a [u8],
@@ -77,6 +79,7 @@ fn push_ended<'a>(
 
 // The tabs among the next 32 bytes of a line, or as many as there are, one bit to a byte.
 #[inline]
+#[tactic(auto, using(crate::proofs::TabBits::shifts))]
 fn tabs_from(line: &[u8], from: usize) -> u64
     requires { from < length line.now }
     ensures { result ≡ tabs_in line.now from (from + 32) }
@@ -93,6 +96,7 @@ fn tabs_from(line: &[u8], from: usize) -> u64
 }
 
 // The tabs of a line that is shorter than a block.
+#[tactic(auto, using(crate::proofs::TabBits::padded_block))]
 fn tabs_of_short(line: &[u8]) -> u64
     requires { length line.now < 32 }
     ensures { result ≡ tab_bits line.now }

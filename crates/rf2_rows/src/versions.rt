@@ -100,6 +100,7 @@ static MEMBER: [Format; 6] = [
 /// Whether two lines, each a row of the kind, are one row: each column has one value. Texts compare by
 /// their bytes, identifiers, groups and times by their numbers, UUIDs by their 16 bytes, and concrete
 /// values by the numbers that they write or else by their bytes. Takes no memory.
+#[tactic(auto, unfolding(crate::specs::Rows::row_fault), using(crate::proofs::VersionLemmas::accepted_lines))]
 pub fn same_row(kind: FileKind, one: &[u8], other: &[u8]) -> bool
     requires one { row_fault kind one.now ≡ None }
     requires other { row_fault kind other.now ≡ None }
@@ -146,6 +147,7 @@ fn formats(kind: FileKind) -> &'static [Format]
 }
 
 // Whether two texts of a column have one value.
+#[tactic(auto, unfolding(crate::specs::Columns::cause_of), using(std::proofs::lemmas::Bool::Decides::nat_tests))]
 fn same_value(format: Format, one: &[u8], other: &[u8]) -> bool
     requires one { cause_of (format_of format) one.now ≡ None }
     requires other { cause_of (format_of format) other.now ≡ None }
@@ -185,6 +187,7 @@ fn same_uuid(one: &[u8], other: &[u8]) -> bool
 }
 
 // Whether two effective times are one, or both are none.
+#[tactic(auto, unfolding(crate::specs::Columns::cause_of))]
 fn same_time(one: &[u8], other: &[u8]) -> bool
     requires one { cause_of time_format one.now ≡ None }
     requires other { cause_of time_format other.now ≡ None }
@@ -201,6 +204,7 @@ fn is_active(text: &[u8]) -> bool
 }
 
 // Whether two concrete values are one.
+#[tactic(auto, unfolding(crate::specs::Columns::cause_of))]
 fn same_concrete(one: &[u8], other: &[u8]) -> bool
     requires one { cause_of value_format one.now ≡ None }
     requires other { cause_of value_format other.now ≡ None }

@@ -1,9 +1,6 @@
 -- Buckets of rising identifiers: those before an identifier's bucket are less than it, and those behind are greater.
-use Rattle.std.proofs.Common.{ℕ, ◌+◌, ◌/◌, ◌≡◌, ◌≤◌, ◌<◌, ⊎_elim, List, length, get_or, arith}
+use Rattle.std.proofs.Common.{ℕ, ◌+◌, ◌≡◌, ◌≤◌, ◌<◌, List, length, get_or, arith}
 use Rattle.std.specs.List.Sorted.{IsStrictlyIncreasing}
-use Rattle.std.proofs.Math.Nat.{div-mul-le_self}
-use Rattle.std.proofs.lemmas.Bool.{cases_lt}
-use Rattle.std.proofs.lemmas.Nat.{le-div}
 use Rattle.snapshot.specs.Buckets.{AreBucketStarts, IsBucketStart, bucket_count, bucket_of}
 use Rattle.snapshot.proofs.RisingLemmas.{not_falling}
 
@@ -13,13 +10,11 @@ bucket_below id = omega arith
 
 bucket_of-le : (x y : ℕ) → x ≤ y → bucket_of x ≤ bucket_of y
 unfolding bucket_of
-bucket_of-le x y le =
-    let quotients : x / 4096 ≤ y / 4096 = le-div (x / 4096) y 4096 (omega arith) (omega (arith, div-mul-le_self x 4096, le)) in
-    omega (arith, quotients)
+bucket_of-le x y le = omega arith
 
 less_by_bucket : (x y : ℕ) → bucket_of x < bucket_of y → x < y
-less_by_bucket x y less =
-    ⊎_elim (λ (below : x < y). below) (λ (above : y ≤ x). absurd (omega (arith, less, bucket_of-le y x above))) (cases_lt x y)
+unfolding bucket_of
+less_by_bucket x y less = omega arith
 
 -- a bucket starts at the first identifier that is in no earlier one
 pub bucket_started : (ids : List ℕ) → IsStrictlyIncreasing ids → (bucket start : ℕ) → start ≤ length ids
@@ -29,20 +24,15 @@ bucket_started ids rising bucket start within before first = record {
   within = within;
   before = before;
   behind = λ place from below.
-      let least : bucket ≤ bucket_of (get_or ids start 0) = first (omega (arith, from, below)) in
-      let more : bucket_of (get_or ids start 0) ≤ bucket_of (get_or ids place 0) = bucket_of-le _ _ (not_falling ids rising start place from below) in
-      omega (arith, least, more);
+      omega (arith, first (omega arith), bucket_of-le (get_or ids start 0) (get_or ids place 0) (not_falling ids rising start place from below));
 }
 
 module _ (ids starts : List ℕ) (kept : AreBucketStarts ids starts) (id bucket : ℕ) (own : bucket ≡ bucket_of id) where
-  own_start : IsBucketStart ids bucket (get_or starts bucket 0)
-  own_start = kept.start bucket (omega (arith, own, bucket_below id, kept.each))
-
-  next_start : IsBucketStart ids (bucket + 1) (get_or starts (bucket + 1) 0)
-  next_start = kept.start (bucket + 1) (omega (arith, own, bucket_below id, kept.each))
+  start_of : (near : ℕ) → near ≤ bucket + 1 → IsBucketStart ids near (get_or starts near 0)
+  start_of near le = kept.start near (omega (arith, own, bucket_below id, kept.each))
 
   pub less_before : (place : ℕ) → place < get_or starts bucket 0 → get_or ids place 0 < id
-  less_before place before = less_by_bucket _ _ (omega (arith, own, own_start.before place before))
+  less_before place before = less_by_bucket _ _ (omega (arith, own, (start_of bucket (omega arith)).before place before))
 
   pub greater_behind : (place : ℕ) → get_or starts (bucket + 1) 0 ≤ place → place < length ids → id < get_or ids place 0
-  greater_behind place behind below = less_by_bucket _ _ (omega (arith, own, next_start.behind place behind below))
+  greater_behind place behind below = less_by_bucket _ _ (omega (arith, own, (start_of (bucket + 1) (omega arith)).behind place behind below))

@@ -1,4 +1,6 @@
 -- Going over the rows that were read, with what one list has of them.
+use Rattle.std.proofs.lemmas.Bool.Decides.{nat_tests}
+use Rattle.std.proofs.lemmas.Grind.{common_steps}
 use Rattle.std.proofs.Common.{ℕ, ◌≡◌, ◌+◌, ◌<◌, ◌≤◌, ◌∙◌, List, [], ◌∷◌, length, true, false, Bool, Option, None, Some, ap, arith, cond, drop, drop-cons, get_or, map, refl, suc}
 use Rattle.std.specs.Prelude.{All, is_some}
 use Rattle.std.specs.List.{cons_option, filter_map}
@@ -22,13 +24,11 @@ open_choices choices place e within = let next : suc place ≡ place + 1 = omega
 module _ {X : Type 0} (list : Listing) where
   passed-step : (mark : Listing) (marks : List Listing) (choice : Bool) (choices : List Bool) (left : List X) → same_listing mark list ≡ false
       → items_chosen (in_list list (mark ∷ marks)) (choice ∷ choices) left ≡ items_chosen (in_list list marks) choices left
-  passed-step mark marks choice choices left other =
-      ap (λ (here : Bool). marked (cond here (choice ∷ marked (in_list list marks) choices) (marked (in_list list marks) choices)) left) other
+  passed-step mark marks choice choices left other = grind (arith, common_steps, nat_tests)
 
   item-step : (mark : Listing) (marks : List Listing) (choice : Bool) (choices : List Bool) (left : List X) → same_listing mark list ≡ true
       → items_chosen (in_list list (mark ∷ marks)) (choice ∷ choices) left ≡ marked (choice ∷ marked (in_list list marks) choices) left
-  item-step mark marks choice choices left same =
-      ap (λ (here : Bool). marked (cond here (choice ∷ marked (in_list list marks) choices) (marked (in_list list marks) choices)) left) same
+  item-step mark marks choice choices left same = grind (arith, common_steps, nat_tests)
 
   no_choices : (heres : List Bool) (left : List X) → items_chosen heres [] left ≡ []
   no_choices [] [] = refl
@@ -71,11 +71,7 @@ pub chosen-picked : {X : Type 0} (pick : RowText → Option X) (rows : List RowT
     → items_chosen (map (λ row. is_some (pick row)) rows) choices (filter_map pick rows) ≡ filter_map pick (marked choices rows)
 chosen-picked {X} pick [] [] = refl
 chosen-picked {X} pick [] (choice ∷ choices) = refl
-chosen-picked {X} pick (row ∷ rows) [] = at (cons_option (pick row) (filter_map pick rows))
-  where
-    at : (items : List X) → marked [] items ≡ []
-    at [] = refl
-    at (item ∷ items) = refl
+chosen-picked {X} pick (row ∷ rows) [] = grind (arith, common_steps, nat_tests)
 chosen-picked {X} pick (row ∷ rows) (choice ∷ choices) = by choice (pick row) refl (chosen-picked pick rows choices)
   where
     by : (choice : Bool) (item : Option X) → pick row ≡ item
@@ -111,8 +107,4 @@ All-marked P (mark ∷ marks) (item ∷ items) all = by mark (All-marked P marks
 pub length-marked : {X : Type 0} (marks : List Bool) (items : List X) → length (marked marks items) ≤ length items
 length-marked [] items = omega arith
 length-marked (mark ∷ marks) [] = omega arith
-length-marked (mark ∷ marks) (item ∷ items) = by mark (length-marked marks items)
-  where
-    by : (mark : Bool) → length (marked marks items) ≤ length items → length (cond mark (item ∷ marked marks items) (marked marks items)) ≤ length (item ∷ items)
-    by true rest = omega (arith, rest)
-    by false rest = omega (arith, rest)
+length-marked (mark ∷ marks) (item ∷ items) = grind (arith, common_steps, nat_tests, (length-marked marks items))

@@ -1,15 +1,18 @@
 -- What comparing rows by their keys says of the rows.
-use Rattle.std.proofs.Common.{ℕ, ◌≡◌, ◌+◌, ◌*◌, ◌^◌, ◌≤◌, ◌<◌, ◌∙◌, ◌&&◌, ◌||◌, ◌==◌, List, [], ◌∷◌, ◌++◌, length, true, false, Bool, Option, None, Some, append_assoc, ap, arith, suc, zero, cond, map, not, refl, sym, subst}
+use Rattle.std.proofs.lemmas.Bool.Decides.{nat_tests}
+use Rattle.std.proofs.lemmas.Grind.{common_steps}
+use Rattle.std.proofs.Common.{ℕ, ◌≡◌, ◌+◌, ◌*◌, ◌^◌, ◌≤◌, ◌<◌, ◌∙◌, ◌&&◌, ◌||◌, ◌==◌, List, [], ◌∷◌, ◌++◌, length, get_or, true, false, Bool, Option, None, Some, append_assoc, ap, arith, suc, zero, cond, map, not, refl, sym, subst}
 use Rattle.std.specs.Prelude.{⊤, Contains}
-use Rattle.std.specs.List.{cons_option, list_any, position_or_len}
-use Rattle.std.proofs.lemmas.Bool.{eq-eqb, eqb-true, ne_eqb}
+use Rattle.std.specs.List.{cons_option, list_any}
+use Rattle.std.proofs.lemmas.Bool.{and_parts, eq-eqb, eqb-true, ltb-true, ne_eqb, or_left}
 use Rattle.std.proofs.lemmas.List.{append-nil, map-append}
+use Rattle.std.proofs.lemmas.List.Folds.{list_any-append}
 use Rattle.rf2_rows.specs.RowTexts.{row_text}
 use Rattle.rf2_rows.specs.Rows.{row_fault}
-use Rattle.rf2_rows.specs.Versions.{id_on, same_row, same_time}
+use Rattle.rf2_rows.specs.Versions.{id_on}
 use Rattle.rf2_rows.specs.declared.kind.FileKind.{FileKind}
 use Rattle.rf2_rows.specs.declared.kind.FileKind.TheVariants.{Concept, Concrete, Description, Member, Relationship}
-use Rattle.snapshot.specs.Chosen.{choices, conflicts, id_of, is_later, is_repeated, is_superseded, same_component, same_kind, same_version, time_of}
+use Rattle.snapshot.specs.Chosen.{choices, conflicts, id_of, is_later, same_component, same_kind}
 use Rattle.snapshot.specs.Compared.{Compared, IsCompared, IsComparedRow, IsDenied, IsDeniedRow, IsExpected, IsRefused, IsTaken, clashes, compared_in, noted_of}
 use Rattle.snapshot.specs.declared.comparing.Comparing.{Comparing}
 use Rattle.snapshot.specs.Contents.{text_of_row}
@@ -25,55 +28,21 @@ use Rattle.snapshot.specs.declared.fault.LoadFault.{LoadFault}
 use Rattle.snapshot.specs.declared.fault.LoadFault.TheVariants.{Conflict}
 use Rattle.snapshot.specs.Seen.{AreSeen, AreShort, first_conflict, keys_behind, uuids_after}
 use Rattle.hierarchy.proofs.ReleaseLemmas.{had_contained, times, times-append}
+use Rattle.snapshot.proofs.NumberingLemmas.{get_or-place_of, place_of, place_within}
 use Rattle.snapshot.proofs.SingleLemmas.{any-none, key-among, key-later, keys_behind-append, met-has, times-one, uuids_after-more}
-use Rattle.snapshot.proofs.WentLemmas.{kind_same}
-
-and_first : (one other : Bool) → (one && other) ≡ true → one ≡ true
-and_first true other both = refl
-and_first false other both = both
-
-and_second : (one other : Bool) → (one && other) ≡ true → other ≡ true
-and_second true other both = both
-and_second false other both = absurd (cc)
-
-cons_head : (one other : RowAt) (ones others : List RowAt) → one ∷ ones ≡ other ∷ others → one ≡ other
-cons_head one other ones others same = (cc)
-
-cons_tail : (one other : RowAt) (ones others : List RowAt) → one ∷ ones ≡ other ∷ others → ones ≡ others
-cons_tail one other ones others same = (cc)
+use Rattle.snapshot.proofs.KindLemmas.{kind_same, same_kind-refl}
 
 -- ---- keys tell components
--- the UUIDs that a list begins with are at their places
-pos-apart : (n m : ℕ) (uuids : List ℕ) → has uuids n ≡ true → has uuids m ≡ true
-    → position_or_len (λ other. n == other) uuids ≡ position_or_len (λ other. m == other) uuids → n ≡ m
-pos-apart n m [] none other same = absurd (cc)
-pos-apart n m (first ∷ uuids) there other same = by (n == first) (m == first) refl refl there other same (pos-apart n m uuids)
-  where
-    by : (here here' : Bool) → (n == first) ≡ here → (m == first) ≡ here' → (here || has uuids n) ≡ true → (here' || has uuids m) ≡ true
-        → cond (not here) (1 + position_or_len (λ other. n == other) uuids) 0 ≡ cond (not here') (1 + position_or_len (λ other. m == other) uuids) 0
-        → (has uuids n ≡ true → has uuids m ≡ true → position_or_len (λ other. n == other) uuids ≡ position_or_len (λ other. m == other) uuids → n ≡ m)
-        → n ≡ m
-    by true true one two there other same rest = eqb-true n first one ∙ sym (eqb-true m first two)
-    by true false one two there other same rest = absurd (omega (arith, same))
-    by false true one two there other same rest = absurd (omega (arith, same))
-    by false false one two there other same rest = rest there other (omega (arith, same))
+-- UUIDs that were met are below the number of them, and at their own places
+pos-within : (n : ℕ) (uuids : List ℕ) → has uuids n ≡ true → place_of uuids n < length uuids
+pos-within n uuids there = ltb-true (place_of uuids n) (length uuids) (place_within uuids n ∙ there)
 
-pos-within : (n : ℕ) (uuids : List ℕ) → has uuids n ≡ true → position_or_len (λ other. n == other) uuids < length uuids
-pos-within n [] none = absurd (cc)
-pos-within n (first ∷ uuids) there = by (n == first) there (pos-within n uuids)
-  where
-    by : (here : Bool) → (here || has uuids n) ≡ true → (has uuids n ≡ true → position_or_len (λ other. n == other) uuids < length uuids)
-        → cond (not here) (1 + position_or_len (λ other. n == other) uuids) 0 < length (first ∷ uuids)
-    by true there rest = omega arith
-    by false there rest = omega (arith, rest there)
+pos-apart : (n m : ℕ) (uuids : List ℕ) → has uuids n ≡ true → has uuids m ≡ true → place_of uuids n ≡ place_of uuids m → n ≡ m
+pos-apart n m uuids there other same = sym (get_or-place_of uuids n there) ∙ ap (λ (place : ℕ). get_or uuids place 0) same ∙ get_or-place_of uuids m other
 
 -- equal sums
 sum-tells : (base one other : ℕ) → ((base + one) == (base + other)) ≡ (one == other)
-sum-tells base one other = by (one == other) refl
-  where
-    by : (same : Bool) → (one == other) ≡ same → ((base + one) == (base + other)) ≡ same
-    by true told = eq-eqb (base + one) (base + other) (ap (λ (n : ℕ). base + n) (eqb-true one other told))
-    by false told = ne_eqb (base + one) (base + other) (λ same. let equal : one ≡ other = omega (arith, same) in absurd (cc (told, eq-eqb one other equal)))
+sum-tells base one other = grind (arith, common_steps, nat_tests, eq-eqb, eqb-true, ne_eqb)
 
 apart-tells : (one other : ℕ) → one < other → (one == other) ≡ false
 apart-tells one other less = ne_eqb one other (λ same. absurd (omega (arith, less, same)))
@@ -91,17 +60,7 @@ key-tells uuids Concept Concept text text' few one other = sum-tells (2 ^ 63) (i
 key-tells uuids Description Description text text' few one other = sum-tells (2 ^ 63 + 10 ^ 18) (id_on Description text) (id_on Description text')
 key-tells uuids Relationship Relationship text text' few one other = sum-tells (2 ^ 63 + 3 * 10 ^ 18) (id_on Relationship text) (id_on Relationship text')
 key-tells uuids Concrete Concrete text text' few one other = sum-tells (2 ^ 63 + 2 * 10 ^ 18) (id_on Concrete text) (id_on Concrete text')
-key-tells uuids Member Member text text' few one other = by (id_on Member text == id_on Member text') refl
-  where
-    by : (same : Bool) → (id_on Member text == id_on Member text') ≡ same
-        → (position_or_len (λ other. id_on Member text == other) uuids == position_or_len (λ other. id_on Member text' == other) uuids) ≡ same
-    by true told =
-        eq-eqb (position_or_len (λ other. id_on Member text == other) uuids) (position_or_len (λ other. id_on Member text' == other) uuids)
-        (ap (λ (n : ℕ). position_or_len (λ other. n == other) uuids) (eqb-true (id_on Member text) (id_on Member text') told))
-    by false told =
-        ne_eqb (position_or_len (λ other. id_on Member text == other) uuids) (position_or_len (λ other. id_on Member text' == other) uuids)
-        (λ same. let equal : id_on Member text ≡ id_on Member text' = pos-apart (id_on Member text) (id_on Member text') uuids one.1 other.1 same in
-        absurd (cc (told, eq-eqb (id_on Member text) (id_on Member text') equal)))
+key-tells uuids Member Member text text' few one other = grind (arith, common_steps, nat_tests, eq-eqb, eqb-true, ne_eqb, pos-apart)
 key-tells uuids Concept Description text text' few one other = apart-tells _ _ (omega (arith, one.0))
 key-tells uuids Concept Relationship text text' few one other = apart-tells _ _ (omega (arith, one.0))
 key-tells uuids Concept Concrete text text' few one other = apart-tells _ _ (omega (arith, one.0))
@@ -145,9 +104,7 @@ module _ (uuids : List ℕ) (few : length uuids < 2 ^ 63) where
 
   pub conflicts-noted : (rows : List RowAt) (row : RowAt) → AreKnown uuids rows → IsKnown uuids row.kind row.text
       → list_any (λ earlier. by_key.conflicts earlier (noted_of uuids row)) (map (noted_of uuids) rows) ≡ list_any (λ other. conflicts other row) rows
-  conflicts-noted rows row known own =
-      any-noted uuids (λ other. conflicts other row) (λ earlier. by_key.conflicts earlier (noted_of uuids row)) rows known
-      (λ other there. ap (λ (same : Bool). (same && same_time (time_of other) (time_of row)) && not (same_row other.kind other.text row.text)) (tells other row there own))
+  conflicts-noted rows row known own = grind (arith, common_steps, nat_tests, any-noted, tells)
 
   later-same : (one other : Option ℕ) → by_key.is_later one other ≡ is_later one other
   later-same None None = refl
@@ -158,16 +115,7 @@ module _ (uuids : List ℕ) (few : length uuids < 2 ^ 63) where
   pub choices-noted : (rows earlier later : List RowAt) → AreKnown uuids rows → AreKnown uuids earlier → AreKnown uuids later
       → by_key.choices (map (noted_of uuids) rows) (map (noted_of uuids) earlier) (map (noted_of uuids) later) ≡ choices rows earlier later
   choices-noted rows earlier [] known before behind = refl
-  choices-noted rows earlier (row ∷ later) known before behind =
-      let superseded : by_key.is_superseded (map (noted_of uuids) rows) (noted_of uuids row) ≡ is_superseded rows row =
-      any-noted uuids (λ other. same_component other row && is_later (time_of other) (time_of row)) (λ other. (other.key == (noted_of uuids row).key) && by_key.is_later other.time (time_of row)) rows known
-      (λ other there. (λ i. tells other row there behind.0 i && later-same (time_of other) (time_of row) i)) in
-      let repeated : by_key.is_repeated (map (noted_of uuids) earlier) (noted_of uuids row) ≡ is_repeated earlier row =
-      any-noted uuids (λ other. same_version other row) (λ other. by_key.same_version other (noted_of uuids row)) earlier before
-      (λ other there. ap (λ (same : Bool). same && same_time (time_of other) (time_of row)) (tells other row there behind.0)) in
-      let rest : by_key.choices (map (noted_of uuids) rows) (map (noted_of uuids) (earlier ++ row ∷ [])) (map (noted_of uuids) later) ≡ choices rows (earlier ++ row ∷ []) later =
-      choices-noted rows (earlier ++ row ∷ []) later known (known-append uuids earlier (row ∷ []) before (behind.0, tt)) behind.1 in
-      (λ i. not (superseded i || repeated i) ∷ (ap (λ (front : List Noted). by_key.choices (map (noted_of uuids) rows) front (map (noted_of uuids) later)) (sym (map-append (noted_of uuids) earlier (row ∷ []))) ∙ rest) i)
+  choices-noted rows earlier (row ∷ later) known before behind = grind (arith, common_steps, nat_tests, any-noted, known-append, later-same, map-append, tells, (choices-noted rows (earlier ++ row ∷ []) later known (known-append uuids earlier (row ∷ []) before (behind.0, tt)) behind.1))
 
   -- earlier rows of one key are of its kind
   pub of_its_kind : (rows : List RowAt) (row : RowAt) → AreKnown uuids rows → IsKnown uuids row.kind row.text → AreOfItsKind (map (noted_of uuids) rows) (noted_of uuids row)
@@ -175,7 +123,7 @@ module _ (uuids : List ℕ) (few : length uuids < 2 ^ 63) where
   of_its_kind (first ∷ rows) row known own other (zero, within, is) same =
       let key : (noted_of uuids first).key ≡ (noted_of uuids row).key = ap (λ (noted : Noted). noted.key) is ∙ same in
       let one : same_component first row ≡ true = sym (tells first row known.0 own) ∙ eq-eqb (noted_of uuids first).key (noted_of uuids row).key key in
-      sym (ap (λ (noted : Noted). noted.kind) is) ∙ kind_same first.kind row.kind (and_first (same_kind first.kind row.kind) (id_of first == id_of row) one)
+      sym (ap (λ (noted : Noted). noted.kind) is) ∙ kind_same first.kind row.kind (and_parts (same_kind first.kind row.kind) (id_of first == id_of row) one).0
   of_its_kind (first ∷ rows) row known own other (suc k, within, is) same = of_its_kind rows row known.1 own other (k, omega (arith, within), is) same
 
 -- ---- the second pass
@@ -220,20 +168,11 @@ module _ (uuids repeated : List ℕ) (few : length uuids < 2 ^ 63) where
   clash-none : (compared : Compared) (earlier : List RowAt) (row : RowAt) → compared.taken.repeated ≡ repeated → AreKnown uuids earlier → IsKnown uuids row.kind row.text
       → (list_any (λ other. conflicts other row) earlier ≡ true → has repeated (noted_of uuids row).key ≡ true)
       → clashes compared.taken (map (noted_of uuids) earlier) (noted_of uuids row) ≡ false → list_any (λ other. conflicts other row) earlier ≡ false
-  clash-none compared earlier row repeated_is known own found none = by (list_any (λ other. conflicts other row) earlier) refl
-    where
-      by : (there : Bool) → list_any (λ other. conflicts other row) earlier ≡ there → list_any (λ other. conflicts other row) earlier ≡ false
-      by false told = told
-      by true told =
-          let both : clashes compared.taken (map (noted_of uuids) earlier) (noted_of uuids row) ≡ true =
-          (λ i. has (repeated_is i) (noted_of uuids row).key && conflicts-noted uuids few earlier row known own i) ∙ (λ i. found told i && told i) in
-          absurd (cc)
+  clash-none compared earlier row repeated_is known own found none = grind (arith, common_steps, nat_tests, conflicts-noted)
 
   clash-some : (compared : Compared) (earlier : List RowAt) (row : RowAt) → AreKnown uuids earlier → IsKnown uuids row.kind row.text
       → clashes compared.taken (map (noted_of uuids) earlier) (noted_of uuids row) ≡ true → list_any (λ other. conflicts other row) earlier ≡ true
-  clash-some compared earlier row known own both =
-      sym (conflicts-noted uuids few earlier row known own)
-      ∙ and_second (has compared.taken.repeated (noted_of uuids row).key) (list_any (λ earlier. by_key.conflicts earlier (noted_of uuids row)) (map (noted_of uuids) earlier)) both
+  clash-some compared earlier row known own both = grind (arith, common_steps, nat_tests, and_parts, conflicts-noted)
 
   -- the next row is expected
   expected : (compared : Compared) (earlier : List RowAt) (row : RowAt) → compared.uuids ≡ uuids → HasTaken compared.taken (map (noted_of uuids) earlier)
@@ -250,26 +189,11 @@ module _ (uuids repeated : List ℕ) (few : length uuids < 2 ^ 63) where
   -- one place more
   step : (old middle : Compared) (at : Option RowAt) (rows earlier ahead beyond : List RowAt) → IsComparedRow old old.left at middle → Ahead uuids repeated old (cons_option at rows) earlier ahead beyond
       → Onward uuids repeated middle rows earlier ahead
-  step old middle None rows earlier ahead beyond same start = record {
-    now = earlier;
-    next_rows = ahead;
-    beyond = beyond;
-    goes = subst (λ (compared : Compared). Ahead uuids repeated compared rows earlier ahead beyond) (sym same) start;
-    same = refl;
-    conflict = λ fault told. told;
-  }
-  step old middle (Some row) rows earlier [] beyond moved start = record {
-    now = earlier;
-    next_rows = [];
-    beyond = rows;
-    goes = subst (λ (compared : Compared). Ahead uuids repeated compared rows earlier [] rows) (sym (subst (λ (left : List ℕ). IsComparedRow old left (Some row) middle) start.left moved))
-        (record { all = refl; left = start.left; uuids_is = start.uuids_is; repeated_is = start.repeated_is; taken_is = start.taken_is; known_before = start.known_before; known = tt; short = tt; finds = tt });
-    same = refl;
-    conflict = λ fault told. told;
-  }
+  step old middle None rows earlier ahead beyond same start = grind (arith, common_steps, nat_tests)
+  step old middle (Some row) rows earlier [] beyond moved start = grind (arith, common_steps, nat_tests)
   step old middle (Some row) rows earlier (own ∷ ahead) beyond moved start =
-      let is : row ≡ own = cons_head row own rows (ahead ++ beyond) start.all in
-      let others : rows ≡ ahead ++ beyond = cons_tail row own rows (ahead ++ beyond) start.all in
+      let is : row ≡ own = cc (start.all) in
+      let others : rows ≡ ahead ++ beyond = cc (start.all) in
       let before : Compared = record old { left = keys_of uuids ahead } in
       let key : ℕ = (noted_of uuids own).key in
       let taken_one : IsTaken before key own.kind own.text middle =
@@ -303,8 +227,7 @@ module _ (uuids repeated : List ℕ) (few : length uuids < 2 ^ 63) where
   -- all places before others
   pub onward : (old middle : Comparing) (before rest : List Place) (earlier ahead beyond : List RowAt) → TakesAll compares old before middle
       → Ahead uuids repeated (compared_in old) (rows_of (before ++ rest)) earlier ahead beyond → Onward uuids repeated (compared_in middle) (rows_of rest) earlier ahead
-  onward old middle before rest earlier ahead beyond (taken held) start =
-      record { now = earlier; next_rows = ahead; beyond = beyond; goes = start; same = refl; conflict = λ fault told. told }
+  onward old middle before rest earlier ahead beyond (taken held) start = grind (arith, common_steps, nat_tests)
   onward old middle before rest earlier ahead beyond (next from to end place others moved later) start =
       let one = step (compared_in from) (compared_in to) (row_at place) (rows_of (others ++ rest)) earlier ahead beyond moved start in
       let more = onward to end others rest one.now one.next_rows one.beyond later one.goes in
@@ -351,7 +274,7 @@ module _ (uuids repeated : List ℕ) (few : length uuids < 2 ^ 63) where
       by None now next_rows last denied goes conflict = absurd denied
       by (Some row) now [] last denied goes conflict = absurd (subst (λ (left : List ℕ). IsDeniedRow (compared_in stop.middle) left (Some row) fault) goes.left denied)
       by (Some row) now (own ∷ next_rows) last denied goes conflict =
-          let is : row ≡ own = cons_head row own (rows_of stop.later) (next_rows ++ last) goes.all in
+          let is : row ≡ own = cc (goes.all) in
           let before : Compared = record (compared_in stop.middle) { left = keys_of uuids next_rows } in
           let key : ℕ = (noted_of uuids own).key in
           let told : IsExpected before (map (noted_of uuids) now) key own.kind own.text = expected before now own goes.uuids_is goes.taken_is goes.known_before goes.known.0 goes.short.0.1 in
@@ -370,23 +293,8 @@ uuids_after-append : (uuids : List ℕ) (front rows : List RowAt) → uuids_afte
 uuids_after-append uuids [] rows = refl
 uuids_after-append uuids (row ∷ front) rows = uuids_after-append (uuids_behind uuids (text_of_row row)) front rows
 
-had-more : (n : ℕ) (uuids more : List ℕ) → has uuids n ≡ true → has (uuids ++ more) n ≡ true
-had-more n [] more none = absurd (cc)
-had-more n (first ∷ uuids) more there = by (n == first) there (had-more n uuids more)
-  where
-    by : (here : Bool) → (here || has uuids n) ≡ true → (has uuids n ≡ true → has (uuids ++ more) n ≡ true) → (here || has (uuids ++ more) n) ≡ true
-    by true there rest = refl
-    by false there rest = rest there
-
 same_itself : (row : RowAt) → same_component row row ≡ true
-same_itself row = (λ i. own row.kind i && eq-eqb (id_of row) (id_of row) refl i)
-  where
-    own : (kind : FileKind) → same_kind kind kind ≡ true
-    own Concept = refl
-    own Description = refl
-    own Relationship = refl
-    own Concrete = refl
-    own Member = refl
+same_itself row = (λ i. same_kind-refl row.kind i && eq-eqb (id_of row) (id_of row) refl i)
 
 -- a row that was seen is met
 met-seen : (uuids : List ℕ) (rows : List RowAt) (row : RowAt) → IsMet (uuids_after (uuids_behind uuids (text_of_row row)) rows) (text_of_row row)
@@ -400,7 +308,8 @@ met-seen uuids rows row = by row.kind row.text
     by Member text =
         let now : List ℕ = uuids_behind uuids (row_text Member text) in
         let grown = uuids_after-more now rows in
-        ap (λ (all : List ℕ). has all (id_on Member text)) grown.1 ∙ had-more (id_on Member text) now grown.0 (met-has (id_on Member text) uuids)
+        ap (λ (all : List ℕ). has all (id_on Member text)) grown.1
+        ∙ list_any-append (λ other. id_on Member text == other) now grown.0 ∙ or_left (has now (id_on Member text)) (has grown.0 (id_on Member text)) (met-has (id_on Member text) uuids)
 
 known-seen : (uuids : List ℕ) (rows : List RowAt) → AreShort rows → AreKnown (uuids_after uuids rows) rows
 known-seen uuids [] short = tt
@@ -409,19 +318,11 @@ known-seen uuids (row ∷ rows) short = ((short.0.0, met-seen uuids rows row), k
 -- the keys are those by all UUIDs
 keys-seen : (uuids : List ℕ) (rows : List RowAt) → keys_behind uuids rows ≡ keys_of (uuids_after uuids rows) rows
 keys-seen uuids [] = refl
-keys-seen uuids (row ∷ rows) =
-    (λ i. sym (key-later uuids rows row row (same_itself row)) i ∷ keys-seen (uuids_behind uuids (text_of_row row)) rows i)
+keys-seen uuids (row ∷ rows) = grind (arith, common_steps, nat_tests, key-later, same_itself, (keys-seen (uuids_behind uuids (text_of_row row)) rows))
 
 -- a row that conflicts with an earlier one is of its component
 some-component : (earlier : List RowAt) (row : RowAt) → list_any (λ other. conflicts other row) earlier ≡ true → list_any (λ other. same_component other row) earlier ≡ true
-some-component earlier row there = by (list_any (λ other. same_component other row) earlier) refl
-  where
-    by : (found : Bool) → list_any (λ other. same_component other row) earlier ≡ found → list_any (λ other. same_component other row) earlier ≡ true
-    by true told = told
-    by false told =
-        let none : list_any (λ other. conflicts other row) earlier ≡ false =
-        any-none (λ other. same_component other row) (λ other. conflicts other row) earlier (λ other apart. ap (λ (same : Bool). (same && same_time (time_of other) (time_of row)) && not (same_row other.kind other.text row.text)) apart) told in
-        absurd (cc)
+some-component earlier row there = grind (arith, common_steps, nat_tests, any-none)
 
 finds : (repeated : List ℕ) (earlier ahead : List RowAt)
     → ((key : ℕ) → 2 ≤ times key (keys_behind [] (earlier ++ ahead)) → Contains repeated key)
@@ -469,5 +370,4 @@ chosen-seen keyed places seen beyond are few =
 
 pub covers-seen : (keyed : Keyed) (repeated : List ℕ) (places : List Place) (seen beyond : List RowAt) → AreSeen keyed places seen beyond → Covers repeated keyed.keys
     → Covers repeated (keys_of (uuids_after [] seen) seen)
-covers-seen keyed repeated places seen beyond are covers =
-    subst (λ (all : List ℕ). Covers repeated all) (are.keys ∙ keys-seen [] seen) covers
+covers-seen keyed repeated places seen beyond are covers = grind (arith, common_steps, nat_tests, keys-seen)

@@ -1,11 +1,13 @@
 -- Comparing the row on a line.
-use Rattle.std.proofs.Common.{ℕ, ◌≡◌, ◌<◌, ◌∙◌, List, [], ◌∷◌, length, false, true, not, Bool, Option, ap, arith, refl, subst, sym}
+use Rattle.std.proofs.lemmas.Bool.Decides.{nat_tests}
+use Rattle.std.proofs.lemmas.Grind.{common_steps}
+use Rattle.std.proofs.Common.{ℕ, ◌≡◌, ◌<◌, List, ◌∷◌, length, false, true, not, Bool, Option, arith, refl, sym}
 use Rattle.rf2_rows.specs.RowTexts.{RowText, row_text}
 use Rattle.rf2_rows.specs.Versions.{time_on}
 use Rattle.rf2_rows.specs.declared.kind.FileKind.{FileKind}
 use Rattle.release_files.specs.Lines.{LineText}
-use Rattle.snapshot.specs.Compared.{Compared, IsDenied, IsDeniedRow, IsRefused, noted_on}
-use Rattle.snapshot.specs.Files.{later_line, row_at}
+use Rattle.snapshot.specs.Compared.{Compared, IsDenied, IsRefused, noted_on}
+use Rattle.snapshot.specs.Files.{later_line}
 use Rattle.snapshot.specs.Keys.{key_in}
 use Rattle.snapshot.specs.declared.fault.LoadFault.{LoadFault}
 
@@ -22,16 +24,9 @@ not_true false told = refl
 pub noted-is : (uuids : List ℕ) (kind : FileKind) (text : List ℕ) (row : RowText) (key : ℕ) (time : Option ℕ)
     → row ≡ row_text kind text → key ≡ key_in uuids row → time ≡ time_on kind text
     → noted_on uuids kind text ≡ record { key = key; time = time; kind = kind; text = text }
-noted-is uuids kind text row key time same key_is time_is =
-    (λ i. record { key = sym (key_is ∙ ap (λ (said : RowText). key_in uuids said) same) i; time = sym time_is i; kind = kind; text = text })
+noted-is uuids kind text row key time same key_is time_is = grind (arith, common_steps, nat_tests)
 
 -- the line of a row that is still to come
 pub denied-line : (old : Compared) (file : ℕ) (kind : FileKind) (line : LineText) (fault : LoadFault) (key : ℕ) (left : List ℕ) → old.left ≡ key ∷ left → 0 < length line.bytes
     → IsRefused (record old { left = left }) file line.number key kind line.bytes fault → IsDenied old (later_line file kind line) fault
-denied-line old file kind line fault key left ahead some refused =
-    subst (λ (keys : List ℕ). IsDeniedRow old keys (row_at (later_line file kind line)) fault) (sym ahead) (at_bytes line.bytes some refused)
-  where
-    at_bytes : (bytes : List ℕ) → 0 < length bytes → IsRefused (record old { left = left }) file line.number key kind bytes fault
-        → IsDeniedRow old (key ∷ left) (row_at (later_line file kind (record line { bytes = bytes }))) fault
-    at_bytes [] some refused = absurd (omega arith)
-    at_bytes (byte ∷ bytes) some refused = refused
+denied-line old file kind line fault key left ahead some refused = grind (arith, common_steps, nat_tests)

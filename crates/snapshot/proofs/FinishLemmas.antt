@@ -1,10 +1,11 @@
 -- From what was listed of the rows to the contents of a snapshot.
-use Rattle.std.proofs.Common.{ℕ, ◌≡◌, ◌≤◌, ◌+◌, ◌-◌, All, refl, List, [], ◌∷◌, length, map, Option, None, Some, Ok, Err, sym, ◌∙◌, ap, subst, arith, Bool, true, false, cond, nat_lt, nat_eq, ◌&&◌}
+use Rattle.std.proofs.lemmas.Bool.Decides.{nat_tests}
+use Rattle.std.proofs.lemmas.Grind.{common_steps}
+use Rattle.std.proofs.Common.{ℕ, ◌≡◌, ◌≤◌, ◌+◌, ◌-◌, All, List, [], ◌∷◌, length, map, None, Ok, sym, ◌∙◌, ap, subst, arith, Bool, true, false, cond, nat_lt, nat_eq}
 use Rattle.std.proofs.lemmas.List.{length-map}
 use Rattle.std.proofs.lemmas.Bool.{and_parts}
 use Rattle.std.proofs.lemmas.List.Elements.{All-cons, All-weaker, filter_passes}
 use Rattle.std.proofs.lemmas.List.Sums.{length-filter, count_by-le-length}
-use Rattle.std.specs.Prelude.{option_map}
 use Rattle.std.specs.List.{filter_map}
 use Rattle.std.specs.List.Sorted.{IsStrictlyIncreasing}
 use Rattle.snapshot.specs.LeastCycle.{IsLeastCycle}
@@ -90,49 +91,27 @@ finished-Ok language files count listed concepts isa attributes members names pa
 pub finished-Err : (language : List ℕ) (files count : ℕ) (listed : Listed) (concepts : List ℕ) (fault : LoadFault)
     → concepts ≡ rising listed.active_concepts → IsCycle fault (first_cyclic concepts (rows_among concepts listed.isa_ends))
     → IsFaultOf fault (finished language files count listed)
-finished-Err language files count listed concepts fault rises cycle other =
-    by (first_cyclic (rising listed.active_concepts) (rows_among (rising listed.active_concepts) listed.isa_ends))
-    (subst (λ (c : List ℕ). option_map Cycle (first_cyclic c (rows_among c listed.isa_ends)) ≡ Some fault) rises (cycle other))
-  where
-    by : (cyclic : Option ℕ) → option_map Cycle cyclic ≡ Some fault → unless_cyclic (contents_from language files count listed) cyclic ≡ Err fault
-    by None found = (cc)
-    by (Some concept) found = (cc)
+finished-Err language files count listed concepts fault rises cycle other = grind (arith, common_steps, nat_tests)
 
 -- there are no more names of some concepts than names
 pub length-names_among : (concepts : List ℕ) (names : List Name) → length (names_among concepts names) ≤ length names
-length-names_among concepts names =
-    omega (arith, length-filter (λ (name : Name). has concepts name.concept) names, count_by-le-length (λ (name : Name). has concepts name.concept) names)
+length-names_among concepts names = grind (arith, common_steps, nat_tests, count_by-le-length, length-filter)
 
 -- nor more attributes than attributes
 pub length-attributes_among : (concepts : List ℕ) (attributes : List Attribute) → length (attributes_among concepts attributes) ≤ length attributes
-length-attributes_among concepts attributes =
-    omega (
-      arith,
-      length-filter (λ (attribute : Attribute). has concepts attribute.source && is_value_among concepts attribute.value) attributes,
-      count_by-le-length (λ (attribute : Attribute). has concepts attribute.source && is_value_among concepts attribute.value) attributes,
-    )
+length-attributes_among concepts attributes = grind (arith, common_steps, nat_tests, count_by-le-length, length-filter)
 
 -- the sources of attributes of some concepts are these
 pub attributes_among-known : (concepts : List ℕ) (attributes : List Attribute) → All (λ (row : Attribute). has concepts row.source ≡ true) (attributes_among concepts attributes)
 attributes_among-known concepts [] = λ k d within. absurd (omega arith)
-attributes_among-known concepts (attribute ∷ attributes) = by (has concepts attribute.source) refl (is_value_among concepts attribute.value) (attributes_among-known concepts attributes)
-  where
-    by : (source : Bool) → has concepts attribute.source ≡ source → (value : Bool) → All (λ (row : Attribute). has concepts row.source ≡ true) (attributes_among concepts attributes)
-        → All (λ (row : Attribute). has concepts row.source ≡ true) (cond (source && value) (attribute ∷ attributes_among concepts attributes) (attributes_among concepts attributes))
-    by true there true rest = All-cons (λ (row : Attribute). has concepts row.source ≡ true) attribute (attributes_among concepts attributes) there rest
-    by true there false rest = rest
-    by false lacks value rest = rest
+attributes_among-known concepts (attribute ∷ attributes) = grind (arith, common_steps, nat_tests, All-cons, (attributes_among-known concepts attributes))
 
 -- and their values that are concepts are among these
 pub attributes_among-values : (concepts : List ℕ) (attributes : List Attribute) → All (λ (row : Attribute). is_value_among concepts row.value ≡ true) (attributes_among concepts attributes)
-attributes_among-values concepts attributes =
-    All-weaker (λ (row : Attribute). (has concepts row.source && is_value_among concepts row.value) ≡ true) (λ (row : Attribute). is_value_among concepts row.value ≡ true)
-    (λ row both. (and_parts (has concepts row.source) (is_value_among concepts row.value) both).1)
-    (attributes_among concepts attributes) (filter_passes (λ (row : Attribute). has concepts row.source && is_value_among concepts row.value) attributes)
+attributes_among-values concepts attributes = grind (arith, common_steps, nat_tests, All-weaker, and_parts, filter_passes)
 
 -- the fault that names the least concept that reaches itself is that of the load
 pub least_cycle : (fault : LoadFault) (concepts : List ℕ) → IsStrictlyIncreasing concepts → (ends : List (ℕ × ℕ)) → IsLeastCycle fault concepts (filter_map (numbered_row concepts) ends) → IsCycle fault (first_cyclic concepts (rows_among concepts ends))
-least_cycle (Cycle id) concepts rises ends (concept, below, is, chain, least) other =
-    ap (λ cyclic. option_map Cycle cyclic) (first_cyclic-Some concepts rises ends concept below chain least ∙ ap (λ (id : ℕ). Some id) is)
+least_cycle (Cycle id) concepts rises ends (concept, below, is, chain, least) other = grind (arith, common_steps, nat_tests, first_cyclic-Some)
 least_cycle Memory concepts rises ends cycle other = absurd (other (λ i. Memory))
 least_cycle fault concepts rises ends cycle other = absurd cycle

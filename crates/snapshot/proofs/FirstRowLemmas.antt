@@ -3,11 +3,11 @@ use Rattle.std.proofs.Common.{ℕ, suc, ◌≡◌, ◌<◌, ◌≤◌, ◌-◌, 
 use Rattle.std.specs.Prelude.{position}
 use Rattle.std.specs.List.{slice_get, position_or_len}
 use Rattle.std.specs.List.Sorted.{IsStrictlyIncreasing}
-use Rattle.std.proofs.lemmas.Bool.{cases_lt, cases_Bool, eqb-true, eq-eqb, false≢true, ltb-false}
+use Rattle.std.proofs.lemmas.Bool.{cases_eq, eqb-true, eq-eqb, false≢true, ltb-false}
 use Rattle.std.proofs.lemmas.Bool.Decides.{nat_tests}
 use Rattle.std.proofs.lemmas.List.{get_or-set_same, get_or-set_other, length-set, length-map, get_or_default}
 use Rattle.std.proofs.Math.ListN.{get_or-map}
-use Rattle.std.proofs.lemmas.Option.{slice_get-get_or, slice_get_within}
+use Rattle.std.proofs.lemmas.Option.{slice_get-map, slice_get_read}
 use Rattle.std.proofs.lemmas.List.Quantifiers.{position-Some}
 use Rattle.std.proofs.lemmas.List.Sums.{fails_before_first}
 use Rattle.rf2_rows.specs.Release.{Name}
@@ -16,6 +16,7 @@ use Rattle.snapshot.specs.Name.{first_name, names_of}
 use Rattle.snapshot.specs.NamesInside.{name_in}
 use Rattle.snapshot.specs.Numbering.{concept_number}
 use Rattle.snapshot.specs.declared.names.NameRow.{NameRow}
+use Rattle.snapshot.proofs.LineLemmas.{place_within}
 use Rattle.snapshot.proofs.RisingLemmas.{earlier_below}
 
 -- a row of another concept changes nothing
@@ -35,18 +36,14 @@ same_concept language concept names later row at place result own there first is
 -- concepts at two places of a rising list are not one
 places_apart : (concepts : List ℕ) → IsStrictlyIncreasing concepts → (i j : ℕ) → i < length concepts → j < length concepts → (i ≡ j → ⊥)
     → (get_or concepts i 0 == get_or concepts j 0) ≡ false
-places_apart concepts rising i j here there apart = elim (cases_lt i j) [
-  | inl before ↦ let below = earlier_below concepts rising i j before there in grind (arith, nat_tests)
-  | inr behind ↦ let below = earlier_below concepts rising j i (omega (arith, behind, apart)) here in grind (arith, nat_tests)
-]
+places_apart concepts rising i j here there apart =
+    grind (arith, nat_tests, earlier_below concepts rising i j, earlier_below concepts rising j i)
 
 -- where no place passes, no item does
 none_passes : (test : ℕ → Bool) (xs : List ℕ) (k : ℕ) → position test xs ≡ None → k < length xs → test (get_or xs k 0) ≡ false
-none_passes test xs k none within = by (nat_lt (position_or_len test xs) (length xs)) refl none
-  where
-    by : (below : Bool) → nat_lt (position_or_len test xs) (length xs) ≡ below → cond below (Some (position_or_len test xs)) None ≡ None → test (get_or xs k 0) ≡ false
-    by true is none = (cc)
-    by false is none = fails_before_first test xs k 0 (omega (arith, within, ltb-false (position_or_len test xs) (length xs) is))
+none_passes test xs k none within =
+    let past : length xs ≤ position_or_len test xs = grind (arith, nat_tests) in
+    fails_before_first test xs k 0 (omega arith)
 
 -- a row of none of the concepts
 pub first_places-other : (language concepts : List ℕ) (names later : List Name) (row : Name) (places : List (Option ℕ)) → concept_number concepts row.concept ≡ None
@@ -65,28 +62,18 @@ first_places-own language concepts names later row at number result places risin
     let found = position-Some (λ other. row.concept == other) concepts number 0 own in
     let same : row.concept ≡ get_or concepts number 0 = eqb-true row.concept (get_or concepts number 0) found.1 in (
       length-set places number (Some result) ∙ are.0,
-      λ other within. elim (cases_Bool (other == number)) [
-        | inl equal ↦ own_place other (eqb-true other number equal) found.0 found.1
-        | inr differs ↦ other_place other within found.0 same (λ equal. false≢true (sym differs ∙ eq-eqb other number equal))
+      λ other within. elim (cases_eq other number) [
+        | inl equal ↦
+            subst (λ (n : ℕ). IsFirstPlace language (get_or concepts n 0) names (row ∷ later) (get_or (set places number (Some result)) n None)) (sym equal)
+            (rw (get_or-set_same places number (Some result) None (omega (arith, are.0, found.0)))
+            (same_concept language (get_or concepts number 0) names later row at (get_or places number None) result found.1 there first (are.1 number found.0)))
+        | inr apart ↦
+            rw (get_or-set_other places number other (Some result) None apart)
+            (other_concept language (get_or concepts other 0) names later row (get_or places other None)
+            (ap (λ (id : ℕ). id == get_or concepts other 0) same ∙ places_apart concepts rising number other found.0 within (λ equal. apart (sym equal)))
+            (are.1 other within))
       ],
     )
-  where
-    own_place : (other : ℕ) → other ≡ number → number < length concepts → (row.concept == get_or concepts number 0) ≡ true
-        → IsFirstPlace language (get_or concepts other 0) names (row ∷ later) (get_or (set places number (Some result)) other None)
-    own_place other equal within is =
-        subst (λ (n : ℕ). IsFirstPlace language (get_or concepts n 0) names (row ∷ later) (get_or (set places number (Some result)) n None)) (sym equal)
-        (subst (λ (place : Option ℕ). IsFirstPlace language (get_or concepts number 0) names (row ∷ later) place)
-        (sym (get_or-set_same places number (Some result) None (omega (arith, are.0, within))))
-        (same_concept language (get_or concepts number 0) names later row at (get_or places number None) result is there first (are.1 number within)))
-
-    other_place : (other : ℕ) → other < length concepts → number < length concepts → row.concept ≡ get_or concepts number 0 → (other ≡ number → ⊥)
-        → IsFirstPlace language (get_or concepts other 0) names (row ∷ later) (get_or (set places number (Some result)) other None)
-    other_place other within here same apart =
-        subst (λ (place : Option ℕ). IsFirstPlace language (get_or concepts other 0) names (row ∷ later) place)
-        (sym (get_or-set_other places number other (Some result) None apart))
-        (other_concept language (get_or concepts other 0) names later row (get_or places other None)
-        (ap (λ (id : ℕ). id == get_or concepts other 0) same ∙ places_apart concepts rising number other here within (λ equal. apart (sym equal)))
-        (are.1 other within))
 
 -- the names from a row on are its own and those behind it
 pub names_from : (texts : List ℕ) (rows : List NameRow) (behind : ℕ) (row : NameRow) → 0 < behind → behind ≤ length rows → row ≡ get_or rows (behind - 1) row
@@ -99,20 +86,14 @@ names_from texts rows behind row some within is =
 pub name_at : (texts : List ℕ) (rows : List NameRow) (at : ℕ) (row : NameRow) → at < length rows → row ≡ get_or rows at row
     → slice_get (map (name_in texts) rows) at ≡ Some (name_in texts row)
 name_at texts rows at row within is =
-    slice_get-get_or (map (name_in texts) rows) at (name_in texts row) (omega (arith, length-map rows (name_in texts)))
-    ∙ ap (λ (name : Name). Some name) (get_or-map (name_in texts) rows at row ∙ ap (name_in texts) (sym is))
+    slice_get-map (name_in texts) rows at ∙ ap (option_map (name_in texts)) (slice_get_read rows (length rows) at row refl within is)
 
 -- a place is that of a row
 pub first_within : (language : List ℕ) (concept : ℕ) (texts : List ℕ) (rows : List NameRow) (later : List Name) (place : Option ℕ)
     → IsFirstPlace language concept (map (name_in texts) rows) later place → IfSome place (λ at. at < length rows)
-first_within language concept texts rows later None is = tt
-first_within language concept texts rows later (Some at) is = by (first_name language (names_of concept later)) is
-  where
-    by : (first : Option Name) → Some (slice_get (map (name_in texts) rows) at) ≡ option_map Some first → at < length rows
-    by None is = (cc)
-    by (Some name) is =
-        let there : slice_get (map (name_in texts) rows) at ≡ Some name = (cc) in
-        omega (arith, length-map rows (name_in texts), slice_get_within (map (name_in texts) rows) at name there)
+first_within language concept texts rows later place is =
+    subst (λ (count : ℕ). IfSome place (λ at. at < count)) (length-map rows (name_in texts))
+    (place_within (map (name_in texts) rows) place (first_name language (names_of concept later)) is)
 
 -- the place at the number of a concept
 pub place_read : (language concepts : List ℕ) (id : ℕ) (names later : List Name) (places : List (Option ℕ)) (number : ℕ) (place : Option ℕ)

@@ -4,7 +4,7 @@ use Rattle.std.specs.Prelude.{IfSome}
 use Rattle.std.specs.List.{slice_get}
 use Rattle.std.proofs.lemmas.Bool.{cases_eq}
 use Rattle.std.proofs.lemmas.List.{get_or-set_other, get_or-set_same, get_or_append_left, length-set, take_more}
-use Rattle.std.proofs.lemmas.Option.{slice_get_within}
+use Rattle.std.proofs.lemmas.Option.{IfSome_then, slice_get_within}
 use Rattle.rf2_rows.specs.Release.{Name}
 use Rattle.snapshot.specs.KeptNames.{AreNoted, IsKept, name_kept}
 use Rattle.snapshot.specs.Spans.{AreSpansOf, Extends, StandsAt, no_span, text_at}
@@ -12,14 +12,10 @@ use Rattle.snapshot.specs.declared.kept_names.KeptName.{KeptName}
 use Rattle.snapshot.specs.declared.spans.Span.{Span}
 use Rattle.snapshot.proofs.SpanLemmas.{all-push, rows-push, span-extends, stands-extends, text-extends}
 
-known-extends : (texts grown text : List ℕ) (span : Option Span) → Extends texts grown → IfSome span (StandsAt texts text) → IfSome span (StandsAt grown text)
-known-extends texts grown text None extends stands = tt
-known-extends texts grown text (Some span) extends stands = stands-extends texts grown extends text span stands
-
 pub noted-extends : (names : List Name) (texts grown : List ℕ) (spans : List (Option Span)) → AreNoted names texts spans → Extends texts grown → AreNoted names grown spans
 noted-extends names texts grown spans noted extends = record {
   each = noted.each;
-  stand = λ place name there. known-extends texts grown name.term (get_or spans place None) extends (noted.stand place name there);
+  stand = λ place name there. IfSome_then (get_or spans place None) (noted.stand place name there) (λ span stands. stands-extends texts grown extends name.term span stands);
 }
 
 -- a span is noted for a row
@@ -29,41 +25,32 @@ noted-set names texts spans place name span noted there stands = record {
   each = length-set spans place (Some span) ∙ noted.each;
   stand = λ other row is. elim (cases_eq other place) [
     | inl same ↦
-        let found : row ≡ name = (let both : Some row ≡ Some name = sym is ∙ ap (slice_get names) same ∙ there in (cc)) in
-        subst (λ (n : ℕ). IfSome (get_or (set spans place (Some span)) n None) (StandsAt texts row.term)) (sym same)
-        (subst (λ (known : Option Span). IfSome known (StandsAt texts row.term)) (sym (get_or-set_same spans place (Some span) None (omega (arith, noted.each, slice_get_within names place name there))))
-        (subst (λ (n : Name). StandsAt texts n.term span) (sym found) stands))
-    | inr apart ↦
-        subst (λ (known : Option Span). IfSome known (StandsAt texts row.term)) (sym (get_or-set_other spans place other (Some span) None apart))
-        (noted.stand other row is)
+        let both : Some row ≡ Some name = sym is ∙ ap (slice_get names) same ∙ there in
+        let found : row ≡ name = cc in
+        rw (same, get_or-set_same spans place (Some span) None (omega (arith, noted.each, slice_get_within names place name there)), found) stands
+    | inr apart ↦ rw (get_or-set_other spans place other (Some span) None apart) (noted.stand other row is)
   ];
 }
 
 -- one row more, while both grow
 module _ (texts grown : List ℕ) (languages more : List Span) (kept items : List KeptName) (row : KeptName) (extends : Extends texts grown) (extends_languages : Extends languages more) (pushed : items ≡ kept ++ row ∷ []) (are : All (IsKept texts languages) kept) where
   pub kept-push : IsKept grown more row → All (IsKept grown more) items
-  kept-push is = all-push (IsKept texts languages) (IsKept grown more) stays kept items row pushed are is
-    where
-      stays : (row : KeptName) → IsKept texts languages row → IsKept grown more row
-      stays row is = record {
+  kept-push is =
+      all-push (IsKept texts languages) (IsKept grown more) (λ row is. record {
         language = omega (arith, is.language, ap (λ (spans : List Span). length spans) extends_languages.1, length-append languages extends_languages.0);
         term = span-extends texts grown extends row.term is.term;
-      }
+      }) kept items row pushed are is
 
   pub names-push : AreSpansOf texts languages → (names : List Name) (place : ℕ) (name : Name) → map (name_kept texts languages) kept ≡ take place names
       → name_kept grown more row ≡ name → place < length names → name ≡ get_or names place name → map (name_kept grown more) items ≡ take (place + 1) names
   names-push placed names place name so_far is within there =
-      rows-push (name_kept texts languages) (name_kept grown more) (IsKept texts languages) same kept items row (get_or names place name) pushed are (is ∙ there)
+      rows-push (name_kept texts languages) (name_kept grown more) (IsKept texts languages) (λ row is i. record {
+        id = row.id;
+        concept = row.concept;
+        language = (ap (λ (spans : List Span). text_at grown (get_or spans row.language no_span)) extends_languages.1
+            ∙ ap (text_at grown) (get_or_append_left languages extends_languages.0 no_span row.language is.language)
+            ∙ text-extends texts grown extends (get_or languages row.language no_span) (placed row.language no_span is.language)) i;
+        term = text-extends texts grown extends row.term is.term i;
+      }) kept items row (get_or names place name) pushed are (is ∙ there)
       ∙ ap (λ (some : List Name). some ++ get_or names place name ∷ []) so_far
       ∙ sym (take_more names place name within)
-    where
-      same : (row : KeptName) → IsKept texts languages row → name_kept grown more row ≡ name_kept texts languages row
-      same row is =
-          (λ i. record {
-            id = row.id;
-            concept = row.concept;
-            language = (ap (λ (spans : List Span). text_at grown (get_or spans row.language no_span)) extends_languages.1
-                ∙ ap (text_at grown) (get_or_append_left languages extends_languages.0 no_span row.language is.language)
-                ∙ text-extends texts grown extends (get_or languages row.language no_span) (placed row.language no_span is.language)) i;
-            term = text-extends texts grown extends row.term is.term i;
-          })

@@ -2,156 +2,95 @@
 use Rattle.std.proofs.Common.{ℕ, zero, suc, ◌≡◌, ◌<◌, List, [], ◌∷◌, ◌++◌, length, get_or, Option, None, Some, sym, ◌∙◌, ap, subst, refl, arith, inl, inr, ◌⊎◌, append_assoc, Bool, true, false, cond}
 use Rattle.std.specs.Prelude.{Contains, find}
 use Rattle.std.specs.List.Sorted.{IsStrictlyIncreasing}
-use Rattle.std.proofs.lemmas.Bool.{cases_Bool, cases_lt, false≢true}
+use Rattle.std.proofs.lemmas.Bool.{cases_lt, false_from_ne_true, false≢true}
 use Rattle.std.proofs.lemmas.List.{append-nil}
+use Rattle.std.proofs.lemmas.List.Folds.{find_at}
+use Rattle.std.proofs.lemmas.List.Sums.{fails_before_first, passes_at_first}
+use Rattle.std.proofs.lemmas.Option.{get_or_from_slice_get, slice_get-get_or, slice_get_within}
+use Rattle.std.specs.List.{position_or_len, slice_get}
 use Rattle.hierarchy.specs.Hierarchy.{Reaches, reaches}
 use Rattle.rf2_rows.specs.Release.{Release}
 use Rattle.hierarchy.proofs.HierarchyLemmas.{chain_from_test, test_from_chain, contained_cases}
 use Rattle.snapshot.specs.Contents.{NamesLeastCyclic, least_cyclic}
-use Rattle.snapshot.specs.Faults.{NamesFirstFault, fault_at, first_fault, first_of}
+use Rattle.snapshot.specs.Faults.{HasNoFault, NamesFirstFault, fault_at, first_fault, first_of}
 use Rattle.snapshot.specs.Files.{Place}
 use Rattle.snapshot.specs.declared.fault.LoadFault.{LoadFault}
 use Rattle.snapshot.specs.declared.limits.Limits.{Limits}
 use Rattle.std.proofs.lemmas.List.{get_or_default}
 use Rattle.std.proofs.lemmas.List.Elements.{Contains-get_or}
 use Rattle.snapshot.proofs.NumberingLemmas.{find-first, find-none}
-use Rattle.snapshot.proofs.RisingLemmas.{earlier_below}
+use Rattle.snapshot.proofs.RisingLemmas.{earlier_below, not_falling}
+use Rattle.snapshot.proofs.WentLemmas.{first_fault-append}
 
--- no place has a fault, behind others that were seen
-abbrev HasNoneAfter : Limits → List Place → List Place → Type 0
-HasNoneAfter limits seen places =
-    (before : List Place) (place : Place) (later : List Place) → places ≡ before ++ place ∷ later → fault_at limits (seen ++ before) place ≡ None
+option_cases : {X : Type 0} (o : Option X) → (o ≡ None) ⊎ ((x : X) × (o ≡ Some x))
+option_cases None = inl refl
+option_cases (Some x) = inr (x, refl)
 
--- a place behind others that were seen has the fault, and none between has any
-abbrev IsFirstAfter : Limits → List Place → List Place → LoadFault → Type 0
-IsFirstAfter limits seen places fault =
-    (before : List Place) × (place : Place) × (later : List Place)
-    × (places ≡ before ++ place ∷ later) × (fault_at limits (seen ++ before) place ≡ Some fault) × HasNoneAfter limits seen before
+-- the fault that is found stands at a place, before which none is found
+found_at : (limits : Limits) (seen places : List Place) (fault : LoadFault) → first_fault limits seen places ≡ Some fault
+    → (before : List Place) × (place : Place) × (later : List Place)
+    × (places ≡ before ++ place ∷ later) × (fault_at limits (seen ++ before) place ≡ Some fault) × (first_fault limits seen before ≡ None)
+found_at limits seen [] fault found = (cc)
+found_at limits seen (first ∷ rest) fault found = elim (option_cases (fault_at limits seen first)) [
+  | inl none ↦
+      let skip = λ (behind : Option LoadFault). ap (λ (here : Option LoadFault). first_of here behind) none in
+      let tail = found_at limits (seen ++ first ∷ []) rest fault (sym (skip (first_fault limits (seen ++ first ∷ []) rest)) ∙ found) in (
+        first ∷ tail.0,
+        tail.1,
+        tail.2,
+        ap (λ places. first ∷ places) tail.3,
+        ap (λ before. fault_at limits before tail.1) (sym (append_assoc seen (first ∷ []) tail.0)) ∙ tail.4,
+        skip (first_fault limits (seen ++ first ∷ []) tail.0) ∙ tail.5,
+      )
+  | inr (other, is) ↦
+      let same = sym (ap (λ (here : Option LoadFault). first_of here (first_fault limits (seen ++ first ∷ []) rest)) is) ∙ found in
+      ([], first, rest, refl, ap (λ before. fault_at limits before first) (append-nil seen) ∙ is ∙ same, refl)
+]
 
--- none has a fault before the first place
-none_yet : (limits : Limits) (seen : List Place) → HasNoneAfter limits seen []
-none_yet limits seen [] place later cut = (cc)
-none_yet limits seen (first ∷ before) place later cut = (cc)
+second_none : (one other third : Option LoadFault) → first_of one (first_of other third) ≡ None → other ≡ None
+second_none one other third none = grind arith
 
--- one place without a fault, and others
-none_more : (limits : Limits) (seen : List Place) (first : Place) (rest : List Place) → fault_at limits seen first ≡ None
-    → HasNoneAfter limits (seen ++ first ∷ []) rest → HasNoneAfter limits seen (first ∷ rest)
-none_more limits seen first rest here later [] place others cut =
-    let same : first ≡ place = (cc) in
-    ap (λ before. fault_at limits before place) (append-nil seen) ∙ ap (λ p. fault_at limits seen p) (sym same) ∙ here
-none_more limits seen first rest here later (head ∷ before) place others cut =
-    let same : first ≡ head = (cc) in
-    let cut_rest : rest ≡ before ++ place ∷ others = (cc) in
-    ap (λ p. fault_at limits (seen ++ p ∷ before) place) (sym same)
-    ∙ ap (λ before. fault_at limits before place) (sym (append_assoc seen (first ∷ []) before))
-    ∙ later before place others cut_rest
+-- no place has a fault exactly where none is found
+none_with : (limits : Limits) (places : List Place) → first_fault limits [] places ≡ None → HasNoFault limits places
+none_with limits places none before place later cut =
+    second_none (first_fault limits [] before) (fault_at limits before place) (first_fault limits (before ++ place ∷ []) later)
+    (sym (first_fault-append limits [] before (place ∷ later)) ∙ ap (λ places. first_fault limits [] places) (sym cut) ∙ none)
 
--- what the walk over places finds
-pub first_fault-sound : (limits : Limits) (seen places : List Place) (fault : LoadFault) → first_fault limits seen places ≡ Some fault
-    → IsFirstAfter limits seen places fault
-first_fault-sound limits seen [] fault found = (cc)
-first_fault-sound limits seen (first ∷ rest) fault found =
-    by (fault_at limits seen first) refl (first_fault-sound limits (seen ++ first ∷ []) rest fault) found
-  where
-    by : (o : Option LoadFault) → fault_at limits seen first ≡ o
-        → (first_fault limits (seen ++ first ∷ []) rest ≡ Some fault → IsFirstAfter limits (seen ++ first ∷ []) rest fault)
-        → first_of o (first_fault limits (seen ++ first ∷ []) rest) ≡ Some fault → IsFirstAfter limits seen (first ∷ rest) fault
-    by (Some other) is more found =
-        ([], first, rest, refl, ap (λ before. fault_at limits before first) (append-nil seen) ∙ is ∙ found, none_yet limits seen)
-    by None is more found =
-        let tail = more found in (
-          first ∷ tail.0,
-          tail.1,
-          tail.2,
-          ap (λ places. first ∷ places) tail.3,
-          ap (λ before. fault_at limits before tail.1) (sym (append_assoc seen (first ∷ []) tail.0)) ∙ tail.4,
-          none_more limits seen first tail.0 is tail.5,
-        )
-
-pub first_fault-none : (limits : Limits) (seen places : List Place) → first_fault limits seen places ≡ None → HasNoneAfter limits seen places
-first_fault-none limits seen [] found = none_yet limits seen
-first_fault-none limits seen (first ∷ rest) found =
-    by (fault_at limits seen first) refl (first_fault-none limits (seen ++ first ∷ []) rest) found
-  where
-    by : (o : Option LoadFault) → fault_at limits seen first ≡ o
-        → (first_fault limits (seen ++ first ∷ []) rest ≡ None → HasNoneAfter limits (seen ++ first ∷ []) rest)
-        → first_of o (first_fault limits (seen ++ first ∷ []) rest) ≡ None → HasNoneAfter limits seen (first ∷ rest)
-    by (Some other) is more found = (cc)
-    by None is more found = none_more limits seen first rest is (more found)
-
--- and the other way round
-pub first_fault-complete : (limits : Limits) (seen before : List Place) (place : Place) (later : List Place) (fault : LoadFault)
-    → fault_at limits (seen ++ before) place ≡ Some fault → HasNoneAfter limits seen before
-    → first_fault limits seen (before ++ place ∷ later) ≡ Some fault
-first_fault-complete limits seen [] place later fault here none =
-    ap (λ o. first_of o (first_fault limits (seen ++ place ∷ []) later)) (ap (λ before. fault_at limits before place) (sym (append-nil seen)) ∙ here)
-first_fault-complete limits seen (first ∷ before) place later fault here none =
-    let clean : fault_at limits seen first ≡ None = ap (λ b. fault_at limits b first) (sym (append-nil seen)) ∙ none [] first before refl in
-    ap (λ o. first_of o (first_fault limits (seen ++ first ∷ []) (before ++ place ∷ later))) clean
-    ∙ first_fault-complete limits (seen ++ first ∷ []) before place later fault
-    (ap (λ b. fault_at limits b place) (append_assoc seen (first ∷ []) before) ∙ here)
-    (λ b p l cut. ap (λ x. fault_at limits x p) (append_assoc seen (first ∷ []) b) ∙ none (first ∷ b) p l (ap (λ places. first ∷ places) cut))
-
-pub first_fault-complete_none : (limits : Limits) (seen places : List Place) → HasNoneAfter limits seen places → first_fault limits seen places ≡ None
-first_fault-complete_none limits seen [] none = refl
-first_fault-complete_none limits seen (first ∷ rest) none =
-    let clean : fault_at limits seen first ≡ None = ap (λ b. fault_at limits b first) (sym (append-nil seen)) ∙ none [] first rest refl in
-    ap (λ o. first_of o (first_fault limits (seen ++ first ∷ []) rest)) clean
-    ∙ first_fault-complete_none limits (seen ++ first ∷ []) rest
-    (λ b p l cut. ap (λ x. fault_at limits x p) (append_assoc seen (first ∷ []) b) ∙ none (first ∷ b) p l (ap (λ places. first ∷ places) cut))
+none_when : (limits : Limits) (places : List Place) → HasNoFault limits places → first_fault limits [] places ≡ None
+none_when limits places clean = elim (option_cases (first_fault limits [] places)) [
+  | inl none ↦ none
+  | inr (fault, found) ↦
+      let at = found_at limits [] places fault found in
+      absurd (let both : Some fault ≡ None = sym at.4 ∙ clean at.0 at.1 at.2 at.3 in cc)
+]
 
 pub names_first_fault : NamesFirstFault
 names_first_fault limits places = (
   λ fault. (
-    λ found. let is = first_fault-sound limits [] places fault found in
-        record { before = is.0; place = is.1; later = is.2; cut = is.3; here = is.4; none_before = is.5 },
-    λ is. ap (λ p. first_fault limits [] p) is.cut
-        ∙ first_fault-complete limits [] is.before is.place is.later fault is.here is.none_before,
+    λ found. let at = found_at limits [] places fault found in
+        record { before = at.0; place = at.1; later = at.2; cut = at.3; here = at.4; none_before = none_with limits at.0 at.5 },
+    λ is. ap (λ places. first_fault limits [] places) is.cut
+        ∙ first_fault-append limits [] is.before (is.place ∷ is.later)
+        ∙ (λ i. first_of (none_when limits is.before is.none_before i) (first_of (is.here i) (first_fault limits (is.before ++ is.place ∷ []) is.later))),
   ),
-  (
-    λ found. first_fault-none limits [] places found,
-    λ none. first_fault-complete_none limits [] places none,
-  ),
+  (none_with limits places, none_when limits places),
 )
 
 -- what is found passes the test, and no item before it does
 find-Some : (test : ℕ → Bool) (xs : List ℕ) (x : ℕ) → find test xs ≡ Some x
     → (i : ℕ) × (i < length xs) × (get_or xs i 0 ≡ x) × (test x ≡ true) × ((k : ℕ) → k < i → test (get_or xs k 0) ≡ false)
-find-Some test [] x found = (cc)
-find-Some test (first ∷ rest) x found = by (test first) refl (find-Some test rest x) found
-  where
-    by : (b : Bool) → test first ≡ b
-        → (find test rest ≡ Some x → (i : ℕ) × (i < length rest) × (get_or rest i 0 ≡ x) × (test x ≡ true) × ((k : ℕ) → k < i → test (get_or rest k 0) ≡ false))
-        → cond b (Some first) (find test rest) ≡ Some x
-        → (i : ℕ) × (i < length (first ∷ rest)) × (get_or (first ∷ rest) i 0 ≡ x) × (test x ≡ true) × ((k : ℕ) → k < i → test (get_or (first ∷ rest) k 0) ≡ false)
-    by true is more found =
-        let same : first ≡ x = (cc) in
-        (0, omega arith, same, subst (λ (y : ℕ). test y ≡ true) same is, λ k before. absurd (omega arith))
-    by false is more found =
-        let tail = more found in
-        (suc tail.0, omega (arith, tail.1), tail.2, tail.3, none tail.0 tail.4)
-      where
-        none : (i : ℕ) → ((k : ℕ) → k < i → test (get_or rest k 0) ≡ false) → (k : ℕ) → k < suc i → test (get_or (first ∷ rest) k 0) ≡ false
-        none i earlier zero before = is
-        none i earlier (suc k) before = earlier k (omega arith)
+find-Some test xs x found =
+    let i : ℕ = position_or_len test xs in
+    let there : slice_get xs i ≡ Some x = sym (find_at test xs) ∙ found in
+    let within = slice_get_within xs i x there in
+    let is : get_or xs i 0 ≡ x = get_or_from_slice_get xs i x 0 there in
+    (i, within, is, subst (λ (y : ℕ). test y ≡ true) is (passes_at_first test xs 0 within), λ k before. fails_before_first test xs k 0 before)
 
 -- nothing is found where no item passes the test
 find-none_passes : (test : ℕ → Bool) (xs : List ℕ) → find test xs ≡ None → (x : ℕ) → Contains xs x → test x ≡ false
-find-none_passes test [] found x (k, below, is) = absurd (omega arith)
-find-none_passes test (first ∷ rest) found x there =
-    by (test first) refl (find-none_passes test rest) found (contained_cases first rest x there)
-  where
-    by : (b : Bool) → test first ≡ b → (find test rest ≡ None → (x : ℕ) → Contains rest x → test x ≡ false)
-        → cond b (Some first) (find test rest) ≡ None → (first ≡ x) ⊎ Contains rest x → test x ≡ false
-    by true is more found there = (cc)
-    by false is more found (inl same) = subst (λ (y : ℕ). test y ≡ false) same is
-    by false is more found (inr later) = more found x later
-
--- a test tells of a concept whether it reaches itself
-reaches_not : (release : Release) (concept : ℕ) → (Reaches release.isa concept concept → ⊥) → reaches release.isa concept concept ≡ false
-reaches_not release concept none = elim (cases_Bool (reaches release.isa concept concept)) [
-  | inl holds ↦ absurd (none (chain_from_test release.isa concept concept holds))
-  | inr lacks ↦ lacks
+find-none_passes test xs none x (k, below, is) = elim (cases_lt (position_or_len test xs) (length xs)) [
+  | inl within ↦ absurd (let some = sym (slice_get-get_or xs (position_or_len test xs) 0 within) ∙ sym (find_at test xs) ∙ none in cc)
+  | inr past ↦ subst (λ (y : ℕ). test y ≡ false) is (fails_before_first test xs k x (omega arith))
 ]
 
 -- a lesser concept stands before a greater one
@@ -159,51 +98,40 @@ earlier_place : (concepts : List ℕ) → IsStrictlyIncreasing concepts → (i k
     → get_or concepts k 0 < get_or concepts i 0 → k < i
 earlier_place concepts rising i k within also less = elim (cases_lt k i) [
   | inl before ↦ before
-  | inr after ↦ elim (cases_lt i k) [
-    | inl behind ↦ let above = earlier_below concepts rising i k behind also in absurd (omega (arith, above))
-    | inr not_behind ↦ let same : i ≡ k = omega arith in absurd (lt-irrefl_at (get_or concepts k 0) (get_or concepts i 0) (ap (λ n. get_or concepts n 0) same) less)
-  ]
+  | inr behind ↦ absurd (omega (arith, not_falling concepts rising i k behind also))
 ]
-  where
-    lt-irrefl_at : (a b : ℕ) → b ≡ a → a < b → ⊥
-    lt-irrefl_at a b same less = omega arith
 
 pub names_least_cyclic : NamesLeastCyclic
 names_least_cyclic release rising = (
-  λ concept. (λ found. least concept found, λ is. first concept is),
-  (
-    λ found concept there chain. false≢true (sym (find-none_passes test release.concepts found concept there) ∙ test_from_chain release.isa chain),
-    λ none. find-none test release.concepts (λ k within. reaches_not release (get_or release.concepts k 0) (none (get_or release.concepts k 0) (Contains-get_or release.concepts k 0 within))),
-  ),
-)
-  where
-    test : ℕ → Bool
-    test concept = reaches release.isa concept concept
-
-    least : (concept : ℕ) → least_cyclic release ≡ Some concept
-        → Contains release.concepts concept × Reaches release.isa concept concept
-        × ((lesser : ℕ) → Contains release.concepts lesser → lesser < concept → Reaches release.isa lesser lesser → ⊥)
-    least concept found =
+  λ concept. (
+    λ found.
         let at = find-Some test release.concepts concept found in (
           subst (λ (c : ℕ). Contains release.concepts c) at.2 (Contains-get_or release.concepts at.0 0 at.1),
           chain_from_test release.isa concept concept at.3,
           λ lesser there less chain.
               let k : ℕ = there.0 in
               let is : get_or release.concepts k 0 ≡ lesser = get_or_default release.concepts k 0 lesser there.1 ∙ there.2 in
-              let before : k < at.0 = earlier_place release.concepts rising at.0 k at.1 there.1 (subst (λ (n : ℕ). n < get_or release.concepts at.0 0) (sym is) (subst (λ (n : ℕ). lesser < n) (sym at.2) less)) in
+              let before : k < at.0 = earlier_place release.concepts rising at.0 k at.1 there.1 (omega (arith, less, is, at.2)) in
               false≢true (sym (subst (λ (n : ℕ). test n ≡ false) is (at.4 k before)) ∙ test_from_chain release.isa chain),
-        )
-
-    first : (concept : ℕ)
-        → Contains release.concepts concept × Reaches release.isa concept concept
-        × ((lesser : ℕ) → Contains release.concepts lesser → lesser < concept → Reaches release.isa lesser lesser → ⊥)
-        → least_cyclic release ≡ Some concept
-    first concept (there, chain, none) =
+        ),
+    λ (there, chain, none).
         let i : ℕ = there.0 in
         let is : get_or release.concepts i 0 ≡ concept = get_or_default release.concepts i 0 concept there.1 ∙ there.2 in
         find-first test release.concepts i there.1
-        (λ k before. reaches_not release (get_or release.concepts k 0)
+        (λ k before. fails (get_or release.concepts k 0)
         (none (get_or release.concepts k 0) (Contains-get_or release.concepts k 0 (omega (arith, there.1)))
         (subst (λ (n : ℕ). get_or release.concepts k 0 < n) is (earlier_below release.concepts rising k i before there.1))))
         (subst (λ (n : ℕ). test n ≡ true) (sym is) (test_from_chain release.isa chain))
-        ∙ ap (λ (n : ℕ). Some n) is
+        ∙ ap (λ (n : ℕ). Some n) is,
+  ),
+  (
+    λ found concept there chain. false≢true (sym (find-none_passes test release.concepts found concept there) ∙ test_from_chain release.isa chain),
+    λ none. find-none test release.concepts (λ k within. fails (get_or release.concepts k 0) (none (get_or release.concepts k 0) (Contains-get_or release.concepts k 0 within))),
+  ),
+)
+  where
+    test : ℕ → Bool
+    test concept = reaches release.isa concept concept
+
+    fails : (concept : ℕ) → (Reaches release.isa concept concept → ⊥) → test concept ≡ false
+    fails concept none = false_from_ne_true (test concept) (λ holds. none (chain_from_test release.isa concept concept holds))

@@ -7,6 +7,7 @@ pub mod CodeLemmas
 pub mod FinishLemmas
 pub mod FirstRowLemmas
 pub mod KeptNameLemmas
+pub mod KindLemmas
 pub mod LatestLemmas
 pub mod LawLemmas
 pub mod LineLemmas

@@ -1,15 +1,15 @@
 -- Cutting files one byte past the limit keeps their first fault and, where there is none, their places.
-use Rattle.std.proofs.Common.{All, ◌≡◌, ℕ, zero, suc, ◌+◌, ◌-◌, ◌<◌, ◌≤◌, Bool, true, false, eqb, List, [], ◌∷◌, ◌++◌, length, map, take, drop, refl, sym, ap, ◌∙◌, inl, inr, arith, Option, None, Some, if◌then◌else◌, bytes_eq}
+use Rattle.std.proofs.lemmas.Bool.Decides.{nat_tests}
+use Rattle.std.proofs.lemmas.Grind.{common_steps}
+use Rattle.std.proofs.Common.{◌≡◌, ℕ, zero, suc, ◌+◌, ◌-◌, ◌<◌, ◌≤◌, Bool, true, false, eqb, List, [], ◌∷◌, ◌++◌, length, map, take, drop, refl, sym, ap, ◌∙◌, inl, inr, arith, Option, None, Some, if◌then◌else◌, bytes_eq}
 use Rattle.std.proofs.lemmas.Bool.{cases_eq, eq-eqb, eqb-true, false_from_ne_true, lt-ltb}
-use Rattle.std.proofs.lemmas.List.{drop-take, take-take, take_all}
-use Rattle.std.proofs.lemmas.List.Elements.{All-head, All-tail}
+use Rattle.std.proofs.lemmas.List.{drop-take, take-take}
 use Rattle.std.specs.List.{onto_first}
 use Rattle.release_files.specs.Lines.{LineText, byte_order_mark, lines_of, mark_length, numbered, parts, part_text}
 use Rattle.release_files.specs.Source.{FileText}
-use Rattle.rf2_rows.specs.Files.{file_kind_of}
 use Rattle.rf2_rows.specs.declared.kind.FileKind.{FileKind}
 use Rattle.snapshot.specs.Faults.{fault_at, fault_here, first_fault, first_of}
-use Rattle.snapshot.specs.Files.{Place, first_line, later_line, no_line, places_from, places_of_file, places_of_kind, places_of_lines}
+use Rattle.snapshot.specs.Files.{Place, first_line, later_line, no_line, places_from, places_of_kind, places_of_lines}
 use Rattle.snapshot.specs.Pieces.{cut_file}
 use Rattle.snapshot.specs.declared.fault.LoadFault.{LoadFault}
 use Rattle.snapshot.specs.declared.fault.LoadFault.TheVariants.{TooMany}
@@ -119,9 +119,7 @@ file_agree limits file (Some kind) bytes room = kind_agree limits file kind (lin
 
 files_agree : (limits : Limits) (file : ℕ) (files : List FileText) → 3 ≤ limits.bytes → PlacesAgree limits (places_from file (map (cut_file limits.bytes) files)) (places_from file files)
 files_agree limits file [] room = no_place
-files_agree limits file (text ∷ texts) room =
-    agree_append limits (places_of_file file (cut_file limits.bytes text)) (places_of_file file text) (places_from (file + 1) (map (cut_file limits.bytes) texts)) (places_from (file + 1) texts)
-    (file_agree limits file (file_kind_of text.name) text.bytes room) (files_agree limits (file + 1) texts room)
+files_agree limits file (text ∷ texts) room = grind (arith, common_steps, nat_tests, agree_append, file_agree, (files_agree limits (file + 1) texts room))
 
 -- a place that has a fault by itself has it behind any others
 faulty_first : (limits : Limits) (before later : List Place) (place : Place) (fault : LoadFault) → fault_here limits place ≡ Some fault → first_fault limits before (place ∷ later) ≡ Some fault
@@ -130,8 +128,7 @@ faulty_first limits before later place fault here = rw here refl
 agree_first_fault : (limits : Limits) (before short long : List Place) → PlacesAgree limits short long → first_fault limits before short ≡ first_fault limits before long
 agree_first_fault limits before short long no_place = refl
 agree_first_fault limits before short long (same_place place xs ys agree) = ap (first_of (fault_at limits before place)) (agree_first_fault limits (before ++ place ∷ []) xs ys agree)
-agree_first_fault limits before short long (both_faulty one other xs ys fault here there) =
-    faulty_first limits before xs one fault here ∙ sym (faulty_first limits before ys other fault there)
+agree_first_fault limits before short long (both_faulty one other xs ys fault here there) = grind (arith, common_steps, nat_tests, faulty_first)
 
 later_none : (first later : Option LoadFault) → first_of first later ≡ None → later ≡ None
 later_none None later none = none
@@ -139,13 +136,8 @@ later_none (Some fault) later none = cc
 
 agree_places : (limits : Limits) (before short long : List Place) → PlacesAgree limits short long → first_fault limits before short ≡ None → short ≡ long
 agree_places limits before short long no_place none = refl
-agree_places limits before short long (same_place place xs ys agree) none =
-    ap (λ (places : List Place). place ∷ places)
-    (agree_places limits (before ++ place ∷ []) xs ys agree (later_none (fault_at limits before place) (first_fault limits (before ++ place ∷ []) xs) none))
-agree_places limits before short long (both_faulty one other xs ys fault here there) none =
-    let some : first_fault limits before (one ∷ xs) ≡ Some fault = faulty_first limits before xs one fault here in
-    let not_none : Some fault ≡ None = sym some ∙ none in
-    cc
+agree_places limits before short long (same_place place xs ys agree) none = grind (arith, common_steps, nat_tests, later_none, (agree_places limits (before ++ place ∷ []) xs ys agree (later_none (fault_at limits before place) (first_fault limits (before ++ place ∷ []) xs) none)))
+agree_places limits before short long (both_faulty one other xs ys fault here there) none = grind (arith, common_steps, nat_tests, faulty_first)
 
 -- files that are cut one byte past the limit have the first fault of the files
 pub cut_first_fault : (limits : Limits) (files : List FileText) → 3 ≤ limits.bytes
@@ -157,12 +149,3 @@ pub cut_places : (limits : Limits) (files : List FileText) → 3 ≤ limits.byte
     → places_from 0 (map (cut_file limits.bytes) files) ≡ places_from 0 files
 cut_places limits files room none =
     agree_places limits [] (places_from 0 (map (cut_file limits.bytes) files)) (places_from 0 files) (files_agree limits 0 files room) (cut_first_fault limits files room ∙ none)
-
--- files that end within a byte past the limit are cut nowhere
-pub cut_within : (limit : ℕ) (files : List FileText) → All (λ (file : FileText). length file.bytes ≤ limit + 1) files → map (cut_file limit) files ≡ files
-cut_within limit [] within = refl
-cut_within limit (file ∷ files) within =
-    let whole : take (limit + 1) file.bytes ≡ file.bytes = take_all (limit + 1) file.bytes (All-head (λ (some : FileText). length some.bytes ≤ limit + 1) file files within) in
-    let others : map (cut_file limit) files ≡ files = cut_within limit files (All-tail (λ (some : FileText). length some.bytes ≤ limit + 1) file files within) in
-    let first : cut_file limit file ≡ file = ap (λ (bytes : List ℕ). record { name = file.name; bytes = bytes }) whole in
-    ap (λ (text : FileText). text ∷ map (cut_file limit) files) first ∙ ap (λ (texts : List FileText). file ∷ texts) others

@@ -9,24 +9,18 @@ use Rattle.snapshot.specs.FirstRows.{AreFirstPlaces}
 use Rattle.hierarchy.specs.KeyedListsInside.{AreStarts}
 use Rattle.snapshot.specs.Line.{concept_line}
 use Rattle.snapshot.specs.Name.{first_name, name_among, names_of}
+use Rattle.snapshot.proofs.FinishLemmas.{length-names_among}
 use Rattle.hierarchy.proofs.CutLemmas.{below_cut, cut, cut-push, end_within, found, same_maps, slice_range-append, starts-push}
 
 -- the place of the row that comes first is that of a row, and the term there is its term
-place_within : (names : List Name) (place : Option ℕ) (first : Option Name) → option_map (slice_get names) place ≡ option_map Some first → IfSome place (λ at. at < length names)
+pub place_within : (names : List Name) (place : Option ℕ) (first : Option Name) → option_map (slice_get names) place ≡ option_map Some first → IfSome place (λ at. at < length names)
 place_within names None first is = tt
 place_within names (Some at) None is = (cc)
-place_within names (Some at) (Some row) is =
-    let there : slice_get names at ≡ Some row = (cc) in
-    slice_get_within names at row there
+place_within names (Some at) (Some row) is = slice_get_within names at row (cc)
 
 term_at : (names : List Name) (place : Option ℕ) (first : Option Name) → option_map (slice_get names) place ≡ option_map Some first
     → option_map (λ (row : Name). row.term) (option_and_then (slice_get names) place) ≡ option_map (λ (row : Name). row.term) first
-term_at names None None is = refl
-term_at names None (Some row) is = (cc)
-term_at names (Some at) None is = (cc)
-term_at names (Some at) (Some row) is =
-    let there : slice_get names at ≡ Some row = (cc) in
-    ap (λ (found : Option Name). option_map (λ (row : Name). row.term) found) there
+term_at names place first is = grind arith
 
 pub places_within : (language concepts : List ℕ) (names some : List Name) (places : List (Option ℕ)) → AreFirstPlaces language concepts names some places
     → All (λ (place : Option ℕ). IfSome place (λ at. at < length names)) places
@@ -73,21 +67,25 @@ lines-append starts lines more kept =
     same_maps (λ number. slice_range (lines ++ more) (get_or starts number 0) (get_or starts (number + 1) 0)) (λ number. slice_range lines (get_or starts number 0) (get_or starts (number + 1) 0)) 0 (length starts - 1)
     (λ number from to. slice_range-append lines more (get_or starts number 0) (get_or starts (number + 1) 0) (kept.rise number (omega arith)) (end_within starts lines kept (number + 1) (omega arith)))
 
--- where the lines are those at the beginning of a text
-module _ (starts texts : List ℕ) (lists : List (List ℕ)) (number : ℕ) (begun : (lines more : List ℕ) × (texts ≡ lines ++ more) × AreStarts starts lines) (are : cut starts texts ≡ lists) (below : number < length lists) where
-  pub line_starts : number + 1 < length starts
-  line_starts = below_cut starts texts lists number are below
-
-  pub line_rises : get_or starts number 0 ≤ get_or starts (number + 1) 0
-  line_rises = begun.3.rise number line_starts
-
-  pub line_ends : get_or starts (number + 1) 0 ≤ length texts
-  line_ends = omega (arith, end_within starts begun.0 begun.3 (number + 1) line_starts, ap (λ (xs : List ℕ). length xs) begun.2, length-append begun.0 begun.1)
-
-  pub line_at : get_or lists number [] ≡ slice_range texts (get_or starts number 0) (get_or starts (number + 1) 0)
-  line_at = found starts texts lists number are below
+-- where the lines are those at the beginning of a text: the places of a line, and what stands between them
+pub line_places : (starts texts : List ℕ) (lists : List (List ℕ)) (number : ℕ) → (lines more : List ℕ) × (texts ≡ lines ++ more) × AreStarts starts lines → cut starts texts ≡ lists → number < length lists
+    → (number + 1 < length starts) × (get_or starts number 0 ≤ get_or starts (number + 1) 0) × (get_or starts (number + 1) 0 ≤ length texts)
+    × (get_or lists number [] ≡ slice_range texts (get_or starts number 0) (get_or starts (number + 1) 0))
+line_places starts texts lists number (lines, more, grown, kept) are below =
+    let next = below_cut starts texts lists number are below in (
+      next,
+      kept.rise number next,
+      omega (arith, end_within starts lines kept (number + 1) next, ap (λ (xs : List ℕ). length xs) grown, length-append lines more),
+      found starts texts lists number are below,
+    )
 
 -- the line of a concept among those of all
+pub line_among : (name : ℕ → Option (List ℕ)) (concepts : List ℕ) (number : ℕ) → number < length concepts → get_or (map (concept_line name) concepts) number [] ≡ concept_line name (get_or concepts number 0)
+line_among name concepts number below = get_or-map (concept_line name) concepts number 0 [] below
+
 pub line_of_concept : (name : ℕ → Option (List ℕ)) (concepts : List ℕ) (lists : List (List ℕ)) (number : ℕ) → lists ≡ map (concept_line name) concepts → number < length concepts
     → get_or lists number [] ≡ concept_line name (get_or concepts number 0)
-line_of_concept name concepts lists number are below = ap (λ (lists : List (List ℕ)). get_or lists number []) are ∙ get_or-map (concept_line name) concepts number 0 [] below
+line_of_concept name concepts lists number are below = ap (λ (lists : List (List ℕ)). get_or lists number []) are ∙ line_among name concepts number below
+
+-- there are no more of the names than there were
+pub ruleset fewer_names = (length-names_among)

@@ -1,25 +1,26 @@
 -- What is listed of rows makes the release that the definitions say, and what a load is then.
-use Rattle.std.proofs.Common.{arith, ℕ, ◌≡◌, ◌≤◌, ◌-◌, ◌&&◌, ◌||◌, ◌==◌, List, [], ◌∷◌, length, map, Option, None, Some, Err, sym, ◌∙◌, ap, refl, suc, Bool, true, false, cond}
-use Rattle.std.specs.Prelude.{codes, is_some, option_and_then, filter, count_by, drop, not, pos, unwrap_or, ℤ}
+use Rattle.std.proofs.Common.{rules}
+use Rattle.std.proofs.lemmas.Bool.Decides.{nat_tests}
+use Rattle.std.proofs.lemmas.Grind.{common_steps}
+use Rattle.std.proofs.Common.{arith, ℕ, ◌≡◌, ◌≤◌, ◌-◌, ◌&&◌, ◌||◌, ◌==◌, List, [], ◌∷◌, length, map, Option, None, Some, Err, sym, ◌∙◌, ap, refl, Bool, true, false, cond}
+use Rattle.std.specs.Prelude.{codes, is_some, option_and_then, filter, count_by}
 use Rattle.std.specs.List.{cons_option, filter_map, list_any}
 use Rattle.std.proofs.lemmas.List.Sums.{length-filter}
 use Rattle.release_files.specs.Source.{FileText}
-use Rattle.rf2_rows.specs.Release.{Attribute, Release, number_value, text_value}
-use Rattle.rf2_rows.specs.RowTexts.{RowText, of_concept, of_concrete, of_description, of_member, of_relationship, row_text}
-use Rattle.rf2_rows.specs.Rows.{ConcreteText, DescriptionText, concrete_row, fields_of, relationship_row, text_in}
-use Rattle.rf2_rows.specs.Values.{decimal_of, begins_with_hash, value_of}
-use Rattle.rf2_rows.specs.declared.kind.FileKind.{FileKind}
-use Rattle.rf2_rows.specs.declared.kind.FileKind.TheVariants.{Concept, Concrete, Description, Member, Relationship}
+use Rattle.rf2_rows.specs.Release.{Attribute, Name, Release}
+use Rattle.rf2_rows.specs.RowTexts.{RowText, of_concrete, of_relationship}
+use Rattle.rf2_rows.specs.Rows.{ConcreteText, DescriptionText, concrete_row, fields_of, text_in}
+use Rattle.rf2_rows.specs.Values.{value_of}
+use Rattle.rf2_rows.specs.declared.kind.FileKind.TheVariants.{Concept, Concrete}
 use Rattle.rf2_rows.specs.declared.row.ConceptRow.{ConceptRow}
 use Rattle.rf2_rows.specs.declared.row.MemberRow.{MemberRow}
 use Rattle.rf2_rows.specs.declared.row.RelationshipRow.{RelationshipRow}
-use Rattle.snapshot.specs.Chosen.{chosen}
 use Rattle.snapshot.specs.Contents.{Contents, contents_of, least_cyclic, load_of, loaded_from, text_of_row, unless_cyclic, unless_faulty}
 use Rattle.snapshot.specs.Faults.{first_fault}
 use Rattle.rf2_rows.specs.Files.{file_kind_of}
-use Rattle.snapshot.specs.Files.{Place, RowAt, is_concept_file, is_concept_kind, has_kind, places_from, rows_of}
+use Rattle.snapshot.specs.Files.{Place, RowAt, is_concept_file, is_concept_kind, has_kind, places_from}
 use Rattle.hierarchy.specs.Members.{has}
-use Rattle.snapshot.specs.InForce.{attribute_in, attribute_of_concrete, attribute_of_relationship, attributes_in_force, concept_in, concept_rows, concepts_in_force, concrete_attribute, description_in, description_rows, is_in_force, is_member_in_force, is_name, isa_in_force, listed_count, member_in, member_rows, members_in_force, name_on, names_in_force, relationship_attribute, relationship_in, relationship_rows, release_of, rising, rows_among}
+use Rattle.snapshot.specs.InForce.{attribute_of_concrete, attribute_of_relationship, attributes_in_force, concept_in, concept_rows, concepts_in_force, description_in, is_in_force, is_member_in_force, is_name, isa_in_force, member_in, members_in_force, name_on, names_in_force, relationship_in, release_of, rising, rows_among}
 use Rattle.snapshot.specs.Kept.{IsReadFrom, attributes_among, contents_from, finished, is_value_among, names_among, release_from}
 use Rattle.snapshot.specs.Limits.{limits_in_force}
 use Rattle.snapshot.specs.Listed.{Listed, attribute_listed, concept_listed, is_isa, isa_listed, listed_of, member_listed, name_listed}
@@ -30,161 +31,41 @@ use Rattle.snapshot.specs.declared.fault.LoadFault.{LoadFault}
 use Rattle.snapshot.specs.declared.fault.LoadFault.TheVariants.{NoConceptFile}
 use Rattle.snapshot.specs.declared.limits.Limits.{Limits}
 
--- the rows of a kind that pass a test are picked one by one
-picked : {Row X : Type 0} (pick : RowText → Option Row) (item : Row → X) (test : Row → Bool) (rows : List RowText)
-    → map item (filter test (filter_map pick rows)) ≡ filter_map (λ row. option_and_then (λ (r : Row). cond (test r) (Some (item r)) None) (pick row)) rows
-picked pick item test [] = refl
-picked {Row} {X} pick item test (row ∷ rows) = by (pick row) (picked pick item test rows)
+-- what is in force of each row is what is listed of it, where this is kept
+abbrev kept : {X : Type 0} → (X → Bool) → Option X → Option X
+kept keep item = option_and_then (λ x. cond (keep x) (Some x) None) item
+
+kept-listed : {X : Type 0} (keep : X → Bool) (pick listed : RowText → Option X) → ((row : RowAt) → pick (text_of_row row) ≡ kept keep (listed (text_of_row row)))
+    → (rows : List RowAt) → filter_map pick (map text_of_row rows) ≡ filter keep (filter_map listed (map text_of_row rows))
+kept-listed keep pick listed same [] = refl
+kept-listed {X} keep pick listed same (row ∷ rows) =
+    (λ i. cons_option (same row i) (kept-listed keep pick listed same rows i)) ∙ by (listed (text_of_row row))
   where
     rest : List X
-    rest = filter_map (λ row. option_and_then (λ (r : Row). cond (test r) (Some (item r)) None) (pick row)) rows
+    rest = filter_map listed (map text_of_row rows)
 
-    by : (found : Option Row) → map item (filter test (filter_map pick rows)) ≡ rest
-        → map item (filter test (cons_option found (filter_map pick rows))) ≡ cons_option (option_and_then (λ (r : Row). cond (test r) (Some (item r)) None) found) rest
-    by None same = same
-    by (Some r) same = at_row (test r)
+    by : (item : Option X) → cons_option (kept keep item) (filter keep rest) ≡ filter keep (cons_option item rest)
+    by None = refl
+    by (Some x) = at (keep x)
       where
-        at_row : (passes : Bool) → map item (cond passes (r ∷ filter test (filter_map pick rows)) (filter test (filter_map pick rows))) ≡ cons_option (cond passes (Some (item r)) None) rest
-        at_row true = ap (λ (items : List X). item r ∷ items) same
-        at_row false = same
+        at : (b : Bool) → cons_option (cond b (Some x) None) (filter keep rest) ≡ cond b (x ∷ filter keep rest) (filter keep rest)
+        at true = refl
+        at false = refl
 
--- the active concepts are those listed
-pub concepts-listed : (rows : List RowText) → map (λ (row : ConceptRow). row.id) (filter (λ (row : ConceptRow). row.active) (concept_rows rows)) ≡ filter_map concept_listed rows
-concepts-listed rows = picked concept_in (λ (row : ConceptRow). row.id) (λ (row : ConceptRow). row.active) rows ∙ (λ i. filter_map (λ row. same row i) rows)
-  where
-    same : (row : RowText) → option_and_then (λ (row : ConceptRow). cond row.active (Some row.id) None) (concept_in row) ≡ concept_listed row
-    same (of_concept row) = refl
-    same (of_description row) = refl
-    same (of_relationship row) = refl
-    same (of_concrete row) = refl
-    same (of_member row) = refl
+-- the rows of one kind
+module _ {Row X : Type 0} (pick : RowText → Option Row) (item : Row → X) where
+  abbrev item_of : (Row → Bool) → Option Row → Option X
+  item_of test found = option_and_then (λ row. cond (test row) (Some (item row)) None) found
 
--- and so are the names
-names-listed : (rows : List RowText) → map name_on (filter is_name (description_rows rows)) ≡ filter_map name_listed rows
-names-listed rows = picked description_in name_on is_name rows ∙ (λ i. filter_map (λ row. same row i) rows)
-  where
-    same : (row : RowText) → option_and_then (λ (row : DescriptionText). cond (is_name row) (Some (name_on row)) None) (description_in row) ≡ name_listed row
-    same (of_concept row) = refl
-    same (of_description row) = refl
-    same (of_relationship row) = refl
-    same (of_concrete row) = refl
-    same (of_member row) = refl
+  -- the rows that pass a test are picked one by one
+  picked : (test : Row → Bool) (rows : List RowText) → map item (filter test (filter_map pick rows)) ≡ filter_map (λ row. item_of test (pick row)) rows
+  picked test [] = refl
+  picked test (row ∷ rows) = grind (arith, common_steps, nat_tests, (picked test rows))
 
-abbrev ends : RelationshipRow → ℕ × ℕ
-ends row = (row.source_id, row.destination_id)
-
--- the is-a rows
-isa-listed : (rows : List RowText) → map ends (filter is_isa (relationship_rows rows)) ≡ filter_map isa_listed rows
-isa-listed rows = picked relationship_in ends is_isa rows ∙ (λ i. filter_map (λ row. same row i) rows)
-  where
-    same : (row : RowText) → option_and_then (λ (row : RelationshipRow). cond (is_isa row) (Some (ends row)) None) (relationship_in row) ≡ isa_listed row
-    same (of_concept row) = refl
-    same (of_description row) = refl
-    same (of_relationship row) = refl
-    same (of_concrete row) = refl
-    same (of_member row) = refl
-
--- and the members
-abbrev member_ends : MemberRow → ℕ × ℕ
-member_ends row = (row.refset_id, row.referenced_component_id)
-
-members-listed : (rows : List RowText) → map member_ends (filter (λ (row : MemberRow). row.active) (member_rows rows)) ≡ filter_map member_listed rows
-members-listed rows = picked member_in member_ends (λ (row : MemberRow). row.active) rows ∙ (λ i. filter_map (λ row. same row i) rows)
-  where
-    same : (row : RowText) → option_and_then (λ (row : MemberRow). cond row.active (Some (member_ends row)) None) (member_in row) ≡ member_listed row
-    same (of_concept row) = refl
-    same (of_description row) = refl
-    same (of_relationship row) = refl
-    same (of_concrete row) = refl
-    same (of_member row) = refl
-
--- the is-a rows in force are the rows that look like it between concepts in force
-isa_in_force-is : (concepts : List ℕ) (rows : List RelationshipRow)
-    → map (λ (row : RelationshipRow). (row.source_id, row.destination_id)) (filter (λ (row : RelationshipRow). is_in_force concepts row && (row.type_id == is_a)) rows)
-    ≡ rows_among concepts (map (λ (row : RelationshipRow). (row.source_id, row.destination_id)) (filter is_isa rows))
-isa_in_force-is concepts [] = refl
-isa_in_force-is concepts (row ∷ rows) =
-    left (is_in_force concepts row && (row.type_id == is_a))
-    ∙ by (row.active && (row.characteristic_type_id == inferred_relationship)) (row.type_id == is_a) (has concepts row.source_id) (has concepts row.destination_id)
-    (map ends (filter (λ (row : RelationshipRow). is_in_force concepts row && (row.type_id == is_a)) rows)) (rows_among concepts (map ends (filter is_isa rows)))
-    (isa_in_force-is concepts rows)
-    ∙ right (is_isa row)
-  where
-    left : (b : Bool) → map ends (cond b (row ∷ filter (λ (row : RelationshipRow). is_in_force concepts row && (row.type_id == is_a)) rows) (filter (λ (row : RelationshipRow). is_in_force concepts row && (row.type_id == is_a)) rows))
-        ≡ cond b (ends row ∷ map ends (filter (λ (row : RelationshipRow). is_in_force concepts row && (row.type_id == is_a)) rows)) (map ends (filter (λ (row : RelationshipRow). is_in_force concepts row && (row.type_id == is_a)) rows))
-    left true = refl
-    left false = refl
-
-    right : (b : Bool) → cond b (cond (has concepts row.source_id && has concepts row.destination_id) (ends row ∷ rows_among concepts (map ends (filter is_isa rows))) (rows_among concepts (map ends (filter is_isa rows)))) (rows_among concepts (map ends (filter is_isa rows)))
-        ≡ rows_among concepts (map ends (cond b (row ∷ filter is_isa rows) (filter is_isa rows)))
-    right true = refl
-    right false = refl
-
-    by : (inferred isa child parent : Bool) (kept among : List (ℕ × ℕ)) → kept ≡ among
-        → cond (inferred && child && parent && isa) (ends row ∷ kept) kept
-        ≡ cond (inferred && isa) (cond (child && parent) (ends row ∷ among) among) among
-    by true true true true kept among same = ap (λ rest. ends row ∷ rest) same
-    by true true true false kept among same = same
-    by true true false parent kept among same = same
-    by true false true true kept among same = same
-    by true false true false kept among same = same
-    by true false false parent kept among same = same
-    by false isa child parent kept among same = same
-
--- the names in force are the active fully specified names of concepts in force
-names_in_force-is : (concepts : List ℕ) (rows : List DescriptionText)
-    → map name_on (filter (λ (row : DescriptionText). is_name row && has concepts row.concept_id) rows) ≡ names_among concepts (map name_on (filter is_name rows))
-names_in_force-is concepts [] = refl
-names_in_force-is concepts (row ∷ rows) = by (is_name row) (has concepts row.concept_id) refl (names_in_force-is concepts rows)
-  where
-    by : (named own : Bool) → has concepts row.concept_id ≡ own
-        → map name_on (filter (λ (row : DescriptionText). is_name row && has concepts row.concept_id) rows) ≡ names_among concepts (map name_on (filter is_name rows))
-        → map name_on (cond (named && own) (row ∷ filter (λ (row : DescriptionText). is_name row && has concepts row.concept_id) rows) (filter (λ (row : DescriptionText). is_name row && has concepts row.concept_id) rows))
-        ≡ names_among concepts (map name_on (cond named (row ∷ filter is_name rows) (filter is_name rows)))
-    by true true is rest =
-        ap (λ names. name_on row ∷ names) rest
-        ∙ ap (λ (b : Bool). cond b (name_on row ∷ names_among concepts (map name_on (filter is_name rows))) (names_among concepts (map name_on (filter is_name rows)))) (sym is)
-    by true false is rest =
-        rest
-        ∙ ap (λ (b : Bool). cond b (name_on row ∷ names_among concepts (map name_on (filter is_name rows))) (names_among concepts (map name_on (filter is_name rows)))) (sym is)
-    by false own is rest = rest
-
--- the members in force are the active ones of concepts in force
-members_in_force-is : (concepts : List ℕ) (rows : List MemberRow)
-    → map (λ (row : MemberRow). (row.refset_id, row.referenced_component_id)) (filter (λ (row : MemberRow). is_member_in_force concepts row) rows)
-    ≡ rows_among concepts (map (λ (row : MemberRow). (row.refset_id, row.referenced_component_id)) (filter (λ (row : MemberRow). row.active) rows))
-members_in_force-is concepts [] = refl
-members_in_force-is concepts (row ∷ rows) =
-    by row.active (has concepts row.refset_id) (has concepts row.referenced_component_id) refl refl (members_in_force-is concepts rows)
-  where
-    ends : ℕ × ℕ
-    ends = (row.refset_id, row.referenced_component_id)
-
-    among : List (ℕ × ℕ)
-    among = rows_among concepts (map (λ (row : MemberRow). (row.refset_id, row.referenced_component_id)) (filter (λ (row : MemberRow). row.active) rows))
-
-    by : (active refset component : Bool) → has concepts row.refset_id ≡ refset → has concepts row.referenced_component_id ≡ component
-        → map (λ (row : MemberRow). (row.refset_id, row.referenced_component_id)) (filter (λ (row : MemberRow). is_member_in_force concepts row) rows)
-        ≡ rows_among concepts (map (λ (row : MemberRow). (row.refset_id, row.referenced_component_id)) (filter (λ (row : MemberRow). row.active) rows))
-        → map (λ (row : MemberRow). (row.refset_id, row.referenced_component_id)) (cond (active && refset && component) (row ∷ filter (λ (row : MemberRow). is_member_in_force concepts row) rows) (filter (λ (row : MemberRow). is_member_in_force concepts row) rows))
-        ≡ rows_among concepts (map (λ (row : MemberRow). (row.refset_id, row.referenced_component_id)) (cond active (row ∷ filter (λ (row : MemberRow). row.active) rows) (filter (λ (row : MemberRow). row.active) rows)))
-    by true true true refset_is component_is rest =
-        ap (λ found. ends ∷ found) rest ∙ (λ i. cond (sym refset_is i && sym component_is i) (ends ∷ among) among)
-    by true true false refset_is component_is rest = rest ∙ (λ i. cond (sym refset_is i && sym component_is i) (ends ∷ among) among)
-    by true false component refset_is component_is rest = rest ∙ (λ i. cond (sym refset_is i && sym component_is i) (ends ∷ among) among)
-    by false refset component refset_is component_is rest = rest
-
--- a value that a text writes is no concept
-value_of-among : (concepts text : List ℕ) → is_value_among concepts (value_of text) ≡ true
-value_of-among concepts text = by (begins_with_hash text) (unwrap_or (decimal_of (drop 1 text)) (pos 0))
-  where
-    by : (decimal : Bool) (number : ℤ) → is_value_among concepts (cond decimal (number_value number) (text_value text)) ≡ true
-    by true number = refl
-    by false number = refl
-
-concrete_value-among : (concepts line : List ℕ) → is_value_among concepts (concrete_row line).value ≡ true
-unfolding concrete_row
-concrete_value-among concepts line = value_of-among concepts (text_in Concrete (fields_of line) (codes "value"))
+  -- those that are in force are those listed that are kept
+  in_force : (test listed : Row → Bool) (keep : X → Bool) → ((row : Row) → cond (test row) (Some (item row)) None ≡ kept keep (cond (listed row) (Some (item row)) None))
+      → (rows : List RowAt) → map item (filter test (filter_map pick (map text_of_row rows))) ≡ filter keep (filter_map (λ row. item_of listed (pick row)) (map text_of_row rows))
+  in_force test listed keep same rows = grind (arith, common_steps, nat_tests, kept-listed, picked)
 
 and_true : (b : Bool) → (b && true) ≡ b
 and_true true = refl
@@ -194,66 +75,68 @@ and_false : (b : Bool) → (b && false) ≡ false
 and_false true = refl
 and_false false = refl
 
--- what was listed is in force where it is of concepts in force
-abbrev among_concepts : List ℕ → Option Attribute → Option Attribute
-among_concepts concepts attribute =
-    option_and_then (λ (a : Attribute). cond (has concepts a.source && is_value_among concepts a.value) (Some a) None) attribute
+-- a value that a text writes is no concept
+value_of-among : (concepts text : List ℕ) → is_value_among concepts (value_of text) ≡ true
+value_of-among concepts text = grind (arith, common_steps, nat_tests)
 
-relationship_in_force-is : (concepts : List ℕ) (row : RelationshipRow)
-    → attribute_of_relationship concepts row ≡ among_concepts concepts (attribute_listed (of_relationship row))
-relationship_in_force-is concepts row =
-    by (row.active && (row.characteristic_type_id == inferred_relationship)) (not (row.type_id == is_a))
-  where
-    by : (inferred other : Bool)
-        → cond (inferred && has concepts row.source_id && has concepts row.destination_id && other) (Some (relationship_attribute row)) None
-        ≡ among_concepts concepts (cond (inferred && other) (Some (relationship_attribute row)) None)
-    by true true = ap (λ (b : Bool). cond b (Some (relationship_attribute row)) None) (and_true (has concepts row.source_id && has concepts row.destination_id))
-    by true false = ap (λ (b : Bool). cond b (Some (relationship_attribute row)) None) (and_false (has concepts row.source_id && has concepts row.destination_id))
-    by false other = refl
+concrete_value-among : (concepts line : List ℕ) → is_value_among concepts (concrete_row line).value ≡ true
+unfolding concrete_row
+concrete_value-among concepts line = value_of-among concepts (text_in Concrete (fields_of line) (codes "value"))
 
-concrete_in_force-is : (concepts : List ℕ) (row : ConcreteText) → is_value_among concepts row.value ≡ true
-    → attribute_of_concrete concepts row ≡ among_concepts concepts (attribute_listed (of_concrete row))
-concrete_in_force-is concepts row value =
-    by (row.active && (row.characteristic_type_id == inferred_relationship)) (not (row.type_id == is_a))
-  where
-    by : (inferred other : Bool)
-        → cond (inferred && has concepts row.source_id && other) (Some (concrete_attribute row)) None
-        ≡ among_concepts concepts (cond (inferred && other) (Some (concrete_attribute row)) None)
-    by true true = ap (λ (b : Bool). cond (has concepts row.source_id && b) (Some (concrete_attribute row)) None) (sym value)
-    by true false = ap (λ (b : Bool). cond b (Some (concrete_attribute row)) None) (and_false (has concepts row.source_id))
-    by false other = refl
+-- the active concepts are those listed
+pub concepts-listed : (rows : List RowText) → map (λ (row : ConceptRow). row.id) (filter (λ (row : ConceptRow). row.active) (concept_rows rows)) ≡ filter_map concept_listed rows
+concepts-listed rows = picked concept_in (λ (row : ConceptRow). row.id) (λ (row : ConceptRow). row.active) rows
 
-attribute_in-listed : (concepts : List ℕ) (row : RowAt) → attribute_in concepts (text_of_row row) ≡ among_concepts concepts (attribute_listed (text_of_row row))
-attribute_in-listed concepts row = by row.kind row.text
-  where
-    by : (kind : FileKind) (line : List ℕ) → attribute_in concepts (row_text kind line) ≡ among_concepts concepts (attribute_listed (row_text kind line))
-    by Concept line = refl
-    by Description line = refl
-    by Relationship line = relationship_in_force-is concepts (relationship_row line)
-    by Concrete line = concrete_in_force-is concepts (concrete_row line) (concrete_value-among concepts line)
-    by Member line = refl
+module _ (concepts : List ℕ) where
+  -- the names in force are the active fully specified names of concepts in force
+  names_in_force-is : (rows : List RowAt) → names_in_force concepts (map text_of_row rows) ≡ names_among concepts (filter_map name_listed (map text_of_row rows))
+  names_in_force-is rows =
+      in_force description_in name_on (λ (row : DescriptionText). is_name row && has concepts row.concept_id) is_name of_one (λ row. by row (is_name row)) rows
+    where
+      of_one : Name → Bool
+      of_one name = has concepts name.concept
 
--- the attributes in force are those listed of concepts in force
-attributes_in_force-is : (concepts : List ℕ) (rows : List RowAt)
-    → attributes_in_force concepts (map text_of_row rows) ≡ attributes_among concepts (filter_map attribute_listed (map text_of_row rows))
-attributes_in_force-is concepts [] = refl
-attributes_in_force-is concepts (row ∷ rows) =
-    (λ i. cons_option (attribute_in-listed concepts row i) (attributes_in_force-is concepts rows i))
-    ∙ by (attribute_listed (text_of_row row))
-  where
-    listed : List Attribute
-    listed = filter_map attribute_listed (map text_of_row rows)
+      by : (row : DescriptionText) (named : Bool) → cond (named && has concepts row.concept_id) (Some (name_on row)) None ≡ kept of_one (cond named (Some (name_on row)) None)
+      by row true = refl
+      by row false = refl
 
-    by : (attribute : Option Attribute)
-        → cons_option (among_concepts concepts attribute) (attributes_among concepts listed) ≡ attributes_among concepts (cons_option attribute listed)
-    by None = refl
-    by (Some attribute) = added (has concepts attribute.source && is_value_among concepts attribute.value)
-      where
-        added : (among : Bool)
-            → cons_option (cond among (Some attribute) None) (attributes_among concepts listed)
-            ≡ cond among (attribute ∷ attributes_among concepts listed) (attributes_among concepts listed)
-        added true = refl
-        added false = refl
+  -- the pairs of rows in force are those between concepts in force
+  abbrev between : ℕ × ℕ → Bool
+  between pair = has concepts pair.0 && has concepts pair.1
+
+  isa_in_force-is : (rows : List RowAt) → isa_in_force concepts (map text_of_row rows) ≡ rows_among concepts (filter_map isa_listed (map text_of_row rows))
+  isa_in_force-is rows =
+      in_force relationship_in (λ (row : RelationshipRow). (row.source_id, row.destination_id)) (λ (row : RelationshipRow). is_in_force concepts row && (row.type_id == is_a)) is_isa between
+      (λ row. by (row.source_id, row.destination_id) (row.active && (row.characteristic_type_id == inferred_relationship)) (row.type_id == is_a)) rows
+    where
+      by : (pair : ℕ × ℕ) (inferred isa : Bool)
+          → cond (inferred && has concepts pair.0 && has concepts pair.1 && isa) (Some pair) None ≡ kept between (cond (inferred && isa) (Some pair) None)
+      by pair true true = ap (λ (b : Bool). cond b (Some pair) None) (and_true (between pair))
+      by pair true false = ap (λ (b : Bool). cond b (Some pair) None) (and_false (between pair))
+      by pair false isa = refl
+
+  members_in_force-is : (rows : List RowAt) → members_in_force concepts (map text_of_row rows) ≡ rows_among concepts (filter_map member_listed (map text_of_row rows))
+  members_in_force-is rows =
+      in_force member_in (λ (row : MemberRow). (row.refset_id, row.referenced_component_id)) (is_member_in_force concepts) (λ (row : MemberRow). row.active) between
+      (λ row. by (row.refset_id, row.referenced_component_id) row.active) rows
+    where
+      by : (pair : ℕ × ℕ) (active : Bool) → cond (active && has concepts pair.0 && has concepts pair.1) (Some pair) None ≡ kept between (cond active (Some pair) None)
+      by pair true = refl
+      by pair false = refl
+
+  -- the attributes in force are those listed of concepts in force
+  abbrev is_among : Attribute → Bool
+  is_among attribute = has concepts attribute.source && is_value_among concepts attribute.value
+
+  relationship_in_force-is : (row : RelationshipRow) → attribute_of_relationship concepts row ≡ kept is_among (attribute_listed (of_relationship row))
+  relationship_in_force-is row = grind (arith, common_steps, nat_tests, and_false, and_true)
+
+  concrete_in_force-is : (row : ConcreteText) → is_value_among concepts row.value ≡ true → attribute_of_concrete concepts row ≡ kept is_among (attribute_listed (of_concrete row))
+  concrete_in_force-is row value = grind (arith, common_steps, nat_tests, and_false)
+
+  attributes_in_force-is : (rows : List RowAt)
+      → attributes_in_force concepts (map text_of_row rows) ≡ attributes_among concepts (filter_map attribute_listed (map text_of_row rows))
+  attributes_in_force-is rows = search (rules, concrete_in_force-is, concrete_value-among, kept-listed, relationship_in_force-is)
 
 -- the release of some concepts that lists make
 abbrev made : List ℕ → Listed → Release
@@ -270,18 +153,12 @@ pub release_of-listed : (rows : List RowAt) → release_of (map text_of_row rows
 release_of-listed rows =
     let texts : List RowText = map text_of_row rows in
     let concepts : List ℕ = concepts_in_force texts in
-    let isa : isa_in_force concepts texts ≡ rows_among concepts (filter_map isa_listed texts) =
-    isa_in_force-is concepts (relationship_rows texts) ∙ ap (rows_among concepts) (isa-listed texts) in
-    let members : members_in_force concepts texts ≡ rows_among concepts (filter_map member_listed texts) =
-    members_in_force-is concepts (member_rows texts) ∙ ap (rows_among concepts) (members-listed texts) in
-    let names : names_in_force concepts texts ≡ names_among concepts (filter_map name_listed texts) =
-    names_in_force-is concepts (description_rows texts) ∙ ap (names_among concepts) (names-listed texts) in
     (λ i. record {
       concepts = concepts;
-      isa = isa i;
+      isa = isa_in_force-is concepts rows i;
       attributes = attributes_in_force-is concepts rows i;
-      members = members i;
-      names = names i;
+      members = members_in_force-is concepts rows i;
+      names = names_in_force-is concepts rows i;
     })
     ∙ (λ i. made (rising (concepts-listed texts i)) (listed_of texts))
 
@@ -289,13 +166,7 @@ release_of-listed rows =
 module _ {Item : Type 0} (file_of : Item → FileText) where
   kind_count_length : (items : List Item) → length (filter (λ item. has_kind (file_of item)) items) ≡ length (filter has_kind (map file_of items))
   kind_count_length [] = refl
-  kind_count_length (item ∷ items) = by (has_kind (file_of item)) (kind_count_length items)
-    where
-      by : (b : Bool) → length (filter (λ item. has_kind (file_of item)) items) ≡ length (filter has_kind (map file_of items))
-          → length (cond b (item ∷ filter (λ item. has_kind (file_of item)) items) (filter (λ item. has_kind (file_of item)) items))
-          ≡ length (cond b (file_of item ∷ filter has_kind (map file_of items)) (filter has_kind (map file_of items)))
-      by true rest = ap suc rest
-      by false rest = rest
+  kind_count_length (item ∷ items) = grind (arith, common_steps, nat_tests, (kind_count_length items))
 
   pub kind_count-is : (items : List Item) → count_by (λ item. has_kind (file_of item)) items ≡ length (filter has_kind (map file_of items))
   kind_count-is items = sym (length-filter (λ item. has_kind (file_of item)) items) ∙ kind_count_length items
@@ -312,15 +183,7 @@ listed-named known name_of (item ∷ items) = ap (λ rest. text_named known (nam
 -- what places without a fault contain is made of what was listed of them
 contents_of-read : (limits : Limits) (language : List ℕ) (kinds : ℕ) (places : List Place) (count : ℕ) (listed : Listed)
     → IsReadFrom limits places count listed → contents_of language kinds places ≡ contents_from language kinds count listed
-contents_of-read limits language kinds places count listed read =
-    let release : release_of (map text_of_row (chosen (rows_of places))) ≡ release_from listed =
-    release_of-listed (chosen (rows_of places)) ∙ ap release_from (sym read.lists) in
-    (λ i. record {
-      release = release i;
-      language = language;
-      files = kinds;
-      passed = sym read.count_is i - listed_count (release i);
-    })
+contents_of-read limits language kinds places count listed read = grind (arith, common_steps, nat_tests, release_of-listed)
 
 -- what is made of places without a fault by file and line
 pub loaded_from-read : (limits : Limits) (language : List ℕ) (kinds : ℕ) (places : List Place) (count : ℕ) (listed : Listed)
@@ -337,14 +200,7 @@ loaded_from-fault limits language kinds places fault first = ap (unless_faulty (
 -- files that are cut one byte past the limit are loaded as the files are
 pub loaded_from-cut : (limits : Limits) (language : List ℕ) (kinds : ℕ) (files : List FileText) → 3 ≤ limits.bytes
     → loaded_from limits language kinds (places_from 0 (map (cut_file limits.bytes) files)) ≡ loaded_from limits language kinds (places_from 0 files)
-loaded_from-cut limits language kinds files room = by (first_fault limits [] (places_from 0 files)) refl
-  where
-    by : (first : Option LoadFault) → first_fault limits [] (places_from 0 files) ≡ first
-        → loaded_from limits language kinds (places_from 0 (map (cut_file limits.bytes) files)) ≡ loaded_from limits language kinds (places_from 0 files)
-    by None none = ap (loaded_from limits language kinds) (cut_places limits files room none)
-    by (Some fault) some =
-        loaded_from-fault limits language kinds (places_from 0 (map (cut_file limits.bytes) files)) fault (cut_first_fault limits files room ∙ some)
-        ∙ sym (loaded_from-fault limits language kinds (places_from 0 files) fault some)
+loaded_from-cut limits language kinds files room = grind (arith, common_steps, nat_tests, cut_first_fault, cut_places, loaded_from-fault)
 
 -- a load of files of which one has the name of a Concept file
 pub load_of-named : (limits : Limits) (language : List ℕ) (files : List FileText) (kinds : ℕ)

@@ -1,8 +1,11 @@
 -- Name rows keep their texts while the buffer grows.
-use Rattle.std.proofs.Common.{ℕ, ◌≡◌, List, [], ◌∷◌, map, ap, refl, IsUtf8, Bool, true, false, cond}
+use Rattle.std.proofs.Common.{ℕ, ◌≡◌, ◌<◌, length, get_or, List, [], ◌∷◌, map, ap, refl, IsUtf8, Bool, inl, inr}
 use Rattle.std.specs.Prelude.{filter}
+use Rattle.std.proofs.lemmas.Bool.{cases_Bool}
 use Rattle.snapshot.specs.NamesInside.{IsPlaced, name_in}
-use Rattle.snapshot.specs.Spans.{Extends}
+use Rattle.std.proofs.lemmas.List.{get_or-map, get_or_read, length-map}
+use Rattle.rf2_rows.specs.Release.{Name}
+use Rattle.snapshot.specs.Spans.{Extends, no_span}
 use Rattle.snapshot.specs.declared.names.NameRow.{NameRow}
 use Rattle.snapshot.proofs.SpanLemmas.{text-extends, text_span-extends}
 
@@ -25,9 +28,21 @@ module _ (texts grown : List ℕ) (extends : Extends texts grown) where
 -- what a test of what rows stand for leaves of them
 pub map-filter : {X Y : Type 0} (f : X → Y) (test : Y → Bool) (xs : List X) → map f (filter (λ x. test (f x)) xs) ≡ filter test (map f xs)
 map-filter f test [] = refl
-map-filter f test (x ∷ xs) = by (test (f x)) (map-filter f test xs)
-  where
-    by : (b : Bool) → map f (filter (λ x. test (f x)) xs) ≡ filter test (map f xs)
-        → map f (cond b (x ∷ filter (λ x. test (f x)) xs) (filter (λ x. test (f x)) xs)) ≡ cond b (f x ∷ filter test (map f xs)) (filter test (map f xs))
-    by true rest = ap (λ ys. f x ∷ ys) rest
-    by false rest = rest
+map-filter f test (x ∷ xs) = elim (cases_Bool (test (f x))) [
+  | inl passes ↦ rw passes (ap (λ ys. f x ∷ ys) (map-filter f test xs))
+  | inr fails ↦ rw fails (map-filter f test xs)
+]
+
+-- the row at a place stands for the name there, as `grind` finds it
+abbrev no_row : NameRow
+no_row = record { id = 0; concept = 0; language = no_span; term = no_span }
+
+pub name_at_place : (texts : List ℕ) (rows : List NameRow) (place : ℕ) (default : Name) → place < length rows → get_or (map (name_in texts) rows) place default ≡ name_in texts (get_or rows place no_row)
+name_at_place texts rows place default within = get_or-map (name_in texts) rows place no_row default within
+
+pub row_at_place : (rows : List NameRow) (place : ℕ) (row : NameRow) → place < length rows → row ≡ get_or rows place row → row ≡ get_or rows place no_row
+row_at_place rows place row within is = get_or_read rows place row within is no_row
+
+pub ruleset rows_read = (name_at_place, row_at_place, length-map)
+
+pub ruleset rows_counted = (length-map)

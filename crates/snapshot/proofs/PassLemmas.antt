@@ -1,7 +1,10 @@
 -- What it means for the first fault that places were read without a fault, as far as rows are only counted.
+use Rattle.std.proofs.Common.{arith}
+use Rattle.std.proofs.lemmas.Bool.Decides.{nat_tests}
+use Rattle.std.proofs.lemmas.Grind.{common_steps}
 use Rattle.std.proofs.Common.{◌≡◌, ◌∙◌, List, [], ◌∷◌, ◌++◌, Option, None, Some, append-nil, ap, refl, sym}
 use Rattle.std.specs.Prelude.{option_and_then, option_to_list}
-use Rattle.std.specs.List.{cons_option, filter_map}
+use Rattle.std.specs.List.{cons_option}
 use Rattle.std.proofs.lemmas.List.Elements.{filter_map-append}
 use Rattle.snapshot.specs.Faults.{conflict_behind, crowd_behind, fault_at, fault_behind, fault_here, first_fault, first_of}
 use Rattle.snapshot.specs.Files.{Place, RowAt, row_at, rows_of}
@@ -21,11 +24,7 @@ pub data IsPlain (limits : Limits) : List RowAt → List Place → Type 0 where
 
 -- the rows of places and one place more
 pub rows_of-push : (places : List Place) (place : Place) → rows_of (places ++ place ∷ []) ≡ rows_of places ++ option_to_list (row_at place)
-rows_of-push places place = filter_map-append row_at places (place ∷ []) ∙ ap (λ (rest : List RowAt). rows_of places ++ rest) (single (row_at place))
-  where
-    single : (row : Option RowAt) → filter_map (λ (x : Option RowAt). x) (row ∷ []) ≡ option_to_list row
-    single None = refl
-    single (Some row) = refl
+rows_of-push places place = grind (arith, common_steps, nat_tests, filter_map-append)
 
 -- places without a plain fault have the first conflict of their rows as their first fault
 pub first_fault-plain : (limits : Limits) (front places : List Place) (earlier : List RowAt) → earlier ≡ rows_of front → IsPlain limits earlier places

@@ -1,6 +1,8 @@
 -- The rows that are in none of a release's lists are as many as the rows less those in its lists.
-use Rattle.std.proofs.Common.{ℕ, zero, suc, ◌≡◌, ◌<◌, ◌+◌, ◌-◌, ◌&&◌, ◌||◌, ◌==◌, List, [], ◌∷◌, ◌++◌, length, map, None, Some, sym, ◌∙◌, ap, subst, refl, arith, Bool, true, false, cond, not, nat_eq, nat_lt, filter}
-use Rattle.std.specs.Prelude.{count_by, slice_index}
+use Rattle.std.proofs.lemmas.Bool.Decides.{nat_tests}
+use Rattle.std.proofs.lemmas.Grind.{common_steps}
+use Rattle.std.proofs.Common.{ℕ, zero, suc, ◌≡◌, ◌+◌, ◌-◌, ◌&&◌, ◌||◌, ◌==◌, List, [], ◌∷◌, ◌++◌, length, map, None, Some, sym, ◌∙◌, ap, refl, arith, Bool, true, false, cond, not, nat_eq, nat_lt, filter}
+use Rattle.std.specs.Prelude.{count_by}
 use Rattle.std.specs.List.{AllByRecursion, IsDistinct, cons_option}
 use Rattle.std.specs.List.Sorted.{IsStrictlyIncreasing}
 use Rattle.std.proofs.lemmas.Bool.{false≢true, eqb-true, eq-eqb}
@@ -10,17 +12,15 @@ use Rattle.std.proofs.lemmas.List.Sums.{sum_by-append}
 use Rattle.std.proofs.lemmas.Map.Views.{Contains-from_any, list_any-from_Contains}
 use Rattle.rf2_rows.specs.Release.{Attribute}
 use Rattle.rf2_rows.specs.RowTexts.{RowText, of_concept, of_concrete, of_description, of_member, of_relationship}
-use Rattle.rf2_rows.specs.Rows.{ConcreteText, DescriptionText}
+use Rattle.rf2_rows.specs.Rows.{ConcreteText}
 use Rattle.rf2_rows.specs.declared.row.ConceptRow.{ConceptRow}
-use Rattle.rf2_rows.specs.declared.row.MemberRow.{MemberRow}
 use Rattle.rf2_rows.specs.declared.row.RelationshipRow.{RelationshipRow}
-use Rattle.snapshot.specs.Chosen.{choices, chosen, is_chosen, marked}
-use Rattle.snapshot.specs.Contents.{text_of_row}
-use Rattle.snapshot.specs.Files.{RowAt, rows_of}
+use Rattle.snapshot.specs.Chosen.{choices, chosen, marked}
+use Rattle.snapshot.specs.Files.{RowAt}
 use Rattle.hierarchy.specs.Members.{has}
-use Rattle.snapshot.specs.InForce.{KeepsRising, attributes_in_force, concept_rows, concepts_in_force, concrete_attribute, concrete_rows, description_rows, is_concrete_in_force, is_in_force, is_member_in_force, is_name, isa_in_force, listed_count, member_rows, members_in_force, name_on, names_in_force, put, relationship_attribute, relationship_rows, release_of, rising}
+use Rattle.snapshot.specs.InForce.{KeepsRising, attributes_in_force, concept_rows, concrete_attribute, concrete_rows, description_rows, is_concrete_in_force, is_in_force, listed_count, member_rows, put, relationship_attribute, relationship_rows, release_of, rising}
 use Rattle.snapshot.specs.Metadata.{is_a}
-use Rattle.snapshot.specs.Passed.{CountsPassedRows, failing, passed_texts, superseded_rows}
+use Rattle.snapshot.specs.Passed.{CountsPassedRows, failing, passed_texts}
 use Rattle.snapshot.proofs.ApartLemmas.{active-distinct}
 use Rattle.snapshot.proofs.LoadLemmas.{concepts-listed}
 use Rattle.snapshot.proofs.SortLemmas.{Rises, Rises-rising, has-rising}
@@ -28,12 +28,7 @@ use Rattle.snapshot.proofs.SortLemmas.{Rises, Rises-rising, has-rising}
 -- the rows that pass a test and those that fail it are all rows
 split : {Row : Type 0} (test : Row → Bool) (rows : List Row) → length (filter test rows) + failing test rows ≡ length rows
 split test [] = refl
-split test (row ∷ rows) = by (test row) (split test rows)
-  where
-    by : (b : Bool) → length (filter test rows) + failing test rows ≡ length rows
-        → length (cond b (row ∷ filter test rows) (filter test rows)) + length (cond (not b) (row ∷ filter (λ r. not (test r)) rows) (filter (λ r. not (test r)) rows)) ≡ suc (length rows)
-    by true rest = omega (arith, rest)
-    by false rest = omega (arith, rest)
+split test (row ∷ rows) = grind (arith, common_steps, nat_tests, (split test rows))
 
 -- a new number makes a rising list longer by one
 length-put : (id : ℕ) (xs : List ℕ) → has xs id ≡ false → length (put id xs) ≡ suc (length xs)
@@ -55,8 +50,7 @@ not_among x (y ∷ ys) apart = ap (λ b. b || has ys x) apart.0 ∙ not_among x 
 length-rising : (xs : List ℕ) → IsDistinct nat_eq xs → length (rising xs) ≡ length xs
 unfolding IsDistinct
 length-rising [] apart = refl
-length-rising (x ∷ xs) apart =
-    length-put x (rising xs) (has-rising xs x ∙ not_among x xs apart.0) ∙ ap suc (length-rising xs apart.1)
+length-rising (x ∷ xs) apart = grind (arith, common_steps, nat_tests, has-rising, length-put, not_among, (length-rising xs apart.1))
 
 -- how many relationships are is-a rows
 abbrev isa_count : List ℕ → List RelationshipRow → ℕ
@@ -96,12 +90,8 @@ counts_relationships : (concepts : List ℕ) (rows : List RowText)
 counts_relationships concepts [] = omega arith
 counts_relationships concepts (of_concept row ∷ rows) = counts_relationships concepts rows
 counts_relationships concepts (of_description row ∷ rows) = counts_relationships concepts rows
-counts_relationships concepts (of_relationship row ∷ rows) =
-    count_relationship concepts (attributes_in_force concepts rows) (relationship_rows rows) (concrete_rows rows) row
-    (is_in_force concepts row) (row.type_id == is_a) (counts_relationships concepts rows)
-counts_relationships concepts (of_concrete row ∷ rows) =
-    count_concrete concepts (attributes_in_force concepts rows) (relationship_rows rows) (concrete_rows rows) row
-    (is_listed concepts row) (counts_relationships concepts rows)
+counts_relationships concepts (of_relationship row ∷ rows) = grind (arith, common_steps, nat_tests, count_relationship, (counts_relationships concepts rows))
+counts_relationships concepts (of_concrete row ∷ rows) = grind (arith, common_steps, nat_tests, count_concrete, (counts_relationships concepts rows))
 counts_relationships concepts (of_member row ∷ rows) = counts_relationships concepts rows
 
 -- the rows of the kinds are all rows
@@ -117,46 +107,15 @@ all_kinds (of_member row ∷ rows) = omega (arith, all_kinds rows)
 -- the rows that are chosen and those that are not are all rows
 choices_split : (rows earlier later : List RowAt) → length (marked (choices rows earlier later) later) + count_by not (choices rows earlier later) ≡ length later
 choices_split rows earlier [] = refl
-choices_split rows earlier (row ∷ later) =
-    by (is_chosen rows earlier row) (choices rows (earlier ++ row ∷ []) later) (choices_split rows (earlier ++ row ∷ []) later)
-  where
-    by : (mark : Bool) (marks : List Bool) → length (marked marks later) + count_by not marks ≡ length later
-        → length (cond mark (row ∷ marked marks later) (marked marks later)) + count_by not (mark ∷ marks) ≡ suc (length later)
-    by true marks rest = omega (arith, rest, sum_by-append (λ (b : Bool). cond (not b) 1 0) (true ∷ []) marks)
-    by false marks rest = omega (arith, rest, sum_by-append (λ (b : Bool). cond (not b) 1 0) (false ∷ []) marks)
+choices_split rows earlier (row ∷ later) = grind (arith, common_steps, nat_tests, sum_by-append, (choices_split rows (earlier ++ row ∷ []) later))
 
 -- of rows of which no two active concepts have one identifier each is listed or passed over
 listed_or_passed : (rows : List RowText) → IsDistinct nat_eq (map (λ (row : ConceptRow). row.id) (filter (λ (row : ConceptRow). row.active) (concept_rows rows)))
     → listed_count (release_of rows) + passed_texts rows ≡ length rows
-listed_or_passed rows apart =
-    let in_force : List ℕ = concepts_in_force rows in
-    let concepts : length in_force ≡ length (filter (λ (row : ConceptRow). row.active) (concept_rows rows)) =
-    length-rising (map (λ (row : ConceptRow). row.id) (filter (λ (row : ConceptRow). row.active) (concept_rows rows))) apart
-    ∙ length-map (filter (λ (row : ConceptRow). row.active) (concept_rows rows)) (λ (row : ConceptRow). row.id) in
-    let inactive = split (λ (row : ConceptRow). row.active) (concept_rows rows) in
-    let isa : length (isa_in_force in_force rows) ≡ isa_count in_force (relationship_rows rows) =
-    length-map (filter (λ (row : RelationshipRow). is_in_force in_force row && (row.type_id == is_a)) (relationship_rows rows)) (λ (row : RelationshipRow). (row.source_id, row.destination_id)) in
-    let relationships = counts_relationships in_force rows in
-    let members : length (members_in_force in_force rows) ≡ length (filter (λ (row : MemberRow). is_member_in_force in_force row) (member_rows rows)) =
-    length-map (filter (λ (row : MemberRow). is_member_in_force in_force row) (member_rows rows)) (λ (row : MemberRow). (row.refset_id, row.referenced_component_id)) in
-    let other_members = split (λ (row : MemberRow). is_member_in_force in_force row) (member_rows rows) in
-    let names : length (names_in_force in_force rows) ≡ length (filter (λ (row : DescriptionText). is_name row && has in_force row.concept_id) (description_rows rows)) =
-    length-map (filter (λ (row : DescriptionText). is_name row && has in_force row.concept_id) (description_rows rows)) name_on in
-    let other_descriptions = split (λ (row : DescriptionText). is_name row && has in_force row.concept_id) (description_rows rows) in
-    omega (arith, concepts, inactive, isa, relationships, members, other_members, names, other_descriptions, all_kinds rows)
+listed_or_passed rows apart = grind (arith, common_steps, nat_tests, all_kinds, counts_relationships, length-map, length-rising, split)
 
 pub counts_passed_rows : CountsPassedRows
-counts_passed_rows limits language files places clean =
-    let rows : List RowAt = rows_of places in
-    let texts : List RowText = map text_of_row (chosen rows) in
-    let told : listed_count (release_of texts) + passed_texts texts ≡ length texts =
-    listed_or_passed texts (subst (λ (ids : List ℕ). IsDistinct nat_eq ids) (sym (concepts-listed texts)) (active-distinct rows)) in
-    let counted : length texts ≡ length (chosen rows) = length-map (chosen rows) text_of_row in
-    let split_rows : length (chosen rows) + superseded_rows rows ≡ length rows = choices_split rows [] rows in
-    less (length rows) (listed_count (release_of texts)) (passed_texts texts) (superseded_rows rows) (length texts) (length (chosen rows)) told counted split_rows
-  where
-    less : (all listed passed superseded texts chosen_count : ℕ) → listed + passed ≡ texts → texts ≡ chosen_count → chosen_count + superseded ≡ all → all - listed ≡ superseded + passed
-    less all listed passed superseded texts chosen_count told counted split_rows = omega arith
+counts_passed_rows limits language files places clean = grind (arith, common_steps, nat_tests, active-distinct, choices_split, concepts-listed, length-map, listed_or_passed, nat_eq)
 
 -- a list of which each number is below all behind it is strictly rising
 increasing-from_Rises : (xs : List ℕ) → Rises xs → IsStrictlyIncreasing xs
@@ -166,9 +125,7 @@ increasing-from_Rises (x ∷ y ∷ ys) up zero within = up.0 y (eq_or y ys)
   where
     eq_or : (y : ℕ) (ys : List ℕ) → has (y ∷ ys) y ≡ true
     eq_or y ys = ap (λ b. b || has ys y) (eq-eqb y y refl)
-increasing-from_Rises (x ∷ y ∷ ys) up (suc k) within =
-    let next : suc (k + 1) ≡ suc k + 1 = omega arith in
-    subst (λ n. slice_index (y ∷ ys) k < slice_index (x ∷ y ∷ ys) n) next (increasing-from_Rises (y ∷ ys) up.1 k (omega arith))
+increasing-from_Rises (x ∷ y ∷ ys) up (suc k) within = grind (arith, common_steps, nat_tests, (increasing-from_Rises (y ∷ ys) up.1 k (omega arith)))
 
 pub keeps_rising : KeepsRising
 keeps_rising ids = (

@@ -1,6 +1,9 @@
 -- Going over files that are read from a source in pieces.
-use Rattle.std.proofs.Common.{Global, String, unwrap_or, take, ◌≡◌, ◌≢◌, ◌⊎◌, inl, inr, ℕ, ◌+◌, ◌-◌, ◌^◌, ◌<◌, ◌≤◌, List, [], ◌∷◌, ◌++◌, length, map, drop, drop-cons, get_or, suc, refl, sym, ap, subst, ◌∙◌, arith, Option, None, Some, Result, Ok, Err, MatchResult, length-drop, length-take, min}
-use Rattle.std.specs.Prelude.{Bool, IfErr, IfSome, IsPermutation, OnOk, option_map, string_bytes}
+use Rattle.std.proofs.Common.{rules}
+use Rattle.std.proofs.lemmas.Bool.Decides.{nat_tests}
+use Rattle.std.proofs.lemmas.Grind.{common_steps}
+use Rattle.std.proofs.Common.{Global, String, unwrap_or, take, ◌≡◌, ◌≢◌, inl, inr, ℕ, ◌+◌, ◌-◌, ◌^◌, ◌<◌, ◌≤◌, List, [], ◌∷◌, ◌++◌, length, map, drop, drop-cons, get_or, ap, subst, ◌∙◌, arith, Option, None, Some, Result, Ok, Err, MatchResult, length-drop, length-take, min}
+use Rattle.std.specs.Prelude.{Bool, IfErr, IsPermutation, OnOk, option_map, string_bytes}
 use Rattle.std.specs.Cmp.Lexicographic.{slice_cmp}
 use Rattle.std.specs.List.Sorted.{IsSorted, IsSortedBy}
 use Rattle.std.specs.Ordering.{is_lt, nat_cmp}
@@ -8,13 +11,12 @@ use Rattle.std.specs.String.{string_cmp}
 use Rattle.std.proofs.lemmas.List.{get_or-map, length-map}
 use Rattle.std.proofs.lemmas.List.Sorted.{IsPermutation-map}
 use Rattle.release_files.proofs.Parts.{length-lines}
-use Rattle.release_files.specs.Lines.{LineText, line_text, lines_of, mark_length}
+use Rattle.release_files.specs.Lines.{LineText, line_text, lines_of}
 use Rattle.release_files.specs.PieceLines.{GivesNext, HasEnded, lines_to_come}
-use Rattle.release_files.specs.Source.{CountsFailures, FileText, IsRaised, bytes_of}
+use Rattle.release_files.specs.Source.{FileText, IsRaised, bytes_of}
 use Rattle.release_files.specs.declared.lines.Line.{Line}
 use Rattle.release_files.specs.declared.piece_lines.PieceLines.{PieceLines}
 use Rattle.release_files.specs.declared.source.SourceFault.{SourceFault}
-use Rattle.release_files.specs.declared.source.SourceFault.TheVariants as source
 use Rattle.rf2_rows.specs.declared.kind.FileKind.{FileKind}
 use Rattle.snapshot.specs.Files.{Place, first_line, later_line, no_line, places_from, places_of_file, places_of_kind, places_of_lines}
 use Rattle.rf2_rows.specs.Files.{file_kind_of}
@@ -22,11 +24,11 @@ use Rattle.std.proofs.lemmas.List.{drop_all, take_all}
 use Rattle.std.proofs.lemmas.Bool.{cases_lt}
 use Rattle.release_files.specs.Held.{reachable}
 use Rattle.release_files.proofs.HeldLemmas.{reachable_told}
-use Rattle.snapshot.specs.Pieces.{AreInOrder, cut_file, FailsAt, GoesOver, fault_of, listed, text_named}
+use Rattle.snapshot.specs.Pieces.{AreInOrder, cut_file, FailsAt, GoesOver, listed, text_named}
 use Rattle.snapshot.specs.Taking.{StopsAt, TakesAll, taken}
 use Rattle.snapshot.specs.declared.fault.LoadFault.{LoadFault}
 use Rattle.snapshot.specs.declared.fault.LoadFault.TheVariants.{Memory}
-use Rattle.snapshot.proofs.TakingLemmas.{Leads, Leads-end, Leads-next, Leads-on, Leads-start, Leads-stop, Leads-stops, stops_lines, stops_none, takes_lines, takes_none}
+use Rattle.snapshot.proofs.TakingLemmas.{Leads, Leads-end, Leads-next, Leads-on, Leads-stop, stops_lines, stops_none, takes_lines, takes_none}
 
 -- what a call for the next line says
 abbrev pub Gives : Result (Option Line) SourceFault → PieceLines → PieceLines → Option (List ℕ) → Option (List ℕ) → Type 0
@@ -42,48 +44,21 @@ gave_text : (line : LineText) (old new : PieceLines) (before after : Option (Lis
     → GaveLine line old new after rest
 gave_text line old new None after rest gives told = cc
 gave_text line old new (Some before) None rest gives told = absurd gives
-gave_text line old new (Some before) (Some now) rest gives told =
-    let same : rest ≡ before = cc in
-    record { now = now; told = refl; cut = ap (λ (bytes : List ℕ). lines_to_come old bytes) same ∙ gives }
+gave_text line old new (Some before) (Some now) rest gives told = grind (arith, common_steps, nat_tests)
 
 pub gave_line : (result : Result (Option Line) SourceFault) (line : Line) (old new : PieceLines) (before after : Option (List ℕ)) (rest : List ℕ)
     → Gives result old new before after → result ≡ Ok (Some line) → before ≡ Some rest → GaveLine (line_text line) old new after rest
-gave_line result line old new before after rest gives is told =
-    gave_text (line_text line) old new before after rest (subst (λ (r : Result (Option Line) SourceFault). Gives r old new before after) is gives) told
+gave_line result line old new before after rest gives is told = grind (arith, common_steps, nat_tests, gave_text)
 
 -- no line was to come
 pub gave_none : (result : Result (Option Line) SourceFault) (old new : PieceLines) (before after : Option (List ℕ)) (rest : List ℕ)
     → Gives result old new before after → result ≡ Ok None → before ≡ Some rest → lines_to_come old rest ≡ []
-gave_none result old new before after rest gives is told =
-    subst (λ (known : Option (List ℕ)). IfSome known (λ bytes. lines_to_come old bytes ≡ [])) told
-    (subst (λ (r : Result (Option Line) SourceFault). Gives r old new before after) is gives).1
-
--- no failure was counted where a call gave its answer
-pub counts_none : {T : Type 0} (result : Result T SourceFault) (found : T) (old new : ℕ) → CountsFailures result old new → result ≡ Ok found → new ≡ old
-counts_none {T} result found old new counts is = subst (λ (r : Result T SourceFault). CountsFailures r old new) is counts
-
--- the count never falls
-pub counts_up : {T : Type 0} (result : Result T SourceFault) (old new : ℕ) → CountsFailures result old new → old ≤ new
-counts_up (Ok found) old new counts = omega arith
-counts_up (Err source.Memory) old new counts = omega arith
-counts_up (Err source.Device) old new counts = counts.0
+gave_none result old new before after rest gives is told = grind (arith, common_steps, nat_tests)
 
 -- a rise from a later count is one from an earlier count
 raised_from : (old middle new : ℕ) → old ≤ middle → IsRaised middle new → IsRaised old new
 raised_from old middle new up (on, inl more) = (omega arith, inl (omega arith))
 raised_from old middle new up (on, inr full) = (omega arith, inr full)
-
--- a fault of the source that is none of memory is one of the device, and was counted
-fails_by : (T : Type 0) (file : ℕ) (fault : SourceFault) (old new : ℕ) → CountsFailures {T = T} (Err fault) old new → fault_of file fault ≢ Memory
-    → FailsAt file old new (fault_of file fault)
-fails_by T file source.Device old new counts other = (refl, counts)
-fails_by T file source.Memory old new counts other = absurd (other refl)
-
-pub fails_at : {T : Type 0} (file : ℕ) (fault : SourceFault) (answered : LoadFault) (result : Result T SourceFault) (start old new : ℕ) → start ≤ old → CountsFailures result old new
-    → result ≡ Err fault → answered ≡ fault_of file fault → answered ≢ Memory → FailsAt file start new answered
-fails_at {T} file fault answered result start old new up counts is same other =
-    let failed = fails_by T file fault old new (subst (λ (r : Result T SourceFault). CountsFailures r old new) is counts) (λ none. other (same ∙ none)) in
-    (same ∙ failed.0, raised_from start old new up failed.1)
 
 -- the later lines of a file that are left, while some turns are
 pub record LinesLeft {Held : Type 0} (takes : Held → Place → Held → Type 0) (refuses : Held → Place → Held → LoadFault → Type 0) (file : ℕ) (kind : FileKind) (old : Held) (all : List Place) (turns : ℕ) (turn : ℕ) (after : Option (List ℕ)) (lines : PieceLines) (held : Held) : Type 0 where
@@ -93,61 +68,32 @@ pub record LinesLeft {Held : Type 0} (takes : Held → Place → Held → Type 0
   pub leads : Leads takes refuses old all held (map (later_line file kind) (lines_to_come lines now))
 
 module _ {Held : Type 0} (takes : Held → Place → Held → Type 0) (refuses : Held → Place → Held → LoadFault → Type 0) (file : ℕ) (kind : FileKind) where
-  pub LinesLeft-start : (old : Held) (lines : PieceLines) (turns : ℕ) (after : Option (List ℕ)) (rest : List ℕ) → after ≡ Some rest → length (lines_to_come lines rest) < turns
-      → LinesLeft takes refuses file kind old (map (later_line file kind) (lines_to_come lines rest)) turns 0 after lines old
-  LinesLeft-start old lines turns after rest told few = record {
-    now = rest;
-    told = told;
-    within = omega arith;
-    leads = Leads-start takes refuses old (map (later_line file kind) (lines_to_come lines rest));
-  }
-
   -- what leads to the line that a call gave
   leads_line : (old held : Held) (all : List Place) (line : LineText) (lines later : PieceLines) (after : Option (List ℕ)) (now : List ℕ) (gave : GaveLine line lines later after now)
       → Leads takes refuses old all held (map (later_line file kind) (lines_to_come lines now))
       → Leads takes refuses old all held (later_line file kind line ∷ map (later_line file kind) (lines_to_come later gave.now))
-  leads_line old held all line lines later after now gave leads =
-      subst (λ (left : List LineText). Leads takes refuses old all held (map (later_line file kind) left)) gave.cut leads
+  leads_line old held all line lines later after now gave leads = grind (arith, common_steps, nat_tests)
 
   pub LinesLeft-next : (old held new : Held) (all : List Place) (turns turn : ℕ) (before after : Option (List ℕ)) (lines later : PieceLines) (result : Result (Option Line) SourceFault) (line : Line)
       → LinesLeft takes refuses file kind old all turns turn before lines held → Gives result lines later before after → result ≡ Ok (Some line)
       → takes held (later_line file kind (line_text line)) new → LinesLeft takes refuses file kind old all turns (turn + 1) after later new
-  LinesLeft-next old held new all turns turn before after lines later result line left gives is step =
-      let gave = gave_line result line lines later before after left.now gives is left.told in
-      record {
-        now = gave.now;
-        told = gave.told;
-        within = omega (arith, ap (λ (some : List LineText). length some) gave.cut, left.within);
-        leads = Leads-next takes refuses old held new all (map (later_line file kind) (lines_to_come later gave.now)) (later_line file kind (line_text line))
-            (leads_line old held all (line_text line) lines later after left.now gave left.leads) step;
-      }
+  LinesLeft-next old held new all turns turn before after lines later result line left gives is step = search (rules, Leads-next, gave_line, leads_line)
 
   pub LinesLeft-stop : (old held new : Held) (all : List Place) (turns turn : ℕ) (before after : Option (List ℕ)) (lines later : PieceLines) (result : Result (Option Line) SourceFault) (line : Line) (fault : LoadFault)
       → LinesLeft takes refuses file kind old all turns turn before lines held → Gives result lines later before after → result ≡ Ok (Some line)
       → refuses held (later_line file kind (line_text line)) new fault → StopsAt takes refuses old all new fault
-  LinesLeft-stop old held new all turns turn before after lines later result line fault left gives is refused =
-      let gave = gave_line result line lines later before after left.now gives is left.told in
-      Leads-stop takes refuses old held new all (map (later_line file kind) (lines_to_come later gave.now)) (later_line file kind (line_text line)) fault
-      (leads_line old held all (line_text line) lines later after left.now gave left.leads) refused
+  LinesLeft-stop old held new all turns turn before after lines later result line fault left gives is refused = search (rules, Leads-stop, gave_line, leads_line)
 
   pub LinesLeft-end : (old held : Held) (all : List Place) (turns turn : ℕ) (before after : Option (List ℕ)) (lines later : PieceLines) (result : Result (Option Line) SourceFault)
       → LinesLeft takes refuses file kind old all turns turn before lines held → Gives result lines later before after → result ≡ Ok None → TakesAll takes old all held
-  LinesLeft-end old held all turns turn before after lines later result left gives is =
-      Leads-end takes refuses old held all
-      (subst (λ (some : List LineText). Leads takes refuses old all held (map (later_line file kind) some)) (gave_none result lines later before after left.now gives is left.told) left.leads)
-
-  -- none is left where no turn is
-  pub LinesLeft-none : (old held : Held) (all : List Place) (turns turn : ℕ) (after : Option (List ℕ)) (lines : PieceLines)
-      → LinesLeft takes refuses file kind old all turns turn after lines held → turns ≤ turn → ⊥
-  LinesLeft-none old held all turns turn after lines left done = omega (arith, left.within)
+  LinesLeft-end old held all turns turn before after lines later result left gives is = grind (arith, common_steps, nat_tests, Leads-end, gave_none)
 
   -- the lines of a file behind its first one, which was taken
   pub goes_lines : (fails later_fails : LoadFault → Type 0) (lines : List LineText) (first : LineText) (others : List LineText) → lines ≡ first ∷ others
       → ((fault : LoadFault) → later_fails fault → fails fault) → (old middle new : Held) → takes old (first_line file kind first) middle
       → (result : Result (Unit {0}) LoadFault) → GoesOver takes refuses later_fails middle (map (later_line file kind) others) result new
       → GoesOver takes refuses fails old (places_of_lines file kind lines) result new
-  goes_lines fails later_fails lines first others cut so old middle new step (Ok done) went =
-      takes_lines takes refuses file kind lines first others cut old middle new step went
+  goes_lines fails later_fails lines first others cut so old middle new step (Ok done) went = search (rules, takes_lines)
   goes_lines fails later_fails lines first others cut so old middle new step (Err fault) went = λ other. elim (went other) [
     | inl failed ↦ inl (so fault failed)
     | inr stop ↦ inr (stops_lines takes refuses file kind lines first others cut old middle new fault step stop)
@@ -163,16 +109,11 @@ module _ {Held : Type 0} (takes : Held → Place → Held → Type 0) (refuses :
 -- a file has no more lines than bytes
 length-lines_of : (bytes : List ℕ) → length (lines_of bytes) ≤ length bytes
 unfolding lines_of
-length-lines_of bytes =
-    let mark = mark_length bytes in
-    omega (arith, length-lines 0 mark (drop mark bytes), length-drop mark bytes)
+length-lines_of bytes = grind (arith, common_steps, nat_tests, length-drop, length-lines)
 
 -- a file that is shorter is cut nowhere
 cut_at : (count left : ℕ) (bytes : List ℕ) → length bytes ≤ 2 ^ 64 - 1 → left ≡ min count (2 ^ 64 - 1) → take left bytes ≡ take count bytes
-cut_at count left bytes short is = elim (cases_lt count (2 ^ 64)) [
-  | inl less ↦ ap (λ (n : ℕ). take n bytes) (omega arith)
-  | inr more ↦ take_all left bytes (omega arith) ∙ sym (take_all count bytes (omega arith))
-]
+cut_at count left bytes short is = grind (arith, common_steps, nat_tests, cases_lt, take_all)
 
 -- so it has fewer behind the first than it may have bytes
 pub few_lines : (limit : ℕ) (bytes : List ℕ) (first : LineText) (others : List LineText) → lines_of (take limit bytes) ≡ first ∷ others → length others < limit
@@ -196,25 +137,7 @@ cut_reachable limit left held rest bytes told short is same =
 pub fails_from : (file start old new : ℕ) (fault : LoadFault) → start ≤ old → FailsAt file old new fault → FailsAt file start new fault
 fails_from file start old new fault up failed = (failed.0, raised_from start old new up failed.1)
 
--- the places of the file of a name are those of its lines, if it has a kind
-named_places : (file limit : ℕ) (known : List FileText) (name : List ℕ) (kind : FileKind) (bytes : List ℕ) → file_kind_of name ≡ Some kind → bytes_of name known ≡ Some bytes
-    → places_of_lines file kind (lines_of (take (limit + 1) bytes)) ≡ places_of_file file (cut_file limit (text_named known name))
-named_places file limit known name kind bytes is has =
-    sym (ap (λ some. places_of_kind file some (take (limit + 1) (unwrap_or (bytes_of name known) []))) is
-    ∙ ap (λ (some : Option (List ℕ)). places_of_kind file (Some kind) (take (limit + 1) (unwrap_or some []))) has)
-
 module _ {Held : Type 0} (takes : Held → Place → Held → Type 0) (refuses : Held → Place → Held → LoadFault → Type 0) (file limit : ℕ) (known : List FileText) (name : List ℕ) where
-  -- the file of a name was opened, and its lines were gone over
-  pub goes_named : (old_fails fails : LoadFault → Type 0) (kind : FileKind) (bytes : List ℕ) → file_kind_of name ≡ Some kind → bytes_of name known ≡ Some bytes
-      → ((fault : LoadFault) → old_fails fault → fails fault) → (old new : Held) (result : Result (Unit {0}) LoadFault)
-      → GoesOver takes refuses old_fails old (places_of_lines file kind (lines_of (take (limit + 1) bytes))) result new → GoesOver takes refuses fails old (places_of_file file (cut_file limit (text_named known name))) result new
-  goes_named old_fails fails kind bytes is has so old new (Ok done) went =
-      subst (λ (places : List Place). TakesAll takes old places new) (named_places file limit known name kind bytes is has) went
-  goes_named old_fails fails kind bytes is has so old new (Err fault) went = λ other. elim (went other) [
-    | inl failed ↦ inl (so fault failed)
-    | inr stop ↦ inr (subst (λ (places : List Place). StopsAt takes refuses old places new fault) (named_places file limit known name kind bytes is has) stop)
-  ]
-
   -- a file without a kind has no places
   pub takes_unnamed : None ≡ file_kind_of name → (held : Held) → TakesAll takes held (places_of_file file (cut_file limit (text_named known name))) held
   takes_unnamed is held =
@@ -223,9 +146,7 @@ module _ {Held : Type 0} (takes : Held → Place → Held → Type 0) (refuses :
 -- the places of the names from one on are those of its file and those of the names behind it
 pub places_from-listed : {A : Type 0} (limit : ℕ) (known : List FileText) (name_of : A → List ℕ) (i : ℕ) (names : List A) (d : A) (name : List ℕ) → i < length names → name ≡ name_of (get_or names i d)
     → places_from i (map (cut_file limit) (listed known (map name_of (drop i names)))) ≡ places_of_file i (cut_file limit (text_named known name)) ++ places_from (i + 1) (map (cut_file limit) (listed known (map name_of (drop (i + 1) names))))
-places_from-listed limit known name_of i names d name within is =
-    let next : suc i ≡ i + 1 = omega arith in
-    rw (drop-cons names i d, is) (ap (λ j. places_of_file i (cut_file limit (text_named known (name_of (get_or names i d)))) ++ places_from (i + 1) (map (cut_file limit) (listed known (map name_of (drop j names))))) next)
+places_from-listed limit known name_of i names d name within is = grind (arith, common_steps, nat_tests, drop-cons, get_or)
 
 pub places_from-none : {A : Type 0} (limit : ℕ) (known : List FileText) (name_of : A → List ℕ) (i : ℕ) (names : List A) → length names ≤ i → places_from i (map (cut_file limit) (listed known (map name_of (drop i names)))) ≡ []
 places_from-none limit known name_of i names behind = ap (λ rest. places_from i (map (cut_file limit) (listed known (map name_of rest)))) (drop_all i names behind)
@@ -234,18 +155,7 @@ module _ {Held : Type 0} (takes : Held → Place → Held → Type 0) (refuses :
   -- the places of a name more were gone over
   pub leads_name : (fails : LoadFault → Type 0) (old held new : Held) (all here left : List Place) (result : Result (Unit {0}) LoadFault) (done : Unit {0})
       → Leads takes refuses old all held (here ++ left) → GoesOver takes refuses fails held here result new → result ≡ Ok done → Leads takes refuses old all new left
-  leads_name fails old held new all here left result done leads went is =
-      Leads-on takes refuses old held new all here left leads (subst (λ (r : Result (Unit {0}) LoadFault). GoesOver takes refuses fails held here r new) is went)
-
-  -- or not all of them
-  pub stops_name : (fails more : LoadFault → Type 0) (old held new : Held) (all here left : List Place) (result : Result (Unit {0}) LoadFault) (fault : LoadFault)
-      → Leads takes refuses old all held (here ++ left) → GoesOver takes refuses fails held here result new → result ≡ Err fault → fault ≢ Memory
-      → (fails fault → more fault) → more fault ⊎ StopsAt takes refuses old all new fault
-  stops_name fails more old held new all here left result fault leads went is other so =
-      elim (subst (λ (r : Result (Unit {0}) LoadFault). GoesOver takes refuses fails held here r new) is went other) [
-        | inl failed ↦ inl (so failed)
-        | inr stop ↦ inr (Leads-stops takes refuses old held new all here left fault leads stop)
-      ]
+  leads_name fails old held new all here left result done leads went is = grind (arith, common_steps, nat_tests, Leads-on)
 
 -- texts that rise have bytes that rise
 sorted_map : {X Y : Type 0} (f : X → Y) (lt : Y → Y → Bool) (xs : List X) → IsSortedBy (λ one other. lt (f one) (f other)) xs → IsSortedBy lt (map f xs)

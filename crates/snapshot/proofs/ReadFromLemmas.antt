@@ -1,4 +1,5 @@
 -- What is read of a release, where its rows were seen.
+use Rattle.std.proofs.Common.{rules}
 use Rattle.std.proofs.Common.{ℕ, ◌≡◌, ◌≤◌, ◌∙◌, ◌&&◌, ◌==◌, List, [], ◌∷◌, length, true, false, Bool, Option, None, Some, ap, cond, map, not, refl, suc, sym, subst}
 use Rattle.std.specs.Prelude.{is_some}
 use Rattle.std.specs.List.{filter_map}
@@ -11,6 +12,7 @@ use Rattle.snapshot.specs.InForce.{concrete_attribute, is_name, name_on, relatio
 use Rattle.snapshot.specs.Kept.{IsReadFrom, Kept, nothing_kept, unmarked}
 use Rattle.snapshot.specs.Keys.{uuids_behind}
 use Rattle.snapshot.specs.Listed.{Listed, attribute_listed, concept_listed, in_list, is_concrete_attribute, isa_listed, items_chosen, listed_chosen, listed_of, listing_of, member_listed, name_listed, same_listing}
+use Rattle.snapshot.specs.Limits.{row_total}
 use Rattle.snapshot.specs.Metadata.{inferred_relationship, is_a}
 use Rattle.snapshot.specs.Seen.{AreSeen, IsSeen, first_conflict, kept_rows, keys_behind}
 use Rattle.snapshot.specs.declared.fault.LoadFault.{LoadFault}
@@ -21,7 +23,7 @@ use Rattle.snapshot.proofs.ChosenItemLemmas.{chosen-picked, map-marked}
 use Rattle.snapshot.proofs.ListedLemmas.{listed-rows}
 use Rattle.hierarchy.proofs.ReleaseLemmas.{times}
 use Rattle.snapshot.proofs.SingleLemmas.{no_conflict, single-choices, single-keys}
-use Rattle.snapshot.proofs.WentLemmas.{kept_rows-keys, kept_rows-uuids}
+use Rattle.snapshot.proofs.WentLemmas.{first_of-none, kept_rows-keys, kept_rows-uuids}
 
 -- ---- the lists of chosen rows
 module _ (list : Listing) {X : Type 0} (pick : RowText → Option X) (same : (row : RowText) → same_listing (listing_of row) list ≡ is_some (pick row)) where
@@ -99,26 +101,14 @@ member-here (of_member row) = here (row.active) listing.Member (row.refset_id, r
 member-here (of_relationship row) = unrelated (row.active && (row.characteristic_type_id == inferred_relationship)) (row.type_id == is_a) listing.Member refl refl refl
 
 lists-chosen : (rows : List RowText) (choices : List Bool) → unmarked (listed_chosen (listed_of rows) choices) ≡ unmarked (listed_of (marked choices rows))
-lists-chosen rows choices = (λ i. record {
-  marks = [];
-  active_concepts = list-chosen listing.Concept concept_listed concept-here rows choices i;
-  names = list-chosen listing.Name name_listed name-here rows choices i;
-  isa_ends = list-chosen listing.IsA isa_listed isa-here rows choices i;
-  attributes = list-chosen listing.Attribute attribute_listed attribute-here rows choices i;
-  member_ends = list-chosen listing.Member member_listed member-here rows choices i;
-})
+lists-chosen rows choices = search (rules, attribute-here, concept-here, isa-here, list-chosen, member-here, name-here)
 
 -- ---- what was seen
 keyed-seen : (limits : Limits) (kept : Kept) (rows : List RowAt) → kept ≡ kept_rows (nothing_kept limits) rows → kept.keyed.keys ≡ keys_behind [] rows
 keyed-seen limits kept rows same = ap (λ (k : Kept). k.keyed.keys) same ∙ kept_rows-keys (nothing_kept limits) rows
 
 pub are-seen : (limits : Limits) (places : List Place) (kept : Kept) (fault : Option LoadFault) → (all : IsSeen limits places kept fault) → AreSeen kept.keyed places all.seen all.beyond
-are-seen limits places kept fault all = record {
-  front = all.front;
-  uuids = ap (λ (k : Kept). k.keyed.uuids) all.kept_is ∙ kept_rows-uuids (nothing_kept limits) all.seen;
-  keys = keyed-seen limits kept all.seen all.kept_is;
-  short = all.short;
-}
+are-seen limits places kept fault all = search (rules, kept_rows-uuids, keyed-seen)
 
 length-keys : (uuids : List ℕ) (rows : List RowAt) → length (keys_behind uuids rows) ≡ length rows
 length-keys uuids [] = refl
@@ -132,10 +122,6 @@ pub no_conflict-seen : (keyed : List ℕ) (seen : List RowAt) → keyed ≡ keys
 no_conflict-seen keyed seen same few =
     no_conflict [] seen (single-keys [] seen (subst (λ (keys : List ℕ). (key : ℕ) → times key keys ≤ 1) same few))
 
-first_of-none : (fault : Option LoadFault) → first_of fault None ≡ fault
-first_of-none None = refl
-first_of-none (Some fault) = refl
-
 -- all rows are chosen
 pub read-single : (limits : Limits) (places : List Place) (kept : Kept) (count : ℕ) → IsSeen limits places kept None → count ≡ length kept.keyed.keys
     → ((key : ℕ) → times key kept.keyed.keys ≤ 1) → IsReadFrom limits places count kept.listed
@@ -144,6 +130,7 @@ read-single limits places kept count all counted few =
     record {
       clean = all.first ∙ first_of-none (first_conflict [] all.seen) ∙ no_conflict [] all.seen single;
       count_is = counted ∙ count-seen limits places kept None all ∙ ap length (all.whole refl);
+      few = subst (λ (n : ℕ). n ≤ row_total limits) (sym (counted ∙ count-seen limits places kept None all)) (all.room refl);
       lists = ap (λ (k : Kept). unmarked k.listed) all.kept_is ∙ ap (λ (listed : Listed). unmarked listed) (listed-rows limits all.seen)
           ∙ ap (λ (rows : List RowAt). unmarked (listed_of (map text_of_row rows))) (sym (single-choices [] all.seen single) ∙ ap chosen (all.whole refl));
     }
@@ -155,6 +142,7 @@ pub read-chosen : (limits : Limits) (places : List Place) (kept : Kept) (count :
 read-chosen limits places kept count all counted none marks told listed same = record {
   clean = all.first ∙ first_of-none (first_conflict [] all.seen) ∙ none;
   count_is = counted ∙ count-seen limits places kept None all ∙ ap length (all.whole refl);
+  few = subst (λ (n : ℕ). n ≤ row_total limits) (sym (counted ∙ count-seen limits places kept None all)) (all.room refl);
   lists = ap (λ (l : Listed). unmarked l) same
       ∙ ap (λ (l : Listed). unmarked (listed_chosen l marks)) (ap (λ (k : Kept). k.listed) all.kept_is ∙ listed-rows limits all.seen)
       ∙ lists-chosen (map text_of_row all.seen) marks

@@ -1,20 +1,24 @@
 -- Where no key stands twice no row conflicts with another, and each is chosen.
+use Rattle.std.proofs.lemmas.Grind.{common_steps}
 use Rattle.std.proofs.Common.{ℕ, ◌≡◌, ◌+◌, ◌≤◌, ◌∙◌, ◌&&◌, ◌||◌, ◌==◌, List, [], ◌∷◌, ◌++◌, true, false, Bool, Option, None, Some, ◌*◌, ◌^◌, append_assoc, ap, arith, nat_lt, refl, not, sym, subst, cond}
 use Rattle.std.specs.Prelude.{⊤}
 use Rattle.std.specs.List.{list_any, position_or_len}
-use Rattle.std.proofs.lemmas.Bool.{eq-eqb, eqb-true}
+use Rattle.std.proofs.lemmas.Bool.{and_parts, eq-eqb, eqb-true, or_left, or_right}
 use Rattle.std.proofs.lemmas.Bool.Decides.{nat_tests}
+use Rattle.std.proofs.lemmas.Cmp.{nat_eq_equiv}
 use Rattle.std.proofs.lemmas.List.{append-nil}
+use Rattle.std.proofs.lemmas.List.Folds.{list_any-append}
 use Rattle.rf2_rows.specs.RowTexts.{RowText, of_concept, of_concrete, of_description, of_member, of_relationship, row_text}
-use Rattle.rf2_rows.specs.Versions.{id_on, member_number, same_time}
+use Rattle.rf2_rows.specs.Versions.{id_on, member_number}
 use Rattle.rf2_rows.specs.declared.kind.FileKind.{FileKind}
 use Rattle.rf2_rows.specs.declared.kind.FileKind.TheVariants.{Concept, Concrete, Description, Member, Relationship}
-use Rattle.snapshot.specs.Chosen.{choices, conflicts, is_later, is_repeated, is_superseded, marked, same_component, same_kind, same_version, time_of, id_of}
+use Rattle.snapshot.specs.Chosen.{choices, conflicts, is_later, marked, same_component, same_kind, id_of}
 use Rattle.snapshot.specs.Contents.{text_of_row}
 use Rattle.snapshot.specs.Files.{RowAt}
 use Rattle.hierarchy.specs.Members.{has}
 use Rattle.snapshot.specs.Keys.{key_in, uuids_behind}
 use Rattle.snapshot.specs.Seen.{first_conflict, keys_behind, uuids_after}
+use Rattle.snapshot.proofs.KindLemmas.{kind_same, same_kind-sym}
 use Rattle.hierarchy.proofs.ReleaseLemmas.{times, times-append, times-own}
 
 -- UUIDs that were met stay at their places
@@ -38,13 +42,8 @@ pos-new n (other ∷ uuids) none = by (n == other) (λ rest. pos-new n uuids res
     by true rest none = (cc)
     by false rest none = ap (λ (place : ℕ). 1 + place) (rest none)
 
-pub had-push : (n : ℕ) (uuids : List ℕ) → has (uuids ++ n ∷ []) n ≡ true
-had-push n [] = ap (λ (same : Bool). same || false) (eq-eqb n n refl)
-had-push n (other ∷ uuids) = ap (λ (rest : Bool). (n == other) || rest) (had-push n uuids) ∙ always (n == other)
-  where
-    always : (b : Bool) → (b || true) ≡ true
-    always true = refl
-    always false = refl
+had-push : (n : ℕ) (uuids : List ℕ) → has (uuids ++ n ∷ []) n ≡ true
+had-push n uuids = list_any-append (λ other. n == other) uuids (n ∷ []) ∙ or_right (has uuids n) (has (n ∷ []) n) (or_left (n == n) false (eq-eqb n n refl))
 
 -- the UUIDs behind a member have its own, at the place of its key
 module _ (n : ℕ) (uuids : List ℕ) where
@@ -52,18 +51,10 @@ module _ (n : ℕ) (uuids : List ℕ) where
   met there = cond there uuids (uuids ++ n ∷ [])
 
   pub met-has : has (met (has uuids n)) n ≡ true
-  met-has = by (has uuids n) refl
-    where
-      by : (there : Bool) → has uuids n ≡ there → has (met there) n ≡ true
-      by true told = told
-      by false told = had-push n uuids
+  met-has = grind (arith, common_steps, nat_tests, had-push)
 
   met-place : position_or_len (λ other. n == other) (met (has uuids n)) ≡ position_or_len (λ other. n == other) uuids
-  met-place = by (has uuids n) refl
-    where
-      by : (there : Bool) → has uuids n ≡ there → position_or_len (λ other. n == other) (met there) ≡ position_or_len (λ other. n == other) uuids
-      by true told = refl
-      by false told = pos-new n uuids told
+  met-place = grind (arith, common_steps, nat_tests, pos-new)
 
 -- later rows only add UUIDs
 uuids_behind-more : (uuids : List ℕ) (text : RowText) → (more : List ℕ) × (uuids_behind uuids text ≡ uuids ++ more)
@@ -79,50 +70,29 @@ uuids_behind-more uuids (of_member row) = by (has uuids (member_number row))
 
 pub uuids_after-more : (uuids : List ℕ) (rows : List RowAt) → (more : List ℕ) × (uuids_after uuids rows ≡ uuids ++ more)
 uuids_after-more uuids [] = ([], sym (append-nil uuids))
-uuids_after-more uuids (row ∷ rows) =
-    let one = uuids_behind-more uuids (text_of_row row) in
-    let others = uuids_after-more (uuids_behind uuids (text_of_row row)) rows in
-    (one.0 ++ others.0, others.1 ∙ ap (λ (front : List ℕ). front ++ others.0) one.1 ∙ append_assoc uuids one.0 others.0)
+uuids_after-more uuids (row ∷ rows) = grind (arith, common_steps, nat_tests, append_assoc, uuids_behind-more, (uuids_after-more (uuids_behind uuids (text_of_row row)) rows))
 
 -- a later row of one component has the key of the earlier one
 pub key-later : (uuids : List ℕ) (rows : List RowAt) (one other : RowAt) → same_component one other ≡ true
     → key_in (uuids_after (uuids_behind uuids (text_of_row one)) rows) (text_of_row other) ≡ key_in uuids (text_of_row one)
-key-later uuids rows one other same = by one.kind other.kind one.text other.text same
+key-later uuids rows one other same =
+    let both = and_parts (same_kind one.kind other.kind) (id_of one == id_of other) same in
+    subst (λ (kind : FileKind). id_of one ≡ id_on kind other.text → key_in (uuids_after (uuids_behind uuids (text_of_row one)) rows) (row_text kind other.text) ≡ key_in uuids (text_of_row one))
+    (kind_same one.kind other.kind both.0) (by one.kind one.text other.text) (eqb-true (id_of one) (id_of other) both.1)
   where
-    by : (kind kind' : FileKind) (text text' : List ℕ) → (same_kind kind kind' && (id_on kind text == id_on kind' text')) ≡ true
-        → key_in (uuids_after (uuids_behind uuids (row_text kind text)) rows) (row_text kind' text') ≡ key_in uuids (row_text kind text)
-    by Concept Concept text text' told = ap (λ (id : ℕ). 2 ^ 63 + id) (sym (eqb-true (id_on Concept text) (id_on Concept text') told))
-    by Description Description text text' told = ap (λ (id : ℕ). 2 ^ 63 + 10 ^ 18 + id) (sym (eqb-true (id_on Description text) (id_on Description text') told))
-    by Relationship Relationship text text' told = ap (λ (id : ℕ). 2 ^ 63 + 3 * 10 ^ 18 + id) (sym (eqb-true (id_on Relationship text) (id_on Relationship text') told))
-    by Concrete Concrete text text' told = ap (λ (id : ℕ). 2 ^ 63 + 2 * 10 ^ 18 + id) (sym (eqb-true (id_on Concrete text) (id_on Concrete text') told))
-    by Member Member text text' told =
+    by : (kind : FileKind) (text text' : List ℕ) → id_on kind text ≡ id_on kind text'
+        → key_in (uuids_after (uuids_behind uuids (row_text kind text)) rows) (row_text kind text') ≡ key_in uuids (row_text kind text)
+    by Concept text text' is = ap (λ (id : ℕ). 2 ^ 63 + id) (sym is)
+    by Description text text' is = ap (λ (id : ℕ). 2 ^ 63 + 10 ^ 18 + id) (sym is)
+    by Relationship text text' is = ap (λ (id : ℕ). 2 ^ 63 + 3 * 10 ^ 18 + id) (sym is)
+    by Concrete text text' is = ap (λ (id : ℕ). 2 ^ 63 + 2 * 10 ^ 18 + id) (sym is)
+    by Member text text' is =
         let n = id_on Member text in
-        let same_id : id_on Member text' ≡ n = sym (eqb-true n (id_on Member text') told) in
         let now : List ℕ = uuids_behind uuids (row_text Member text) in
         let grown = uuids_after-more now rows in
-        (λ i. position_or_len (λ other. same_id i == other) (grown.1 i))
+        (λ i. position_or_len (λ other. sym is i == other) (grown.1 i))
         ∙ pos-kept n now grown.0 (met-has n uuids)
         ∙ met-place n uuids
-    by Concept Description text text' told = (cc)
-    by Concept Relationship text text' told = (cc)
-    by Concept Concrete text text' told = (cc)
-    by Concept Member text text' told = (cc)
-    by Description Concept text text' told = (cc)
-    by Description Relationship text text' told = (cc)
-    by Description Concrete text text' told = (cc)
-    by Description Member text text' told = (cc)
-    by Relationship Concept text text' told = (cc)
-    by Relationship Description text text' told = (cc)
-    by Relationship Concrete text text' told = (cc)
-    by Relationship Member text text' told = (cc)
-    by Concrete Concept text text' told = (cc)
-    by Concrete Description text text' told = (cc)
-    by Concrete Relationship text text' told = (cc)
-    by Concrete Member text text' told = (cc)
-    by Member Concept text text' told = (cc)
-    by Member Description text text' told = (cc)
-    by Member Relationship text text' told = (cc)
-    by Member Concrete text text' told = (cc)
 
 -- a number is once in the list of it alone
 pub times-one : (number : ℕ) → times number (number ∷ []) ≡ 1
@@ -189,72 +159,21 @@ and_left p q told = rw told refl
 -- so no row conflicts with an earlier one
 pub no_conflict : (earlier rows : List RowAt) → AreSingle earlier rows → first_conflict earlier rows ≡ None
 no_conflict earlier [] single = refl
-no_conflict earlier (row ∷ rows) single =
-    let none : list_any (λ other. conflicts other row) earlier ≡ false =
-    any-none (λ other. same_component other row) (λ other. conflicts other row) earlier (λ other apart. rw apart refl) single.0 in
-    rw none (no_conflict (earlier ++ row ∷ []) rows single.1)
+no_conflict earlier (row ∷ rows) single = grind (arith, common_steps, nat_tests, any-none, (no_conflict (earlier ++ row ∷ []) rows single.1))
 
 -- ---- and each is chosen
 any-append : {X : Type 0} (p : X → Bool) (xs ys : List X) → list_any p xs ≡ false → list_any p ys ≡ false → list_any p (xs ++ ys) ≡ false
-any-append p [] ys none others = others
-any-append p (x ∷ xs) ys none others = by (p x) none (λ left. any-append p xs ys left others)
-  where
-    by : (b : Bool) → (b || list_any p xs) ≡ false → (list_any p xs ≡ false → list_any p (xs ++ ys) ≡ false) → (b || list_any p (xs ++ ys)) ≡ false
-    by true none rest = (cc)
-    by false none rest = rest none
+any-append p xs ys none others = list_any-append p xs ys ∙ (λ i. none i || others i)
 
-any-at : {X : Type 0} (p : X → Bool) (xs ys : List X) (x : X) → list_any p (xs ++ x ∷ ys) ≡ false → p x ≡ false
-any-at p [] ys x none = by (p x) none
-  where
-    by : (b : Bool) → (b || list_any p ys) ≡ false → b ≡ false
-    by true none = none
-    by false none = refl
-any-at p (y ∷ xs) ys x none = by (p y) none (any-at p xs ys x)
-  where
-    by : (b : Bool) → (b || list_any p (xs ++ x ∷ ys)) ≡ false → (list_any p (xs ++ x ∷ ys) ≡ false → p x ≡ false) → p x ≡ false
-    by true none rest = (cc)
-    by false none rest = rest none
+pub neither : (one other : Bool) → (one || other) ≡ false → (one ≡ false) × (other ≡ false)
+neither true other none = absurd (cc)
+neither false other none = (refl, none)
 
-same_kind-sym : (one other : FileKind) → same_kind one other ≡ same_kind other one
-same_kind-sym Concept Concept = refl
-same_kind-sym Concept Description = refl
-same_kind-sym Concept Relationship = refl
-same_kind-sym Concept Concrete = refl
-same_kind-sym Concept Member = refl
-same_kind-sym Description Concept = refl
-same_kind-sym Description Description = refl
-same_kind-sym Description Relationship = refl
-same_kind-sym Description Concrete = refl
-same_kind-sym Description Member = refl
-same_kind-sym Relationship Concept = refl
-same_kind-sym Relationship Description = refl
-same_kind-sym Relationship Relationship = refl
-same_kind-sym Relationship Concrete = refl
-same_kind-sym Relationship Member = refl
-same_kind-sym Concrete Concept = refl
-same_kind-sym Concrete Description = refl
-same_kind-sym Concrete Relationship = refl
-same_kind-sym Concrete Concrete = refl
-same_kind-sym Concrete Member = refl
-same_kind-sym Member Concept = refl
-same_kind-sym Member Description = refl
-same_kind-sym Member Relationship = refl
-same_kind-sym Member Concrete = refl
-same_kind-sym Member Member = refl
-
-eqb-sym : (a b : ℕ) → (a == b) ≡ (b == a)
-eqb-sym a b = by (a == b) refl
-  where
-    by : (test : Bool) → (a == b) ≡ test → test ≡ (b == a)
-    by true told = sym (eq-eqb b a (sym (eqb-true a b told)))
-    by false told = other (b == a) refl
-      where
-        other : (test : Bool) → (b == a) ≡ test → false ≡ test
-        other false is = refl
-        other true is = cc (told, eq-eqb a b (sym (eqb-true b a is)))
+pub any-at : {X : Type 0} (p : X → Bool) (xs ys : List X) (x : X) → list_any p (xs ++ x ∷ ys) ≡ false → p x ≡ false
+any-at p xs ys x none = grind (arith, common_steps, nat_tests, list_any-append, neither)
 
 pub same_component-sym : (one other : RowAt) → same_component one other ≡ same_component other one
-same_component-sym one other = (λ i. same_kind-sym one.kind other.kind i && eqb-sym (id_of one) (id_of other) i)
+same_component-sym one other = (λ i. same_kind-sym one.kind other.kind i && nat_eq_equiv.symm (id_of one) (id_of other) i)
 
 -- a row behind others is of the component of none of them
 apart-later : (earlier more rows : List RowAt) (row : RowAt) → AreSingle (earlier ++ row ∷ more) rows → list_any (λ other. same_component other row) rows ≡ false
@@ -268,36 +187,8 @@ apart-later earlier more (next ∷ rows) row single =
 
 is_later-itself : (time : Option ℕ) → is_later time time ≡ false
 is_later-itself None = refl
-is_later-itself (Some time) = by (nat_lt time time) refl
-  where
-    by : (b : Bool) → nat_lt time time ≡ b → b ≡ false
-    by false told = refl
-    by true told = absurd (grind (arith, nat_tests, told))
+is_later-itself (Some time) = grind (arith, common_steps, nat_tests, nat_lt, nat_tests)
 
 pub single-choices : (earlier rows : List RowAt) → AreSingle earlier rows → marked (choices (earlier ++ rows) earlier rows) rows ≡ rows
 single-choices earlier [] single = refl
-single-choices earlier (row ∷ rows) single =
-    let all : List RowAt = earlier ++ row ∷ rows in
-    let cut : (earlier ++ row ∷ []) ++ rows ≡ all = append_assoc earlier (row ∷ []) rows in
-    let own : list_any (λ other. same_component other row && is_later (time_of other) (time_of row)) (row ∷ rows) ≡ false =
-    rw (is_later-itself (time_of row)) (none_later (same_component row row)) in
-    let alone : is_superseded all row ≡ false =
-    any-append (λ other. same_component other row && is_later (time_of other) (time_of row)) earlier (row ∷ rows)
-    (any-none (λ other. same_component other row) (λ other. same_component other row && is_later (time_of other) (time_of row)) earlier (λ other apart. and_left (same_component other row) (is_later (time_of other) (time_of row)) apart) single.0)
-    own in
-    let first : is_repeated earlier row ≡ false =
-    any-none (λ other. same_component other row) (λ other. same_version other row) earlier (λ other apart. and_left (same_component other row) (same_time (time_of other) (time_of row)) apart) single.0 in
-    let rest : marked (choices all (earlier ++ row ∷ []) rows) rows ≡ rows =
-    subst (λ (whole : List RowAt). marked (choices whole (earlier ++ row ∷ []) rows) rows ≡ rows) cut (single-choices (earlier ++ row ∷ []) rows single.1) in
-    rw alone (rw first (ap (λ (others : List RowAt). row ∷ others) rest))
-  where
-    none_later : (b : Bool) → ((b && false) || list_any (λ other. same_component other row && is_later (time_of other) (time_of row)) rows) ≡ false
-    none_later b =
-        let later : list_any (λ other. same_component other row && is_later (time_of other) (time_of row)) rows ≡ false =
-        any-none (λ other. same_component other row) (λ other. same_component other row && is_later (time_of other) (time_of row)) rows
-        (λ other apart. and_left (same_component other row) (is_later (time_of other) (time_of row)) apart) (apart-later earlier [] rows row single.1) in
-        by b later
-      where
-        by : (b : Bool) → list_any (λ other. same_component other row && is_later (time_of other) (time_of row)) rows ≡ false → ((b && false) || list_any (λ other. same_component other row && is_later (time_of other) (time_of row)) rows) ≡ false
-        by true later = later
-        by false later = later
+single-choices earlier (row ∷ rows) single = grind (arith, common_steps, nat_tests, and_left, any-append, any-none, apart-later, append_assoc, is_later-itself, (single-choices (earlier ++ row ∷ []) rows single.1))

@@ -1,5 +1,7 @@
 -- Going over places one after another, and up to one that is refused.
-use Rattle.std.proofs.Common.{ℕ, ◌≡◌, ◌+◌, ◌<◌, ◌≤◌, List, [], ◌∷◌, ◌++◌, append_assoc, ap, arith, drop, drop-cons, get_or, length, map, refl, suc, subst, sym, ◌∙◌, ◌⊎◌, ◌^◌, ◌-◌, inl, inr, true, false, Option, None, Some, Result, Ok, Err}
+use Rattle.std.proofs.lemmas.Bool.Decides.{nat_tests}
+use Rattle.std.proofs.lemmas.Grind.{common_steps}
+use Rattle.std.proofs.Common.{ℕ, ◌≡◌, ◌+◌, ◌<◌, ◌≤◌, List, [], ◌∷◌, ◌++◌, append_assoc, ap, arith, drop, drop-cons, get_or, length, map, refl, subst, sym, ◌∙◌, ◌^◌, ◌-◌, true, false, Option, None, Some, Result, Ok, Err}
 use Rattle.std.specs.Prelude.{IfErr, IfOk, IfSome, OnOk}
 use Rattle.std.proofs.lemmas.List.{drop_all}
 use Rattle.release_files.specs.Source.{file_text}
@@ -31,28 +33,12 @@ StopsAt-behind takes refuses old middle new front places fault first stop = reco
   refused = stop.refused;
 }
 
--- and whatever comes later
-StopsAt-front : {Held : Type 0} (takes : Held → Place → Held → Type 0) (refuses : Held → Place → Held → LoadFault → Type 0) (old new : Held) (front places : List Place) (fault : LoadFault)
-    → StopsAt takes refuses old front new fault → StopsAt takes refuses old (front ++ places) new fault
-StopsAt-front takes refuses old new front places fault stop = record {
-  before = stop.before;
-  place = stop.place;
-  later = stop.later ++ places;
-  middle = stop.middle;
-  cut = ap (λ (all : List Place). all ++ places) stop.cut ∙ append_assoc stop.before (stop.place ∷ stop.later) places;
-  taken_before = stop.taken_before;
-  refused = stop.refused;
-}
-
 -- from some places to those that are left: what is said of these is said of all
 pub record Leads {Held : Type 0} (takes : Held → Place → Held → Type 0) (refuses : Held → Place → Held → LoadFault → Type 0) (old : Held) (all : List Place) (now : Held) (left : List Place) : Type 0 where
   pub goes : (new : Held) → TakesAll takes now left new → TakesAll takes old all new
   pub stops : (new : Held) (fault : LoadFault) → StopsAt takes refuses now left new fault → StopsAt takes refuses old all new fault
 
 module _ {Held : Type 0} (takes : Held → Place → Held → Type 0) (refuses : Held → Place → Held → LoadFault → Type 0) where
-  pub Leads-start : (old : Held) (all : List Place) → Leads takes refuses old all old all
-  Leads-start old all = record { goes = λ new went. went; stops = λ new fault stop. stop }
-
   -- one place more was taken
   pub Leads-next : (old now later : Held) (all left : List Place) (place : Place)
       → Leads takes refuses old all now (place ∷ left) → takes now place later → Leads takes refuses old all later left
@@ -64,10 +50,7 @@ module _ {Held : Type 0} (takes : Held → Place → Held → Type 0) (refuses :
   -- some places more were taken
   pub Leads-on : (old now later : Held) (all front left : List Place)
       → Leads takes refuses old all now (front ++ left) → TakesAll takes now front later → Leads takes refuses old all later left
-  Leads-on old now later all front left leads went = record {
-    goes = λ new rest. leads.goes new (TakesAll-behind takes now later new front left went rest);
-    stops = λ new fault stop. leads.stops new fault (StopsAt-behind takes refuses now later new front left fault went stop);
-  }
+  Leads-on old now later all front left leads went = grind (arith, common_steps, nat_tests, StopsAt-behind, TakesAll-behind)
 
   -- none is left
   pub Leads-end : (old now : Held) (all : List Place) → Leads takes refuses old all now [] → TakesAll takes old all now
@@ -79,17 +62,10 @@ module _ {Held : Type 0} (takes : Held → Place → Held → Type 0) (refuses :
   Leads-stop old now new all left place fault leads refused =
       leads.stops new fault (record { before = []; place = place; later = left; middle = now; cut = refl; taken_before = taken now; refused = refused })
 
-  -- one of the next ones is refused
-  pub Leads-stops : (old now new : Held) (all front left : List Place) (fault : LoadFault)
-      → Leads takes refuses old all now (front ++ left) → StopsAt takes refuses now front new fault → StopsAt takes refuses old all new fault
-  Leads-stops old now new all front left fault leads stop = leads.stops new fault (StopsAt-front takes refuses now new front left fault stop)
-
 -- the places of the files from one on are its own and those of the files behind it
 pub places_from-next : (i : ℕ) (files : List NamedBytes) (d : NamedBytes) → i < length files
     → places_from i (map file_text (drop i files)) ≡ places_of_file i (file_text (get_or files i d)) ++ places_from (i + 1) (map file_text (drop (i + 1) files))
-places_from-next i files d within =
-    let next : suc i ≡ i + 1 = omega arith in
-    rw (drop-cons files i d) (ap (λ j. places_of_file i (file_text (get_or files i d)) ++ places_from (i + 1) (map file_text (drop j files))) next)
+places_from-next i files d within = grind (arith, common_steps, nat_tests, drop-cons, get_or)
 
 -- what an answer says of its result
 pub on_ok : {T E P Q : Type 0} (result : Result T E) → (P → Q) → OnOk result P → OnOk result Q
@@ -147,22 +123,11 @@ at_told {A} P told known is said = subst (λ (some : Option A). IfSome some P) i
 
 -- a failure that was counted later was counted since earlier
 pub fails_since : (count more old middle new : ℕ) (fault : LoadFault) → more ≡ count → old ≤ middle → FailsBelow more middle new fault → FailsBelow count old new fault
-fails_since count more old middle new fault same before failed =
-    let raised : (old < new) ⊎ (new ≡ 2 ^ 64 - 1) = elim failed.3.1 [
-      | inl up ↦ inl (omega (arith, up))
-      | inr full ↦ inr full
-    ] in
-    (failed.0, omega (arith, failed.1), failed.2, (omega (arith, failed.3.0), raised))
+fails_since count more old middle new fault same before failed = grind (arith, common_steps, nat_tests)
 
 -- where no failure is counted none is answered
 pub no_device : (count old : ℕ) (fault : LoadFault) → old + 1 < 2 ^ 64 → (is_device fault ≡ true → FailsBelow count old old fault) → is_device fault ≡ false
-no_device count old fault few fails = elim (cases_Bool (is_device fault)) [
-  | inl device ↦ elim (fails device).3.1 [
-    | inl up ↦ absurd (omega (arith, up))
-    | inr full ↦ absurd (omega (arith, full))
-  ]
-  | inr other ↦ other
-]
+no_device count old fault few fails = grind (arith, common_steps, nat_tests, cases_Bool)
 
 -- two things that are said of a fault
 pub if_both : {T E : Type 0} (P Q R : E → Type 0) (result : Result T E) → ((fault : E) → P fault → Q fault → R fault) → IfErr result P → IfErr result Q → IfErr result R

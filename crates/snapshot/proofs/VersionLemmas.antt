@@ -1,11 +1,13 @@
 -- Rows taken one after another: what a further one changes, and whether it conflicts with one before it.
-use Rattle.std.proofs.Common.{ℕ, ◌≡◌, ◌<◌, ◌&&◌, ◌==◌, inl, inr, List, [], ◌∷◌, ◌++◌, length, get_or, map, Bool, true, false, not, cond, nat_eq, None, Some, position, sym, ◌∙◌, ap, subst, refl, arith, append_assoc, append-nil}
+use Rattle.std.proofs.Common.{ℕ, ◌≡◌, ◌<◌, ◌&&◌, ◌==◌, inl, inr, List, [], ◌∷◌, ◌++◌, length, get_or, Bool, true, false, not, nat_eq, None, Some, position, sym, ◌∙◌, ap, subst, refl, arith, append_assoc, append-nil}
 use Rattle.std.specs.Prelude.{All, Contains}
 use Rattle.std.specs.List.{list_any}
 use Rattle.std.specs.List.Sorted.{IsStrictlyIncreasing}
-use Rattle.std.proofs.lemmas.Bool.{cases_Bool, eqb-true, eq-eqb, false≢true, and_parts, and_from, and_left}
-use Rattle.std.proofs.lemmas.List.{length-map, get_or-map, map_push}
-use Rattle.std.proofs.lemmas.List.Elements.{All-contains, All-nil, All-push, All-weaker, Contains-append_left, Contains-get_or, Contains-push}
+use Rattle.std.proofs.lemmas.Bool.{cases_Bool, eqb-true, eq-eqb, false≢true, false_from_ne_true, and_parts, and_from, and_left, and_right}
+use Rattle.std.proofs.lemmas.Bool.Decides.{nat_tests}
+use Rattle.std.proofs.lemmas.Grind.{common_steps}
+use Rattle.std.proofs.lemmas.List.{get_or-map, map_push}
+use Rattle.std.proofs.lemmas.List.Elements.{All-contains, All-push, All-weaker, Contains-append_left, Contains-get_or, Contains-push}
 use Rattle.std.proofs.lemmas.List.Folds.{list_any_none}
 use Rattle.std.proofs.lemmas.List.Quantifiers.{position-Some}
 use Rattle.indexmap.specs.IndexSet.{insert_key}
@@ -14,19 +16,12 @@ use Rattle.rf2_rows.specs.Versions.{same_row}
 use Rattle.rf2_rows.proofs.VersionLemmas.{same_row-refl, same_row-sym, same_row-trans}
 use Rattle.rf2_rows.specs.declared.kind.FileKind.{FileKind}
 use Rattle.hierarchy.specs.Members.{has}
+use Rattle.hierarchy.proofs.ReleaseLemmas.{had_contained}
 use Rattle.snapshot.specs.Noted.{AreOfItsKind, Noted, conflicts, is_repeated, same_version}
 use Rattle.snapshot.specs.Taken.{AgreesWith, HasTaken, IsCodeOf, IsOfVersion, IsVersionAmong, Taken, Version, firsts}
 use Rattle.snapshot.proofs.CodeLemmas.{has-code, same_version-code}
+use Rattle.snapshot.proofs.NumberingLemmas.{contains_map}
 use Rattle.snapshot.proofs.SplitLemmas.{Contains-cut, any_of, one_first}
-
--- nothing is taken
-pub taken_none : (repeated : List ℕ) → HasTaken (record { repeated = repeated; codes = []; versions = []; chosen = [] }) []
-taken_none repeated = record {
-  codes = refl;
-  versions = All-nil (IsVersionAmong repeated []);
-  agree = All-nil (IsOfVersion repeated []);
-  chosen = refl;
-}
 
 -- of one row more, which is the first of its version
 firsts-push : (repeated : List ℕ) (earlier later : List Noted) (row : Noted)
@@ -45,10 +40,10 @@ length-firsts repeated earlier (row ∷ later) = let rest = length-firsts repeat
 pub length-chosen : (taken : Taken) (rows : List Noted) → HasTaken taken rows → length taken.chosen ≡ length rows
 length-chosen taken rows has_taken = ap length has_taken.chosen ∙ length-firsts taken.repeated [] rows
 
--- a version stays that of its row
-among-push : (repeated : List ℕ) (rows : List Noted) (row : Noted) (version : Version)
-    → IsVersionAmong repeated rows version → IsVersionAmong repeated (rows ++ row ∷ []) version
-among-push repeated rows row version is = record {
+-- versions stay those of their rows
+versions-push : (repeated : List ℕ) (rows : List Noted) (row : Noted) (versions : List Version)
+    → All (IsVersionAmong repeated rows) versions → All (IsVersionAmong repeated (rows ++ row ∷ [])) versions
+versions-push repeated rows row versions = All-weaker (IsVersionAmong repeated rows) (IsVersionAmong repeated (rows ++ row ∷ [])) (λ version is. record {
   before = is.before;
   row = is.row;
   behind = is.behind ++ row ∷ [];
@@ -58,7 +53,7 @@ among-push repeated rows row version is = record {
   kind = is.kind;
   text = is.text;
   first = is.first;
-}
+}) versions
 
 -- the mark of one row more
 marks-push : (repeated : List ℕ) (rows : List Noted) (row : Noted) (marks new : List Bool) (mark : Bool)
@@ -67,20 +62,28 @@ marks-push : (repeated : List ℕ) (rows : List Noted) (row : Noted) (marks new 
 marks-push repeated rows row marks new mark were are is =
     are ∙ ap (λ (marks : List Bool). marks ++ mark ∷ []) were ∙ ap (λ (mark : Bool). firsts repeated [] rows ++ mark ∷ []) is ∙ sym (firsts-push repeated [] rows row)
 
+-- a row is taken that is no first row of a version
+taken_pushed : (taken : Taken) (chosen : List Bool) (rows : List Noted) (row : Noted) (mark : Bool) → chosen ≡ taken.chosen ++ mark ∷ []
+    → mark ≡ not (has taken.repeated row.key && is_repeated rows row) → IsOfVersion taken.repeated taken.versions row → HasTaken taken rows
+    → HasTaken (record taken { chosen = chosen }) (rows ++ row ∷ [])
+taken_pushed taken chosen rows row mark are is of before = record {
+  codes = before.codes;
+  versions = versions-push taken.repeated rows row taken.versions before.versions;
+  agree = All-push (IsOfVersion taken.repeated taken.versions) rows row before.agree of;
+  chosen = marks-push taken.repeated rows row taken.chosen chosen mark before.chosen are is;
+}
+
 -- a row whose key is not repeated is taken
 pub taken_skip : (taken : Taken) (chosen : List Bool) (rows : List Noted) (row : Noted)
     → chosen ≡ taken.chosen ++ true ∷ [] → has taken.repeated row.key ≡ false → HasTaken taken rows
-    → HasTaken (record { repeated = taken.repeated; codes = taken.codes; versions = taken.versions; chosen = chosen }) (rows ++ row ∷ [])
-taken_skip taken chosen rows row are alone before = record {
-  codes = before.codes;
-  versions = All-weaker (IsVersionAmong taken.repeated rows) (IsVersionAmong taken.repeated (rows ++ row ∷ [])) (λ version is. among-push taken.repeated rows row version is) taken.versions before.versions;
-  agree = All-push (IsOfVersion taken.repeated taken.versions) rows row before.agree (λ repeated. absurd (false≢true (sym alone ∙ repeated)));
-  chosen = marks-push taken.repeated rows row taken.chosen chosen true before.chosen are (sym (ap not (and_left (has taken.repeated row.key) (is_repeated rows row) alone)));
-}
+    → HasTaken (record taken { chosen = chosen }) (rows ++ row ∷ [])
+taken_skip taken chosen rows row are alone before =
+    taken_pushed taken chosen rows row true are (sym (ap not (and_left (has taken.repeated row.key) (is_repeated rows row) alone)))
+    (λ repeated. absurd (false≢true (sym alone ∙ repeated))) before
 
 module _ (repeated : List ℕ) (rising : IsStrictlyIncreasing repeated) (rows : List Noted) where
   -- a row of a version's code is of one component and time with its first row
-  first_is_same : (version : Version) (is : IsVersionAmong repeated rows version) (row : Noted) → IsCodeOf repeated row version.code
+  pub first_is_same : (version : Version) (is : IsVersionAmong repeated rows version) (row : Noted) → IsCodeOf repeated row version.code
       → (same_version is.row row ≡ true) × (same_version row is.row ≡ true)
   first_is_same version is row code = (
     same_version-code repeated rising is.row row version.code version.code is.code code ∙ eq-eqb version.code version.code refl,
@@ -96,7 +99,7 @@ module _ (repeated : List ℕ) (rising : IsStrictlyIncreasing repeated) (rows : 
       (one_first is.before is.row is.behind is'.before is'.row is'.behind (sym is.stands ∙ is'.stands) is.first is'.first both.0 both.1).0
 
   -- the first row of a version is among the rows
-  Contains-first : (version : Version) (is : IsVersionAmong repeated rows version) → Contains rows is.row
+  pub Contains-first : (version : Version) (is : IsVersionAmong repeated rows version) → Contains rows is.row
   Contains-first version is = subst (λ (rows : List Noted). Contains rows is.row) (sym is.stands) (Contains-cut is.before is.row is.behind)
 
   -- a row of one of the versions is of one component and time with an earlier one
@@ -117,22 +120,15 @@ module _ (taken : Taken) (rising : IsStrictlyIncreasing taken.repeated) (rows : 
   -- among the versions the code of each stands
   has-version : (version : Version) → Contains taken.versions version → has taken.codes version.code ≡ true
   has-version version there =
-      any_of (λ other. version.code == other) taken.codes version.code
-      (subst (λ (codes : List ℕ). Contains codes version.code) (sym before.codes) (Contains-map (λ (version : Version). version.code) taken.versions version there))
-      (eq-eqb version.code version.code refl)
-    where
-      Contains-map : {X Y : Type 0} (f : X → Y) (xs : List X) (x : X) → Contains xs x → Contains (map f xs) (f x)
-      Contains-map f xs x there = (there.0, rw length-map there.1, get_or-map f xs there.0 x (f x) there.1 ∙ ap f there.2)
+      had_contained taken.codes version.code
+      (subst (λ (codes : List ℕ). Contains codes version.code) (sym before.codes) (contains_map (λ (version : Version). version.code) taken.versions version there))
 
   module _ (code : ℕ) (is : IsCodeOf taken.repeated row code) where
     -- of a version that was not seen no row is before it
     pub new_version : has taken.codes code ≡ false → (other : Noted) → Contains rows other → same_version other row ≡ false
-    new_version new other there = elim (cases_Bool (same_version other row)) [
-      | inl same ↦
-          let of = version_before other there code is same in
-          absurd (false≢true (sym new ∙ ap (has taken.codes) (sym of.3) ∙ has-version of.0 of.1))
-      | inr apart ↦ apart
-    ]
+    new_version new other there = false_from_ne_true (same_version other row) (λ same.
+        let of = version_before other there code is same in
+        false≢true (sym new ∙ ap (has taken.codes) (sym of.3) ∙ has-version of.0 of.1))
 
     pub new_not_repeated : has taken.codes code ≡ false → is_repeated rows row ≡ false
     new_not_repeated new = list_any_none (λ other. same_version other row) rows
@@ -145,16 +141,11 @@ module _ (taken : Taken) (rising : IsStrictlyIncreasing taken.repeated) (rows : 
     -- the version at the number of its code
     module _ (number : ℕ) (found : position (λ other. code == other) taken.codes ≡ Some number) (default : Version) where
       pub number_within : number < length taken.versions
-      number_within =
-          let at = position-Some (λ other. code == other) taken.codes number 0 found in
-          omega (arith, at.0, ap length before.codes, length-map taken.versions (λ (version : Version). version.code))
+      number_within = grind (arith, common_steps, position-Some (λ other. code == other) taken.codes number 0 found, before.codes)
 
       pub version_code : (get_or taken.versions number default).code ≡ code
       version_code =
-          let at = position-Some (λ other. code == other) taken.codes number 0 found in
-          sym (get_or-map (λ (version : Version). version.code) taken.versions number default 0 number_within)
-          ∙ ap (λ (codes : List ℕ). get_or codes number 0) (sym before.codes)
-          ∙ sym (eqb-true code (get_or taken.codes number 0) at.1)
+          grind (arith, nat_tests, position-Some (λ other. code == other) taken.codes number 0 found, before.codes, get_or-map (λ (version : Version). version.code) taken.versions number default 0 number_within)
 
       pub version_at : IsVersionAmong taken.repeated rows (get_or taken.versions number default)
       version_at = before.versions number default number_within
@@ -176,10 +167,6 @@ module _ (taken : Taken) (rising : IsStrictlyIncreasing taken.repeated) (rows : 
       same_conflicts kinds same = list_any_none (λ earlier. conflicts earlier row) rows
           (λ k d within. agrees (get_or rows k d) (Contains-get_or rows k d within))
         where
-          and_false : (b : Bool) → (b && false) ≡ false
-          and_false true = refl
-          and_false false = refl
-
           agrees : (other : Noted) → Contains rows other → conflicts other row ≡ false
           agrees other there = elim (cases_Bool (same_version other row)) [
             | inr apart ↦ and_left (same_version other row) _ apart
@@ -190,13 +177,9 @@ module _ (taken : Taken) (rising : IsStrictlyIncreasing taken.repeated) (rows : 
                 let kind : other.kind ≡ row.kind = kinds other there (eqb-true other.key row.key (and_parts (other.key == row.key) _ one).0) in
                 let text : of.0.text ≡ version.text =
                 among.text ∙ ap (λ (row : Noted). row.text) (one_version taken.repeated rising rows of.0 version among version_at (of.3 ∙ sym version_code)) ∙ sym version_at.text in
-                let before_it : same_row row.kind version.text other.text ≡ true =
-                subst (λ (text : List ℕ). same_row row.kind text other.text ≡ true) text
-                (subst (λ (kind : FileKind). same_row kind of.0.text other.text ≡ true) kind of.2.same) in
-                let as_it : same_row other.kind other.text row.text ≡ true =
-                subst (λ (kind : FileKind). same_row kind other.text row.text ≡ true) (sym kind)
-                (same_row-trans row.kind other.text version.text row.text (same_row-sym row.kind version.text other.text before_it) same) in
-                ap (λ (same : Bool). same_version other row && not same) as_it ∙ and_false (same_version other row)
+                let before_it : same_row row.kind version.text other.text ≡ true = sym (λ i. same_row (kind i) (text i) other.text) ∙ of.2.same in
+                let as_it = same_row-trans row.kind other.text version.text row.text (same_row-sym row.kind version.text other.text before_it) same in
+                and_right (same_version other row) _ (ap not (ap (λ (kind : FileKind). same_row kind other.text row.text) kind ∙ as_it))
           ]
 
       -- where it is not, it conflicts with that row
@@ -205,26 +188,19 @@ module _ (taken : Taken) (rising : IsStrictlyIncreasing taken.repeated) (rows : 
       other_conflicts kinds apart =
           let version = get_or taken.versions number default in
           let same = first_is_same taken.repeated rising rows version version_at row row_code in
-          let differs : same_row version_at.row.kind version_at.row.text row.text ≡ false =
-          subst (λ (kind : FileKind). same_row kind version_at.row.text row.text ≡ false) (sym (version_kind kinds) ∙ version_at.kind)
-          (subst (λ (text : List ℕ). same_row row.kind text row.text ≡ false) version_at.text apart) in
+          let differs : same_row version_at.row.kind version_at.row.text row.text ≡ false = cc (version_kind kinds, version_at.kind, version_at.text, apart) in
           any_of (λ earlier. conflicts earlier row) rows version_at.row (Contains-first taken.repeated rising rows version version_at)
           (and_from (same_version version_at.row row) _ same.0 (ap not differs))
 
       -- and it is taken where it is the same
       pub taken_again : (chosen : List Bool) → chosen ≡ taken.chosen ++ false ∷ []
           → same_row row.kind (get_or taken.versions number default).text row.text ≡ true
-          → HasTaken (record { repeated = taken.repeated; codes = taken.codes; versions = taken.versions; chosen = chosen }) (rows ++ row ∷ [])
+          → HasTaken (record taken { chosen = chosen }) (rows ++ row ∷ [])
       taken_again chosen are same =
           let version = get_or taken.versions number default in
-          record {
-            codes = before.codes;
-            versions = All-weaker (IsVersionAmong taken.repeated rows) (IsVersionAmong taken.repeated (rows ++ row ∷ [])) (λ version is. among-push taken.repeated rows row version is) taken.versions before.versions;
-            agree = All-push (IsOfVersion taken.repeated taken.versions) rows row before.agree
-                (λ repeated. (version, Contains-get_or taken.versions number default number_within, record { code = row_code; same = same }));
-            chosen = marks-push taken.repeated rows row taken.chosen chosen false before.chosen are
-                (sym (ap not (and_from (has taken.repeated row.key) (is_repeated rows row) (has-code taken.repeated row code is) (repeats taken.repeated rising rows version version_at row row_code))));
-          }
+          taken_pushed taken chosen rows row false are
+          (sym (ap not (and_from (has taken.repeated row.key) (is_repeated rows row) (has-code taken.repeated row code is) (repeats taken.repeated rising rows version version_at row row_code))))
+          (λ repeated. (version, Contains-get_or taken.versions number default number_within, record { code = row_code; same = same })) before
 
     -- the first row of a version is taken
     pub taken_first : (codes : List ℕ) (versions : List Version) (chosen : List Bool) → has taken.codes code ≡ false → row_fault row.kind row.text ≡ None
@@ -236,13 +212,10 @@ module _ (taken : Taken) (rising : IsStrictlyIncreasing taken.repeated) (rows : 
         let version : Version = record { code = code; place = length taken.chosen; kind = row.kind; text = row.text } in
         let added = taken.versions ++ version ∷ [] in
         record {
-          codes = codes_are ∙ ap (λ (seen : Bool). cond seen taken.codes (taken.codes ++ code ∷ [])) new
-              ∙ ap (λ (codes : List ℕ). codes ++ code ∷ []) before.codes
-              ∙ sym (map_push (λ (version : Version). version.code) taken.versions version)
-              ∙ ap (map (λ (version : Version). version.code)) (sym versions_are);
+          codes = rw (codes_are, new, before.codes, versions_are, map_push (λ (version : Version). version.code) taken.versions version) refl;
           versions = subst (All (IsVersionAmong taken.repeated (rows ++ row ∷ []))) (sym versions_are)
               (All-push (IsVersionAmong taken.repeated (rows ++ row ∷ [])) taken.versions version
-              (All-weaker (IsVersionAmong taken.repeated rows) (IsVersionAmong taken.repeated (rows ++ row ∷ [])) (λ version is. among-push taken.repeated rows row version is) taken.versions before.versions)
+              (versions-push taken.repeated rows row taken.versions before.versions)
               (record { before = rows; row = row; behind = []; stands = refl; place = length-chosen taken rows before; code = is; kind = refl; text = refl; first = new_not_repeated new }));
           agree = subst (λ (versions : List Version). All (IsOfVersion taken.repeated versions) (rows ++ row ∷ [])) (sym versions_are)
               (All-push (IsOfVersion taken.repeated added) rows row
@@ -250,9 +223,5 @@ module _ (taken : Taken) (rising : IsStrictlyIncreasing taken.repeated) (rows : 
               (λ other of repeated. let found = of repeated in (found.0, Contains-append_left taken.versions (version ∷ []) found.0 found.1, found.2)) rows before.agree)
               (λ repeated. (version, Contains-push taken.versions version, record { code = is; same = same_row-refl row.kind row.text accepted })));
           chosen = marks-push taken.repeated rows row taken.chosen chosen true before.chosen chosen_are
-              (ap not (sym (and_right_false (has taken.repeated row.key) (is_repeated rows row) (new_not_repeated new))));
+              (ap not (sym (and_right (has taken.repeated row.key) (is_repeated rows row) (new_not_repeated new))));
         }
-      where
-        and_right_false : (a b : Bool) → b ≡ false → (a && b) ≡ false
-        and_right_false true b is_false = is_false
-        and_right_false false b is_false = refl

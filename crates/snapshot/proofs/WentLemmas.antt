@@ -1,27 +1,26 @@
 -- What reading places leaves, and what it says of their first fault.
+use Rattle.std.proofs.lemmas.Grind.{common_steps}
 use Rattle.std.proofs.Common.{ℕ, ◌≡◌, ◌+◌, ◌-◌, ◌≤◌, ◌∙◌, List, [], ◌∷◌, ◌++◌, length, true, false, Bool, nat_le, Option, None, Some, append_assoc, ap, arith, cond, refl, sym, subst}
 use Rattle.std.specs.Prelude.{option_and_then, option_to_list}
 use Rattle.std.specs.List.{cons_option}
 use Rattle.std.proofs.lemmas.Bool.Decides.{nat_tests}
 use Rattle.std.proofs.lemmas.List.{append-nil, length-append}
 use Rattle.std.proofs.lemmas.List.Elements.{filter_map-append}
-use Rattle.std.proofs.lemmas.List.Sums.{sum_by-append}
 use Rattle.rf2_rows.specs.declared.kind.FileKind.{FileKind}
 use Rattle.rf2_rows.specs.declared.kind.FileKind.TheVariants.{Concept, Concrete, Description, Member, Relationship}
 use Rattle.snapshot.specs.Chosen.{same_kind}
-use Rattle.snapshot.specs.Contents.{text_of_row}
-use Rattle.snapshot.specs.Faults.{conflict_behind, count_of_kind, crowd_behind, fault_at, fault_behind, fault_here, first_fault, first_of}
+use Rattle.snapshot.specs.Faults.{conflict_behind, count_of_kind, crowd_behind, fault_at, fault_here, first_fault, first_of}
 use Rattle.snapshot.specs.Files.{Place, RowAt, first_line, later_line, no_line, row_at, rows_of}
-use Rattle.snapshot.specs.Kept.{IsRead, IsShortAt, IsStopped, Kept, fault_of_room, kept_after, kept_behind, nothing_kept, plain_fault}
-use Rattle.snapshot.specs.Keys.{key_in, uuids_behind}
-use Rattle.snapshot.specs.Limits.{left_behind, row_limit}
+use Rattle.snapshot.specs.Kept.{IsRead, IsShortAt, IsStopped, Kept, kept_after, kept_behind, nothing_kept, plain_fault}
+use Rattle.snapshot.specs.Limits.{left_behind, row_limit, row_total}
 use Rattle.snapshot.specs.RowsKept.{kept_in}
 use Rattle.snapshot.specs.Taking.{StopsAt, TakesAll, next, taken}
 use Rattle.snapshot.specs.declared.fault.LoadFault.{LoadFault}
 use Rattle.snapshot.specs.declared.fault.LoadFault.TheVariants.{TooMany}
 use Rattle.snapshot.specs.declared.limits.Limits.{Limits}
 use Rattle.snapshot.specs.declared.rows.Rows.{Rows}
-use Rattle.snapshot.specs.Seen.{AreShort, IsSeen, first_conflict, kept_rows, keys_behind, row_total, uuids_after}
+use Rattle.snapshot.specs.Seen.{AreShort, IsSeen, first_conflict, kept_rows, keys_behind, uuids_after}
+use Rattle.snapshot.proofs.KindLemmas.{count_of_kind-push, kind_same, length-kinds}
 use Rattle.snapshot.proofs.PassLemmas.{IsPlain, first_fault-plain, plain_at, plain_end, plain_next}
 
 -- ---- what is kept behind rows
@@ -35,9 +34,7 @@ kept_rows-append kept (row ∷ rows) others = kept_rows-append (kept_behind kept
 
 pub kept_rows-keys : (kept : Kept) (rows : List RowAt) → (kept_rows kept rows).keyed.keys ≡ kept.keyed.keys ++ keys_behind kept.keyed.uuids rows
 kept_rows-keys kept [] = sym (append-nil kept.keyed.keys)
-kept_rows-keys kept (row ∷ rows) =
-    kept_rows-keys (kept_behind kept row) rows
-    ∙ append_assoc kept.keyed.keys (key_in kept.keyed.uuids (text_of_row row) ∷ []) (keys_behind (uuids_behind kept.keyed.uuids (text_of_row row)) rows)
+kept_rows-keys kept (row ∷ rows) = grind (arith, common_steps, nat_tests, append_assoc, (kept_rows-keys (kept_behind kept row) rows))
 
 pub kept_rows-uuids : (kept : Kept) (rows : List RowAt) → (kept_rows kept rows).keyed.uuids ≡ uuids_after kept.keyed.uuids rows
 kept_rows-uuids kept [] = refl
@@ -52,79 +49,18 @@ pub room-start : (limits : Limits) → HasRoom limits limits []
 room-start limits = record { bytes = refl; rows = λ kind. omega arith }
 
 left_behind-limit : (left : Limits) (kind other : FileKind) → row_limit (left_behind left kind) other ≡ row_limit left other - cond (same_kind kind other) 1 0
-left_behind-limit left Concept Concept = refl
-left_behind-limit left Concept Description = omega arith
-left_behind-limit left Concept Relationship = omega arith
-left_behind-limit left Concept Concrete = omega arith
-left_behind-limit left Concept Member = omega arith
-left_behind-limit left Description Concept = omega arith
-left_behind-limit left Description Description = refl
-left_behind-limit left Description Relationship = omega arith
-left_behind-limit left Description Concrete = omega arith
-left_behind-limit left Description Member = omega arith
-left_behind-limit left Relationship Concept = omega arith
-left_behind-limit left Relationship Description = omega arith
-left_behind-limit left Relationship Relationship = refl
-left_behind-limit left Relationship Concrete = omega arith
-left_behind-limit left Relationship Member = omega arith
-left_behind-limit left Concrete Concept = omega arith
-left_behind-limit left Concrete Description = omega arith
-left_behind-limit left Concrete Relationship = omega arith
-left_behind-limit left Concrete Concrete = refl
-left_behind-limit left Concrete Member = omega arith
-left_behind-limit left Member Concept = omega arith
-left_behind-limit left Member Description = omega arith
-left_behind-limit left Member Relationship = omega arith
-left_behind-limit left Member Concrete = omega arith
-left_behind-limit left Member Member = refl
-
-left_behind-bytes : (left : Limits) (kind : FileKind) → (left_behind left kind).bytes ≡ left.bytes
-left_behind-bytes left Concept = refl
-left_behind-bytes left Description = refl
-left_behind-bytes left Relationship = refl
-left_behind-bytes left Concrete = refl
-left_behind-bytes left Member = refl
+left_behind-limit left kind Concept = refl
+left_behind-limit left kind Description = refl
+left_behind-limit left kind Relationship = refl
+left_behind-limit left kind Concrete = refl
+left_behind-limit left kind Member = refl
 
 at_most_one : (b : Bool) → cond b 1 0 ≤ 1
 at_most_one true = omega arith
 at_most_one false = omega arith
 
-pub kind_same : (one other : FileKind) → same_kind one other ≡ true → one ≡ other
-kind_same Concept Concept told = refl
-kind_same Description Description told = refl
-kind_same Relationship Relationship told = refl
-kind_same Concrete Concrete told = refl
-kind_same Member Member told = refl
-kind_same Concept Description told = (cc)
-kind_same Concept Relationship told = (cc)
-kind_same Concept Concrete told = (cc)
-kind_same Concept Member told = (cc)
-kind_same Description Concept told = (cc)
-kind_same Description Relationship told = (cc)
-kind_same Description Concrete told = (cc)
-kind_same Description Member told = (cc)
-kind_same Relationship Concept told = (cc)
-kind_same Relationship Description told = (cc)
-kind_same Relationship Concrete told = (cc)
-kind_same Relationship Member told = (cc)
-kind_same Concrete Concept told = (cc)
-kind_same Concrete Description told = (cc)
-kind_same Concrete Relationship told = (cc)
-kind_same Concrete Member told = (cc)
-kind_same Member Concept told = (cc)
-kind_same Member Description told = (cc)
-kind_same Member Relationship told = (cc)
-kind_same Member Concrete told = (cc)
-
-count_of_kind-push : (kind : FileKind) (rows : List RowAt) (row : RowAt) → count_of_kind kind (rows ++ row ∷ []) ≡ count_of_kind kind rows + cond (same_kind row.kind kind) 1 0
-count_of_kind-push kind rows row =
-    omega (arith, sum_by-append (λ (other : RowAt). cond (same_kind other.kind kind) 1 0) rows (row ∷ []))
-
 room-next : (left limits : Limits) (earlier : List RowAt) (row : RowAt) → HasRoom left limits earlier → HasRoom (left_behind left row.kind) limits (earlier ++ row ∷ [])
-room-next left limits earlier row room = record {
-  bytes = left_behind-bytes left row.kind ∙ room.bytes;
-  rows = λ kind. omega (arith, left_behind-limit left row.kind kind, room.rows kind, count_of_kind-push kind earlier row);
-}
+room-next left limits earlier row room = grind (arith, common_steps, nat_tests, count_of_kind-push, left_behind-limit)
 
 room-option : (kept : Kept) (limits : Limits) (earlier : List RowAt) (row : Option RowAt) → HasRoom kept.left limits earlier
     → HasRoom (kept_after kept row).left limits (earlier ++ option_to_list row)
@@ -133,13 +69,7 @@ room-option kept limits earlier (Some row) room = room-next kept.left limits ear
 
 -- the fault at a place by the rows that may still come is that by the rows before it
 none_left : (limit count : ℕ) → nat_le (limit - count) 0 ≡ nat_le limit count
-none_left limit count = by (nat_le limit count) (nat_le (limit - count) 0) refl refl
-  where
-    by : (all left : Bool) → nat_le limit count ≡ all → nat_le (limit - count) 0 ≡ left → left ≡ all
-    by true true told left = refl
-    by false false told left = refl
-    by true false told left = absurd (grind (arith, nat_tests, told, left))
-    by false true told left = absurd (grind (arith, nat_tests, told, left))
+none_left limit count = grind (arith, common_steps, nat_tests, nat_le, nat_tests)
 
 here-is : (left limits : Limits) (place : Place) → left.bytes ≡ limits.bytes → fault_here left place ≡ fault_here limits place
 here-is left limits (no_line file kind) same = refl
@@ -147,36 +77,13 @@ here-is left limits (first_line file kind line) same = rw same refl
 here-is left limits (later_line file kind line) same = rw same refl
 
 pub plain_fault-is : (left limits : Limits) (earlier : List RowAt) (place : Place) → HasRoom left limits earlier → plain_fault left place ≡ plain_at limits earlier place
-plain_fault-is left limits earlier place room = (λ i. first_of (here-is left limits place room.bytes i) (by (row_at place) i))
-  where
-    by : (row : Option RowAt) → option_and_then (fault_of_room left) row ≡ option_and_then (crowd_behind limits earlier) row
-    by None = refl
-    by (Some row) = ap (λ (full : Bool). cond full (Some (TooMany row.file row.line)) None)
-        (ap (λ (count : ℕ). nat_le count 0) (room.rows row.kind) ∙ none_left (row_limit limits row.kind) (count_of_kind row.kind earlier))
+plain_fault-is left limits earlier place room = grind (arith, common_steps, nat_tests, here-is, nat_le, none_left)
 
 rows-option : (earlier : List RowAt) (row : Option RowAt) (rows : List RowAt) → (earlier ++ option_to_list row) ++ rows ≡ earlier ++ cons_option row rows
 rows-option earlier None rows = ap (λ (front : List RowAt). front ++ rows) (append-nil earlier)
 rows-option earlier (Some row) rows = append_assoc earlier (row ∷ []) rows
 
 -- ---- how many rows there may be
--- a row is of one kind
-one_kind : (kind : FileKind)
-    → cond (same_kind kind Concept) 1 0 + cond (same_kind kind Description) 1 0 + cond (same_kind kind Relationship) 1 0 + cond (same_kind kind Concrete) 1 0 + cond (same_kind kind Member) 1 0 ≡ 1
-one_kind Concept = refl
-one_kind Description = refl
-one_kind Relationship = refl
-one_kind Concrete = refl
-one_kind Member = refl
-
--- rows are those of the five kinds
-pub length-kinds : (rows : List RowAt)
-    → length rows ≡ count_of_kind Concept rows + count_of_kind Description rows + count_of_kind Relationship rows + count_of_kind Concrete rows + count_of_kind Member rows
-length-kinds [] = refl
-length-kinds (row ∷ rows) = omega (arith, length-kinds rows, one Concept, one Description, one Relationship, one Concrete, one Member, one_kind row.kind)
-  where
-    one : (kind : FileKind) → count_of_kind kind (row ∷ rows) ≡ cond (same_kind row.kind kind) 1 0 + count_of_kind kind rows
-    one kind = omega (arith, sum_by-append (λ (other : RowAt). cond (same_kind other.kind kind) 1 0) (row ∷ []) rows)
-
 -- without a fault there are no more rows of a kind than there may be
 plain-few : (limits : Limits) (earlier : List RowAt) (places : List Place) → IsPlain limits earlier places
     → ((kind : FileKind) → count_of_kind kind earlier ≤ row_limit limits kind) → (kind : FileKind) → count_of_kind kind (earlier ++ rows_of places) ≤ row_limit limits kind
@@ -235,12 +142,7 @@ refuses old place new fault = IsStopped (kept_in old) place (kept_in new) fault
 
 pub went : (limits : Limits) (earlier : List RowAt) (old new : Rows) (places : List Place) → TakesAll reads old places new
     → HasRoom (kept_in old).left limits earlier → Went limits earlier (kept_in old) (kept_in new) places
-went limits earlier old new places (taken held) room = record {
-  plain = plain_end earlier;
-  kept = refl;
-  room = subst (λ (rows : List RowAt). HasRoom (kept_in held).left limits rows) (sym (append-nil earlier)) room;
-  short = tt;
-}
+went limits earlier old new places (taken held) room = grind (arith, common_steps, nat_tests, append-nil, plain_end)
 went limits earlier old new places (next from to end place others step rest) room =
     let grown : HasRoom (kept_in to).left limits (earlier ++ option_to_list (row_at place)) =
     subst (λ (kept : Kept). HasRoom kept.left limits (earlier ++ option_to_list (row_at place))) (sym step.kept) (room-option (kept_in from) limits earlier (row_at place) room) in
@@ -257,31 +159,19 @@ first_of-assoc : (one other third : Option LoadFault) → first_of (first_of one
 first_of-assoc None other third = refl
 first_of-assoc (Some fault) other third = refl
 
-first_fault-append : (limits : Limits) (front places later : List Place)
+pub first_of-none : (fault : Option LoadFault) → first_of fault None ≡ fault
+first_of-none None = refl
+first_of-none (Some fault) = refl
+
+pub first_fault-append : (limits : Limits) (front places later : List Place)
     → first_fault limits front (places ++ later) ≡ first_of (first_fault limits front places) (first_fault limits (front ++ places) later)
 first_fault-append limits front [] later = ap (λ (before : List Place). first_fault limits before later) (sym (append-nil front))
-first_fault-append limits front (place ∷ places) later =
-    ap (λ (rest : Option LoadFault). first_of (fault_at limits front place) rest)
-    (first_fault-append limits (front ++ place ∷ []) places later
-    ∙ ap (λ (before : List Place). first_of (first_fault limits (front ++ place ∷ []) places) (first_fault limits before later)) (append_assoc front (place ∷ []) places))
-    ∙ sym (first_of-assoc (fault_at limits front place) (first_fault limits (front ++ place ∷ []) places) (first_fault limits (front ++ place ∷ places) later))
+first_fault-append limits front (place ∷ places) later = grind (arith, common_steps, nat_tests, append_assoc, first_of-assoc, (first_fault-append limits (front ++ place ∷ []) places later))
 
 first_conflict-push : (earlier rows : List RowAt) (row : RowAt)
     → first_conflict earlier (rows ++ row ∷ []) ≡ first_of (first_conflict earlier rows) (conflict_behind (earlier ++ rows) row)
-first_conflict-push earlier [] row = by (conflict_behind earlier row) ∙ ap (λ (before : List RowAt). conflict_behind before row) (sym (append-nil earlier))
-  where
-    by : (fault : Option LoadFault) → first_of fault None ≡ fault
-    by None = refl
-    by (Some fault) = refl
-first_conflict-push earlier (first ∷ rows) row =
-    ap (λ (rest : Option LoadFault). first_of (conflict_behind earlier first) rest)
-    (first_conflict-push (earlier ++ first ∷ []) rows row
-    ∙ ap (λ (before : List RowAt). first_of (first_conflict (earlier ++ first ∷ []) rows) (conflict_behind before row)) (append_assoc earlier (first ∷ []) rows))
-    ∙ sym (first_of-assoc (conflict_behind earlier first) (first_conflict (earlier ++ first ∷ []) rows) (conflict_behind (earlier ++ first ∷ rows) row))
-
-first_of-none : (fault : Option LoadFault) → first_of fault None ≡ fault
-first_of-none None = refl
-first_of-none (Some fault) = refl
+first_conflict-push earlier [] row = first_of-none (conflict_behind earlier row) ∙ ap (λ (before : List RowAt). conflict_behind before row) (sym (append-nil earlier))
+first_conflict-push earlier (first ∷ rows) row = grind (arith, common_steps, nat_tests, append_assoc, first_of-assoc, (first_conflict-push (earlier ++ first ∷ []) rows row))
 
 pub seen-whole : (limits : Limits) (old new : Rows) (places : List Place) → kept_in old ≡ nothing_kept limits → TakesAll reads old places new
     → IsSeen limits places (kept_in new) None
@@ -297,26 +187,20 @@ seen-whole limits old new places start all_taken =
       front = sym (append-nil (rows_of places));
       whole = λ none. refl;
       few = omega (arith, plain-total limits places all.plain);
+      room = λ none. plain-total limits places all.plain;
     }
 
 -- the first fault of places up to one that has a fault as far as rows are only counted
 module _ (limits : Limits) (before later : List Place) (place : Place) (fault : LoadFault) (plain : IsPlain limits [] before) where
   begins : first_fault limits [] (before ++ place ∷ later) ≡ first_of (first_conflict [] (rows_of before)) (first_of (fault_at limits before place) (first_fault limits (before ++ place ∷ []) later))
-  begins = first_fault-append limits [] before (place ∷ later)
-      ∙ ap (λ (first : Option LoadFault). first_of first (first_of (fault_at limits before place) (first_fault limits (before ++ place ∷ []) later))) (first_fault-plain limits [] before [] refl plain)
+  begins = grind (arith, common_steps, nat_tests, first_fault-append, first_fault-plain)
 
   pub first-here : fault_here limits place ≡ Some fault → first_fault limits [] (before ++ place ∷ later) ≡ first_of (first_conflict [] (rows_of before)) (Some fault)
-  first-here here = begins
-      ∙ ap (λ (there : Option LoadFault). first_of (first_conflict [] (rows_of before)) (first_of (first_of there (option_and_then (fault_behind limits (rows_of before)) (row_at place))) (first_fault limits (before ++ place ∷ []) later))) here
+  first-here here = grind (arith, common_steps, nat_tests, begins)
 
   pub first-crowded : (row : RowAt) → fault_here limits place ≡ None → row_at place ≡ Some row → crowd_behind limits (rows_of before) row ≡ Some fault
       → first_fault limits [] (before ++ place ∷ later) ≡ first_of (first_conflict [] (rows_of before ++ row ∷ [])) (Some fault)
-  first-crowded row here is crowd = begins
-      ∙ (λ i. first_of (first_conflict [] (rows_of before)) (first_of (first_of (here i) (option_and_then (fault_behind limits (rows_of before)) (is i))) (first_fault limits (before ++ place ∷ []) later)))
-      ∙ ap (λ (full : Option LoadFault). first_of (first_conflict [] (rows_of before)) (first_of (first_of (conflict_behind (rows_of before) row) full) (first_fault limits (before ++ place ∷ []) later))) crowd
-      ∙ ap (λ (rest : Option LoadFault). first_of (first_conflict [] (rows_of before)) rest) (first_of-assoc (conflict_behind (rows_of before) row) (Some fault) (first_fault limits (before ++ place ∷ []) later))
-      ∙ sym (first_of-assoc (first_conflict [] (rows_of before)) (conflict_behind (rows_of before) row) (Some fault))
-      ∙ ap (λ (first : Option LoadFault). first_of first (Some fault)) (sym (first_conflict-push [] (rows_of before) row))
+  first-crowded row here is crowd = grind (arith, common_steps, nat_tests, begins, first_conflict-push, first_of-assoc)
 
 -- the first pass ended at a fault
 pub seen-stopped : (limits : Limits) (old new : Rows) (places : List Place) (fault : LoadFault) → kept_in old ≡ nothing_kept limits → StopsAt reads refuses old places new fault
@@ -352,6 +236,7 @@ seen-stopped limits old new places fault start stop =
           front = ap rows_of stop.cut ∙ filter_map-append row_at stop.before (stop.place ∷ stop.later);
           whole = λ none. let wrong : Some fault ≡ None = none in (cc);
           few = omega (arith, plain-total limits stop.before gone.plain);
+          room = λ none. let wrong : Some fault ≡ None = none in (cc);
         }
     by None here None is =
         let told : None ≡ Some fault = sym (λ i. first_of (here i) (option_and_then (crowd_behind limits (rows_of stop.before)) (is i))) ∙ plain in (cc)
@@ -369,4 +254,5 @@ seen-stopped limits old new places fault start stop =
               ∙ ap (λ (at : Option RowAt). rows_of stop.before ++ cons_option at (rows_of stop.later)) is ∙ sym (append_assoc (rows_of stop.before) (row ∷ []) (rows_of stop.later));
           whole = λ none. let wrong : Some fault ≡ None = none in (cc);
           few = omega (arith, plain-total limits stop.before gone.plain, length-append (rows_of stop.before) (row ∷ []));
+          room = λ none. let wrong : Some fault ≡ None = none in (cc);
         }

@@ -8,14 +8,16 @@ use Rattle.rf2_rows.specs.declared.kind.FileKind.{FileKind}
 use Rattle.rf2_rows.specs.declared.kind.FileKind.TheVariants.{Concept, Concrete, Description, Member, Relationship}
 use Rattle.snapshot.specs.Files.{RowAt}
 
--- two kinds are one
+-- the kinds by numbers, and whether two are one
+abbrev pub kind_number : FileKind → ℕ
+kind_number Concept = 0
+kind_number Description = 1
+kind_number Relationship = 2
+kind_number Concrete = 3
+kind_number Member = 4
+
 abbrev pub same_kind : FileKind → FileKind → Bool
-same_kind Concept Concept = true
-same_kind Description Description = true
-same_kind Relationship Relationship = true
-same_kind Concrete Concrete = true
-same_kind Member Member = true
-same_kind one other = false
+same_kind one other = kind_number one == kind_number other
 
 -- the identifier of a row, and its effective time
 abbrev pub id_of : RowAt → ℕ

@@ -11,7 +11,7 @@ use Rattle.snapshot.specs.Files.{Place, RowAt, row_at, rows_of}
 use Rattle.hierarchy.specs.Members.{has}
 use Rattle.snapshot.specs.InForce.{listed_count, rising, rows_among}
 use Rattle.snapshot.specs.Keys.{IsShort, Keyed, keyed_behind, no_keys}
-use Rattle.snapshot.specs.Limits.{left_behind, row_limit}
+use Rattle.snapshot.specs.Limits.{left_behind, row_limit, row_total}
 use Rattle.snapshot.specs.Listed.{Listed, listed_behind, listed_of}
 use Rattle.snapshot.specs.declared.fault.LoadFault.{LoadFault}
 use Rattle.snapshot.specs.declared.fault.LoadFault.TheVariants.{Cycle, Memory, TooMany}
@@ -124,6 +124,7 @@ unmarked listed = record listed { marks = [] }
 pub record IsReadFrom (limits : Limits) (places : List Place) (count : ℕ) (listed : Listed) : Type 0 where
   pub clean : first_fault limits [] places ≡ None
   pub count_is : count ≡ length (rows_of places)
+  pub few : count ≤ row_total limits
   pub lists : unmarked listed ≡ unmarked (listed_of (map text_of_row (chosen (rows_of places))))
 
 -- the contents that are made of what was listed of so many rows

@@ -1,7 +1,8 @@
 -- How much a load takes in at the most.
-use Rattle.std.specs.Prelude.{ℕ, ◌-◌, min, max}
+use Rattle.std.specs.Prelude.{ℕ, ◌+◌, ◌-◌, if◌then◌else◌, min, max}
 use Rattle.rf2_rows.specs.declared.kind.FileKind.{FileKind}
 use Rattle.rf2_rows.specs.declared.kind.FileKind.TheVariants.{Concept, Concrete, Description, Member, Relationship}
+use Rattle.snapshot.specs.Chosen.{same_kind}
 use Rattle.snapshot.specs.declared.limits.Limits.{Limits}
 
 -- the limits that a load has by itself
@@ -35,10 +36,18 @@ row_limit limits Relationship = limits.relationships
 row_limit limits Concrete = limits.concrete
 row_limit limits Member = limits.members
 
+-- and of all kinds
+abbrev pub row_total : Limits → ℕ
+row_total limits = limits.concepts + limits.descriptions + limits.relationships + limits.concrete + limits.members
+
 -- how many rows may come behind one of a kind
 abbrev pub left_behind : Limits → FileKind → Limits
-left_behind left Concept = record left { concepts = left.concepts - 1 }
-left_behind left Description = record left { descriptions = left.descriptions - 1 }
-left_behind left Relationship = record left { relationships = left.relationships - 1 }
-left_behind left Concrete = record left { concrete = left.concrete - 1 }
-left_behind left Member = record left { members = left.members - 1 }
+left_behind left kind =
+    let one : FileKind → ℕ = λ other. if same_kind kind other then 1 else 0 in
+    record left {
+      concepts = left.concepts - one Concept;
+      descriptions = left.descriptions - one Description;
+      relationships = left.relationships - one Relationship;
+      concrete = left.concrete - one Concrete;
+      members = left.members - one Member;
+    }

@@ -1,12 +1,14 @@
 -- What a load lists of the rows that it has read, as far as the rows themselves tell.
-use Rattle.std.specs.Prelude.{ℕ, ◌==◌, ◌&&◌, Bool, true, false, not, if◌then◌else◌, List, [], ◌∷◌, ◌++◌, map, Option, None, Some}
+use Rattle.std.specs.Prelude.{ℕ, ◌==◌, ◌&&◌, Bool, true, false, not, if◌then◌else◌, List, [], ◌∷◌, ◌++◌, map, Option, None, Some, option_and_then, option_to_list}
 use Rattle.std.specs.List.{filter_map}
 use Rattle.rf2_rows.specs.Release.{Attribute, Name}
 use Rattle.rf2_rows.specs.RowTexts.{RowText, of_concept, of_concrete, of_description, of_member, of_relationship}
-use Rattle.rf2_rows.specs.Rows.{ConcreteText}
+use Rattle.rf2_rows.specs.Rows.{ConcreteText, DescriptionText}
+use Rattle.rf2_rows.specs.declared.row.ConceptRow.{ConceptRow}
+use Rattle.rf2_rows.specs.declared.row.MemberRow.{MemberRow}
 use Rattle.rf2_rows.specs.declared.row.RelationshipRow.{RelationshipRow}
 use Rattle.snapshot.specs.Chosen.{marked}
-use Rattle.snapshot.specs.InForce.{concrete_attribute, is_name, name_on, relationship_attribute}
+use Rattle.snapshot.specs.InForce.{concept_in, concrete_attribute, description_in, is_name, member_in, name_on, relationship_attribute, relationship_in}
 use Rattle.snapshot.specs.Metadata.{is_a, inferred_relationship}
 use Rattle.snapshot.specs.declared.row_lists.Listing.{Listing}
 use Rattle.snapshot.specs.declared.row_lists.Listing.TheVariants as listing
@@ -43,16 +45,14 @@ listing_of (of_member row) = if row.active then listing.Member else listing.Nowh
 
 -- what each list has of a row
 abbrev pub concept_listed : RowText → Option ℕ
-concept_listed (of_concept row) = if row.active then Some row.id else None
-concept_listed other = None
+concept_listed row = option_and_then (λ (row : ConceptRow). if row.active then Some row.id else None) (concept_in row)
 
 abbrev pub name_listed : RowText → Option Name
-name_listed (of_description row) = if is_name row then Some (name_on row) else None
-name_listed other = None
+name_listed row = option_and_then (λ (row : DescriptionText). if is_name row then Some (name_on row) else None) (description_in row)
 
 abbrev pub isa_listed : RowText → Option (ℕ × ℕ)
-isa_listed (of_relationship row) = if is_isa row then Some (row.source_id, row.destination_id) else None
-isa_listed other = None
+isa_listed row =
+    option_and_then (λ (row : RelationshipRow). if is_isa row then Some (row.source_id, row.destination_id) else None) (relationship_in row)
 
 abbrev pub attribute_listed : RowText → Option Attribute
 attribute_listed (of_relationship row) = if is_attribute row then Some (relationship_attribute row) else None
@@ -60,8 +60,8 @@ attribute_listed (of_concrete row) = if is_concrete_attribute row then Some (con
 attribute_listed other = None
 
 abbrev pub member_listed : RowText → Option (ℕ × ℕ)
-member_listed (of_member row) = if row.active then Some (row.refset_id, row.referenced_component_id) else None
-member_listed other = None
+member_listed row =
+    option_and_then (λ (row : MemberRow). if row.active then Some (row.refset_id, row.referenced_component_id) else None) (member_in row)
 
 -- the lists of rows
 abbrev pub listed_of : List RowText → Listed
@@ -74,24 +74,20 @@ listed_of rows = record {
   member_ends = filter_map member_listed rows;
 }
 
--- the lists with a row more, which is not marked yet
-abbrev pub filled : Listed → RowText → Listed
-filled listed (of_concept row) =
-    if row.active then record listed { active_concepts = listed.active_concepts ++ row.id ∷ [] } else listed
-filled listed (of_description row) =
-    if is_name row then record listed { names = listed.names ++ name_on row ∷ [] } else listed
-filled listed (of_relationship row) =
-    if is_isa row then record listed { isa_ends = listed.isa_ends ++ (row.source_id, row.destination_id) ∷ [] }
-    else if is_attribute row then record listed { attributes = listed.attributes ++ relationship_attribute row ∷ [] }
-    else listed
-filled listed (of_concrete row) =
-    if is_concrete_attribute row then record listed { attributes = listed.attributes ++ concrete_attribute row ∷ [] } else listed
-filled listed (of_member row) =
-    if row.active then record listed { member_ends = listed.member_ends ++ (row.refset_id, row.referenced_component_id) ∷ [] } else listed
-
 -- the lists with a row more
 abbrev pub listed_behind : Listed → RowText → Listed
-listed_behind listed row = record (filled listed row) { marks = listed.marks ++ listing_of row ∷ [] }
+listed_behind listed row = record {
+  marks = listed.marks ++ listing_of row ∷ [];
+  active_concepts = listed.active_concepts ++ option_to_list (concept_listed row);
+  names = listed.names ++ option_to_list (name_listed row);
+  isa_ends = listed.isa_ends ++ option_to_list (isa_listed row);
+  attributes = listed.attributes ++ option_to_list (attribute_listed row);
+  member_ends = listed.member_ends ++ option_to_list (member_listed row);
+}
+
+-- but for its mark
+abbrev pub filled : Listed → RowText → Listed
+filled listed row = record (listed_behind listed row) { marks = listed.marks }
 
 -- two lists are one
 abbrev pub same_listing : Listing → Listing → Bool

@@ -6,6 +6,7 @@ use Rattle.snapshot.specs.Faults.{conflict_behind, first_fault, first_of}
 use Rattle.snapshot.specs.Files.{Place, RowAt, rows_of}
 use Rattle.snapshot.specs.Kept.{Kept, kept_behind, nothing_kept}
 use Rattle.snapshot.specs.Keys.{IsShort, Keyed, key_in, uuids_behind}
+use Rattle.snapshot.specs.Limits.{row_total}
 use Rattle.snapshot.specs.declared.fault.LoadFault.{LoadFault}
 use Rattle.snapshot.specs.declared.limits.Limits.{Limits}
 
@@ -33,10 +34,6 @@ abbrev pub first_conflict : List RowAt → List RowAt → Option LoadFault
 first_conflict earlier [] = None
 first_conflict earlier (row ∷ rows) = first_of (conflict_behind earlier row) (first_conflict (earlier ++ row ∷ []) rows)
 
--- how many rows of all kinds there may be
-abbrev pub row_total : Limits → ℕ
-row_total limits = limits.concepts + limits.descriptions + limits.relationships + limits.concrete + limits.members
-
 -- what the first pass over places says of their first fault: it is the first conflict of the rows that were seen, or
 -- else the fault at which the pass ended, if it did
 pub record IsSeen (limits : Limits) (places : List Place) (kept : Kept) (fault : Option LoadFault) : Type 0 where
@@ -48,6 +45,7 @@ pub record IsSeen (limits : Limits) (places : List Place) (kept : Kept) (fault :
   pub front : rows_of places ≡ seen ++ beyond
   pub whole : fault ≡ None → seen ≡ rows_of places
   pub few : length seen ≤ row_total limits + 1
+  pub room : fault ≡ None → length seen ≤ row_total limits
 
 -- the rows at the front of places were seen and have these keys
 pub record AreSeen (keyed : Keyed) (places : List Place) (seen beyond : List RowAt) : Type 0 where

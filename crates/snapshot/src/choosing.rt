@@ -5,10 +5,11 @@ ghost use Rattle.snapshot.specs.Chosen.{choices};
 ghost use Rattle.snapshot.specs.Faults.{first_fault};
 ghost use Rattle.snapshot.specs.Files.{RowAt};
 ghost use Rattle.snapshot.specs.Kept.{AreFew, IsReadFrom, Kept};
+ghost use Rattle.snapshot.specs.Limits.{row_total};
 ghost use Rattle.snapshot.specs.ListsInside.{listed_in};
 ghost use Rattle.snapshot.specs.Noted.{Covers};
 ghost use Rattle.snapshot.specs.RowsKept.{kept_in};
-ghost use Rattle.snapshot.specs.Seen.{AreSeen, IsSeen, first_conflict, row_total};
+ghost use Rattle.snapshot.specs.Seen.{AreSeen, IsSeen, first_conflict};
 ghost use Rattle.snapshot.specs.Taking.{FailsBelow, is_device as is_device_of};
 ghost use Rattle.snapshot.specs.declared.limits.Limits.{Limits};
 

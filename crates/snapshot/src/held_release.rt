@@ -92,6 +92,7 @@ impl Snapshot {
 
     /// The line of a concept by its number, which is below `concept_count`: its identifier, behind a
     /// space its name between bars where it has one, and LF.
+    #[tactic(auto, using(crate::proofs::LineLemmas::line_among))]
     pub fn line(&self, concept: u32) -> &[u8]
         requires { concept < length self.now.release.concepts }
         ensures { result.now ≡ concept_line (name_of self.now.release self.now.language) (slice_index self.now.release.concepts concept) }
@@ -129,6 +130,7 @@ impl Snapshot {
 
     /// How many attribute rows are in force: fewer than 2^31, and as many by source. Each value that is
     /// a concept is in force.
+    #[tactic(auto, using(crate::proofs::NameLemmas::rows_counted))]
     pub fn attribute_count(&self) -> u32
         ensures count { result ≡ length self.now.release.attributes }
         ensures few { length self.now.release.attributes < 2 ^ 31 }

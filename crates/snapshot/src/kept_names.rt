@@ -42,6 +42,7 @@ pub fn keep_names(
 }
 
 // A name row, whose term stands at a span if this is known.
+#[tactic(auto, using(crate::proofs::SpanLemmas::text_stays))]
 fn keep_name(
     name: &ReadName<'_>,
     span: Option<Span>,

@@ -28,6 +28,7 @@ pub fn rising_keeps_the_members()
 {}
 
 /// The name row that names a concept is one of its rows, and none of them comes before it.
+#[tactic(auto, using(crate::proofs::NameLawLemmas::names_first_row))]
 pub fn naming_row_comes_first()
     ensures { NamesFirstRow }
 {}

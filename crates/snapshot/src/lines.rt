@@ -83,6 +83,7 @@ impl ConceptLines {
 }
 
 /// The lines of concepts, with their names in a language, and of name rows those of the concepts.
+#[tactic(auto, using(crate::proofs::LineLemmas::fewer_names))]
 pub fn lines_among(
     alloc: Global,
     concepts: &Concepts,

@@ -6,11 +6,11 @@ ghost use Rattle.snapshot.specs.Contents.{IsFaultOf, first_cyclic, load_of, load
 ghost use Rattle.release_files.specs.Source.{file_text};
 ghost use Rattle.snapshot.specs.Files.{has_kind as has_kind_of, is_concept_file as is_concept_file_of, is_concept_kind};
 ghost use Rattle.snapshot.specs.Pieces.{AreInOrder, FailsToList, IsUnlisted, listed, listing_fault};
-ghost use Rattle.snapshot.specs.Seen.{row_total};
 ghost use Rattle.snapshot.specs.Taking.{FailsBelow, is_device};
 ghost use Rattle.rf2_rows.specs.Files.{file_kind_of};
 ghost use Rattle.snapshot.specs.InForce.{rising as rising_of, rows_among};
 ghost use Rattle.snapshot.specs.Kept.{AreFew, attributes_among, names_among, IsCycle, finished};
+ghost use Rattle.snapshot.specs.Limits.{row_total};
 ghost use Rattle.snapshot.specs.ListsInside.{listed_in};
 ghost use Rattle.snapshot.specs.Line.{concept_line};
 ghost use Rattle.snapshot.specs.Name.{name_among};

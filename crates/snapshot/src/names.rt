@@ -107,6 +107,7 @@ impl Names {
     }
 
     /// The row at a place.
+    #[tactic(auto, using(crate::proofs::NameLemmas::rows_read))]
     pub fn row(&self, place: usize) -> ReadName<'_>
         requires { place < length self.now }
         ensures { (default : Name) → name_read result ≡ slice_index_or self.now place default }

@@ -30,6 +30,7 @@ impl Span {
 }
 
 /// Puts a text behind the others, and answers where it stands.
+#[tactic(auto, using(crate::proofs::SpanLemmas::ends_of_text))]
 pub fn push_text(texts: &mut String, text: &str) -> Result<Span, AllocError>
     ensures grown { OnOk result (string_bytes texts.new ≡ string_bytes texts.old ++ text.now) }
     ensures same { OnErr result (string_bytes texts.new ≡ string_bytes texts.old) }

@@ -1,10 +1,10 @@
 -- At each place the formats are those of the columns, and the texts are accepted there.
-use Rattle.std.proofs.Common.{◌≡◌, ℕ, zero, suc, ◌+◌, ◌<◌, ◌&&◌, Bool, true, List, [], ◌∷◌, length, get_or, drop, map, None, refl, sym, ap, ◌∙◌, add-one, arith}
+use Rattle.std.proofs.Common.{◌≡◌, ℕ, ◌+◌, ◌<◌, ◌&&◌, Bool, true, List, [], length, get_or, drop, map, None, refl, sym, ap, ◌∙◌, arith}
 use Rattle.std.specs.Borrow.{Bor}
 use Rattle.std.proofs.Math.ListN.{get_or-map, length-map}
-use Rattle.std.proofs.lemmas.List.{drop_all}
+use Rattle.std.proofs.lemmas.List.{drop_all, drop_more}
 use Rattle.sctid.specs.declared.Part.TheVariants.{Concept}
-use Rattle.rf2_rows.specs.Columns.{Column, cause_of, columns_of}
+use Rattle.rf2_rows.specs.Columns.{Column, cause_of, column, columns_of, id_format}
 use Rattle.rf2_rows.specs.Formats.{format_of}
 use Rattle.rf2_rows.specs.Parts.{texts_of}
 use Rattle.rf2_rows.specs.Rows.{fields_fault}
@@ -20,44 +20,35 @@ use Rattle.rf2_rows.proofs.versions.same_fields.Goals as goal
 abbrev named_at : List Named → ℕ → Named
 named_at names place = get_or names place (Id Concept)
 
-module _ (columns : List Column) (names : List Named) (are : map format_of names ≡ map (λ column. column.format) columns) where
-  as_many : length names ≡ length columns
-  as_many = sym (length-map names format_of) ∙ ap length are ∙ length-map columns (λ column. column.format)
-
-  named : (place : ℕ) → format_of (named_at names place) ≡ format_at columns place
-  named place = sym (get_or-map format_of names place (Id Concept)) ∙ ap (λ formats. get_or formats place (format_of (Id Concept))) are
-
--- the texts at a place, and those behind it, decide for those from the place on
-same_from : (columns : List Column) (ones others : List (List ℕ)) (place : ℕ) → length ones ≡ length columns → length others ≡ length columns → place < length columns → same_values (drop place columns) (drop place ones) (drop place others) ≡ (same_value (format_at columns place) (get_or ones place []) (get_or others place []) && same_values (drop (suc place) columns) (drop (suc place) ones) (drop (suc place) others))
-same_from [] ones others place width also inside = absurd (omega arith)
-same_from (column ∷ columns) [] others place width also inside = absurd (omega arith)
-same_from (column ∷ columns) (one ∷ ones) [] place width also inside = absurd (omega arith)
-same_from (column ∷ columns) (one ∷ ones) (other ∷ others) zero width also inside = refl
-same_from (column ∷ columns) (one ∷ ones) (other ∷ others) (suc place) width also inside =
-    same_from columns ones others place (omega arith) (omega arith) (omega arith)
-
 module _ (kind : FileKind) (names : List Named) (are : map format_of names ≡ map (λ column. column.format) (columns_of kind)) where
+  as_many : length names ≡ length (columns_of kind)
+  as_many = sym (length-map names format_of) ∙ ap length are ∙ length-map (columns_of kind) (λ column. column.format)
+
+  named : (place : ℕ) → format_of (named_at names place) ≡ format_at (columns_of kind) place
+  named place =
+      sym (get_or-map format_of names place (Id Concept))
+      ∙ ap (λ formats. get_or formats place (id_format Concept)) are
+      ∙ get_or-map (λ (column : Column). column.format) (columns_of kind) place (column [] (id_format Concept))
+
   -- the text at a place is accepted in its column
   accepted_there : (fields : List (Bor (List ℕ))) (place : ℕ) → fields_fault kind (texts_of fields) ≡ None → place < length names → cause_of (format_of (named_at names place)) (text_at fields place) ≡ None
   accepted_there fields place accepted inside =
-      let many = as_many (columns_of kind) names are in
-      rw (named (columns_of kind) names are place, ← get_or-texts_of fields place) (accepted_at kind (texts_of fields) place accepted (omega arith))
+      rw (named place, ← get_or-texts_of fields place) (accepted_at kind (texts_of fields) place accepted (omega (arith, as_many)))
 
   module _ (ones others : List (Bor (List ℕ))) (accepted : fields_fault kind (texts_of ones) ≡ None) (also : fields_fault kind (texts_of others) ≡ None) where
     -- what the values at a place say of the fields from that place on
     decides : (place : ℕ) (same : Bool) → place < length names → same ≡ same_value (format_of (named_at names place)) (text_at ones place) (text_at others place) → same_values (drop place (columns_of kind)) (drop place (texts_of ones)) (drop place (texts_of others)) ≡ (same && same_values (drop (place + 1) (columns_of kind)) (drop (place + 1) (texts_of ones)) (drop (place + 1) (texts_of others)))
     decides place same inside is =
-        let many = as_many (columns_of kind) names are in
-        let step = same_from (columns_of kind) (texts_of ones) (texts_of others) place (width_of_fields kind (texts_of ones) accepted) (width_of_fields kind (texts_of others) also) (omega arith) in
-        rw (is, add-one, named (columns_of kind) names are place, ← get_or-texts_of ones place, ← get_or-texts_of others place) step
+        let width = width_of_fields kind (texts_of ones) accepted in
+        let width_also = width_of_fields kind (texts_of others) also in
+        rw (drop_more (columns_of kind) place (column [] (id_format Concept)) (omega (arith, as_many)), drop_more (texts_of ones) place [] (omega (arith, as_many)), drop_more (texts_of others) place [] (omega (arith, as_many)), is, named place, get_or-texts_of ones place, get_or-texts_of others place) refl
 
     -- behind the last place nothing is left to differ
     decided : (place : ℕ) → length names ≡ place → same_values (drop place (columns_of kind)) (drop place (texts_of ones)) (drop place (texts_of others)) ≡ true
     decided place all =
-        let many = as_many (columns_of kind) names are in
         let width = width_of_fields kind (texts_of ones) accepted in
         let width_also = width_of_fields kind (texts_of others) also in
-        rw (drop_all place (columns_of kind) (omega arith), drop_all place (texts_of ones) (omega arith), drop_all place (texts_of others) (omega arith)) refl
+        rw (drop_all place (columns_of kind) (omega (arith, as_many)), drop_all place (texts_of ones) (omega (arith, as_many)), drop_all place (texts_of others) (omega (arith, as_many))) refl
 
 pub same_value-requires-clause-one : goal.same_value-requires-clause-one
 same_value-requires-clause-one c =

@@ -1,15 +1,12 @@
-use Rattle.std.proofs.Common.{ℕ, ◌≡◌, ◌<◌, ◌≤◌, ◌∙◌, List, All, true, length, map, ap, sym, subst, arith, None}
+use Rattle.std.proofs.lemmas.Bool.Decides.{nat_tests}
+use Rattle.std.proofs.lemmas.Grind.{common_steps}
+use Rattle.std.proofs.Common.{ℕ, ◌≡◌, ◌∙◌, List, ap, subst, arith, None}
 use Rattle.std.specs.List.{filter_map}
-use Rattle.std.specs.List.Sorted.{IsStrictlyIncreasing}
 use Rattle.std.specs.Prelude.{string_bytes}
-use Rattle.rf2_rows.specs.Release.{Attribute}
 use Rattle.snapshot.specs.Contents.{first_cyclic}
 use Rattle.snapshot.specs.InForce.{rising, rows_among}
-use Rattle.snapshot.specs.Kept.{IsCycle, is_value_among}
-use Rattle.snapshot.specs.Line.{concept_line}
+use Rattle.snapshot.specs.Kept.{IsCycle}
 use Rattle.snapshot.specs.ListsInside.{listed_in}
-use Rattle.snapshot.specs.Name.{name_among}
-use Rattle.hierarchy.specs.Hierarchy.{IsWithin}
 use Rattle.snapshot.specs.Numbering.{numbered_row}
 use Rattle.snapshot.specs.Sorted.{in_file_order}
 use Rattle.snapshot.proofs.FinishLemmas.{attributes_among-values, finished-Ok, finished-Err, length-attributes_among, length-rising}
@@ -17,39 +14,10 @@ use Rattle.snapshot.proofs.NumberingLemmas.{IsWithin-numbered}
 use Rattle.snapshot.proofs.load.finish.Goals as goal
 
 pub new-requires-clause-few : goal.new-requires-clause-few
-new-requires-clause-few c =
-    let rises : length c.rising.result.items ≡ length (rising c.args.read.lists.concepts.items) = ap length c.rising.ensures.rising in
-    let short : length (rising c.args.read.lists.concepts.items) ≤ length c.args.read.lists.concepts.items = length-rising c.args.read.lists.concepts.items in
-    omega (arith, c.requires.few, c.requires.few_concepts)
-
-pub lists_among-requires-clause-few : goal.lists_among-requires-clause-few
-lists_among-requires-clause-few c = omega (arith, c.requires.few, c.requires.few_names)
-
-pub lists_among-requires-clause-few_attributes : goal.lists_among-requires-clause-few_attributes
-lists_among-requires-clause-few_attributes c = omega (arith, c.requires.few, c.requires.few_attributes)
+new-requires-clause-few c = grind (arith, common_steps, nat_tests, length-rising)
 
 pub invariant_of-result : goal.invariant_of-result
-invariant_of-result c =
-    let concepts = c.in_ok-concepts.concepts in
-    let lists = c.in_ok-lists-in-Ok.lists in
-    let attributes = c.args.read.lists.attributes in
-    let few_rows : length lists.attributes.rows ≤ length attributes =
-    omega (
-      arith,
-      c.in_ok-lists-in-Ok.ensures.sorted.count,
-      ap length c.in_ok-lists-in-Ok.ensures.attributes,
-      length-attributes_among concepts attributes,
-    ) in
-    let few_read : length attributes < 2147483648 = omega (arith, c.requires.few, c.requires.few_attributes) in (
-      subst (λ (ids : List ℕ). IsStrictlyIncreasing ids) (sym c.in_ok-concepts.ensures) c.rising.ensures.increasing,
-      subst (λ (rows : List (ℕ × ℕ)). IsWithin (length concepts) rows) (sym c.in-Ok.ensures.rows) (IsWithin-numbered concepts c.as_slice.result.now),
-      subst (λ (rows : List (ℕ × ℕ)). IsWithin (length concepts) rows) (sym c.in_ok-lists-in-Ok.ensures.members) (IsWithin-numbered concepts c.as_slice-in-Ok.result.now),
-      c.in_ok-lists-in-Ok.ensures.lines ∙ (λ i. map (concept_line (name_among (c.as_str.ensures.value i) lists.lines.names)) concepts),
-      c.in-Ok.ensures.order,
-      c.in_ok-lists-in-Ok.ensures.sorted,
-      omega (arith, few_rows, few_read),
-      subst (λ (rows : List Attribute). All (λ (row : Attribute). is_value_among concepts row.value ≡ true) rows) (sym c.in_ok-lists-in-Ok.ensures.attributes) (attributes_among-values concepts attributes),
-    )
+invariant_of-result c = grind (arith, common_steps, nat_tests, IsWithin-numbered, attributes_among-values, length-attributes_among)
 
 pub returns-in_ok-lists-in-Ok-clause-ok : goal.returns-in_ok-lists-in-Ok-clause-ok
 returns-in_ok-lists-in-Ok-clause-ok c =

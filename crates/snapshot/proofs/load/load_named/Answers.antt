@@ -1,15 +1,16 @@
-use Rattle.std.proofs.Common.{◌≡◌, ap, map, Ok, Result, string_bytes, subst, sym, ◌∙◌}
+use Rattle.std.proofs.Common.{arith}
+use Rattle.std.proofs.lemmas.Bool.Decides.{nat_tests}
+use Rattle.std.proofs.lemmas.Grind.{common_steps}
+use Rattle.std.proofs.Common.{◌≡◌, ap, Ok, Result, string_bytes, subst, sym}
 use Rattle.std.specs.Prelude.{IfOk, option_map}
 use Rattle.snapshot.specs.Contents.{Contents, IsFaultOf}
-use Rattle.snapshot.specs.Pieces.{listed}
 use Rattle.snapshot.specs.declared.fault.LoadFault.{LoadFault}
 use Rattle.snapshot.proofs.LoadLemmas.{load_named-is, load_of-none, names_concepts-listed}
 use Rattle.snapshot.proofs.TakingLemmas.{at_told, if_err, if_told}
 use Rattle.snapshot.proofs.load.load_named.Goals as goal
 
 pub returns-then-not-name_concept_file-clause-err : goal.returns-then-not-name_concept_file-clause-err
-returns-then-not-name_concept_file-clause-err g c = if_told _ (g.S.FileSource.files c.args.source.now) (λ known told own other.
-    load_of-none c.args.limits c.args.lang.now (listed known (map string_bytes c.args.names.now)) (names_concepts-listed known string_bytes c.args.names.now ∙ sym c.if-not-name_concept_file.ensures))
+returns-then-not-name_concept_file-clause-err g c = grind (arith, common_steps, nat_tests, if_told, load_of-none, names_concepts-listed, string_bytes)
 
 pub returns-clause-ok : goal.returns-clause-ok
 returns-clause-ok g c = if_told _ (g.S.FileSource.files c.args.source.now) (λ known told.

@@ -1,8 +1,9 @@
-use Rattle.std.proofs.Common.{ℕ, ◌≡◌, List, length, sym, ◌∙◌, subst, arith}
+use Rattle.std.proofs.lemmas.Bool.Decides.{nat_tests}
+use Rattle.std.proofs.lemmas.Grind.{common_steps}
+use Rattle.std.proofs.Common.{ℕ, ◌≡◌, List, sym, ◌∙◌, subst, arith}
 use Rattle.std.specs.List.{filter_map}
-use Rattle.hierarchy.specs.Hierarchy.{IsWithin, Reaches}
+use Rattle.hierarchy.specs.Hierarchy.{Reaches}
 use Rattle.snapshot.specs.Numbering.{numbered_row}
-use Rattle.snapshot.specs.LeastCycle.{IsLeastCycle}
 use Rattle.snapshot.proofs.FinishLemmas.{least_cycle}
 use Rattle.snapshot.proofs.NumberingLemmas.{IsWithin-numbered, first_cyclic-None}
 use Rattle.hierarchy.proofs.WayLemmas.{ordered_acyclic}
@@ -10,22 +11,10 @@ use Rattle.snapshot.proofs.load.number_hierarchy.Goals as goal
 
 -- the rows that the search is given are those by the numbers of the concepts
 pub parents_first-requires : goal.parents_first-requires
-parents_first-requires c =
-    let rows_are : c.as_slice.result.now ≡ filter_map (numbered_row c.args.concepts.now) c.args.ends.now =
-    c.as_slice.ensures.value ∙ c.in_ok-isa.ensures in
-    subst (λ (count : ℕ). IsWithin count c.as_slice.result.now) (sym c.len.ensures.count)
-    (subst (λ (rows : List (ℕ × ℕ)). IsWithin (length c.args.concepts.now) rows) (sym rows_are) (IsWithin-numbered c.args.concepts.now c.args.ends.now))
+parents_first-requires c = grind (arith, common_steps, nat_tests, IsWithin-numbered)
 
 pub cycle_fault-requires-clause-within : goal.cycle_fault-requires-clause-within
-cycle_fault-requires-clause-within c =
-    let rows_are : c.as_slice-in-None.result.now ≡ filter_map (numbered_row c.args.concepts.now) c.args.ends.now =
-    c.as_slice-in-None.ensures.value ∙ c.in_ok-isa.ensures in
-    subst (λ (rows : List (ℕ × ℕ)). IsWithin (length c.args.concepts.now) rows) (sym rows_are) (IsWithin-numbered c.args.concepts.now c.args.ends.now)
-
-pub cycle_fault-requires-clause-cyclic : goal.cycle_fault-requires-clause-cyclic
-cycle_fault-requires-clause-cyclic c =
-    let cyclic = rw c.in-None.is at c.in_ok-order.ensures.cycle in
-    (cyclic.0, omega (arith, cyclic.1, c.len.ensures.count), subst (λ (rows : List (ℕ × ℕ)). Reaches rows cyclic.0 cyclic.0) (c.as_slice.ensures.value ∙ sym c.as_slice-in-None.ensures.value) cyclic.2)
+cycle_fault-requires-clause-within c = grind (arith, common_steps, nat_tests, IsWithin-numbered)
 
 pub returns-in-Some-clause-acyclic : goal.returns-in-Some-clause-acyclic
 returns-in-Some-clause-acyclic c =
@@ -37,8 +26,4 @@ returns-in-Some-clause-acyclic c =
     (subst (λ (rows : List (ℕ × ℕ)). Reaches rows k k) (sym rows_are) chain))
 
 pub returns-in-None-clause-cycle : goal.returns-in-None-clause-cycle
-returns-in-None-clause-cycle c =
-    let rows_are : c.as_slice-in-None.result.now ≡ filter_map (numbered_row c.args.concepts.now) c.args.ends.now =
-    c.as_slice-in-None.ensures.value ∙ c.in_ok-isa.ensures in
-    least_cycle c.cycle_fault.result c.args.concepts.now c.len.ensures.rising c.args.ends.now
-    (subst (λ (rows : List (ℕ × ℕ)). IsLeastCycle c.cycle_fault.result c.args.concepts.now rows) rows_are c.cycle_fault.ensures)
+returns-in-None-clause-cycle c = grind (arith, common_steps, nat_tests, least_cycle)

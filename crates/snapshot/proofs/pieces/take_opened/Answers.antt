@@ -1,9 +1,9 @@
-use Rattle.std.proofs.Common.{◌≡◌, ◌∷◌, ◌+◌, take, Ok, ap, arith, inl, inr, sym, ◌∙◌}
+use Rattle.std.proofs.Common.{◌≡◌, ◌∷◌, ◌+◌, take, Ok, ap, arith, inr, sym, ◌∙◌}
 use Rattle.release_files.specs.Lines.{line_text, lines_of}
 use Rattle.release_files.specs.PieceLines.{lines_to_come}
 use Rattle.snapshot.specs.Pieces.{FailsAt}
 use Rattle.snapshot.proofs.TakingLemmas.{stops_first}
-use Rattle.snapshot.proofs.PiecesLemmas.{counts_up, cut_bytes, cut_reachable, cut_short, fails_at, fails_from, few_lines, gave_line, gave_none, goes_lines, goes_none}
+use Rattle.snapshot.proofs.PiecesLemmas.{cut_bytes, cut_reachable, cut_short, fails_from, few_lines, gave_line, gave_none, goes_lines, goes_none}
 use Rattle.snapshot.proofs.pieces.take_opened.Goals as goal
 
 pub returns-in-Err-take-clause-goes : goal.returns-in-Err-take-clause-goes
@@ -12,13 +12,6 @@ returns-in-Err-take-clause-goes g c bytes told short other =
     let gave = gave_line c.next_line.result c.in-Ok-Some.first c.within-lines.result c.next_line.follows.lender-at-none _ _ (take (c.args.byte_limit + 1) bytes) c.next_line.follows.holds-at-none (c.in-Ok-Some.is ∙ ap Ok c.in-Ok-Some.field-0-is) known in
     inr (stops_first g.T.PlaceTaker.takes g.T.PlaceTaker.refuses c.args.file c.args.kind (lines_of (take (c.args.byte_limit + 1) bytes)) (line_text c.in-Ok-Some.first) (lines_to_come c.next_line.follows.lender-at-none gave.now)
     (sym (c.within-lines.ensures.lines (take (c.args.byte_limit + 1) bytes) (cut_short (c.args.byte_limit + 1) bytes short)) ∙ gave.cut) c.args.taker.now c.take.new.self c.in-Err-take.fault (c.in-Err-take.ensures.err other))
-
-pub returns-in-Err-clause-goes : goal.returns-in-Err-clause-goes
-returns-in-Err-clause-goes g c bytes told short other =
-    inl (fails_at c.args.file c.in-Err.fault c.fault_of.result c.next_line.result _ _ _ (omega arith) c.next_line.ensures.failures c.in-Err.is c.fault_of.ensures other)
-
-pub returns-in-Err-clause-failures : goal.returns-in-Err-clause-failures
-returns-in-Err-clause-failures g c = counts_up c.next_line.result _ _ c.next_line.ensures.failures
 
 pub returns-in-Ok-clause-goes : goal.returns-in-Ok-clause-goes
 returns-in-Ok-clause-goes g c bytes told short =
@@ -33,9 +26,6 @@ returns-in-Ok-clause-goes g c bytes told short =
     (λ fault failed. fails_from c.args.file _ _ _ fault (omega (arith, c.in-Ok-Some.ensures.failures)) failed)
     c.args.taker.now c.take.new.self c.take_later.new.taker c.in-Ok.ensures.ok c.take_later.result
     (c.take_later.ensures.goes gave.now gave.told (few_lines c.saturating_add-limit.result bytes (line_text c.in-Ok-Some.first) others (ap lines_of (cut_bytes c.args.byte_limit c.saturating_add-limit.result bytes short c.saturating_add-limit.ensures) ∙ cut)))
-
-pub returns-in-Ok-clause-failures : goal.returns-in-Ok-clause-failures
-returns-in-Ok-clause-failures g c = omega (arith, c.in-Ok-Some.ensures.failures, c.take_later.ensures.failures)
 
 pub returns-in-Ok-None-clause-goes : goal.returns-in-Ok-None-clause-goes
 returns-in-Ok-None-clause-goes g c bytes told short =

@@ -1,16 +1,9 @@
-use Rattle.std.proofs.Common.{ap, List, map, refl, string_bytes, subst, arith, ◌∙◌}
+use Rattle.std.proofs.Common.{ap, List, map, string_bytes, subst, arith, ◌∙◌}
 use Rattle.snapshot.specs.Files.{Place, places_from, places_of_file}
-use Rattle.snapshot.specs.Pieces.{cut_file, FailsAtFile, listed, text_named}
-use Rattle.snapshot.proofs.TakingLemmas.{Leads, Leads-end, Leads-start, if_told}
-use Rattle.snapshot.proofs.PiecesLemmas.{fails_from, leads_name, places_from-listed, places_from-none, stops_name}
+use Rattle.snapshot.specs.Pieces.{cut_file, listed, text_named}
+use Rattle.snapshot.proofs.TakingLemmas.{Leads, Leads-end, if_told}
+use Rattle.snapshot.proofs.PiecesLemmas.{leads_name, places_from-listed, places_from-none}
 use Rattle.snapshot.proofs.pieces.take_pieces.Goals as goal
-
-pub loop-file-init : goal.loop-file-init
-loop-file-init g c = record {
-  told = λ known told. Leads-start g.T.PlaceTaker.takes g.T.PlaceTaker.refuses c.args.taker.now (places_from 0 (map (cut_file c.args.byte_limit) (listed known (map string_bytes c.args.names.now))));
-  files = refl;
-  failures = omega arith;
-}
 
 pub loop-file-preserved : goal.loop-file-preserved
 loop-file-preserved g c = record {
@@ -23,18 +16,6 @@ loop-file-preserved g c = record {
   files = c.in-Ok.ensures.files ∙ c.loop-file.invariant.files;
   failures = omega (arith, c.in-Ok.ensures.failures, c.loop-file.invariant.failures);
 }
-
-pub returns-in-Err-clause-err : goal.returns-in-Err-clause-err
-returns-in-Err-clause-err g c = if_told _ (g.S.FileSource.files c.args.source.now) (λ known told other.
-    stops_name g.T.PlaceTaker.takes g.T.PlaceTaker.refuses _ (FailsAtFile (g.S.FileSource.failure_count c.args.source.now) (g.S.FileSource.failure_count c.take_name.new.source)) c.args.taker.now c.loop-file.taker c.take_name.new.taker
-    (places_from 0 (map (cut_file c.args.byte_limit) (listed known (map string_bytes c.args.names.now)))) (places_of_file c.loop-file.file (cut_file c.args.byte_limit (text_named known c.as_str.result.now))) _ c.take_name.result c.in-Err.fault
-    (subst (λ (left : List Place). Leads g.T.PlaceTaker.takes g.T.PlaceTaker.refuses c.args.taker.now (places_from 0 (map (cut_file c.args.byte_limit) (listed known (map string_bytes c.args.names.now)))) c.loop-file.taker left)
-    (places_from-listed c.args.byte_limit known string_bytes c.loop-file.file c.args.names.now c.index-names-file.result c.as_str.result.now c.loop-file-test.true (c.as_str.ensures.value ∙ ap string_bytes c.index-names-file.is))
-    (c.loop-file.invariant.told known told))
-    (c.take_name.ensures.goes known (c.loop-file.invariant.files ∙ told)) c.in-Err.is other (λ failed. (c.loop-file.file, fails_from c.loop-file.file _ _ _ c.in-Err.fault c.loop-file.invariant.failures failed)))
-
-pub returns-in-Err-clause-failures : goal.returns-in-Err-clause-failures
-returns-in-Err-clause-failures g c = omega (arith, c.in-Err.ensures.failures, c.loop-file.invariant.failures)
 
 pub returns-clause-ok : goal.returns-clause-ok
 returns-clause-ok g c = if_told _ (g.S.FileSource.files c.args.source.now) (λ known told.

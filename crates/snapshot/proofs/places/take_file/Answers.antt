@@ -1,3 +1,6 @@
+use Rattle.std.proofs.Common.{arith}
+use Rattle.std.proofs.lemmas.Bool.Decides.{nat_tests}
+use Rattle.std.proofs.lemmas.Grind.{common_steps}
 use Rattle.std.proofs.Common.{◌∙◌, sym}
 use Rattle.release_files.specs.Lines.{line_text, lines_of}
 use Rattle.snapshot.proofs.TakingLemmas.{if_err, on_ok, stops_first, stops_lines, stops_none, takes_lines, takes_none}
@@ -29,7 +32,4 @@ returns-in-None-clause-ok g c =
     c.take-in-None.ensures.ok
 
 pub returns-in-None-clause-err : goal.returns-in-None-clause-err
-returns-in-None-clause-err g c =
-    if_err _ _ c.take-in-None.result
-    (λ fault said other. stops_none g.T.PlaceTaker.takes g.T.PlaceTaker.refuses c.args.file c.args.kind (lines_of c.args.bytes.now) (sym c.new-lines.ensures.lines ∙ c.in-None.ensures.steps.0) c.args.taker.now c.take-in-None.new.self fault (said other))
-    c.take-in-None.ensures.err
+returns-in-None-clause-err g c = grind (arith, common_steps, nat_tests, if_err, stops_none)

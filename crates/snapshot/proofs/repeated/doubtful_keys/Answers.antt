@@ -1,11 +1,11 @@
-use Rattle.std.proofs.Common.{ℕ, ◌≡◌, ◌≤◌, ◌↔◌, List, length, ap, sym, ◌∙◌, nat_eq, subst, filter, arith}
+use Rattle.std.proofs.Common.{sym, ◌∙◌, nat_eq, subst, arith}
 use Rattle.std.specs.List.Sorted.{IsStrictlyIncreasing}
+use Rattle.std.proofs.lemmas.Grind.{common_steps}
 use Rattle.std.proofs.lemmas.List.Filters.{dedup_is}
 use Rattle.std.proofs.lemmas.List.Sums.{length-filter, count_by-le-length}
 use Rattle.std.proofs.lemmas.Map.Keys.{IsStrictlyIncreasing-dedup}
 use Rattle.hierarchy.specs.Members.{has}
 use Rattle.snapshot.proofs.BehindLemmas.{twice_among}
-use Rattle.snapshot.proofs.NeighbourLemmas.{count_of}
 use Rattle.snapshot.proofs.repeated.doubtful_keys.Goals as goal
 
 pub new-requires : goal.new-requires
@@ -13,16 +13,11 @@ new-requires c =
     let once = dedup_is nat_eq c.sort_unstable.new.self.items c.dedup.new.self.items c.dedup.ensures.filtered in
     subst IsStrictlyIncreasing (sym once) (IsStrictlyIncreasing-dedup c.sort_unstable.new.self.items c.sort_unstable.ensures.sorted)
 
-pub returns-clause-twice : goal.returns-clause-twice
-returns-clause-twice c = λ key.
-    let keys = c.args.keys.now in
-    let once = dedup_is nat_eq c.sort_unstable.new.self.items c.dedup.new.self.items c.dedup.ensures.filtered in
-    let among : c.in_ok-doubtful.doubtful.items ≡ filter (has c.new.result) keys = c.in_ok-doubtful.ensures in
-    subst (λ (doubtful : List ℕ). (2 ≤ count_of key doubtful) ↔ (2 ≤ count_of key keys)) (sym among)
-    (twice_among keys c.in_ok-behind.behind.items c.sort_unstable.new.self.items c.new.result c.in_ok-behind.ensures c.sort_unstable.ensures.permutation (c.new.ensures ∙ once) key)
-
-pub returns-clause-few : goal.returns-clause-few
-returns-clause-few c =
-    let keys = c.args.keys.now in
-    let among : c.in_ok-doubtful.doubtful.items ≡ filter (has c.new.result) keys = c.in_ok-doubtful.ensures in
-    omega (arith, ap length among, length-filter (has c.new.result) keys, count_by-le-length (has c.new.result) keys)
+pub returns : goal.returns
+returns c =
+    let once = dedup_is nat_eq c.sort_unstable.new.self.items c.dedup.new.self.items c.dedup.ensures.filtered in record {
+      twice = λ key.
+          rw c.in_ok-doubtful.ensures
+          (twice_among c.args.keys.now c.in_ok-behind.behind.items c.sort_unstable.new.self.items c.new.result c.in_ok-behind.ensures c.sort_unstable.ensures.permutation (c.new.ensures ∙ once) key);
+      few = grind (arith, common_steps, length-filter (has c.new.result) c.args.keys.now, count_by-le-length (has c.new.result) c.args.keys.now);
+    }

@@ -1,5 +1,4 @@
-use Rattle.std.proofs.Common.{ℕ, ◌≡◌, ◌<◌, ◌≤◌, ◌+◌, ◌++◌, ◌∷◌, [], ◌∙◌, List, length, get_or, take, sym, subst, arith}
-use Rattle.std.specs.Prelude.{All}
+use Rattle.std.proofs.Common.{ℕ, ◌<◌, ◌≤◌, ◌+◌, List, length, get_or, subst, arith}
 use Rattle.std.proofs.lemmas.List.{take_all}
 use Rattle.std.proofs.lemmas.List.Elements.{All-more}
 use Rattle.snapshot.proofs.BehindLemmas.{AreBehind, behind_kept, behind_pushed}
@@ -16,18 +15,14 @@ loop-key-preserved c =
     let within : place < length keys = c.loop-key-test.true in
     let seen = c.loop-key.invariant in
     elim c.if-key-highest.branch [
-      | then-key-highest+in_ok-push w ↦
-          let is : c.if-key-highest.behind.items ≡ old ++ key ∷ [] = (λ i. (w.behind-is i).items) ∙ w.in_ok-push.ensures.items in record {
-            behind = subst (AreBehind (take (place + 1) keys)) (sym is) (behind_pushed keys old place within seen.behind);
-            highest = subst (λ (most : ℕ). All (λ key. key ≤ most) (take (place + 1) keys)) (sym w.highest-is)
-                (All-more (λ key. key ≤ highest) keys place 0 within seen.highest w.if-key-highest.true);
-          }
-      | else-key-highest w ↦
-          let is : c.if-key-highest.behind.items ≡ old = λ i. (w.behind-is i).items in record {
-            behind = subst (AreBehind (take (place + 1) keys)) (sym is) (behind_kept keys old place within seen.behind highest seen.highest w.if-key-highest.false);
-            highest = subst (λ (most : ℕ). All (λ key. key ≤ most) (take (place + 1) keys)) (sym w.highest-is)
-                (All-more (λ other. other ≤ key) keys place 0 within (λ k d lt. let low = seen.highest k d lt in omega (arith, low, w.if-key-highest.false)) (omega arith));
-          }
+      | then-key-highest+in_ok-push w ↦ rw (w.behind-is, w.in_ok-push.ensures.items, w.highest-is) (record {
+        behind = behind_pushed keys old place within seen.behind;
+        highest = All-more (λ key. key ≤ highest) keys place 0 within seen.highest w.if-key-highest.true;
+      })
+      | else-key-highest w ↦ rw (w.behind-is, w.highest-is) (record {
+        behind = behind_kept keys old place within seen.behind highest seen.highest w.if-key-highest.false;
+        highest = All-more (λ other. other ≤ key) keys place 0 within (λ k d lt. let low = seen.highest k d lt in omega (arith, low, w.if-key-highest.false)) (omega arith);
+      })
     ]
 
 pub returns : goal.returns

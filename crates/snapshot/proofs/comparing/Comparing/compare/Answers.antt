@@ -1,3 +1,5 @@
+use Rattle.std.proofs.lemmas.Bool.Decides.{nat_tests}
+use Rattle.std.proofs.lemmas.Grind.{common_steps}
 use Rattle.std.proofs.Common.{◌≡◌, ◌++◌, ◌∷◌, ◌∙◌, [], ap, arith, not, refl, subst, sym}
 use Rattle.rf2_rows.specs.RowTexts.{text_in}
 use Rattle.rf2_rows.proofs.Accepted.{short_time_on}
@@ -10,9 +12,7 @@ use Rattle.snapshot.proofs.ComparedLemmas.{not_false, not_true, noted-is}
 use Rattle.snapshot.proofs.comparing.Comparing.compare.Goals as goal
 
 pub take-requires-clause-time : goal.take-requires-clause-time
-take-requires-clause-time c time told =
-    short_time_on c.args.kind c.args.line.bytes.now c.requires.accepted time
-    (sym (c.effective_time.ensures ∙ time_in-on c.args.kind c.args.line.bytes.now c.args.row.now c.requires.row) ∙ told)
+take-requires-clause-time c time told = grind (arith, common_steps, nat_tests, short_time_on, time_in-on)
 
 pub returns-then-not-fits-clause-err : goal.returns-then-not-fits-clause-err
 returns-then-not-fits-clause-err c other rows expected =

@@ -13,16 +13,12 @@ line_is name concepts lists number concept are below read =
     line_of_concept name concepts lists number are below
     ∙ ap (λ (id : ℕ). concept_line (λ _. name (get_or concepts number 0)) id) (sym read)
 
--- it is a line of that concept
-is_line : (name : ℕ → Option (List ℕ)) (concepts : List ℕ) (lists : List (List ℕ)) (number concept : ℕ) → lists ≡ map (concept_line name) concepts
-    → concept ≡ get_or concepts number 0 → number < length concepts → (own : Option (List ℕ)) × (get_or lists number [] ≡ concept_line (λ _. own) concept)
-is_line name concepts lists number concept are read below = (name (get_or concepts number 0), line_is name concepts lists number concept are below read)
-
 pub name-requires-clause-line : goal.name-requires-clause-line
 name-requires-clause-line c =
     let inside = c.self.inside in
-    is_line (name_among (string_bytes inside.language) inside.lines.names) inside.concepts inside.lines.lines _ c.id_at.result c.self.invariant.3 c.id_at.ensures
-    (omega (arith, c.requires, ap (λ (contents : Contents). length contents.release.concepts) c.self.view_is))
+    let name = name_among (string_bytes inside.language) inside.lines.names in
+    let below : c.args.concept < length inside.concepts = omega (arith, c.requires, ap (λ (contents : Contents). length contents.release.concepts) c.self.view_is) in
+    (name (get_or inside.concepts c.args.concept 0), line_is name inside.concepts inside.lines.lines c.args.concept c.id_at.result c.self.invariant.3 below c.id_at.ensures)
 
 pub returns : goal.returns
 returns c =

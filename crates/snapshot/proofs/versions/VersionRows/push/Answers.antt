@@ -1,5 +1,5 @@
-use Rattle.std.proofs.Common.{◌++◌, ◌∷◌, [], ◌∙◌, List, map, Ok, Err, ap}
-use Rattle.std.specs.Prelude.{Result, OnErr}
+use Rattle.std.proofs.Common.{arith, ◌++◌, ◌∷◌, [], ◌∙◌, List, ap}
+use Rattle.std.proofs.lemmas.Grind.{common_steps}
 use Rattle.rf2_rows.specs.Rows.{row_fault}
 use Rattle.snapshot.specs.Taken.{Version}
 use Rattle.snapshot.specs.VersionsInside.{IsLineOf, version_in}
@@ -7,18 +7,12 @@ use Rattle.snapshot.proofs.SpanLemmas.{all-push, rows-push, rows-same}
 use Rattle.snapshot.proofs.VersionRowLemmas.{line-extends, version-extends}
 use Rattle.snapshot.proofs.versions.VersionRows.push.Goals as goal
 
-on_err : {T E : Type 0} (r : Result T E) (P : Type 0) → P → OnErr r P
-on_err (Ok value) P holds = tt
-on_err (Err fault) P holds = holds
-
 pub returns-in_err-push-clause-err : goal.returns-in_err-push-clause-err
 returns-in_err-push-clause-err c =
     let lines = c.self.inside.lines.items in
     let grown = c.push_bytes.new.texts.items in
-    on_err c.from_residual-in_err-push.result _
-    (ap (map (version_in grown)) c.in_err-push.ensures.items
-    ∙ rows-same (version_in lines) (version_in grown) (IsLineOf lines) (version-extends lines grown (c.args.text.now, c.in_ok-line.ensures.grown)) c.self.inside.rows.items c.self.invariant
-    ∙ c.self.view_is)
+    let kept = rows-same (version_in lines) (version_in grown) (IsLineOf lines) (version-extends lines grown (c.args.text.now, c.in_ok-line.ensures.grown)) c.self.inside.rows.items c.self.invariant in
+    grind (arith, common_steps, kept, c.in_err-push.ensures.items)
 
 pub invariant_of-self-2 : goal.invariant_of-self-2
 invariant_of-self-2 c =

@@ -1,0 +1,57 @@
+-- Kinds of files by their numbers, and how many rows of each kind there are.
+use Rattle.std.proofs.Common.{ℕ, ◌≡◌, ◌+◌, ◌∙◌, zero, suc, true, List, [], ◌∷◌, ◌++◌, length, ap, arith, cond, refl, sym}
+use Rattle.std.proofs.lemmas.Bool.{eqb-true}
+use Rattle.std.proofs.lemmas.Cmp.{nat_eq_equiv}
+use Rattle.std.proofs.lemmas.List.Sums.{sum_by-append, sum_by-cons}
+use Rattle.rf2_rows.specs.declared.kind.FileKind.{FileKind}
+use Rattle.rf2_rows.specs.declared.kind.FileKind.TheVariants.{Concept, Concrete, Description, Member, Relationship}
+use Rattle.snapshot.specs.Chosen.{kind_number, same_kind}
+use Rattle.snapshot.specs.Faults.{count_of_kind}
+use Rattle.snapshot.specs.Files.{RowAt}
+
+-- the kind with a number
+abbrev kind_at : ℕ → FileKind
+kind_at zero = Concept
+kind_at (suc zero) = Description
+kind_at (suc (suc zero)) = Relationship
+kind_at (suc (suc (suc zero))) = Concrete
+kind_at (suc (suc (suc (suc n)))) = Member
+
+kind_at-number : (kind : FileKind) → kind_at (kind_number kind) ≡ kind
+kind_at-number Concept = refl
+kind_at-number Description = refl
+kind_at-number Relationship = refl
+kind_at-number Concrete = refl
+kind_at-number Member = refl
+
+pub kind_same : (one other : FileKind) → same_kind one other ≡ true → one ≡ other
+kind_same one other told =
+    sym (kind_at-number one) ∙ ap kind_at (eqb-true (kind_number one) (kind_number other) told) ∙ kind_at-number other
+
+pub same_kind-sym : (one other : FileKind) → same_kind one other ≡ same_kind other one
+same_kind-sym one other = nat_eq_equiv.symm (kind_number one) (kind_number other)
+
+pub same_kind-refl : (kind : FileKind) → same_kind kind kind ≡ true
+same_kind-refl kind = nat_eq_equiv.refl (kind_number kind)
+
+-- one row more
+pub count_of_kind-push : (kind : FileKind) (rows : List RowAt) (row : RowAt) → count_of_kind kind (rows ++ row ∷ []) ≡ count_of_kind kind rows + cond (same_kind row.kind kind) 1 0
+count_of_kind-push kind rows row = omega (arith, sum_by-append (λ (other : RowAt). cond (same_kind other.kind kind) 1 0) rows (row ∷ []))
+
+-- a row is of one kind
+one_kind : (kind : FileKind)
+    → cond (same_kind kind Concept) 1 0 + cond (same_kind kind Description) 1 0 + cond (same_kind kind Relationship) 1 0 + cond (same_kind kind Concrete) 1 0 + cond (same_kind kind Member) 1 0 ≡ 1
+one_kind Concept = refl
+one_kind Description = refl
+one_kind Relationship = refl
+one_kind Concrete = refl
+one_kind Member = refl
+
+-- rows are those of the five kinds
+pub length-kinds : (rows : List RowAt)
+    → length rows ≡ count_of_kind Concept rows + count_of_kind Description rows + count_of_kind Relationship rows + count_of_kind Concrete rows + count_of_kind Member rows
+length-kinds [] = refl
+length-kinds (row ∷ rows) = omega (arith, length-kinds rows, one Concept, one Description, one Relationship, one Concrete, one Member, one_kind row.kind)
+  where
+    one : (kind : FileKind) → count_of_kind kind (row ∷ rows) ≡ cond (same_kind row.kind kind) 1 0 + count_of_kind kind rows
+    one kind = sum_by-cons (λ (other : RowAt). cond (same_kind other.kind kind) 1 0) row rows
