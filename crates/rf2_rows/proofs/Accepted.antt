@@ -1,12 +1,10 @@
 -- What is known of a line that has no fault: how many fields it has, and what their texts are.
-use Rattle.std.proofs.Common.{◌≡◌, ℕ, zero, suc, ◌+◌, ◌<◌, ◌≤◌, true, List, [], ◌∷◌, length, get_or, None, Some, ◌^◌, arith}
-use Rattle.std.specs.Char.{is_ascii_digit}
-use Rattle.std.specs.List.{list_all}
+use Rattle.std.proofs.lemmas.Grind.{common_steps}
+use Rattle.std.proofs.Common.{◌≡◌, ℕ, zero, suc, ◌+◌, ◌<◌, ◌≤◌, List, [], ◌∷◌, length, get_or, None, Some, arith}
 use Rattle.std.proofs.lemmas.Bool.{eq-eqb}
 use Rattle.std.proofs.lemmas.Bool.Decides.{nat_tests}
 use Rattle.std.proofs.lemmas.Str.Parse.{digits_value_short}
 use Rattle.rf2_rows.specs.Columns.{Column, Format, cause_of, column, columns_of, id_format, time_format}
-use Rattle.rf2_rows.specs.Numbers.{number_of}
 use Rattle.rf2_rows.specs.Rows.{concept_row, concrete_row, description_row, fields_fault, fields_of, first_column_fault, member_row, relationship_row, row_fault, time_of}
 use Rattle.rf2_rows.specs.Versions.{time_on}
 use Rattle.sctid.proofs.Numerals.{numerals}
@@ -31,25 +29,17 @@ format_at columns place = (get_or columns place (column [] (id_format Concept)))
 
 no_cause_at : (number : ℕ) (columns : List Column) (texts : List (List ℕ)) (place : ℕ) → length texts ≡ length columns → first_column_fault number columns texts ≡ None → place < length columns → cause_of (format_at columns place) (get_or texts place []) ≡ None
 no_cause_at number (column ∷ columns) (text ∷ texts) zero width accepted inside = grind arith
-no_cause_at number (column ∷ columns) (text ∷ texts) (suc place) width accepted inside =
-    no_cause_at (number + 1) columns texts place (omega arith) (grind arith) (omega arith)
+no_cause_at number (column ∷ columns) (text ∷ texts) (suc place) width accepted inside = grind (arith, common_steps, nat_tests, (no_cause_at (number + 1) columns texts place (omega arith) (grind arith) (omega arith)))
 no_cause_at number _ _ place width accepted inside = absurd (omega arith)
 
 -- and none of their texts has a cause to be refused
 pub accepted_at : (kind : FileKind) (fields : List (List ℕ)) (place : ℕ) → fields_fault kind fields ≡ None → place < length (columns_of kind) → cause_of (format_at (columns_of kind) place) (get_or fields place []) ≡ None
-accepted_at kind fields place accepted inside =
-    let same = width_of_fields kind fields accepted in
-    no_cause_at 1 (columns_of kind) fields place same (rw (eq-eqb (length fields) (length (columns_of kind)) same) at accepted) inside
+accepted_at kind fields place accepted inside = grind (arith, common_steps, nat_tests, eq-eqb, no_cause_at, width_of_fields)
 
 -- the time of an accepted text has eight digits
 short_time : (text : List ℕ) → cause_of time_format text ≡ None → (time : ℕ) → time_of text ≡ Some time → time < 100000000
 unfolding cause_of
-short_time text accepted time told =
-    let is : number_of text ≡ time = grind (arith, nat_tests) in
-    let digits : list_all is_ascii_digit text ≡ true = grind (arith, nat_tests) in
-    let few : length text ≤ 8 = grind (arith, nat_tests) in
-    let small : number_of text < 10 ^ 8 = digits_value_short numerals text 8 digits few in
-    omega (arith, small, is)
+short_time text accepted time told = grind (arith, nat_tests, digits_value_short numerals text 8)
 
 -- and so has that of an accepted line
 pub short_time_on : (kind : FileKind) (line : List ℕ) → row_fault kind line ≡ None → (time : ℕ) → time_on kind line ≡ Some time → time < 100000000

@@ -1,6 +1,9 @@
 -- The distinct items of a list are its members, each once.
+use Rattle.std.proofs.Common.{arith}
+use Rattle.std.proofs.lemmas.Bool.Decides.{nat_tests}
+use Rattle.std.proofs.lemmas.Grind.{common_steps}
 use Rattle.std.proofs.Common.{◌≡◌, Bool, true, false, not, List, [], ◌∷◌, filter, nat_eq, refl, sym, ap, ◌∙◌, inl, inr}
-use Rattle.std.specs.Cmp.{IsEquivalence, equiv, both_ways}
+use Rattle.std.specs.Cmp.{IsEquivalence}
 use Rattle.std.specs.List.{IsDistinct, list_any}
 use Rattle.std.proofs.lemmas.Bool.{cases_Bool, eqb-true, not-true}
 use Rattle.std.proofs.lemmas.Cmp.{nat_eq_equiv}
@@ -20,12 +23,7 @@ module _ {X : Type 0} (same : X → X → Bool) where
   distinct_once : (xs : List X) → IsDistinct same (distinct same xs)
   unfolding IsDistinct
   distinct_once [] = tt
-  distinct_once (x ∷ xs) =
-      let other = λ (y : X). not (same x y) in
-      let left = filter other (distinct same xs) in
-      IsDistinct-cons same x left
-      (recursion_from_All (λ y. same x y ≡ false) left (All-weaker (λ y. other y ≡ true) (λ y. same x y ≡ false) (λ y. not-true (same x y)) left (filter_passes other (distinct same xs))))
-      (distinct_kept other (distinct same xs) (distinct_once xs))
+  distinct_once (x ∷ xs) = grind (arith, common_steps, nat_tests, All-weaker, IsDistinct-cons, distinct_kept, filter_passes, not-true, recursion_from_All, (distinct_once xs))
 
   module _ (is : IsEquivalence same) where
     -- an item that is the same as one that is not the same as x stays beside x
@@ -54,12 +52,7 @@ keeps_each_number_once numbers = keeps_each_once nat_eq nat_eq_equiv (λ x y ali
 
 -- the test of pairs is an equivalence, since it tells which are equal
 pair_eq_equiv : IsEquivalence pair_eq
-pair_eq_equiv = equiv (record {
-  symm = λ x y. both_ways (pair_eq x y) (pair_eq y x)
-      (λ alike. (tells_same_pair y x).1 (sym ((tells_same_pair x y).0 alike)))
-      (λ alike. (tells_same_pair x y).1 (sym ((tells_same_pair y x).0 alike)));
-  trans = λ x y z one other. (tells_same_pair x z).1 ((tells_same_pair x y).0 one ∙ (tells_same_pair y z).0 other);
-}) (λ x. (tells_same_pair x x).1 refl)
+pair_eq_equiv = grind (arith, common_steps, nat_tests, tells_same_pair)
 
 pub keeps_each_pair_once : KeepsEachPairOnce
 keeps_each_pair_once pairs = keeps_each_once pair_eq pair_eq_equiv (λ x y alike. (tells_same_pair x y).0 alike) pairs

@@ -1,10 +1,13 @@
 -- The tests whether two values, and two pairs, are the same.
+use Rattle.std.proofs.Common.{arith}
+use Rattle.std.proofs.lemmas.Bool.Decides.{nat_tests}
+use Rattle.std.proofs.lemmas.Grind.{common_steps}
 use Rattle.std.proofs.Common.{ap}
 use Rattle.std.proofs.lemmas.Bool.{false≢true}
 use Rattle.std.proofs.lemmas.Bool.Decides.{Decides-and, Decides-eqb, Decides-int_eq, Decides-like}
 use Rattle.std.proofs.lemmas.Slice.Eq.{bytes_eq-Decides}
 use Rattle.rf2_rows.specs.Release.{concept_value, number_value, text_value}
-use Rattle.rf2_rows.specs.Pairs.{value_eq, pair_eq, TellsSameValue, TellsSamePair}
+use Rattle.rf2_rows.specs.Pairs.{value_eq, TellsSameValue, TellsSamePair}
 
 -- the test of values tells what is the same
 pub tells_same_value : TellsSameValue
@@ -15,8 +18,4 @@ tells_same_value one other = (λ holds. absurd (false≢true holds), λ same. cc
 
 -- the test of pairs tells what is the same
 pub tells_same_pair : TellsSamePair
-tells_same_pair one other =
-    Decides-like (pair_eq one other)
-    (λ same i. record { type_id = same.0 i; value = same.1 i })
-    (λ same. (ap (λ pair. pair.type_id) same, ap (λ pair. pair.value) same))
-    (Decides-and _ _ (Decides-eqb one.type_id other.type_id) (tells_same_value one.value other.value))
+tells_same_pair one other = grind (arith, common_steps, nat_tests, Decides-and, Decides-eqb, Decides-like, tells_same_value)

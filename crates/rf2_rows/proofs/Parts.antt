@@ -1,4 +1,6 @@
 -- How a text falls into the parts that a separator cuts it into.
+use Rattle.std.proofs.lemmas.Bool.Decides.{nat_tests}
+use Rattle.std.proofs.lemmas.Grind.{common_steps}
 use Rattle.std.proofs.Common.{◌≡◌, ℕ, ◌+◌, ◌<◌, ◌≤◌, ◌==◌, true, false, List, [], ◌∷◌, refl, length, get_or, take, drop, arith}
 use Rattle.std.proofs.lemmas.Bool.{false_from_ne_true}
 use Rattle.std.proofs.lemmas.List.Splits.{slice_split-cons_no, slice_split_first, slice_split_none}
@@ -15,9 +17,7 @@ module _ (separator : ℕ) where
 
   -- the first part goes up to the first separator, and the others are those of what stands behind it
   pub parts_cut : (text : List ℕ) (at : ℕ) → at < length text → ((k : ℕ) → k < at → (get_or text k 0 == separator) ≡ false) → (get_or text at 0 == separator) ≡ true → parts_at separator text ≡ take at text ∷ parts_at separator (drop (at + 1) text)
-  parts_cut text at fits clear is =
-      let first = position_or_len_is (λ byte. byte == separator) text at 0 (omega arith) clear (λ _. is) in
-      rw first at (slice_split_first (λ byte. byte == separator) text 0 (omega (arith, first)))
+  parts_cut text at fits clear is = grind (arith, common_steps, nat_tests, position_or_len_is, slice_split_first)
 
   -- the same as `grind` finds it where the separator is looked for
   pub cut_at : (text : List ℕ) (at : ℕ) → at < length text → ((k : ℕ) → 0 ≤ k → k < at → (get_or text k 0 == separator) ≡ true → ⊥) → (get_or text at 0 == separator) ≡ true

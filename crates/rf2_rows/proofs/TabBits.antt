@@ -1,4 +1,7 @@
 -- The tabs of a line as bits: what a shift leaves of them, and where the lowest stands.
+use Rattle.std.proofs.Common.{rules}
+use Rattle.std.proofs.lemmas.Bool.Decides.{nat_tests}
+use Rattle.std.proofs.lemmas.Grind.{common_steps}
 use Rattle.std.proofs.Common.{◌≡◌, ℕ, zero, suc, ◌+◌, ◌-◌, ◌*◌, ◌/◌, ◌^◌, ◌<◌, ◌≤◌, Bool, true, false, cond, not, eqb, ◌==◌, List, [], ◌∷◌, ◌++◌, length, get_or, take, drop, replicate, min, refl, sym, ap, subst, ◌∙◌, arith, length-drop, inl, inr, Bor, append_assoc, length-append}
 use Rattle.std.proofs.Math.Nat.{div-div-eq-div-mul, pow-suc, pow-succ', zero-div, div-one}
 use Rattle.std.proofs.lemmas.List.{drop-take, drop-drop, drop-replicate, get_or-drop, get_or-take, get_or_past, length-take, length-map, map-append, map_push, take_all, take_rest}
@@ -118,11 +121,7 @@ clear_then line from place to before behind k above below = elim (cases_lt k pla
 
 -- there is none in what no bit is left of, nor behind the end of the line
 pub none_left : (line : List ℕ) (from place to : ℕ) → NoTab line from place → tabs_in line place to ≡ 0 → NoTab line from to
-none_left line from place to before none =
-    clear_then line from place to before (λ k above below. elim (cases_lt k (length line)) [
-      | inl inside ↦ no_tab line place to none k above (omega arith)
-      | inr past ↦ ap (λ byte. eqb byte 9) (get_or_past line k 0 past)
-    ])
+none_left line from place to before none = grind (arith, common_steps, nat_tests, cases_lt, clear_then, get_or_past, no_tab)
 
 -- the parts that are left behind a place, where a tab or the end of the line is next
 module _ (line : List ℕ) where
@@ -159,9 +158,7 @@ lowest_tab line from to few some =
 
 pub next_field : (line : List ℕ) (start from to : ℕ) → start ≤ from → NoTab line start from → to ≤ from + 32 → 0 < tabs_in line from to
     → take (next_tab line from to - start) (drop start line) ∷ parts_from line (next_tab line from to + 1) ≡ parts_from line start
-next_field line start from to ahead clear few some =
-    let tab = first_tab line from to few some in
-    sym (next_part line start (next_tab line from to) (omega arith) tab.in_line (clear_then line start from (next_tab line from to) clear tab.clear) tab.is)
+next_field line start from to ahead clear few some = search (rules, clear_then, first_tab, next_part)
 
 pub ruleset fields_cut = (lowest_tab, next_field, map_push, append_assoc, length-append, length-map)
 

@@ -1,6 +1,8 @@
 -- Words that stand in texts.
+use Rattle.std.proofs.lemmas.Bool.Decides.{nat_tests}
+use Rattle.std.proofs.lemmas.Grind.{common_steps}
 use Rattle.std.proofs.Common.{◌≡◌, ℕ, zero, suc, ◌+◌, ◌-◌, ◌<◌, ◌≤◌, get_or, add-sub_cancel, true, false, List, [], ◌∷◌, Option, None, Some, length, drop, refl, ◌∙◌, inl, inr, arith, length-drop}
-use Rattle.std.specs.Prelude.{nat_eq, not, ◌==◌, ◌↔◌}
+use Rattle.std.specs.Prelude.{nat_eq, ◌==◌, ◌↔◌}
 use Rattle.std.specs.List.{after_last, starts_with}
 use Rattle.std.proofs.lemmas.List.Sums.{suffix_len_is}
 use Rattle.std.proofs.lemmas.Slice.{between_to_end}
@@ -30,10 +32,7 @@ not_hyphenated text long none = (refl, by (parsed_hyphenated text) refl)
 
 -- what stands behind the last `/` of a path, or all of it where there is none
 behind_from : (path : List ℕ) (n : ℕ) → n ≤ length path → ((k : ℕ) → n ≤ k → k < length path → (get_or path k 0 == 47) ≡ true → ⊥) → (0 < n → (get_or path (n - 1) 0 == 47) ≡ true) → after_last (λ byte. byte == 47) path ≡ drop n path
-behind_from path n fits none ends =
-    let behind = suffix_len_is (λ byte. not (byte == 47)) path n 0 fits (λ k low high. not_from_false _ (false_from_ne_true _ (none k low high))) (λ some. not_from_true _ (ends some)) in
-    let front : length path - (length path - n) ≡ n = omega arith in
-    rw (behind, front) refl
+behind_from path n fits none ends = grind (arith, common_steps, nat_tests, false_from_ne_true, not_from_false, not_from_true, suffix_len_is)
 
 pub behind_last : (path : List ℕ) (at : ℕ) → at < length path → (get_or path at 0 == 47) ≡ true → ((k : ℕ) → at + 1 ≤ k → k < length path → (get_or path k 0 == 47) ≡ true → ⊥) → (get_or path at 0 ≡ get_or path at 0) × (after_last (λ byte. byte == 47) path ≡ drop (at + 1) path)
 behind_last path at within is none = (refl, behind_from path (at + 1) (omega arith) none (λ some. rw add-sub_cancel is))
@@ -66,17 +65,17 @@ module _ (word : List ℕ) (some : 0 < length word) where
     | inr later ↦ let found = holds_begins text later in (suc found.0, found.1)
   ]
 
-  pub holds_occurs : (text : List ℕ) → holds word text ≡ true → (k : ℕ) × OccursAt text word k
-  holds_occurs text is = let found = holds_begins text is in (found.0, begins_OccursAt text found.0 found.1)
-
   -- and where it stands somewhere, the text holds it
   begins_holds : (text : List ℕ) (k : ℕ) → starts_with nat_eq (drop k text) word ≡ true → holds word text ≡ true
   begins_holds [] k begins = absurd (omega (arith, (begins_OccursAt [] k begins).fits))
   begins_holds (byte ∷ text) zero begins = or_left _ _ begins
   begins_holds (byte ∷ text) (suc k) begins = or_right _ _ (begins_holds text k begins)
 
-  pub occurs_holds : (text : List ℕ) (k : ℕ) → OccursAt text word k → holds word text ≡ true
-  occurs_holds text k occurs = begins_holds text k (OccursAt_begins text k occurs)
-
   pub holds_tells : (text : List ℕ) → (holds word text ≡ holds word text) × ((holds word text ≡ true) ↔ ((k : ℕ) × OccursAt text word k))
-  holds_tells text = (refl, (holds_occurs text, λ (k, occurs). occurs_holds text k occurs))
+  holds_tells text = (
+    refl,
+    (
+      λ is. let found = holds_begins text is in (found.0, begins_OccursAt text found.0 found.1),
+      λ (k, occurs). begins_holds text k (OccursAt_begins text k occurs),
+    ),
+  )

@@ -1,11 +1,12 @@
 -- The numbers among the values of attributes.
+use Rattle.std.proofs.lemmas.Grind.{common_steps}
 use Rattle.std.proofs.Common.{◌≡◌, ℕ, ◌+◌, ◌-◌, ◌*◌, ◌^◌, ◌<◌, ◌≤◌, ◌==◌, true, false, List, [], ◌∷◌, length, get_or, take, drop, Option, None, Some, refl, sym, ap, ◌∙◌, arith}
-use Rattle.std.specs.Prelude.{nat_eq, ℤ, pos, neg_ℤ, ◌+ℤ◌, ◌-ℤ◌, ◌*ℤ◌}
+use Rattle.std.specs.Prelude.{ℤ, pos, neg_ℤ, ◌+ℤ◌, ◌-ℤ◌, ◌*ℤ◌}
 use Rattle.std.specs.Char.{is_ascii_digit}
-use Rattle.std.specs.List.{join_with_byte, list_all, starts_with}
+use Rattle.std.specs.List.{join_with_byte, list_all}
 use Rattle.std.specs.Option.{option_map}
 use Rattle.std.specs.Str.Parse.{digits_value}
-use Rattle.std.proofs.lemmas.Bool.{and_from, and_parts, eq-eqb}
+use Rattle.std.proofs.lemmas.Bool.{and_from, and_parts}
 use Rattle.std.proofs.lemmas.Bool.Decides.{nat_tests}
 use Rattle.std.proofs.lemmas.Int.{ints}
 use Rattle.std.proofs.lemmas.List.Elements.{All-from_get_or}
@@ -42,14 +43,11 @@ no_point : (byte : ℕ) → is_ascii_digit byte ≡ true → (byte == point) ≡
 no_point byte digit = grind (arith, nat_tests)
 
 digits_one_part : (text : List ℕ) → list_all is_ascii_digit text ≡ true → parts_at point text ≡ text ∷ []
-digits_one_part text digits =
-    slice_split_none (λ byte. byte == point) text (All-from_get_or (λ byte. (byte == point) ≡ false) text 0 (λ k within. no_point (get_or text k 0) (digit_in text k within digits)))
+digits_one_part text digits = grind (arith, common_steps, nat_tests, All-from_get_or, digit_in, get_or, no_point, slice_split_none)
 
 -- the number with a whole part and a fraction
 pub number_with_fraction : (whole behind : List ℕ) → is_number 1 18 whole ≡ true → is_number 1 18 behind ≡ true → number_in (whole ∷ parts_at point behind) ≡ Some (whole_of whole + fraction_of behind)
-number_with_fraction whole behind one other =
-    let digits : list_all is_ascii_digit behind ≡ true = (and_parts _ _ other).1 in
-    rw (digits_one_part behind digits, and_from (is_number 1 18 whole) (is_number 1 18 behind) one other) refl
+number_with_fraction whole behind one other = grind (arith, common_steps, nat_tests, and_from, and_parts, digits_one_part)
 
 -- there is none where what stands behind the first point is no fraction
 pub number_without_fraction : (whole behind : List ℕ) → is_number 1 18 whole ≡ true → is_number 1 18 behind ≡ false → number_in (whole ∷ parts_at point behind) ≡ None
@@ -62,14 +60,10 @@ number_without_fraction whole behind one no_number = by (parts_at point behind) 
         rw (all, one, no_number) refl
     by (first ∷ second ∷ others) is = refl
 
--- a text that begins with a byte
-pub begins_with : (byte : ℕ) (text : List ℕ) → 0 < length text → get_or text 0 0 ≡ byte → starts_with nat_eq text (byte ∷ []) ≡ true
-begins_with byte [] some is = absurd (omega arith)
-begins_with byte (first ∷ text) some is = rw (eq-eqb byte first (sym is)) refl
-
 -- behind a minus the number is negative
 pub negative_of : (text : List ℕ) → 0 < length text → get_or text 0 0 ≡ 45 → decimal_of text ≡ option_map (λ number. neg_ℤ (pos number)) (unsigned_of (drop 1 text))
-negative_of text some is = rw (begins_with 45 text some is) refl
+negative_of [] some is = absurd (omega arith)
+negative_of (byte ∷ text) some is = rw is refl
 
 -- the sum and the negation as the code computes them, in 128 bits
 pub signed_sum : (whole fraction : ℕ) → whole < 10 ^ 18 → fraction < 10 ^ 18 → to_z w128 (of_z w128 (to_z w128 (of_z w128 (to_z w128 (of_z w128 (pos whole)) *ℤ pos (10 ^ 18))) +ℤ to_z w128 (of_z w128 (pos fraction)))) ≡ pos (whole * 10 ^ 18 + fraction)
@@ -80,9 +74,7 @@ signed_negation number fits = omega (arith, ints)
 
 pub negation : (found : Option ℕ) (number : ℤ) → SFits w128 number → Some number ≡ option_map pos found → Some (to_z w128 (of_z w128 (pos 0 -ℤ to_z w128 (of_z w128 number)))) ≡ option_map (λ size. neg_ℤ (pos size)) found
 negation None number fits same = cc
-negation (Some size) number fits same =
-    let is : number ≡ pos size = cc in
-    rw is (ap Some (signed_negation size (rw is at fits)))
+negation (Some size) number fits same = grind (arith, common_steps, nat_tests, signed_negation)
 
 -- what `grind` takes where the parts of a number are put together
 pub ruleset parts_of_number = (number_with_fraction, number_without_fraction, signed_sum)

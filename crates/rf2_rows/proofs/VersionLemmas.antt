@@ -1,8 +1,10 @@
 -- Being one row is an equivalence of the lines of a kind, and the effective time of a row is that of its line.
-use Rattle.std.proofs.Common.{◌≡◌, ℕ, Bool, true, false, not, IsTrue, List, [], ◌∷◌, length, Option, None, Some, refl, sym, ap, ◌∙◌, arith}
+use Rattle.std.proofs.lemmas.Bool.Decides.{nat_tests}
+use Rattle.std.proofs.lemmas.Grind.{common_steps}
+use Rattle.std.proofs.Common.{◌≡◌, ℕ, Bool, true, IsTrue, List, [], ◌∷◌, length, Option, None, refl, ap, arith}
 use Rattle.std.specs.Bool.{Decides}
-use Rattle.std.proofs.lemmas.Bool.{false≢true, and_parts, and_from, not-true}
-use Rattle.std.proofs.lemmas.Bool.Decides.{Decides-eqb, Decides-like}
+use Rattle.std.proofs.lemmas.Bool.{false≢true, and_from}
+use Rattle.std.proofs.lemmas.Bool.Decides.{Decides-eqb, nat_tests}
 use Rattle.std.proofs.lemmas.Slice.Eq.{bytes_eq-Decides}
 use Rattle.rf2_rows.specs.Columns.{Column, Format, columns_of, uuid_format, time_format, active_format, text_format, value_format}
 use Rattle.rf2_rows.specs.Numbers.{number_of}
@@ -18,13 +20,10 @@ use Rattle.rf2_rows.proofs.Accepted.{few_fields, width_of_line}
 use Rattle.rf2_rows.proofs.PairLemmas.{tells_same_value}
 
 same_time_tells : (one other : Option ℕ) → Decides (same_time one other) (one ≡ other)
-same_time_tells None None = (λ is. refl, λ same. refl)
-same_time_tells (Some one) (Some other) = Decides-like (same_time (Some one) (Some other)) (λ same. ap Some same) (λ same. cc) (Decides-eqb one other)
-same_time_tells one other = (λ is. absurd (false≢true is), λ same. cc)
+same_time_tells one other = grind (arith, nat_tests)
 
 same_flag_tells : (one other : Bool) → Decides (same_flag one other) (one ≡ other)
-same_flag_tells true other = (λ is. sym is, λ same. sym same)
-same_flag_tells false other = (λ is. sym (not-true other is), λ same. ap not (sym same))
+same_flag_tells one other = grind arith
 
 -- what the texts of a column are read as, and what a text is read as
 abbrev Meaning : Format → Type 0
@@ -54,24 +53,19 @@ tells _ one other = Decides-eqb (number_of one) (number_of other)
 
 same_values-refl : (columns : List Column) (ones : List (List ℕ)) → length ones ≡ length columns → same_values columns ones ones ≡ true
 same_values-refl [] [] width = refl
-same_values-refl (column ∷ columns) (one ∷ ones) width =
-    and_from _ _ ((tells column.format one one).1 refl) (same_values-refl columns ones (omega arith))
+same_values-refl (column ∷ columns) (one ∷ ones) width = grind (arith, common_steps, nat_tests, and_from, tells, (same_values-refl columns ones (omega arith)))
 same_values-refl _ _ width = absurd (omega arith)
 
 same_values-sym : (columns : List Column) (ones others : List (List ℕ)) → same_values columns ones others ≡ true → same_values columns others ones ≡ true
 same_values-sym [] [] [] is = is
 same_values-sym (column ∷ columns) (one ∷ ones) (other ∷ others) is =
-    let parts = and_parts (same_value column.format one other) (same_values columns ones others) is in
-    and_from _ _ ((tells column.format other one).1 (sym ((tells column.format one other).0 parts.0))) (same_values-sym columns ones others parts.1)
+    grind (arith, tells column.format one other, tells column.format other one, same_values-sym columns ones others)
 same_values-sym _ _ _ is = absurd (false≢true is)
 
 same_values-trans : (columns : List Column) (ones others thirds : List (List ℕ)) → same_values columns ones others ≡ true → same_values columns others thirds ≡ true → same_values columns ones thirds ≡ true
 same_values-trans [] [] [] thirds is also = also
 same_values-trans (column ∷ columns) (one ∷ ones) (other ∷ others) (third ∷ thirds) is also =
-    let parts = and_parts (same_value column.format one other) (same_values columns ones others) is in
-    let more = and_parts (same_value column.format other third) (same_values columns others thirds) also in
-    and_from _ _ ((tells column.format one third).1 ((tells column.format one other).0 parts.0 ∙ (tells column.format other third).0 more.0))
-    (same_values-trans columns ones others thirds parts.1 more.1)
+    grind (arith, tells column.format one other, tells column.format other third, tells column.format one third, same_values-trans columns ones others thirds)
 same_values-trans (column ∷ columns) (one ∷ ones) (other ∷ others) [] is also = absurd (false≢true also)
 same_values-trans _ _ _ thirds is also = absurd (false≢true is)
 
@@ -86,8 +80,7 @@ pub same_row-sym : (kind : FileKind) (one other : List ℕ) → IsTrue (same_row
 same_row-sym kind one other is = same_values-sym (columns_of kind) (fields_of one) (fields_of other) is
 
 pub same_row-trans : (kind : FileKind) (one other third : List ℕ) → IsTrue (same_row kind one other) → IsTrue (same_row kind other third) → IsTrue (same_row kind one third)
-same_row-trans kind one other third is also =
-    same_values-trans (columns_of kind) (fields_of one) (fields_of other) (fields_of third) is also
+same_row-trans kind one other third is also = grind (arith, common_steps, nat_tests, same_values-trans)
 
 -- so being one row is an equivalence
 pub rows_are_equivalent : IsEquivalenceOfRows

@@ -1,7 +1,7 @@
 -- Of places without a fault no two chosen rows of active concepts have one identifier, and no list has more items than
 -- there are rows.
 use Rattle.std.proofs.lemmas.Grind.{common_steps}
-use Rattle.std.proofs.Common.{ℕ, ◌≡◌, ◌≤◌, ◌+◌, ◌&&◌, ◌||◌, List, [], ◌∷◌, ◌++◌, length, map, Option, None, Some, append_assoc, arith, refl, sym, Bool, true, false, cond, nat_eq}
+use Rattle.std.proofs.Common.{ℕ, ◌≡◌, ◌≤◌, ◌&&◌, ◌||◌, List, [], ◌∷◌, ◌++◌, length, map, Option, None, Some, append_assoc, arith, refl, sym, Bool, true, false, cond, nat_eq}
 use Rattle.std.specs.Prelude.{⊤, not}
 use Rattle.std.specs.List.{AllByRecursion, IsDistinct, cons_option, filter_map, list_any}
 use Rattle.std.proofs.lemmas.Bool.{eq-eqb}
@@ -18,7 +18,7 @@ use Rattle.snapshot.specs.Limits.{row_total}
 use Rattle.snapshot.specs.Listed.{Listed, concept_listed}
 use Rattle.snapshot.specs.declared.limits.Limits.{Limits}
 use Rattle.snapshot.proofs.ChosenItemLemmas.{length-marked}
-use Rattle.snapshot.proofs.SingleLemmas.{any-at, neither, same_component-sym}
+use Rattle.snapshot.proofs.SingleLemmas.{any-at, same_component-sym}
 
 -- ---- a row is among others: what holds of none of them does not hold of it
 abbrev IsAmong : List RowAt → RowAt → Type 0
@@ -82,15 +82,7 @@ apart-later rows earlier (next ∷ later) row id listed among latest before all 
         → AllByRecursion (λ other. nat_eq id other ≡ false) (active_ids (cond (not (superseded || repeated)) (next ∷ marked (choices rows (earlier ++ next ∷ []) later) later) (marked (choices rows (earlier ++ next ∷ []) later) later)))
     by rest true next_latest repeated first = rest
     by rest false next_latest true first = rest
-    by rest false next_latest false first = at (concept_listed (text_of_row next)) refl
-      where
-        at : (found : Option ℕ) → concept_listed (text_of_row next) ≡ found → AllByRecursion (λ other. nat_eq id other ≡ false) (cons_option found others)
-        at None is = rest
-        at (Some other) is = (differs (nat_eq id other) refl, rest)
-          where
-            differs : (same : Bool) → nat_eq id other ≡ same → same ≡ false
-            differs false told = refl
-            differs true told = absurd (one_chosen rows earlier row next among all.0 before latest next_latest first (listed_alike row next id other listed is told))
+    by rest false next_latest false first = grind (arith, common_steps, nat_tests, nat_eq, others)
 
 distinct-choices : (rows earlier later : List RowAt) → AreAmong rows later → IsDistinct nat_eq (active_ids (marked (choices rows earlier later) later))
 unfolding IsDistinct

@@ -7,6 +7,7 @@ use Rattle.snapshot.specs.Kept.{attributes_among, is_value_among}
 use Rattle.snapshot.specs.SortedInside.{sorted_row_in}
 use Rattle.snapshot.specs.Spans.{Extends}
 use Rattle.std.specs.Prelude.{filter}
+use Rattle.std.proofs.lemmas.List.{length-map}
 use Rattle.snapshot.specs.declared.attributes.KeptRow.{KeptRow}
 use Rattle.snapshot.specs.declared.attributes.KeptValue.{KeptValue}
 use Rattle.snapshot.specs.declared.attributes.KeptValue.TheVariants.{Concept, Decimal, Other}
@@ -37,3 +38,6 @@ pub attributes-retained : (keys texts : List ℕ) (rows : List KeptRow)
     ≡ attributes_among keys (map (attribute_in texts) rows)
 attributes-retained keys texts rows =
     map-filter (attribute_in texts) (λ (attribute : Attribute). has keys attribute.source && is_value_among keys attribute.value) rows
+
+-- there are as many rows as there are names or attributes that they stand for
+pub ruleset rows_counted = (length-map)

@@ -1,4 +1,5 @@
 -- Buckets of rising identifiers: those before an identifier's bucket are less than it, and those behind are greater.
+use Rattle.std.proofs.Common.{rules}
 use Rattle.std.proofs.Common.{ℕ, ◌+◌, ◌≡◌, ◌≤◌, ◌<◌, List, length, get_or, arith}
 use Rattle.std.specs.List.Sorted.{IsStrictlyIncreasing}
 use Rattle.snapshot.specs.Buckets.{AreBucketStarts, IsBucketStart, bucket_count, bucket_of}
@@ -20,12 +21,7 @@ less_by_bucket x y less = omega arith
 pub bucket_started : (ids : List ℕ) → IsStrictlyIncreasing ids → (bucket start : ℕ) → start ≤ length ids
     → ((place : ℕ) → place < start → bucket_of (get_or ids place 0) < bucket)
     → (start < length ids → bucket ≤ bucket_of (get_or ids start 0)) → IsBucketStart ids bucket start
-bucket_started ids rising bucket start within before first = record {
-  within = within;
-  before = before;
-  behind = λ place from below.
-      omega (arith, first (omega arith), bucket_of-le (get_or ids start 0) (get_or ids place 0) (not_falling ids rising start place from below));
-}
+bucket_started ids rising bucket start within before first = search (rules, bucket_of-le, get_or, not_falling)
 
 module _ (ids starts : List ℕ) (kept : AreBucketStarts ids starts) (id bucket : ℕ) (own : bucket ≡ bucket_of id) where
   start_of : (near : ℕ) → near ≤ bucket + 1 → IsBucketStart ids near (get_or starts near 0)

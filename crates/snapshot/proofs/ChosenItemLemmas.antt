@@ -51,20 +51,13 @@ module _ {X : Type 0} (list : Listing) where
 
     pub row_listed : (e : Bool) (left : List X) → place < length marks → place < length choices → same_listing (get_or marks place d) list ≡ true
         → to_come list marks choices place left ≡ marked (get_or choices place e ∷ marked (in_list list (drop (place + 1) marks)) (drop (place + 1) choices)) left
-    row_listed e left in_marks in_choices same =
-        (λ i. items_chosen (in_list list (open_marks marks place d in_marks i)) (open_choices choices place e in_choices i) left)
-        ∙ item-step (get_or marks place d) (drop (place + 1) marks) (get_or choices place e) (drop (place + 1) choices) left same
+    row_listed e left in_marks in_choices same = grind (arith, common_steps, nat_tests, get_or)
 
     pub choices_ended : (left : List X) → length choices ≤ place → to_come list marks choices place left ≡ []
     choices_ended left behind = ap (λ (rest : List Bool). items_chosen (in_list list (drop place marks)) rest left) (drop_all place choices behind) ∙ no_choices (in_list list (drop place marks)) left
 
     pub marks_ended : (left : List X) → length marks ≤ place → to_come list marks choices place left ≡ []
     marks_ended left behind = ap (λ (rest : List Listing). items_chosen (in_list list rest) (drop place choices) left) (drop_all place marks behind) ∙ no_marks (drop place choices) left
-
--- a list of no length is empty
-pub none_there : {X : Type 0} (items : List X) → length items ≡ 0 → items ≡ []
-none_there [] none = refl
-none_there (item ∷ items) none = absurd (omega (arith, none))
 
 -- ---- the lists of the chosen rows
 pub chosen-picked : {X : Type 0} (pick : RowText → Option X) (rows : List RowText) (choices : List Bool)

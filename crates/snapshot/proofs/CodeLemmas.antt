@@ -1,14 +1,16 @@
 -- The codes of versions: two rows have one code where they are of one component and time, and of one component the
 -- later one has the greater code.
+use Rattle.std.proofs.lemmas.Grind.{common_steps}
 use Rattle.std.proofs.Common.{ℕ, ◌≡◌, ◌<◌, ◌≤◌, ◌/◌, ◌^◌, ◌&&◌, ◌==◌, List, get_or, true, nat_lt, Option, None, Some, sym, ◌∙◌, ap, refl, arith, lit≤}
 use Rattle.std.specs.Prelude.{IfSome}
 use Rattle.std.specs.List.Sorted.{IsStrictlyIncreasing}
-use Rattle.std.proofs.lemmas.Bool.{eq-eqb, eqb-true, ne_eqb}
-use Rattle.std.proofs.lemmas.Bool.Decides.{Decides-eqb, nat_tests, same_from_decides}
+use Rattle.std.proofs.lemmas.Bool.{eq-eqb, ne_eqb}
+use Rattle.std.proofs.lemmas.Bool.Decides.{nat_tests}
 use Rattle.std.proofs.lemmas.List.Folds.{list_any_at}
 use Rattle.rf2_rows.specs.Versions.{same_time}
 use Rattle.hierarchy.specs.Members.{has}
-use Rattle.snapshot.specs.Noted.{Noted, is_later, same_version}
+use Rattle.snapshot.specs.Chosen.{is_later}
+use Rattle.snapshot.specs.Noted.{Noted, same_version}
 use Rattle.snapshot.specs.Taken.{IsCodeOf, time_code}
 use Rattle.snapshot.proofs.NumberingLemmas.{place_of, place_of-get_or}
 
@@ -40,19 +42,15 @@ key_place-code repeated row code is = omega (arith, is.is, time_code-small row.t
 
 -- the key of a row that has a code is repeated
 pub has-code : (repeated : List ℕ) (row : Noted) (code : ℕ) → IsCodeOf repeated row code → has repeated row.key ≡ true
-has-code repeated row code is =
-    list_any_at (λ other. row.key == other) repeated is.place 0 is.within (eq-eqb row.key (get_or repeated is.place 0) (sym is.key))
+has-code repeated row code is = grind (arith, common_steps, nat_tests, eq-eqb, get_or, list_any_at)
 
 -- two keys are one where their places are
 same_key-place : (repeated : List ℕ) → IsStrictlyIncreasing repeated → (row other : Noted) (code code' : ℕ)
     → (is : IsCodeOf repeated row code) (is' : IsCodeOf repeated other code') → (row.key == other.key) ≡ (is.place == is'.place)
-same_key-place repeated rising row other code code' is is' = same_from_decides (row.key == other.key) (is.place == is'.place) (
-  (λ same.
-      sym (place_of-get_or repeated rising is.place is.within)
-      ∙ ap (place_of repeated) (is.key ∙ eqb-true row.key other.key same ∙ sym is'.key)
-      ∙ place_of-get_or repeated rising is'.place is'.within),
-  (λ same. eq-eqb row.key other.key (sym is.key ∙ ap (λ place. get_or repeated place 0) same ∙ is'.key)),
-) (Decides-eqb is.place is'.place)
+same_key-place repeated rising row other code code' is is' =
+    let same : row.key ≡ other.key → is.place ≡ is'.place =
+    λ one. sym (place_of-get_or repeated rising is.place is.within) ∙ ap (place_of repeated) (is.key ∙ one ∙ sym is'.key) ∙ place_of-get_or repeated rising is'.place is'.within in
+    grind (arith, nat_tests, same, is.key, is'.key)
 
 -- two rows are of one component and time where their codes are one
 pub same_version-code : (repeated : List ℕ) → IsStrictlyIncreasing repeated → (row other : Noted) (code code' : ℕ)

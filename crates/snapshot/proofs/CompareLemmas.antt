@@ -1,7 +1,7 @@
 -- What comparing rows by their keys says of the rows.
 use Rattle.std.proofs.lemmas.Bool.Decides.{nat_tests}
 use Rattle.std.proofs.lemmas.Grind.{common_steps}
-use Rattle.std.proofs.Common.{ℕ, ◌≡◌, ◌+◌, ◌*◌, ◌^◌, ◌≤◌, ◌<◌, ◌∙◌, ◌&&◌, ◌||◌, ◌==◌, List, [], ◌∷◌, ◌++◌, length, get_or, true, false, Bool, Option, None, Some, append_assoc, ap, arith, suc, zero, cond, map, not, refl, sym, subst}
+use Rattle.std.proofs.Common.{ℕ, ◌≡◌, ◌+◌, ◌*◌, ◌^◌, ◌≤◌, ◌<◌, ◌∙◌, ◌&&◌, ◌||◌, ◌==◌, List, [], ◌∷◌, ◌++◌, length, get_or, true, false, Bool, Option, None, Some, append_assoc, ap, arith, suc, zero, cond, map, refl, sym, subst}
 use Rattle.std.specs.Prelude.{⊤, Contains}
 use Rattle.std.specs.List.{cons_option, list_any}
 use Rattle.std.proofs.lemmas.Bool.{and_parts, eq-eqb, eqb-true, ltb-true, ne_eqb, or_left}
@@ -12,7 +12,7 @@ use Rattle.rf2_rows.specs.Rows.{row_fault}
 use Rattle.rf2_rows.specs.Versions.{id_on}
 use Rattle.rf2_rows.specs.declared.kind.FileKind.{FileKind}
 use Rattle.rf2_rows.specs.declared.kind.FileKind.TheVariants.{Concept, Concrete, Description, Member, Relationship}
-use Rattle.snapshot.specs.Chosen.{choices, conflicts, id_of, is_later, same_component, same_kind}
+use Rattle.snapshot.specs.Chosen.{choices, conflicts, id_of, same_component, same_kind}
 use Rattle.snapshot.specs.Compared.{Compared, IsCompared, IsComparedRow, IsDenied, IsDeniedRow, IsExpected, IsRefused, IsTaken, clashes, compared_in, noted_of}
 use Rattle.snapshot.specs.declared.comparing.Comparing.{Comparing}
 use Rattle.snapshot.specs.Contents.{text_of_row}
@@ -106,16 +106,10 @@ module _ (uuids : List ℕ) (few : length uuids < 2 ^ 63) where
       → list_any (λ earlier. by_key.conflicts earlier (noted_of uuids row)) (map (noted_of uuids) rows) ≡ list_any (λ other. conflicts other row) rows
   conflicts-noted rows row known own = grind (arith, common_steps, nat_tests, any-noted, tells)
 
-  later-same : (one other : Option ℕ) → by_key.is_later one other ≡ is_later one other
-  later-same None None = refl
-  later-same None (Some other) = refl
-  later-same (Some one) None = refl
-  later-same (Some one) (Some other) = refl
-
   pub choices-noted : (rows earlier later : List RowAt) → AreKnown uuids rows → AreKnown uuids earlier → AreKnown uuids later
       → by_key.choices (map (noted_of uuids) rows) (map (noted_of uuids) earlier) (map (noted_of uuids) later) ≡ choices rows earlier later
   choices-noted rows earlier [] known before behind = refl
-  choices-noted rows earlier (row ∷ later) known before behind = grind (arith, common_steps, nat_tests, any-noted, known-append, later-same, map-append, tells, (choices-noted rows (earlier ++ row ∷ []) later known (known-append uuids earlier (row ∷ []) before (behind.0, tt)) behind.1))
+  choices-noted rows earlier (row ∷ later) known before behind = grind (arith, common_steps, nat_tests, any-noted, known-append, map-append, tells, (choices-noted rows (earlier ++ row ∷ []) later known (known-append uuids earlier (row ∷ []) before (behind.0, tt)) behind.1))
 
   -- earlier rows of one key are of its kind
   pub of_its_kind : (rows : List RowAt) (row : RowAt) → AreKnown uuids rows → IsKnown uuids row.kind row.text → AreOfItsKind (map (noted_of uuids) rows) (noted_of uuids row)

@@ -1,9 +1,11 @@
 -- The row that names each concept, as the rows are gone through from the last to the first.
-use Rattle.std.proofs.Common.{ℕ, suc, ◌≡◌, ◌<◌, ◌≤◌, ◌-◌, ◌==◌, drop, drop-cons, inl, inr, List, ◌∷◌, length, get_or, set, map, Option, None, Some, option_map, IfSome, Bool, true, false, cond, nat_lt, sym, ◌∙◌, ap, subst, refl, arith}
+use Rattle.std.proofs.Common.{rules}
+use Rattle.std.proofs.lemmas.Grind.{common_steps}
+use Rattle.std.proofs.Common.{ℕ, suc, ◌≡◌, ◌<◌, ◌≤◌, ◌-◌, ◌==◌, drop, drop-cons, inl, inr, List, ◌∷◌, length, get_or, set, map, Option, None, Some, option_map, IfSome, Bool, true, false, sym, ◌∙◌, ap, subst, arith}
 use Rattle.std.specs.Prelude.{position}
-use Rattle.std.specs.List.{slice_get, position_or_len}
+use Rattle.std.specs.List.{slice_get}
 use Rattle.std.specs.List.Sorted.{IsStrictlyIncreasing}
-use Rattle.std.proofs.lemmas.Bool.{cases_eq, eqb-true, eq-eqb, false≢true, ltb-false}
+use Rattle.std.proofs.lemmas.Bool.{cases_eq, eqb-true}
 use Rattle.std.proofs.lemmas.Bool.Decides.{nat_tests}
 use Rattle.std.proofs.lemmas.List.{get_or-set_same, get_or-set_other, length-set, length-map, get_or_default}
 use Rattle.std.proofs.Math.ListN.{get_or-map}
@@ -22,37 +24,27 @@ use Rattle.snapshot.proofs.RisingLemmas.{earlier_below}
 -- a row of another concept changes nothing
 other_concept : (language : List ℕ) (concept : ℕ) (names later : List Name) (row : Name) (place : Option ℕ) → (row.concept == concept) ≡ false
     → IsFirstPlace language concept names later place → IsFirstPlace language concept names (row ∷ later) place
-other_concept language concept names later row place other is =
-    is ∙ ap (λ (own : Bool). option_map Some (first_name language (cond own (row ∷ names_of concept later) (names_of concept later)))) (sym other)
+other_concept language concept names later row place other is = grind (arith, common_steps, nat_tests, option_map)
 
 -- a row of the concept comes first, or the first of those behind it
 same_concept : (language : List ℕ) (concept : ℕ) (names later : List Name) (row : Name) (at : ℕ) (place : Option ℕ) (result : ℕ) → (row.concept == concept) ≡ true
     → slice_get names at ≡ Some row → IsFirstOfTwo language names at place result
     → IsFirstPlace language concept names later place → IsFirstPlace language concept names (row ∷ later) (Some result)
-same_concept language concept names later row at place result own there first is =
-    ap (λ o. Some o) (first row (first_name language (names_of concept later)) there is)
-    ∙ ap (λ (own : Bool). option_map Some (first_name language (cond own (row ∷ names_of concept later) (names_of concept later)))) (sym own)
+same_concept language concept names later row at place result own there first is = grind (arith, common_steps, nat_tests, option_map)
 
 -- concepts at two places of a rising list are not one
 places_apart : (concepts : List ℕ) → IsStrictlyIncreasing concepts → (i j : ℕ) → i < length concepts → j < length concepts → (i ≡ j → ⊥)
     → (get_or concepts i 0 == get_or concepts j 0) ≡ false
-places_apart concepts rising i j here there apart =
-    grind (arith, nat_tests, earlier_below concepts rising i j, earlier_below concepts rising j i)
+places_apart concepts rising i j here there apart = search (rules, earlier_below, nat_tests)
 
 -- where no place passes, no item does
 none_passes : (test : ℕ → Bool) (xs : List ℕ) (k : ℕ) → position test xs ≡ None → k < length xs → test (get_or xs k 0) ≡ false
-none_passes test xs k none within =
-    let past : length xs ≤ position_or_len test xs = grind (arith, nat_tests) in
-    fails_before_first test xs k 0 (omega arith)
+none_passes test xs k none within = grind (arith, common_steps, nat_tests, fails_before_first, nat_tests)
 
 -- a row of none of the concepts
 pub first_places-other : (language concepts : List ℕ) (names later : List Name) (row : Name) (places : List (Option ℕ)) → concept_number concepts row.concept ≡ None
     → AreFirstPlaces language concepts names later places → AreFirstPlaces language concepts names (row ∷ later) places
-first_places-other language concepts names later row places none are = (
-  are.0,
-  λ number within. other_concept language (get_or concepts number 0) names later row (get_or places number None)
-      (none_passes (λ other. row.concept == other) concepts number none within) (are.1 number within),
-)
+first_places-other language concepts names later row places none are = grind (arith, common_steps, nat_tests, get_or, none_passes, other_concept)
 
 -- a row of the concept with a number
 pub first_places-own : (language concepts : List ℕ) (names later : List Name) (row : Name) (at number result : ℕ) (places : List (Option ℕ)) → IsStrictlyIncreasing concepts
@@ -85,8 +77,7 @@ names_from texts rows behind row some within is =
 
 pub name_at : (texts : List ℕ) (rows : List NameRow) (at : ℕ) (row : NameRow) → at < length rows → row ≡ get_or rows at row
     → slice_get (map (name_in texts) rows) at ≡ Some (name_in texts row)
-name_at texts rows at row within is =
-    slice_get-map (name_in texts) rows at ∙ ap (option_map (name_in texts)) (slice_get_read rows (length rows) at row refl within is)
+name_at texts rows at row within is = grind (arith, common_steps, nat_tests, option_map, slice_get-map, slice_get_read)
 
 -- a place is that of a row
 pub first_within : (language : List ℕ) (concept : ℕ) (texts : List ℕ) (rows : List NameRow) (later : List Name) (place : Option ℕ)
@@ -99,6 +90,4 @@ first_within language concept texts rows later place is =
 pub place_read : (language concepts : List ℕ) (id : ℕ) (names later : List Name) (places : List (Option ℕ)) (number : ℕ) (place : Option ℕ)
     → AreFirstPlaces language concepts names later places → concept_number concepts id ≡ Some number → place ≡ get_or places number place
     → (number < length concepts) × (place ≡ get_or places number None)
-place_read language concepts id names later places number place are own is =
-    let found = position-Some (λ other. id == other) concepts number 0 own in
-    (found.0, is ∙ get_or_default places number place None (omega (arith, are.0, found.0)))
+place_read language concepts id names later places number place are own is = grind (arith, common_steps, nat_tests, get_or_default, position-Some)

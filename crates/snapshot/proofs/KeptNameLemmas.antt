@@ -1,6 +1,7 @@
 -- Name rows keep their texts while the buffer and the spans of language codes grow.
-use Rattle.std.proofs.Common.{ℕ, ◌≡◌, ◌<◌, ◌+◌, ◌++◌, ◌∷◌, [], ◌∙◌, inl, inr, All, List, Option, None, Some, length, get_or, map, set, take, sym, ap, subst, arith, length-append}
-use Rattle.std.specs.Prelude.{IfSome}
+use Rattle.std.proofs.lemmas.Bool.Decides.{nat_tests}
+use Rattle.std.proofs.lemmas.Grind.{common_steps}
+use Rattle.std.proofs.Common.{ℕ, ◌≡◌, ◌<◌, ◌+◌, ◌++◌, ◌∷◌, [], ◌∙◌, All, List, Option, None, Some, length, get_or, map, set, take, sym, ap, arith, length-append}
 use Rattle.std.specs.List.{slice_get}
 use Rattle.std.proofs.lemmas.Bool.{cases_eq}
 use Rattle.std.proofs.lemmas.List.{get_or-set_other, get_or-set_same, get_or_append_left, length-set, take_more}
@@ -21,25 +22,12 @@ noted-extends names texts grown spans noted extends = record {
 -- a span is noted for a row
 pub noted-set : (names : List Name) (texts : List ℕ) (spans : List (Option Span)) (place : ℕ) (name : Name) (span : Span)
     → AreNoted names texts spans → slice_get names place ≡ Some name → StandsAt texts name.term span → AreNoted names texts (set spans place (Some span))
-noted-set names texts spans place name span noted there stands = record {
-  each = length-set spans place (Some span) ∙ noted.each;
-  stand = λ other row is. elim (cases_eq other place) [
-    | inl same ↦
-        let both : Some row ≡ Some name = sym is ∙ ap (slice_get names) same ∙ there in
-        let found : row ≡ name = cc in
-        rw (same, get_or-set_same spans place (Some span) None (omega (arith, noted.each, slice_get_within names place name there)), found) stands
-    | inr apart ↦ rw (get_or-set_other spans place other (Some span) None apart) (noted.stand other row is)
-  ];
-}
+noted-set names texts spans place name span noted there stands = grind (arith, common_steps, nat_tests, cases_eq, get_or-set_other, get_or-set_same, length-set, slice_get_within)
 
 -- one row more, while both grow
 module _ (texts grown : List ℕ) (languages more : List Span) (kept items : List KeptName) (row : KeptName) (extends : Extends texts grown) (extends_languages : Extends languages more) (pushed : items ≡ kept ++ row ∷ []) (are : All (IsKept texts languages) kept) where
   pub kept-push : IsKept grown more row → All (IsKept grown more) items
-  kept-push is =
-      all-push (IsKept texts languages) (IsKept grown more) (λ row is. record {
-        language = omega (arith, is.language, ap (λ (spans : List Span). length spans) extends_languages.1, length-append languages extends_languages.0);
-        term = span-extends texts grown extends row.term is.term;
-      }) kept items row pushed are is
+  kept-push is = grind (arith, common_steps, nat_tests, all-push, length-append, span-extends)
 
   pub names-push : AreSpansOf texts languages → (names : List Name) (place : ℕ) (name : Name) → map (name_kept texts languages) kept ≡ take place names
       → name_kept grown more row ≡ name → place < length names → name ≡ get_or names place name → map (name_kept grown more) items ≡ take (place + 1) names

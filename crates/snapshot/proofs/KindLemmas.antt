@@ -1,5 +1,7 @@
 -- Kinds of files by their numbers, and how many rows of each kind there are.
-use Rattle.std.proofs.Common.{ℕ, ◌≡◌, ◌+◌, ◌∙◌, zero, suc, true, List, [], ◌∷◌, ◌++◌, length, ap, arith, cond, refl, sym}
+use Rattle.std.proofs.lemmas.Bool.Decides.{nat_tests}
+use Rattle.std.proofs.lemmas.Grind.{common_steps}
+use Rattle.std.proofs.Common.{ℕ, ◌≡◌, ◌+◌, zero, suc, true, List, [], ◌∷◌, ◌++◌, length, arith, cond, refl}
 use Rattle.std.proofs.lemmas.Bool.{eqb-true}
 use Rattle.std.proofs.lemmas.Cmp.{nat_eq_equiv}
 use Rattle.std.proofs.lemmas.List.Sums.{sum_by-append, sum_by-cons}
@@ -25,8 +27,7 @@ kind_at-number Concrete = refl
 kind_at-number Member = refl
 
 pub kind_same : (one other : FileKind) → same_kind one other ≡ true → one ≡ other
-kind_same one other told =
-    sym (kind_at-number one) ∙ ap kind_at (eqb-true (kind_number one) (kind_number other) told) ∙ kind_at-number other
+kind_same one other told = grind (arith, common_steps, nat_tests, eqb-true, kind_at-number)
 
 pub same_kind-sym : (one other : FileKind) → same_kind one other ≡ same_kind other one
 same_kind-sym one other = nat_eq_equiv.symm (kind_number one) (kind_number other)
@@ -51,7 +52,4 @@ one_kind Member = refl
 pub length-kinds : (rows : List RowAt)
     → length rows ≡ count_of_kind Concept rows + count_of_kind Description rows + count_of_kind Relationship rows + count_of_kind Concrete rows + count_of_kind Member rows
 length-kinds [] = refl
-length-kinds (row ∷ rows) = omega (arith, length-kinds rows, one Concept, one Description, one Relationship, one Concrete, one Member, one_kind row.kind)
-  where
-    one : (kind : FileKind) → count_of_kind kind (row ∷ rows) ≡ cond (same_kind row.kind kind) 1 0 + count_of_kind kind rows
-    one kind = sum_by-cons (λ (other : RowAt). cond (same_kind other.kind kind) 1 0) row rows
+length-kinds (row ∷ rows) = grind (arith, common_steps, nat_tests, one_kind, sum_by-cons, (length-kinds rows))

@@ -20,18 +20,13 @@ AreLatest latest versions = (code : ℕ) → code / 2 ^ 32 < length latest → n
 pub latest_keeps : (latest : List ℕ) (versions : List Version) (number : ℕ) (default : Version) → number < length versions
     → AreLatest latest (take number versions) → (code : ℕ) → code ≡ (get_or versions number default).code
     → code ≤ get_or latest (code / 2 ^ 32) 0 → AreLatest latest (take (number + 1) versions)
-latest_keeps latest versions number default within are code is low other in_latest =
-    let more = list_any_more (λ (version : Version). (version.code / 2 ^ 32 == other / 2 ^ 32) && nat_lt other version.code) versions number default within in
-    rw (more, ← is, ← are other in_latest) (grind (arith, nat_tests))
+latest_keeps latest versions number default within are code is low other in_latest = grind (arith, common_steps, nat_tests, list_any_more, nat_lt, nat_tests)
 
 -- a greater one takes the place
 pub latest_takes : (latest : List ℕ) (versions : List Version) (number : ℕ) (default : Version) → number < length versions
     → AreLatest latest (take number versions) → (code : ℕ) → code ≡ (get_or versions number default).code
     → code / 2 ^ 32 < length latest → get_or latest (code / 2 ^ 32) 0 < code → AreLatest (set latest (code / 2 ^ 32) code) (take (number + 1) versions)
-latest_takes latest versions number default within are code is in_place high other in_latest =
-    let long : other / 2 ^ 32 < length latest = omega (arith, in_latest, length-set latest (code / 2 ^ 32) code) in
-    let more = list_any_more (λ (version : Version). (version.code / 2 ^ 32 == other / 2 ^ 32) && nat_lt other version.code) versions number default within in
-    rw (more, ← is, ← are other long) (grind (arith, common_steps, nat_tests))
+latest_takes latest versions number default within are code is in_place high other in_latest = grind (arith, common_steps, nat_tests, common_steps, length-set, list_any_more, nat_lt, nat_tests)
 
 -- of some of the versions, at a place stands the first row of one that is not the latest
 abbrev pub is_older_of : List Version → List Version → ℕ → Bool
@@ -45,18 +40,14 @@ AreWithout new old leaves = (place : ℕ) → get_or new place false ≡ (get_or
 pub without_keeps : (new old : List Bool) (versions : List Version) (number : ℕ) (default : Version) → number < length versions
     → AreWithout new old (is_older_of versions (take number versions)) → is_outdated versions (get_or versions number default).code ≡ false
     → AreWithout new old (is_older_of versions (take (number + 1) versions))
-without_keeps new old versions number default within are latest place =
-    let more = list_any_more (λ (version : Version). is_outdated versions version.code && (version.place == place)) versions number default within in
-    rw (more, latest, or-false (is_older_of versions (take number versions) place)) (are place)
+without_keeps new old versions number default within are latest place = grind (arith, common_steps, nat_tests, list_any_more, or-false)
 
 -- one that is not
 pub without_more : (new old : List Bool) (versions : List Version) (number : ℕ) (default : Version) → number < length versions
     → AreWithout new old (is_older_of versions (take number versions)) → is_outdated versions (get_or versions number default).code ≡ true
     → (at : ℕ) → at ≡ (get_or versions number default).place → at < length new
     → AreWithout (set new at false) old (is_older_of versions (take (number + 1) versions))
-without_more new old versions number default within are outdated at is in_marks place =
-    let more = list_any_more (λ (version : Version). is_outdated versions version.code && (version.place == place)) versions number default within in
-    rw (more, outdated, ← is) (grind (arith, common_steps, nat_tests, are place, or-true, or-false, and-false))
+without_more new old versions number default within are outdated at is in_marks place = grind (arith, common_steps, nat_tests, and-false, common_steps, list_any_more, nat_tests, or-false, or-true)
 
 -- marks that are so at each place
 without_from : (leaves : ℕ → Bool) (place : ℕ) (new old : List Bool) → length new ≡ length old

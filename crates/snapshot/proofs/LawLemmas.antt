@@ -1,5 +1,7 @@
 -- What the definitions of a load say in the words of a reader.
-use Rattle.std.proofs.Common.{ℕ, zero, suc, ◌≡◌, ◌<◌, List, [], ◌∷◌, ◌++◌, length, get_or, Option, None, Some, sym, ◌∙◌, ap, subst, refl, arith, inl, inr, ◌⊎◌, append_assoc, Bool, true, false, cond}
+use Rattle.std.proofs.lemmas.Bool.Decides.{nat_tests}
+use Rattle.std.proofs.lemmas.Grind.{common_steps}
+use Rattle.std.proofs.Common.{ℕ, ◌≡◌, ◌<◌, List, [], ◌∷◌, ◌++◌, length, get_or, Option, None, Some, sym, ◌∙◌, ap, subst, refl, arith, inl, inr, ◌⊎◌, append_assoc, Bool, true, false}
 use Rattle.std.specs.Prelude.{Contains, find}
 use Rattle.std.specs.List.Sorted.{IsStrictlyIncreasing}
 use Rattle.std.proofs.lemmas.Bool.{cases_lt, false_from_ne_true, false≢true}
@@ -9,9 +11,8 @@ use Rattle.std.proofs.lemmas.List.Sums.{fails_before_first, passes_at_first}
 use Rattle.std.proofs.lemmas.Option.{get_or_from_slice_get, slice_get-get_or, slice_get_within}
 use Rattle.std.specs.List.{position_or_len, slice_get}
 use Rattle.hierarchy.specs.Hierarchy.{Reaches, reaches}
-use Rattle.rf2_rows.specs.Release.{Release}
-use Rattle.hierarchy.proofs.HierarchyLemmas.{chain_from_test, test_from_chain, contained_cases}
-use Rattle.snapshot.specs.Contents.{NamesLeastCyclic, least_cyclic}
+use Rattle.hierarchy.proofs.HierarchyLemmas.{chain_from_test, test_from_chain}
+use Rattle.snapshot.specs.Contents.{NamesLeastCyclic}
 use Rattle.snapshot.specs.Faults.{HasNoFault, NamesFirstFault, fault_at, first_fault, first_of}
 use Rattle.snapshot.specs.Files.{Place}
 use Rattle.snapshot.specs.declared.fault.LoadFault.{LoadFault}
@@ -52,29 +53,13 @@ second_none one other third none = grind arith
 
 -- no place has a fault exactly where none is found
 none_with : (limits : Limits) (places : List Place) → first_fault limits [] places ≡ None → HasNoFault limits places
-none_with limits places none before place later cut =
-    second_none (first_fault limits [] before) (fault_at limits before place) (first_fault limits (before ++ place ∷ []) later)
-    (sym (first_fault-append limits [] before (place ∷ later)) ∙ ap (λ places. first_fault limits [] places) (sym cut) ∙ none)
+none_with limits places none before place later cut = grind (arith, common_steps, nat_tests, first_fault-append, second_none)
 
 none_when : (limits : Limits) (places : List Place) → HasNoFault limits places → first_fault limits [] places ≡ None
-none_when limits places clean = elim (option_cases (first_fault limits [] places)) [
-  | inl none ↦ none
-  | inr (fault, found) ↦
-      let at = found_at limits [] places fault found in
-      absurd (let both : Some fault ≡ None = sym at.4 ∙ clean at.0 at.1 at.2 at.3 in cc)
-]
+none_when limits places clean = grind (arith, common_steps, nat_tests, found_at, option_cases)
 
 pub names_first_fault : NamesFirstFault
-names_first_fault limits places = (
-  λ fault. (
-    λ found. let at = found_at limits [] places fault found in
-        record { before = at.0; place = at.1; later = at.2; cut = at.3; here = at.4; none_before = none_with limits at.0 at.5 },
-    λ is. ap (λ places. first_fault limits [] places) is.cut
-        ∙ first_fault-append limits [] is.before (is.place ∷ is.later)
-        ∙ (λ i. first_of (none_when limits is.before is.none_before i) (first_of (is.here i) (first_fault limits (is.before ++ is.place ∷ []) is.later))),
-  ),
-  (none_with limits places, none_when limits places),
-)
+names_first_fault limits places = grind (arith, common_steps, nat_tests, first_fault-append, found_at, none_when, none_with)
 
 -- what is found passes the test, and no item before it does
 find-Some : (test : ℕ → Bool) (xs : List ℕ) (x : ℕ) → find test xs ≡ Some x
@@ -96,10 +81,7 @@ find-none_passes test xs none x (k, below, is) = elim (cases_lt (position_or_len
 -- a lesser concept stands before a greater one
 earlier_place : (concepts : List ℕ) → IsStrictlyIncreasing concepts → (i k : ℕ) → i < length concepts → k < length concepts
     → get_or concepts k 0 < get_or concepts i 0 → k < i
-earlier_place concepts rising i k within also less = elim (cases_lt k i) [
-  | inl before ↦ before
-  | inr behind ↦ absurd (omega (arith, not_falling concepts rising i k behind also))
-]
+earlier_place concepts rising i k within also less = grind (arith, common_steps, nat_tests, cases_lt, not_falling)
 
 pub names_least_cyclic : NamesLeastCyclic
 names_least_cyclic release rising = (

@@ -1,5 +1,8 @@
 -- The lines of concepts, as they come one by one.
-use Rattle.std.proofs.Common.{ℕ, ◌≡◌, ◌≤◌, ◌<◌, ◌+◌, ◌-◌, ◌++◌, ◌∷◌, [], ◌∙◌, All, List, Option, None, Some, Result, Ok, Err, length, get_or, map, take, refl, sym, ap, subst, arith, length-append}
+use Rattle.std.proofs.Common.{rules}
+use Rattle.std.proofs.lemmas.Bool.Decides.{nat_tests}
+use Rattle.std.proofs.lemmas.Grind.{common_steps}
+use Rattle.std.proofs.Common.{ℕ, ◌≡◌, ◌≤◌, ◌<◌, ◌+◌, ◌++◌, ◌∷◌, [], ◌∙◌, All, List, Option, None, Some, Result, Ok, Err, length, get_or, map, take, refl, ap, subst, arith, length-append}
 use Rattle.std.specs.Prelude.{IfOk, IfSome, option_and_then, option_map}
 use Rattle.std.specs.List.{slice_get, slice_range}
 use Rattle.std.proofs.lemmas.List.{get_or-map, get_or_default, get_or_read, map_more}
@@ -34,12 +37,7 @@ pub lines-more : (language concepts : List ℕ) (names : List Name) (places : Li
     → name ≡ option_map (λ (row : Name). row.term) (option_and_then (slice_get names) (get_or places number None))
     → map (concept_line (name_among language names)) (take number concepts) ++ concept_line (λ _. name) concept ∷ []
     ≡ map (concept_line (name_among language names)) (take (number + 1) concepts)
-lines-more language concepts names places number concept name are within concept_is name_is =
-    let at : concept ≡ get_or concepts number 0 = get_or_read concepts number concept within concept_is 0 in
-    let named : name ≡ name_among language names (get_or concepts number 0) =
-    name_is ∙ term_at names (get_or places number None) (first_name language (names_of (get_or concepts number 0) names)) (are.1 number within) in
-    (λ i. map (concept_line (name_among language names)) (take number concepts) ++ concept_line (λ _. named i) (at i) ∷ [])
-    ∙ sym (map_more (concept_line (name_among language names)) concepts number 0 within)
+lines-more language concepts names places number concept name are within concept_is name_is = grind (arith, common_steps, nat_tests, get_or, get_or_read, map_more, term_at)
 
 -- no line
 pub no_lines : (starts texts : List ℕ) → starts ≡ 0 ∷ [] → texts ≡ [] → AreStarts starts texts × (cut starts texts ≡ [])
@@ -63,9 +61,7 @@ if_ok-both (Err y) P Q R p q both = tt
 
 -- the lines stay where more comes behind them
 pub lines-append : (starts lines more : List ℕ) → AreStarts starts lines → cut starts (lines ++ more) ≡ cut starts lines
-lines-append starts lines more kept =
-    same_maps (λ number. slice_range (lines ++ more) (get_or starts number 0) (get_or starts (number + 1) 0)) (λ number. slice_range lines (get_or starts number 0) (get_or starts (number + 1) 0)) 0 (length starts - 1)
-    (λ number from to. slice_range-append lines more (get_or starts number 0) (get_or starts (number + 1) 0) (kept.rise number (omega arith)) (end_within starts lines kept (number + 1) (omega arith)))
+lines-append starts lines more kept = search (rules, end_within, get_or, same_maps, slice_range-append)
 
 -- where the lines are those at the beginning of a text: the places of a line, and what stands between them
 pub line_places : (starts texts : List ℕ) (lists : List (List ℕ)) (number : ℕ) → (lines more : List ℕ) × (texts ≡ lines ++ more) × AreStarts starts lines → cut starts texts ≡ lists → number < length lists
@@ -82,10 +78,6 @@ line_places starts texts lists number (lines, more, grown, kept) are below =
 -- the line of a concept among those of all
 pub line_among : (name : ℕ → Option (List ℕ)) (concepts : List ℕ) (number : ℕ) → number < length concepts → get_or (map (concept_line name) concepts) number [] ≡ concept_line name (get_or concepts number 0)
 line_among name concepts number below = get_or-map (concept_line name) concepts number 0 [] below
-
-pub line_of_concept : (name : ℕ → Option (List ℕ)) (concepts : List ℕ) (lists : List (List ℕ)) (number : ℕ) → lists ≡ map (concept_line name) concepts → number < length concepts
-    → get_or lists number [] ≡ concept_line name (get_or concepts number 0)
-line_of_concept name concepts lists number are below = ap (λ (lists : List (List ℕ)). get_or lists number []) are ∙ line_among name concepts number below
 
 -- there are no more of the names than there were
 pub ruleset fewer_names = (length-names_among)

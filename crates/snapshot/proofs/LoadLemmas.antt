@@ -2,7 +2,7 @@
 use Rattle.std.proofs.Common.{rules}
 use Rattle.std.proofs.lemmas.Bool.Decides.{nat_tests}
 use Rattle.std.proofs.lemmas.Grind.{common_steps}
-use Rattle.std.proofs.Common.{arith, ℕ, ◌≡◌, ◌≤◌, ◌-◌, ◌&&◌, ◌||◌, ◌==◌, List, [], ◌∷◌, length, map, Option, None, Some, Err, sym, ◌∙◌, ap, refl, Bool, true, false, cond}
+use Rattle.std.proofs.Common.{arith, ℕ, ◌≡◌, ◌≤◌, ◌&&◌, ◌||◌, ◌==◌, List, [], ◌∷◌, length, map, Option, None, Some, Err, sym, ◌∙◌, ap, refl, Bool, true, false, cond}
 use Rattle.std.specs.Prelude.{codes, is_some, option_and_then, filter, count_by}
 use Rattle.std.specs.List.{cons_option, filter_map, list_any}
 use Rattle.std.proofs.lemmas.List.Sums.{length-filter}
@@ -11,7 +11,7 @@ use Rattle.rf2_rows.specs.Release.{Attribute, Name, Release}
 use Rattle.rf2_rows.specs.RowTexts.{RowText, of_concrete, of_relationship}
 use Rattle.rf2_rows.specs.Rows.{ConcreteText, DescriptionText, concrete_row, fields_of, text_in}
 use Rattle.rf2_rows.specs.Values.{value_of}
-use Rattle.rf2_rows.specs.declared.kind.FileKind.TheVariants.{Concept, Concrete}
+use Rattle.rf2_rows.specs.declared.kind.FileKind.TheVariants.{Concrete}
 use Rattle.rf2_rows.specs.declared.row.ConceptRow.{ConceptRow}
 use Rattle.rf2_rows.specs.declared.row.MemberRow.{MemberRow}
 use Rattle.rf2_rows.specs.declared.row.RelationshipRow.{RelationshipRow}
@@ -46,11 +46,7 @@ kept-listed {X} keep pick listed same (row ∷ rows) =
 
     by : (item : Option X) → cons_option (kept keep item) (filter keep rest) ≡ filter keep (cons_option item rest)
     by None = refl
-    by (Some x) = at (keep x)
-      where
-        at : (b : Bool) → cons_option (cond b (Some x) None) (filter keep rest) ≡ cond b (x ∷ filter keep rest) (filter keep rest)
-        at true = refl
-        at false = refl
+    by (Some x) = grind (arith, common_steps, nat_tests)
 
 -- the rows of one kind
 module _ {Row X : Type 0} (pick : RowText → Option Row) (item : Row → X) where

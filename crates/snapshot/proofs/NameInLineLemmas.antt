@@ -1,5 +1,7 @@
 -- The name in the line of a concept.
-use Rattle.std.proofs.Common.{ℕ, ◌≡◌, ◌≤◌, ◌<◌, ◌+◌, ◌-◌, ◌++◌, ◌∷◌, [], ◌∙◌, List, Option, None, Some, length, get_or, take, drop, refl, sym, ap, arith, length-append, append_assoc, get_or-take, get_or-drop}
+use Rattle.std.proofs.lemmas.Bool.Decides.{nat_tests}
+use Rattle.std.proofs.lemmas.Grind.{common_steps}
+use Rattle.std.proofs.Common.{ℕ, ◌≡◌, ◌≤◌, ◌+◌, ◌-◌, ◌++◌, ◌∷◌, [], ◌∙◌, List, Option, None, Some, length, get_or, take, drop, refl, sym, ap, arith, length-append, append_assoc, get_or-drop}
 use Rattle.std.specs.Prelude.{codes, decimal}
 use Rattle.std.specs.List.{slice_range}
 use Rattle.std.proofs.lemmas.List.{append_cancel_left, append_cancel_right, drop-drop, drop_at, get_or-append-add, get_or_at, take-append-drop, take_at}
@@ -29,10 +31,7 @@ module _ (texts digits name : List ℕ) (from to : ℕ) (rise : from ≤ to) (en
       ∙ simp append_assoc
 
   bar_before : get_or texts (from + (length digits + 1)) 0 ≡ 124
-  bar_before =
-      sym (get_or-drop from texts (length digits + 1) 0)
-      ∙ ap (λ (xs : List ℕ). get_or xs (length digits + 1) 0) (from_line ∙ append_assoc digits (codes " |") (name ++ 124 ∷ 10 ∷ drop to texts))
-      ∙ get_or-append-add digits (codes " |" ++ (name ++ 124 ∷ 10 ∷ drop to texts)) 1 0
+  bar_before = grind (arith, common_steps, nat_tests, append_assoc, from_line, get_or, get_or-append-add, get_or-drop)
 
   bar_behind : get_or texts (to - 2) 0 ≡ 124
   bar_behind =
@@ -53,8 +52,7 @@ module _ (texts digits name : List ℕ) (from to : ℕ) (rise : from ≤ to) (en
 has_name : (texts digits : List ℕ) (concept from to : ℕ) → digits ≡ decimal concept → from ≤ to → to ≤ length texts
     → (name : Option (List ℕ)) × (slice_range texts from to ≡ concept_line (λ _. name) concept) → (to - from ≡ length digits + 1 → ⊥)
     → (name : List ℕ) × (slice_range texts from to ≡ (digits ++ name_text (Some name)) ++ 10 ∷ [])
-has_name texts digits concept from to same rise end (None, line) long =
-    absurd (long (sym (length-range texts from to rise end) ∙ ap (λ (xs : List ℕ). length xs) (line ∙ (λ i. (sym same i ++ name_text None) ++ 10 ∷ [])) ∙ length-bare digits))
+has_name texts digits concept from to same rise end (None, line) long = grind (arith, common_steps, nat_tests, length-bare, length-range)
 has_name texts digits concept from to same rise end (Some name, line) long = (name, line ∙ (λ i. (sym same i ++ name_text (Some name)) ++ 10 ∷ []))
 
 -- and the name stands in it between two bars
@@ -69,11 +67,8 @@ named_line texts digits concept from to same rise end line long =
 -- lines of one concept that are equal have the same name, or none
 name_text-same : (one other : Option (List ℕ)) → name_text one ≡ name_text other → one ≡ other
 name_text-same None None same = refl
-name_text-same (Some one) (Some other) same =
-    ap (λ (name : List ℕ). Some name) (append_cancel_right one other (codes "|") (append_cancel_left (codes " |") (one ++ codes "|") (other ++ codes "|") same))
+name_text-same (Some one) (Some other) same = grind (arith, common_steps, nat_tests, append_cancel_left, append_cancel_right)
 name_text-same one other same = (cc)
 
 pub same_name : (concept : ℕ) (one other : Option (List ℕ)) → concept_line (λ _. one) concept ≡ concept_line (λ _. other) concept → one ≡ other
-same_name concept one other same =
-    name_text-same one other (append_cancel_left (decimal concept) (name_text one) (name_text other)
-    (append_cancel_right (decimal concept ++ name_text one) (decimal concept ++ name_text other) (10 ∷ []) same))
+same_name concept one other same = grind (arith, common_steps, nat_tests, append_cancel_left, append_cancel_right, name_text-same)

@@ -49,7 +49,7 @@ first_of_more language row first rows is = by (comes_before language first row) 
     by false comes = (
       first_contained row rows,
       none_before language row row rows (not_before_itself (is_in language row) row.id)
-      (λ other behind. not_by_way (is_in language other) (is_in language first) (is_in language row) other.id first.id row.id (is.1 other behind) comes),
+          (λ other behind. not_by_way (is_in language other) (is_in language first) (is_in language row) other.id first.id row.id (is.1 other behind) comes),
     )
 
 first_of_all : (language : List ℕ) (row : Name) (rows : List Name) → IsFirst language (row ∷ rows) (first_of_two language row (first_name language rows))

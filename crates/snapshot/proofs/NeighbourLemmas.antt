@@ -1,10 +1,11 @@
 -- In a sorted list a number stands more than once where it equals the one before it.
+use Rattle.std.proofs.Common.{rules}
 use Rattle.std.proofs.Common.{ℕ, zero, suc, ◌≡◌, ◌≢◌, ◌<◌, ◌≤◌, ◌+◌, ◌-◌, ◌==◌, ◌↔◌, inl, inr, List, [], ◌∷◌, ◌++◌, length, get_or, take, cond, nat_eq, nat_lt, sym, ◌∙◌, ap, subst, refl, arith}
 use Rattle.std.specs.Prelude.{All, AllPairs, Contains, IsPermutation, IsSorted}
 use Rattle.std.specs.Ordering.{nat_cmp}
 use Rattle.std.specs.List.{dedup}
 use Rattle.std.specs.List.Sorted.{IsNonDecreasing, IsStrictlyIncreasing}
-use Rattle.std.proofs.lemmas.Bool.{cases_lt, cond_both, lt-ltb, ltb-false, ltb-true, ne_eqb}
+use Rattle.std.proofs.lemmas.Bool.{cases_lt, cond_both, lt-ltb, ltb-false, ltb-true}
 use Rattle.std.proofs.lemmas.Bool.Decides.{nat_tests}
 use Rattle.std.proofs.lemmas.List.Elements.{All-cons, All-nil}
 use Rattle.std.proofs.lemmas.List.Kept.{AllPairs-cons, Contains-dedup_nat, Contains-from_dedup}
@@ -52,8 +53,7 @@ neighbours_rise x (y ∷ xs) up =
 
 sorted_neighbours : (xs : List ℕ) → IsNonDecreasing xs → IsSorted nat_cmp (equal_neighbours xs)
 sorted_neighbours [] up = λ k d low within. absurd (omega arith)
-sorted_neighbours (x ∷ xs) up = λ k d low within.
-    let next = (neighbours_rise x xs up).0 k (k + 1) d (omega arith) within in grind (arith, nat_tests)
+sorted_neighbours (x ∷ xs) up = search (rules, nat_tests, neighbours_rise)
 
 -- a number is in a list where it stands there at least once
 times-has : (key : ℕ) (xs : List ℕ) → has xs key ≡ nat_lt 0 (times key xs)
@@ -92,8 +92,7 @@ rising_once xs up key =
     no_neighbour (x ∷ []) up = refl
     no_neighbour (x ∷ y ∷ xs) up =
         let below : x < y = up 0 (omega arith) in
-        rw (ne_eqb x y (λ same. omega arith))
-        (no_neighbour (y ∷ xs) (λ k within. earlier_below (x ∷ y ∷ xs) up (suc k) (suc (k + 1)) (omega arith) (omega arith)))
+        grind (arith, nat_tests, below, no_neighbour (y ∷ xs) (λ k within. earlier_below (x ∷ y ∷ xs) up (suc k) (suc (k + 1)) (omega arith) (omega arith)))
 
 module _ (keys sorted repeated : List ℕ) (moved : IsPermutation keys sorted) (up : IsSorted nat_cmp sorted) (are : repeated ≡ dedup nat_eq (equal_neighbours sorted)) where
   -- the equal neighbours of a sorted list, each once, rise

@@ -1,5 +1,7 @@
 -- Concepts by their identifiers and by their numbers: rows, chains of rows and cycles are the same.
-use Rattle.std.proofs.Common.{ℕ, ◌≡◌, ◌≤◌, ◌<◌, ◌==◌, ◌&&◌, ◌-◌, List, [], ◌∷◌, length, get_or, map, Bool, true, false, ltb, None, Some, sym, ◌∙◌, ap, subst, refl, arith}
+use Rattle.std.proofs.Common.{rules, lt-ltb}
+use Rattle.std.proofs.lemmas.Grind.{common_steps}
+use Rattle.std.proofs.Common.{ℕ, ◌≡◌, ◌≤◌, ◌<◌, ◌==◌, ◌-◌, List, [], ◌∷◌, length, get_or, map, Bool, true, false, ltb, None, Some, sym, ◌∙◌, ap, subst, refl, arith}
 use Rattle.std.specs.Prelude.{All, Contains, find, is_some}
 use Rattle.std.specs.List.{filter_map, position_or_len}
 use Rattle.std.specs.List.Sorted.{IsStrictlyIncreasing}
@@ -8,7 +10,7 @@ use Rattle.std.proofs.lemmas.List.Elements.{All-map, filter_passes}
 use Rattle.std.proofs.lemmas.List.Folds.{map_fixed}
 use Rattle.std.proofs.lemmas.List.Recursion.{found_at, found_nowhere}
 use Rattle.std.proofs.lemmas.Simd.{map-map}
-use Rattle.std.proofs.lemmas.Bool.{and_parts, eqb-true, eq-eqb, false_from_ne_true, ltb-true, lt-ltb}
+use Rattle.std.proofs.lemmas.Bool.{and_parts, eqb-true, eq-eqb, false_from_ne_true, ltb-true}
 use Rattle.std.proofs.lemmas.Bool.Decides.{nat_tests}
 use Rattle.hierarchy.specs.Hierarchy.{IsWithin, Reaches, more_rows, one_row, reaches}
 use Rattle.hierarchy.proofs.HierarchyLemmas.{chain_from_test, test_from_chain}
@@ -45,8 +47,7 @@ place_below concepts id there = ltb-true (place_of concepts id) (length concepts
 
 -- the identifier at the place of an identifier among concepts is that identifier
 pub get_or-place_of : (concepts : List ℕ) (id : ℕ) → has concepts id ≡ true → get_or concepts (place_of concepts id) 0 ≡ id
-get_or-place_of concepts id there =
-    sym (eqb-true id (get_or concepts (place_of concepts id) 0) (passes_at_first (λ other. id == other) concepts 0 (place_below concepts id there)))
+get_or-place_of concepts id there = grind (arith, common_steps, nat_tests, eqb-true, get_or, passes_at_first, place_below)
 
 -- the place of the identifier at a place, among rising concepts
 pub place_of-get_or : (concepts : List ℕ) → IsStrictlyIncreasing concepts → (i : ℕ) → i < length concepts → place_of concepts (get_or concepts i 0) ≡ i
@@ -66,10 +67,7 @@ number_has concepts id = grind (arith, nat_tests, place_within concepts id)
 -- the number of the identifier at a place is the place
 pub number_at : (concepts : List ℕ) → IsStrictlyIncreasing concepts → (id place : ℕ) → place < length concepts
     → get_or concepts place 0 ≡ id → Some place ≡ concept_number concepts id
-number_at concepts rising id place within is =
-    let same : place_of concepts id ≡ place = ap (place_of concepts) (sym is) ∙ place_of-get_or concepts rising place within in
-    let there : has concepts id ≡ true = sym (place_within concepts id) ∙ lt-ltb (place_of concepts id) (length concepts) (omega (arith, same, within)) in
-    sym (concept_number-has concepts id there ∙ ap Some same)
+number_at concepts rising id place within is = grind (arith, common_steps, nat_tests, concept_number-has, lt-ltb, place_of-get_or, place_within)
 
 -- an identifier has no number where those before a place are less and those from it on are greater
 pub number_nowhere : (concepts : List ℕ) → IsStrictlyIncreasing concepts → (id place : ℕ) → place ≤ length concepts
@@ -87,15 +85,13 @@ numbered_rows concepts (row ∷ rows) = grind (arith, nat_tests, numbered_rows c
 
 -- both ends of each of them are concepts
 ends_among : (concepts : List ℕ) (rows : List (ℕ × ℕ)) → All (λ (row : ℕ × ℕ). (has concepts row.0 ≡ true) × (has concepts row.1 ≡ true)) (rows_among concepts rows)
-ends_among concepts rows k d within =
-    and_parts _ _ (filter_passes (λ (row : ℕ × ℕ). has concepts row.0 && has concepts row.1) rows k d within)
+ends_among concepts rows k d within = grind (arith, common_steps, nat_tests, and_parts, filter_passes)
 
 -- and by the identifiers at these numbers they are the rows again
 pub rows_of_numbers : (concepts : List ℕ) (rows : List (ℕ × ℕ))
     → map (row_of_numbers concepts) (filter_map (numbered_row concepts) rows) ≡ rows_among concepts rows
 rows_of_numbers concepts [] = refl
-rows_of_numbers concepts (row ∷ rows) =
-    grind (arith, nat_tests, rows_of_numbers concepts rows, place_within concepts row.0, place_within concepts row.1, get_or-place_of concepts row.0, get_or-place_of concepts row.1)
+rows_of_numbers concepts (row ∷ rows) = grind (arith, common_steps, nat_tests, get_or-place_of, nat_tests, place_within, (rows_of_numbers concepts rows))
 
 -- what stands at the first place where a test passes is found
 pub find-first : (test : ℕ → Bool) (xs : List ℕ) (i : ℕ) → i < length xs → ((k : ℕ) → k < i → test (get_or xs k 0) ≡ false)
@@ -124,22 +120,18 @@ module _ (concepts : List ℕ) (rising : IsStrictlyIncreasing concepts) (ends : 
   -- a concept that does not reach itself by its number does not by its identifier
   lacks_by_id : (i : ℕ) → i < length concepts → (Reaches (filter_map (numbered_row concepts) ends) i i → ⊥)
       → reaches (rows_among concepts ends) (get_or concepts i 0) (get_or concepts i 0) ≡ false
-  lacks_by_id i within none =
-      false_from_ne_true (reaches (rows_among concepts ends) (get_or concepts i 0) (get_or concepts i 0)) (λ holds. none (reaches_by_number i within holds))
+  lacks_by_id i within none = grind (arith, common_steps, nat_tests, false_from_ne_true, get_or, reaches_by_number)
 
   -- the least concept that reaches itself by its number is the first that does by its identifier
   pub first_cyclic-Some : (i : ℕ) → i < length concepts → Reaches (filter_map (numbered_row concepts) ends) i i
       → ((k : ℕ) → k < i → Reaches (filter_map (numbered_row concepts) ends) k k → ⊥)
       → first_cyclic concepts (rows_among concepts ends) ≡ Some (get_or concepts i 0)
-  first_cyclic-Some i within chain least =
-      find-first (λ concept. reaches (rows_among concepts ends) concept concept) concepts i within
-      (λ k before. lacks_by_id k (omega arith) (least k before)) (reaches_by_id i chain)
+  first_cyclic-Some i within chain least = grind (arith, common_steps, nat_tests, find-first, lacks_by_id, reaches_by_id)
 
   -- where none does by its number, none does by its identifier
   pub first_cyclic-None : ((k : ℕ) → k < length concepts → Reaches (filter_map (numbered_row concepts) ends) k k → ⊥)
       → first_cyclic concepts (rows_among concepts ends) ≡ None
-  first_cyclic-None none =
-      find-none (λ concept. reaches (rows_among concepts ends) concept concept) concepts (λ k within. lacks_by_id k within (none k within))
+  first_cyclic-None none = grind (arith, common_steps, nat_tests, find-none, lacks_by_id)
 
 -- the numbers in numbered rows are those of concepts
 pub IsWithin-numbered : (concepts : List ℕ) (ends : List (ℕ × ℕ)) → IsWithin (length concepts) (filter_map (numbered_row concepts) ends)
@@ -152,11 +144,7 @@ IsWithin-numbered concepts ends =
 -- rows of numbers of concepts are told apart by the concepts' identifiers
 pub numbers_again : (concepts : List ℕ) → IsStrictlyIncreasing concepts → (rows : List (ℕ × ℕ)) → IsWithin (length concepts) rows
     → map (λ (row : ℕ × ℕ). (place_of concepts row.0, place_of concepts row.1)) (map (row_of_numbers concepts) rows) ≡ rows
-numbers_again concepts rises rows within =
-    map-map (row_by (place_of concepts)) (row_of_numbers concepts) rows
-    ∙ map_fixed (λ row. row_by (place_of concepts) (row_of_numbers concepts row)) rows (λ k d inside.
-    let near = within k d inside in
-    (λ i. (place_of-get_or concepts rises _ near.0 i, place_of-get_or concepts rises _ near.1 i)))
+numbers_again concepts rises rows within = search (rules, map-map, map_fixed, place_of-get_or)
 
 pub same_numbers : (concepts : List ℕ) → IsStrictlyIncreasing concepts → (rows others : List (ℕ × ℕ)) → IsWithin (length concepts) rows → IsWithin (length concepts) others
     → map (row_of_numbers concepts) rows ≡ map (row_of_numbers concepts) others → rows ≡ others

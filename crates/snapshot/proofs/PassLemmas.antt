@@ -6,7 +6,7 @@ use Rattle.std.proofs.Common.{◌≡◌, ◌∙◌, List, [], ◌∷◌, ◌++�
 use Rattle.std.specs.Prelude.{option_and_then, option_to_list}
 use Rattle.std.specs.List.{cons_option}
 use Rattle.std.proofs.lemmas.List.Elements.{filter_map-append}
-use Rattle.snapshot.specs.Faults.{conflict_behind, crowd_behind, fault_at, fault_behind, fault_here, first_fault, first_of}
+use Rattle.snapshot.specs.Faults.{crowd_behind, fault_at, fault_behind, fault_here, first_fault, first_of}
 use Rattle.snapshot.specs.Files.{Place, RowAt, row_at, rows_of}
 use Rattle.snapshot.specs.Seen.{first_conflict}
 use Rattle.snapshot.specs.declared.fault.LoadFault.{LoadFault}
@@ -43,9 +43,4 @@ first_fault-plain limits front (place ∷ places) earlier same (plain_next befor
         ≡ first_conflict earlier (cons_option row (rows_of places))
     by (Some fault) row clean = (cc)
     by None None clean = ap (λ (rows : List RowAt). first_conflict rows (rows_of places)) (append-nil earlier)
-    by None (Some row) clean = at_row (conflict_behind earlier row) (crowd_behind limits earlier row) clean
-      where
-        at_row : (conflict crowd : Option LoadFault) → crowd ≡ None
-            → first_of (first_of conflict crowd) (first_conflict (earlier ++ row ∷ []) (rows_of places)) ≡ first_of conflict (first_conflict (earlier ++ row ∷ []) (rows_of places))
-        at_row (Some fault) crowd none = refl
-        at_row None crowd none = ap (λ (fault : Option LoadFault). first_of fault (first_conflict (earlier ++ row ∷ []) (rows_of places))) none
+    by None (Some row) clean = grind (arith, common_steps, nat_tests)

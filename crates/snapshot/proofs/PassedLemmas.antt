@@ -1,11 +1,10 @@
 -- The rows that are in none of a release's lists are as many as the rows less those in its lists.
 use Rattle.std.proofs.lemmas.Bool.Decides.{nat_tests}
 use Rattle.std.proofs.lemmas.Grind.{common_steps}
-use Rattle.std.proofs.Common.{ℕ, zero, suc, ◌≡◌, ◌+◌, ◌-◌, ◌&&◌, ◌||◌, ◌==◌, List, [], ◌∷◌, ◌++◌, length, map, None, Some, sym, ◌∙◌, ap, refl, arith, Bool, true, false, cond, not, nat_eq, nat_lt, filter}
+use Rattle.std.proofs.Common.{ℕ, suc, ◌≡◌, ◌+◌, ◌&&◌, ◌||◌, ◌==◌, List, [], ◌∷◌, ◌++◌, length, map, sym, ◌∙◌, ap, refl, arith, Bool, false, not, nat_eq, filter}
 use Rattle.std.specs.Prelude.{count_by}
-use Rattle.std.specs.List.{AllByRecursion, IsDistinct, cons_option}
-use Rattle.std.specs.List.Sorted.{IsStrictlyIncreasing}
-use Rattle.std.proofs.lemmas.Bool.{false≢true, eqb-true, eq-eqb}
+use Rattle.std.specs.List.{AllByRecursion, IsDistinct}
+use Rattle.std.proofs.lemmas.Bool.{eqb-true}
 use Rattle.std.proofs.lemmas.Cmp.{nat_eq_equiv}
 use Rattle.std.proofs.lemmas.List.{length-map}
 use Rattle.std.proofs.lemmas.List.Sums.{sum_by-append}
@@ -15,15 +14,15 @@ use Rattle.rf2_rows.specs.RowTexts.{RowText, of_concept, of_concrete, of_descrip
 use Rattle.rf2_rows.specs.Rows.{ConcreteText}
 use Rattle.rf2_rows.specs.declared.row.ConceptRow.{ConceptRow}
 use Rattle.rf2_rows.specs.declared.row.RelationshipRow.{RelationshipRow}
-use Rattle.snapshot.specs.Chosen.{choices, chosen, marked}
+use Rattle.snapshot.specs.Chosen.{choices, marked}
 use Rattle.snapshot.specs.Files.{RowAt}
 use Rattle.hierarchy.specs.Members.{has}
-use Rattle.snapshot.specs.InForce.{KeepsRising, attributes_in_force, concept_rows, concrete_attribute, concrete_rows, description_rows, is_concrete_in_force, is_in_force, listed_count, member_rows, put, relationship_attribute, relationship_rows, release_of, rising}
+use Rattle.snapshot.specs.InForce.{KeepsRising, attributes_in_force, concept_rows, concrete_rows, description_rows, is_concrete_in_force, is_in_force, listed_count, member_rows, put, relationship_rows, release_of, rising}
 use Rattle.snapshot.specs.Metadata.{is_a}
 use Rattle.snapshot.specs.Passed.{CountsPassedRows, failing, passed_texts}
 use Rattle.snapshot.proofs.ApartLemmas.{active-distinct}
 use Rattle.snapshot.proofs.LoadLemmas.{concepts-listed}
-use Rattle.snapshot.proofs.SortLemmas.{Rises, Rises-rising, has-rising}
+use Rattle.snapshot.proofs.SortLemmas.{has-rising, rising-rises}
 
 -- the rows that pass a test and those that fail it are all rows
 split : {Row : Type 0} (test : Row → Bool) (rows : List Row) → length (filter test rows) + failing test rows ≡ length rows
@@ -33,13 +32,7 @@ split test (row ∷ rows) = grind (arith, common_steps, nat_tests, (split test r
 -- a new number makes a rising list longer by one
 length-put : (id : ℕ) (xs : List ℕ) → has xs id ≡ false → length (put id xs) ≡ suc (length xs)
 length-put id [] new = refl
-length-put id (x ∷ xs) new = by (nat_lt id x) (id == x) refl (length-put id xs) new
-  where
-    by : (below same : Bool) → (id == x) ≡ same → (has xs id ≡ false → length (put id xs) ≡ suc (length xs))
-        → (same || has xs id) ≡ false → length (cond below (id ∷ x ∷ xs) (cond same (x ∷ xs) (x ∷ put id xs))) ≡ suc (suc (length xs))
-    by true same is rest new = refl
-    by false true is rest new = absurd (false≢true (sym new))
-    by false false is rest new = ap suc (rest new)
+length-put id (x ∷ xs) new = grind (arith, nat_tests, length-put id xs, new)
 
 -- a number that is the same as none of a list is not among them
 not_among : (x : ℕ) (xs : List ℕ) → AllByRecursion (λ y. nat_eq x y ≡ false) xs → has xs x ≡ false
@@ -65,33 +58,13 @@ IsCounted concepts attributes relationships concretes =
     length attributes + isa_count concepts relationships + failing (is_in_force concepts) relationships + failing (is_listed concepts) concretes
     ≡ length relationships + length concretes
 
--- one row more
-count_relationship : (concepts : List ℕ) (attributes : List Attribute) (relationships : List RelationshipRow) (concretes : List ConcreteText) (row : RelationshipRow) (in_force isa : Bool)
-    → IsCounted concepts attributes relationships concretes
-    → length (cons_option (cond (in_force && not isa) (Some (relationship_attribute row)) None) attributes)
-    + length (cond (in_force && isa) (row ∷ filter (λ (r : RelationshipRow). is_in_force concepts r && (r.type_id == is_a)) relationships) (filter (λ (r : RelationshipRow). is_in_force concepts r && (r.type_id == is_a)) relationships))
-    + length (cond (not in_force) (row ∷ filter (λ (r : RelationshipRow). not (is_in_force concepts r)) relationships) (filter (λ (r : RelationshipRow). not (is_in_force concepts r)) relationships))
-    + failing (is_listed concepts) concretes
-    ≡ suc (length relationships) + length concretes
-count_relationship concepts attributes relationships concretes row true true counted = omega (arith, counted)
-count_relationship concepts attributes relationships concretes row true false counted = omega (arith, counted)
-count_relationship concepts attributes relationships concretes row false isa counted = omega (arith, counted)
-
-count_concrete : (concepts : List ℕ) (attributes : List Attribute) (relationships : List RelationshipRow) (concretes : List ConcreteText) (row : ConcreteText) (listed : Bool)
-    → IsCounted concepts attributes relationships concretes
-    → length (cons_option (cond listed (Some (concrete_attribute row)) None) attributes) + isa_count concepts relationships + failing (is_in_force concepts) relationships
-    + length (cond (not listed) (row ∷ filter (λ (r : ConcreteText). not (is_listed concepts r)) concretes) (filter (λ (r : ConcreteText). not (is_listed concepts r)) concretes))
-    ≡ length relationships + suc (length concretes)
-count_concrete concepts attributes relationships concretes row true counted = omega (arith, counted)
-count_concrete concepts attributes relationships concretes row false counted = omega (arith, counted)
-
 counts_relationships : (concepts : List ℕ) (rows : List RowText)
     → IsCounted concepts (attributes_in_force concepts rows) (relationship_rows rows) (concrete_rows rows)
 counts_relationships concepts [] = omega arith
 counts_relationships concepts (of_concept row ∷ rows) = counts_relationships concepts rows
 counts_relationships concepts (of_description row ∷ rows) = counts_relationships concepts rows
-counts_relationships concepts (of_relationship row ∷ rows) = grind (arith, common_steps, nat_tests, count_relationship, (counts_relationships concepts rows))
-counts_relationships concepts (of_concrete row ∷ rows) = grind (arith, common_steps, nat_tests, count_concrete, (counts_relationships concepts rows))
+counts_relationships concepts (of_relationship row ∷ rows) = grind (arith, nat_tests, counts_relationships concepts rows)
+counts_relationships concepts (of_concrete row ∷ rows) = grind (arith, nat_tests, counts_relationships concepts rows)
 counts_relationships concepts (of_member row ∷ rows) = counts_relationships concepts rows
 
 -- the rows of the kinds are all rows
@@ -117,19 +90,9 @@ listed_or_passed rows apart = grind (arith, common_steps, nat_tests, all_kinds, 
 pub counts_passed_rows : CountsPassedRows
 counts_passed_rows limits language files places clean = grind (arith, common_steps, nat_tests, active-distinct, choices_split, concepts-listed, length-map, listed_or_passed, nat_eq)
 
--- a list of which each number is below all behind it is strictly rising
-increasing-from_Rises : (xs : List ℕ) → Rises xs → IsStrictlyIncreasing xs
-increasing-from_Rises [] up k within = absurd (omega arith)
-increasing-from_Rises (x ∷ []) up k within = absurd (omega arith)
-increasing-from_Rises (x ∷ y ∷ ys) up zero within = up.0 y (eq_or y ys)
-  where
-    eq_or : (y : ℕ) (ys : List ℕ) → has (y ∷ ys) y ≡ true
-    eq_or y ys = ap (λ b. b || has ys y) (eq-eqb y y refl)
-increasing-from_Rises (x ∷ y ∷ ys) up (suc k) within = grind (arith, common_steps, nat_tests, (increasing-from_Rises (y ∷ ys) up.1 k (omega arith)))
-
 pub keeps_rising : KeepsRising
 keeps_rising ids = (
-  increasing-from_Rises (rising ids) (Rises-rising ids),
+  rising-rises ids,
   λ id. (
     λ there. Contains-from_any (λ x y alike. eqb-true x y alike) id ids (sym (has-rising ids id) ∙ list_any-from_Contains nat_eq_equiv id (rising ids) there),
     λ there. Contains-from_any (λ x y alike. eqb-true x y alike) id (rising ids) (has-rising ids id ∙ list_any-from_Contains nat_eq_equiv id ids there),

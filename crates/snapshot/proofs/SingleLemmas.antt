@@ -12,7 +12,7 @@ use Rattle.rf2_rows.specs.RowTexts.{RowText, of_concept, of_concrete, of_descrip
 use Rattle.rf2_rows.specs.Versions.{id_on, member_number}
 use Rattle.rf2_rows.specs.declared.kind.FileKind.{FileKind}
 use Rattle.rf2_rows.specs.declared.kind.FileKind.TheVariants.{Concept, Concrete, Description, Member, Relationship}
-use Rattle.snapshot.specs.Chosen.{choices, conflicts, is_later, marked, same_component, same_kind, id_of}
+use Rattle.snapshot.specs.Chosen.{choices, is_later, marked, same_component, same_kind, id_of}
 use Rattle.snapshot.specs.Contents.{text_of_row}
 use Rattle.snapshot.specs.Files.{RowAt}
 use Rattle.hierarchy.specs.Members.{has}
@@ -185,7 +185,7 @@ apart-later earlier more (next ∷ rows) row single =
     apart-later earlier (more ++ next ∷ []) rows row (subst (λ (all : List RowAt). AreSingle all rows) cut single.1) in
     rw (same_component-sym next row ∙ apart) rest
 
-is_later-itself : (time : Option ℕ) → is_later time time ≡ false
+pub is_later-itself : (time : Option ℕ) → is_later time time ≡ false
 is_later-itself None = refl
 is_later-itself (Some time) = grind (arith, common_steps, nat_tests, nat_lt, nat_tests)
 

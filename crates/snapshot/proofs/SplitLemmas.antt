@@ -1,5 +1,7 @@
 -- Rows cut in two around one of them: where two rows of one version both come first, they are one.
-use Rattle.std.proofs.Common.{◌≡◌, ◌<◌, inl, inr, List, ◌∷◌, ◌++◌, length, get_or, Bool, true, false, sym, ◌∙◌, ap, refl, arith}
+use Rattle.std.proofs.lemmas.Bool.Decides.{nat_tests}
+use Rattle.std.proofs.lemmas.Grind.{common_steps}
+use Rattle.std.proofs.Common.{◌≡◌, ◌<◌, List, ◌∷◌, ◌++◌, length, get_or, Bool, true, false, sym, ◌∙◌, ap, refl, arith}
 use Rattle.std.specs.Prelude.{Contains}
 use Rattle.std.specs.List.{list_any}
 use Rattle.std.proofs.lemmas.Bool.{cases_order, false≢true}
@@ -32,8 +34,4 @@ module _ (before : List Noted) (row : Noted) (behind before' : List Noted) (row'
 pub one_first : (before : List Noted) (row : Noted) (behind before' : List Noted) (row' : Noted) (behind' : List Noted)
     → before ++ row ∷ behind ≡ before' ++ row' ∷ behind' → is_repeated before row ≡ false → is_repeated before' row' ≡ false
     → same_version row row' ≡ true → same_version row' row ≡ true → (row ≡ row') × (length before ≡ length before')
-one_first before row behind before' row' behind' same first first' one other = elim (cases_order (length before) (length before')) [
-  | inl long ↦ (one_at before row behind before' row' behind' same long, long)
-  | inr (inl less) ↦ absurd (false≢true (sym first' ∙ any_of (λ earlier. same_version earlier row') before' row (cut_earlier before row behind before' row' behind' same less) one))
-  | inr (inr more) ↦ absurd (false≢true (sym first ∙ any_of (λ earlier. same_version earlier row) before row' (cut_earlier before' row' behind' before row behind (sym same) more) other))
-]
+one_first before row behind before' row' behind' same first first' one other = grind (arith, common_steps, nat_tests, any_of, cases_order, cut_earlier, false≢true, one_at)

@@ -1,7 +1,7 @@
 -- Going over places one after another, and up to one that is refused.
 use Rattle.std.proofs.lemmas.Bool.Decides.{nat_tests}
 use Rattle.std.proofs.lemmas.Grind.{common_steps}
-use Rattle.std.proofs.Common.{ℕ, ◌≡◌, ◌+◌, ◌<◌, ◌≤◌, List, [], ◌∷◌, ◌++◌, append_assoc, ap, arith, drop, drop-cons, get_or, length, map, refl, subst, sym, ◌∙◌, ◌^◌, ◌-◌, true, false, Option, None, Some, Result, Ok, Err}
+use Rattle.std.proofs.Common.{ℕ, ◌≡◌, ◌+◌, ◌<◌, ◌≤◌, List, [], ◌∷◌, ◌++◌, append_assoc, ap, arith, drop, drop-cons, get_or, length, map, refl, subst, sym, ◌∙◌, ◌^◌, true, false, Option, None, Some, Result, Ok, Err}
 use Rattle.std.specs.Prelude.{IfErr, IfOk, IfSome, OnOk}
 use Rattle.std.proofs.lemmas.List.{drop_all}
 use Rattle.release_files.specs.Source.{file_text}

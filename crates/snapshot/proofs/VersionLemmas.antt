@@ -1,9 +1,10 @@
 -- Rows taken one after another: what a further one changes, and whether it conflicts with one before it.
-use Rattle.std.proofs.Common.{ℕ, ◌≡◌, ◌<◌, ◌&&◌, ◌==◌, inl, inr, List, [], ◌∷◌, ◌++◌, length, get_or, Bool, true, false, not, nat_eq, None, Some, position, sym, ◌∙◌, ap, subst, refl, arith, append_assoc, append-nil}
+use Rattle.std.proofs.Common.{rules, eq-eqb}
+use Rattle.std.proofs.Common.{ℕ, ◌≡◌, ◌<◌, ◌&&◌, ◌==◌, List, [], ◌∷◌, ◌++◌, length, get_or, Bool, true, false, not, nat_eq, None, Some, position, sym, ◌∙◌, ap, subst, refl, arith, append_assoc, append-nil}
 use Rattle.std.specs.Prelude.{All, Contains}
 use Rattle.std.specs.List.{list_any}
 use Rattle.std.specs.List.Sorted.{IsStrictlyIncreasing}
-use Rattle.std.proofs.lemmas.Bool.{cases_Bool, eqb-true, eq-eqb, false≢true, false_from_ne_true, and_parts, and_from, and_left, and_right}
+use Rattle.std.proofs.lemmas.Bool.{eqb-true, false≢true, false_from_ne_true, and_parts, and_from, and_left, and_right}
 use Rattle.std.proofs.lemmas.Bool.Decides.{nat_tests}
 use Rattle.std.proofs.lemmas.Grind.{common_steps}
 use Rattle.std.proofs.lemmas.List.{get_or-map, map_push}
@@ -27,51 +28,28 @@ use Rattle.snapshot.proofs.SplitLemmas.{Contains-cut, any_of, one_first}
 firsts-push : (repeated : List ℕ) (earlier later : List Noted) (row : Noted)
     → firsts repeated earlier (later ++ row ∷ []) ≡ firsts repeated earlier later ++ not (has repeated row.key && is_repeated (earlier ++ later) row) ∷ []
 firsts-push repeated earlier [] row = ap (λ (rows : List Noted). not (has repeated row.key && is_repeated rows row) ∷ []) (sym (append-nil earlier))
-firsts-push repeated earlier (first ∷ later) row =
-    ap (λ (marks : List Bool). not (has repeated first.key && is_repeated earlier first) ∷ marks)
-    (firsts-push repeated (earlier ++ first ∷ []) later row
-    ∙ ap (λ (rows : List Noted). firsts repeated (earlier ++ first ∷ []) later ++ not (has repeated row.key && is_repeated rows row) ∷ []) (append_assoc earlier (first ∷ []) later))
+firsts-push repeated earlier (first ∷ later) row = grind (arith, common_steps, nat_tests, append_assoc, (firsts-push repeated (earlier ++ first ∷ []) later row))
 
 length-firsts : (repeated : List ℕ) (earlier later : List Noted) → length (firsts repeated earlier later) ≡ length later
 length-firsts repeated earlier [] = refl
 length-firsts repeated earlier (row ∷ later) = let rest = length-firsts repeated (earlier ++ row ∷ []) later in omega arith
 
--- as many marks as rows
-pub length-chosen : (taken : Taken) (rows : List Noted) → HasTaken taken rows → length taken.chosen ≡ length rows
-length-chosen taken rows has_taken = ap length has_taken.chosen ∙ length-firsts taken.repeated [] rows
-
 -- versions stay those of their rows
 versions-push : (repeated : List ℕ) (rows : List Noted) (row : Noted) (versions : List Version)
     → All (IsVersionAmong repeated rows) versions → All (IsVersionAmong repeated (rows ++ row ∷ [])) versions
-versions-push repeated rows row versions = All-weaker (IsVersionAmong repeated rows) (IsVersionAmong repeated (rows ++ row ∷ [])) (λ version is. record {
-  before = is.before;
-  row = is.row;
-  behind = is.behind ++ row ∷ [];
-  stands = ap (λ (rows : List Noted). rows ++ row ∷ []) is.stands ∙ append_assoc is.before (is.row ∷ is.behind) (row ∷ []);
-  place = is.place;
-  code = is.code;
-  kind = is.kind;
-  text = is.text;
-  first = is.first;
-}) versions
+versions-push repeated rows row versions = search (rules, All-weaker, append_assoc)
 
 -- the mark of one row more
 marks-push : (repeated : List ℕ) (rows : List Noted) (row : Noted) (marks new : List Bool) (mark : Bool)
     → marks ≡ firsts repeated [] rows → new ≡ marks ++ mark ∷ [] → mark ≡ not (has repeated row.key && is_repeated rows row)
     → new ≡ firsts repeated [] (rows ++ row ∷ [])
-marks-push repeated rows row marks new mark were are is =
-    are ∙ ap (λ (marks : List Bool). marks ++ mark ∷ []) were ∙ ap (λ (mark : Bool). firsts repeated [] rows ++ mark ∷ []) is ∙ sym (firsts-push repeated [] rows row)
+marks-push repeated rows row marks new mark were are is = grind (arith, common_steps, nat_tests, firsts-push)
 
 -- a row is taken that is no first row of a version
 taken_pushed : (taken : Taken) (chosen : List Bool) (rows : List Noted) (row : Noted) (mark : Bool) → chosen ≡ taken.chosen ++ mark ∷ []
     → mark ≡ not (has taken.repeated row.key && is_repeated rows row) → IsOfVersion taken.repeated taken.versions row → HasTaken taken rows
     → HasTaken (record taken { chosen = chosen }) (rows ++ row ∷ [])
-taken_pushed taken chosen rows row mark are is of before = record {
-  codes = before.codes;
-  versions = versions-push taken.repeated rows row taken.versions before.versions;
-  agree = All-push (IsOfVersion taken.repeated taken.versions) rows row before.agree of;
-  chosen = marks-push taken.repeated rows row taken.chosen chosen mark before.chosen are is;
-}
+taken_pushed taken chosen rows row mark are is of before = grind (arith, common_steps, nat_tests, versions-push, All-push, firsts-push)
 
 -- a row whose key is not repeated is taken
 pub taken_skip : (taken : Taken) (chosen : List Bool) (rows : List Noted) (row : Noted)
@@ -85,18 +63,12 @@ module _ (repeated : List ℕ) (rising : IsStrictlyIncreasing repeated) (rows : 
   -- a row of a version's code is of one component and time with its first row
   pub first_is_same : (version : Version) (is : IsVersionAmong repeated rows version) (row : Noted) → IsCodeOf repeated row version.code
       → (same_version is.row row ≡ true) × (same_version row is.row ≡ true)
-  first_is_same version is row code = (
-    same_version-code repeated rising is.row row version.code version.code is.code code ∙ eq-eqb version.code version.code refl,
-    same_version-code repeated rising row is.row version.code version.code code is.code ∙ eq-eqb version.code version.code refl,
-  )
+  first_is_same version is row code = grind (arith, common_steps, nat_tests, eq-eqb, same_version-code)
 
   -- two versions with one code have one first row
   one_version : (version other : Version) (is : IsVersionAmong repeated rows version) (is' : IsVersionAmong repeated rows other)
       → version.code ≡ other.code → is.row ≡ is'.row
-  one_version version other is is' same =
-      let code : IsCodeOf repeated is'.row version.code = subst (IsCodeOf repeated is'.row) (sym same) is'.code in
-      let both = first_is_same version is is'.row code in
-      (one_first is.before is.row is.behind is'.before is'.row is'.behind (sym is.stands ∙ is'.stands) is.first is'.first both.0 both.1).0
+  one_version version other is is' same = grind (arith, common_steps, nat_tests, first_is_same, one_first)
 
   -- the first row of a version is among the rows
   pub Contains-first : (version : Version) (is : IsVersionAmong repeated rows version) → Contains rows is.row
@@ -104,8 +76,7 @@ module _ (repeated : List ℕ) (rising : IsStrictlyIncreasing repeated) (rows : 
 
   -- a row of one of the versions is of one component and time with an earlier one
   pub repeats : (version : Version) → IsVersionAmong repeated rows version → (row : Noted) → IsCodeOf repeated row version.code → is_repeated rows row ≡ true
-  repeats version is row code =
-      any_of (λ other. same_version other row) rows is.row (Contains-first version is) (first_is_same version is row code).0
+  repeats version is row code = grind (arith, common_steps, nat_tests, Contains-first, any_of, first_is_same)
 
 module _ (taken : Taken) (rising : IsStrictlyIncreasing taken.repeated) (rows : List Noted) (before : HasTaken taken rows) (row : Noted) where
   -- the version of an earlier row of its component and time
@@ -119,9 +90,7 @@ module _ (taken : Taken) (rising : IsStrictlyIncreasing taken.repeated) (rows : 
 
   -- among the versions the code of each stands
   has-version : (version : Version) → Contains taken.versions version → has taken.codes version.code ≡ true
-  has-version version there =
-      had_contained taken.codes version.code
-      (subst (λ (codes : List ℕ). Contains codes version.code) (sym before.codes) (contains_map (λ (version : Version). version.code) taken.versions version there))
+  has-version version there = grind (arith, common_steps, nat_tests, contains_map, had_contained)
 
   module _ (code : ℕ) (is : IsCodeOf taken.repeated row code) where
     -- of a version that was not seen no row is before it
@@ -168,9 +137,10 @@ module _ (taken : Taken) (rising : IsStrictlyIncreasing taken.repeated) (rows : 
           (λ k d within. agrees (get_or rows k d) (Contains-get_or rows k d within))
         where
           agrees : (other : Noted) → Contains rows other → conflicts other row ≡ false
-          agrees other there = elim (cases_Bool (same_version other row)) [
-            | inr apart ↦ and_left (same_version other row) _ apart
-            | inl one ↦
+          agrees other there = grind (
+            arith,
+            nat_tests,
+            λ (one : same_version other row ≡ true).
                 let version = get_or taken.versions number default in
                 let of = version_before other there code is one in
                 let among = All-contains (IsVersionAmong taken.repeated rows) taken.versions of.0 before.versions of.1 in
@@ -179,18 +149,13 @@ module _ (taken : Taken) (rising : IsStrictlyIncreasing taken.repeated) (rows : 
                 among.text ∙ ap (λ (row : Noted). row.text) (one_version taken.repeated rising rows of.0 version among version_at (of.3 ∙ sym version_code)) ∙ sym version_at.text in
                 let before_it : same_row row.kind version.text other.text ≡ true = sym (λ i. same_row (kind i) (text i) other.text) ∙ of.2.same in
                 let as_it = same_row-trans row.kind other.text version.text row.text (same_row-sym row.kind version.text other.text before_it) same in
-                and_right (same_version other row) _ (ap not (ap (λ (kind : FileKind). same_row kind other.text row.text) kind ∙ as_it))
-          ]
+                ap (λ (kind : FileKind). same_row kind other.text row.text) kind ∙ as_it,
+          )
 
       -- where it is not, it conflicts with that row
       pub other_conflicts : AreOfItsKind rows row → same_row row.kind (get_or taken.versions number default).text row.text ≡ false
           → list_any (λ earlier. conflicts earlier row) rows ≡ true
-      other_conflicts kinds apart =
-          let version = get_or taken.versions number default in
-          let same = first_is_same taken.repeated rising rows version version_at row row_code in
-          let differs : same_row version_at.row.kind version_at.row.text row.text ≡ false = cc (version_kind kinds, version_at.kind, version_at.text, apart) in
-          any_of (λ earlier. conflicts earlier row) rows version_at.row (Contains-first taken.repeated rising rows version version_at)
-          (and_from (same_version version_at.row row) _ same.0 (ap not differs))
+      other_conflicts kinds apart = grind (arith, common_steps, nat_tests, and_from, any_of, get_or, row_code, version_at, version_kind)
 
       -- and it is taken where it is the same
       pub taken_again : (chosen : List Bool) → chosen ≡ taken.chosen ++ false ∷ []
@@ -216,12 +181,11 @@ module _ (taken : Taken) (rising : IsStrictlyIncreasing taken.repeated) (rows : 
           versions = subst (All (IsVersionAmong taken.repeated (rows ++ row ∷ []))) (sym versions_are)
               (All-push (IsVersionAmong taken.repeated (rows ++ row ∷ [])) taken.versions version
               (versions-push taken.repeated rows row taken.versions before.versions)
-              (record { before = rows; row = row; behind = []; stands = refl; place = length-chosen taken rows before; code = is; kind = refl; text = refl; first = new_not_repeated new }));
+              (record { before = rows; row = row; behind = []; stands = refl; place = ap length before.chosen ∙ length-firsts taken.repeated [] rows; code = is; kind = refl; text = refl; first = new_not_repeated new }));
           agree = subst (λ (versions : List Version). All (IsOfVersion taken.repeated versions) (rows ++ row ∷ [])) (sym versions_are)
               (All-push (IsOfVersion taken.repeated added) rows row
               (All-weaker (IsOfVersion taken.repeated taken.versions) (IsOfVersion taken.repeated added)
               (λ other of repeated. let found = of repeated in (found.0, Contains-append_left taken.versions (version ∷ []) found.0 found.1, found.2)) rows before.agree)
               (λ repeated. (version, Contains-push taken.versions version, record { code = is; same = same_row-refl row.kind row.text accepted })));
-          chosen = marks-push taken.repeated rows row taken.chosen chosen true before.chosen chosen_are
-              (ap not (sym (and_right (has taken.repeated row.key) (is_repeated rows row) (new_not_repeated new))));
+          chosen = rw (chosen_are, before.chosen, firsts-push taken.repeated [] rows row, and_right (has taken.repeated row.key) (is_repeated rows row) (new_not_repeated new)) refl;
         }

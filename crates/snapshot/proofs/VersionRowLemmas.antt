@@ -1,6 +1,8 @@
 -- The lines of the first rows of versions stay as the buffer grows.
-use Rattle.std.proofs.Common.{ℕ, ◌≡◌, ◌∙◌, List, ap}
-use Rattle.rf2_rows.specs.Rows.{row_fault}
+use Rattle.std.proofs.Common.{arith}
+use Rattle.std.proofs.lemmas.Bool.Decides.{nat_tests}
+use Rattle.std.proofs.lemmas.Grind.{common_steps}
+use Rattle.std.proofs.Common.{ℕ, ◌≡◌, List}
 use Rattle.snapshot.specs.Spans.{Extends}
 use Rattle.snapshot.specs.VersionsInside.{IsLineOf, version_in}
 use Rattle.snapshot.specs.declared.versions.VersionRow.{VersionRow}
@@ -8,11 +10,7 @@ use Rattle.snapshot.proofs.SpanLemmas.{span-extends, text-extends}
 
 module _ (lines grown : List ℕ) (extends : Extends lines grown) where
   pub line-extends : (row : VersionRow) → IsLineOf lines row → IsLineOf grown row
-  line-extends row is = record {
-    placed = span-extends lines grown extends row.line is.placed;
-    accepted = ap (row_fault row.kind) (text-extends lines grown extends row.line is.placed) ∙ is.accepted;
-  }
+  line-extends row is = grind (arith, common_steps, nat_tests, span-extends, text-extends)
 
   pub version-extends : (row : VersionRow) → IsLineOf lines row → version_in grown row ≡ version_in lines row
-  version-extends row is =
-      (λ i. record { code = row.code; place = row.place; kind = row.kind; text = text-extends lines grown extends row.line is.placed i })
+  version-extends row is = grind (arith, common_steps, nat_tests, text-extends)

@@ -1,6 +1,6 @@
 -- What reading places leaves, and what it says of their first fault.
 use Rattle.std.proofs.lemmas.Grind.{common_steps}
-use Rattle.std.proofs.Common.{ℕ, ◌≡◌, ◌+◌, ◌-◌, ◌≤◌, ◌∙◌, List, [], ◌∷◌, ◌++◌, length, true, false, Bool, nat_le, Option, None, Some, append_assoc, ap, arith, cond, refl, sym, subst}
+use Rattle.std.proofs.Common.{ℕ, ◌≡◌, ◌-◌, ◌≤◌, ◌∙◌, List, [], ◌∷◌, ◌++◌, length, true, false, Bool, nat_le, Option, None, Some, append_assoc, ap, arith, cond, refl, sym, subst}
 use Rattle.std.specs.Prelude.{option_and_then, option_to_list}
 use Rattle.std.specs.List.{cons_option}
 use Rattle.std.proofs.lemmas.Bool.Decides.{nat_tests}
@@ -16,7 +16,6 @@ use Rattle.snapshot.specs.Limits.{left_behind, row_limit, row_total}
 use Rattle.snapshot.specs.RowsKept.{kept_in}
 use Rattle.snapshot.specs.Taking.{StopsAt, TakesAll, next, taken}
 use Rattle.snapshot.specs.declared.fault.LoadFault.{LoadFault}
-use Rattle.snapshot.specs.declared.fault.LoadFault.TheVariants.{TooMany}
 use Rattle.snapshot.specs.declared.limits.Limits.{Limits}
 use Rattle.snapshot.specs.declared.rows.Rows.{Rows}
 use Rattle.snapshot.specs.Seen.{AreShort, IsSeen, first_conflict, kept_rows, keys_behind, uuids_after}
@@ -96,23 +95,7 @@ plain-few limits earlier places (plain_next before place others clean rest) few 
         → (kind : FileKind) → count_of_kind kind (before ++ option_to_list row) ≤ row_limit limits kind
     one_more here None none kind = subst (λ (rows : List RowAt). count_of_kind kind rows ≤ row_limit limits kind) (sym (append-nil before)) (few kind)
     one_more (Some fault) (Some row) none kind = (cc)
-    one_more None (Some row) none kind = by (nat_le (row_limit limits row.kind) (count_of_kind row.kind before)) refl none
-      where
-        by : (full : Bool) → nat_le (row_limit limits row.kind) (count_of_kind row.kind before) ≡ full → cond full (Some (TooMany row.file row.line)) None ≡ None
-            → count_of_kind kind (before ++ row ∷ []) ≤ row_limit limits kind
-        by true told none = (cc)
-        by false told none = same (same_kind row.kind kind) refl
-          where
-            room : count_of_kind row.kind before + 1 ≤ row_limit limits row.kind
-            room = grind (arith, nat_tests, told)
-
-            same : (b : Bool) → same_kind row.kind kind ≡ b → count_of_kind kind (before ++ row ∷ []) ≤ row_limit limits kind
-            same true is =
-                let push : count_of_kind row.kind (before ++ row ∷ []) ≤ row_limit limits row.kind = omega (arith, count_of_kind-push row.kind before row, room, at_most_one (same_kind row.kind row.kind)) in
-                subst (λ (k : FileKind). count_of_kind k (before ++ row ∷ []) ≤ row_limit limits k) (kind_same row.kind kind is) push
-            same false is =
-                let push : count_of_kind kind (before ++ row ∷ []) ≡ count_of_kind kind before + cond (same_kind row.kind kind) 1 0 = count_of_kind-push kind before row in
-                omega (arith, few kind, rw is at push)
+    one_more None (Some row) none kind = grind (arith, common_steps, nat_tests, at_most_one, count_of_kind-push, kind_same, nat_le, nat_tests)
 
 pub plain-total : (limits : Limits) (places : List Place) → IsPlain limits [] places → length (rows_of places) ≤ row_total limits
 plain-total limits places plain =

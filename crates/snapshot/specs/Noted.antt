@@ -1,9 +1,10 @@
 -- The rows of components that have several: which of them conflict, and which is chosen of each component
 -- (Release File Specification, "effectiveTime").
-use Rattle.std.specs.Prelude.{◌≡◌, ◌≤◌, ℕ, Bool, false, not, nat_lt, ◌==◌, ◌&&◌, ◌||◌, List, [], ◌∷◌, ◌++◌, Contains, count_by, Option, None, Some, true}
+use Rattle.std.specs.Prelude.{◌≡◌, ◌≤◌, ℕ, Bool, not, ◌==◌, ◌&&◌, ◌||◌, List, [], ◌∷◌, ◌++◌, Contains, count_by, Option}
 use Rattle.std.specs.List.{list_any}
 use Rattle.rf2_rows.specs.Versions.{same_row, same_time}
 use Rattle.rf2_rows.specs.declared.kind.FileKind.{FileKind}
+use Rattle.snapshot.specs.Chosen.{is_later}
 
 -- a row: the key of its component, its effective time, its kind and its line
 pub record Noted : Type 0 where
@@ -11,13 +12,6 @@ pub record Noted : Type 0 where
   pub time : Option ℕ
   pub kind : FileKind
   pub text : List ℕ
-
--- one effective time is later than another: none at all, of a row that is not published yet, is the latest
-abbrev pub is_later : Option ℕ → Option ℕ → Bool
-is_later None None = false
-is_later None (Some other) = true
-is_later (Some one) None = false
-is_later (Some one) (Some other) = nat_lt other one
 
 -- two rows are of one component and one time
 abbrev pub same_version : Noted → Noted → Bool

@@ -130,7 +130,7 @@ impl Snapshot {
 
     /// How many attribute rows are in force: fewer than 2^31, and as many by source. Each value that is
     /// a concept is in force.
-    #[tactic(auto, using(crate::proofs::NameLemmas::rows_counted))]
+    #[tactic(auto, using(crate::proofs::AttributeLemmas::rows_counted))]
     pub fn attribute_count(&self) -> u32
         ensures count { result ≡ length self.now.release.attributes }
         ensures few { length self.now.release.attributes < 2 ^ 31 }

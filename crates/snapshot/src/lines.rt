@@ -129,6 +129,7 @@ fn lines_by_place(
 
 // Writes the lines, answers where they start and where the last one ends, and notes where in them the
 // terms of rows stand.
+#[tactic(auto, using(std::proofs::lemmas::List::take_all))]
 fn write_lines(
     alloc: Global,
     concepts: &[SctId],

@@ -94,6 +94,7 @@ impl Names {
 
     /// Leaves the rows that are made of chosen rows of the release, where for each of these it is told
     /// which list it is in and whether it is chosen.
+    #[tactic(auto, using(crate::proofs::NameLemmas::rows_chosen))]
     pub fn choose(
         &mut self,
         alloc: Global,

@@ -1,8 +1,8 @@
-use Rattle.std.proofs.Common.{◌+◌, sym, ◌∙◌, arith}
+use Rattle.std.proofs.lemmas.Bool.Decides.{nat_tests}
+use Rattle.std.proofs.lemmas.Grind.{common_steps}
+use Rattle.std.proofs.Common.{arith}
 use Rattle.rf2_rows.proofs.TabBits.{none_left}
 use Rattle.rf2_rows.proofs.tabs.push_ended.Goals as goal
 
 pub returns-clause-next : goal.returns-clause-next
-returns-clause-next c =
-    let (ahead, far, near, in_line, is_marks, clear, same) = c.loop-left.invariant in
-    (omega arith, in_line, none_left c.args.line.now c.loop-left.start c.loop-left.place (c.args.from + 32) clear (sym is_marks ∙ c.loop-left-test.false))
+returns-clause-next c = grind (arith, common_steps, nat_tests, none_left)

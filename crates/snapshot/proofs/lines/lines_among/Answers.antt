@@ -1,12 +1,8 @@
-use Rattle.std.proofs.Common.{ℕ, ◌≡◌, ◌<◌, ◌^◌, ◌∙◌, List, Option, All, length, map, ap, sym, subst, arith}
+use Rattle.std.proofs.Common.{ℕ, ◌<◌, ◌∙◌, List, Option, All, length, map, sym, subst}
 use Rattle.std.specs.Prelude.{IfSome}
-use Rattle.std.proofs.lemmas.Result.{IfOk-weaker}
-use Rattle.rf2_rows.specs.Release.{Name}
 use Rattle.snapshot.specs.FirstRows.{AreFirstPlaces}
-use Rattle.snapshot.specs.Kept.{names_among}
 use Rattle.snapshot.specs.Line.{concept_line}
 use Rattle.snapshot.specs.Name.{name_among}
-use Rattle.snapshot.proofs.FinishLemmas.{length-names_among}
 use Rattle.snapshot.proofs.LineLemmas.{if_ok-both, places_within}
 use Rattle.snapshot.proofs.lines.lines_among.Goals as goal
 

@@ -1,4 +1,6 @@
-use Rattle.std.proofs.Common.{◌≡◌, ◌+◌, ◌-◌, ◌++◌, ◌∷◌, [], ◌∙◌, Some, length, sym, ap, arith}
+use Rattle.std.proofs.lemmas.Bool.Decides.{nat_tests}
+use Rattle.std.proofs.lemmas.Grind.{common_steps}
+use Rattle.std.proofs.Common.{◌≡◌, ◌++◌, ◌∷◌, [], ◌∙◌, Some, sym, ap, arith}
 use Rattle.std.specs.Prelude.{decimal}
 use Rattle.std.proofs.lemmas.Str.{IsCharBoundary-after_ascii, IsCharBoundary-before_ascii}
 use Rattle.snapshot.specs.Line.{name_text}
@@ -6,15 +8,10 @@ use Rattle.snapshot.proofs.NameInLineLemmas.{named_line}
 use Rattle.snapshot.proofs.lines.name_between.Goals as goal
 
 pub range-requires-clause-start_boundary : goal.range-requires-clause-start_boundary
-range-requires-clause-start_boundary c = λ _.
-    let digits = c.format.result.now in
-    let (name, line, long, before, behind, found) = named_line c.args.texts.now digits c.args.concept c.args.from c.args.to (c.format.ensures.text ∙ ap decimal c.number.ensures.number) c.requires.rise c.requires.end c.requires.line c.if-to-from.false in
-    IsCharBoundary-after_ascii c.args.texts.now (c.args.from + (length digits + 1)) c.utf8.texts (omega (arith, long, c.requires.end)) (omega (arith, before))
+range-requires-clause-start_boundary c = grind (arith, common_steps, nat_tests, IsCharBoundary-after_ascii, named_line)
 
 pub range-requires-clause-end_boundary : goal.range-requires-clause-end_boundary
-range-requires-clause-end_boundary c =
-    let (name, line, long, before, behind, found) = named_line c.args.texts.now c.format.result.now c.args.concept c.args.from c.args.to (c.format.ensures.text ∙ ap decimal c.number.ensures.number) c.requires.rise c.requires.end c.requires.line c.if-to-from.false in
-    IsCharBoundary-before_ascii c.args.texts.now (c.args.to - 2) (omega (arith, long, c.requires.end)) (omega (arith, behind))
+range-requires-clause-end_boundary c = grind (arith, common_steps, nat_tests, IsCharBoundary-before_ascii, named_line)
 
 pub returns : goal.returns
 returns c =

@@ -1,20 +1,15 @@
-use Rattle.std.proofs.Common.{ℕ, ◌≡◌, ◌++◌, ◌∷◌, [], ◌∙◌, None, List, length, get_or, map, ap, arith, string_bytes}
+use Rattle.std.proofs.lemmas.Bool.Decides.{nat_tests}
+use Rattle.std.proofs.lemmas.Grind.{common_steps}
+use Rattle.std.proofs.Common.{ℕ, ◌≡◌, ◌++◌, ◌∷◌, [], ◌∙◌, None, List, length, get_or, ap, arith, string_bytes}
 use Rattle.std.specs.Prelude.{option_and_then, option_map}
 use Rattle.std.specs.List.{slice_get}
-use Rattle.std.proofs.lemmas.List.{take_all}
 use Rattle.rf2_rows.specs.Release.{Name}
 use Rattle.snapshot.specs.Line.{concept_line}
-use Rattle.snapshot.specs.Name.{name_among}
 use Rattle.snapshot.proofs.LineLemmas.{line-pushed, lines-more, no_lines, starts-pushed}
 use Rattle.snapshot.proofs.lines.write_lines.Goals as goal
 
-pub write_line-requires-clause-within : goal.write_line-requires-clause-within
-write_line-requires-clause-within c = c.requires.within _ None (omega (arith, c.requires.each))
-
 pub loop-number-init : goal.loop-number-init
-loop-number-init c =
-    let none = no_lines c.push.new.self.items (string_bytes c.args.texts.now) (c.in_ok-push.ensures.items ∙ ap (λ (starts : List ℕ). starts ++ 0 ∷ []) c.in_ok-starts.ensures.items) c.requires.none in
-    record { starts = none.0; lines = λ language are. none.1; noted = c.requires.noted }
+loop-number-init c = grind (arith, common_steps, nat_tests, no_lines, string_bytes)
 
 pub loop-number-preserved : goal.loop-number-preserved
 loop-number-preserved c =
@@ -33,8 +28,3 @@ loop-number-preserved c =
           ∙ lines-more language c.args.concepts.now c.args.names.now c.args.places.now c.loop-number.number concept name are c.loop-number-test.true c.index-concepts-number.is (λ i. name);
       noted = c.in_ok-write_line.ensures.noted;
     }
-
-pub returns-clause-lines : goal.returns-clause-lines
-returns-clause-lines c = λ language are.
-    c.loop-number.invariant.lines language are
-    ∙ ap (λ (concepts : List ℕ). map (concept_line (name_among language c.args.names.now)) concepts) (take_all c.loop-number.number c.args.concepts.now (omega arith))

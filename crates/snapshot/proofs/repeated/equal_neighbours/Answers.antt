@@ -1,4 +1,4 @@
-use Rattle.std.proofs.Common.{◌-◌, arith, append-nil}
+use Rattle.std.proofs.Common.{arith, append-nil}
 use Rattle.std.proofs.lemmas.Bool.Decides.{nat_tests}
 use Rattle.std.proofs.lemmas.Grind.{common_steps}
 use Rattle.snapshot.proofs.NeighbourLemmas.{neighbours_more}

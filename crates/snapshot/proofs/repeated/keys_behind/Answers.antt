@@ -1,7 +1,7 @@
-use Rattle.std.proofs.Common.{ℕ, ◌<◌, ◌≤◌, ◌+◌, List, length, get_or, subst, arith}
+use Rattle.std.proofs.Common.{◌<◌, ◌≤◌, length, get_or, arith}
 use Rattle.std.proofs.lemmas.List.{take_all}
 use Rattle.std.proofs.lemmas.List.Elements.{All-more}
-use Rattle.snapshot.proofs.BehindLemmas.{AreBehind, behind_kept, behind_pushed}
+use Rattle.snapshot.proofs.BehindLemmas.{behind_kept, behind_pushed}
 use Rattle.snapshot.proofs.repeated.keys_behind.Goals as goal
 use Rattle.snapshot.proofs.repeated.keys_behind.Goals.{then-key-highest+in_ok-push, else-key-highest}
 
@@ -26,4 +26,4 @@ loop-key-preserved c =
     ]
 
 pub returns : goal.returns
-returns c = subst (λ (seen : List ℕ). AreBehind seen c.loop-key.behind.items) (take_all c.loop-key.key-index c.args.keys.now (omega arith)) c.loop-key.invariant.behind
+returns c = rw (take_all c.loop-key.key-index c.args.keys.now (omega arith)) at c.loop-key.invariant.behind

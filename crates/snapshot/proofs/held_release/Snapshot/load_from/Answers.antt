@@ -1,4 +1,7 @@
-use Rattle.std.proofs.Common.{◌≡◌, ◌∙◌, Global, List, Ok, String, inl, map, string_bytes, subst}
+use Rattle.std.proofs.Common.{arith}
+use Rattle.std.proofs.lemmas.Bool.Decides.{nat_tests}
+use Rattle.std.proofs.lemmas.Grind.{common_steps}
+use Rattle.std.proofs.Common.{◌≡◌, ◌∙◌, Global, List, Ok, String, map, string_bytes, subst}
 use Rattle.std.specs.Prelude.{IfOk}
 use Rattle.snapshot.specs.Contents.{load_of}
 use Rattle.snapshot.specs.Pieces.{listed}
@@ -12,5 +15,4 @@ returns-clause-ok g c = if_told _ (g.S.FileSource.files c.args.source.now) (λ k
     c.as_slice.ensures.value (at_told _ _ known (c.in-Ok.ensures.files ∙ told) c.load_named.ensures.ok))
 
 pub returns-clause-names : goal.returns-clause-names
-returns-clause-names g c = if_told _ (g.S.FileSource.files c.args.source.now) (λ known told.
-    inl (in_order known c.in-Ok.listed.items c.sort_unstable.new.self.items (at_told _ _ known told c.in-Ok.ensures.names) c.sort_unstable.ensures.permutation c.sort_unstable.ensures.sorted))
+returns-clause-names g c = grind (arith, common_steps, nat_tests, at_told, if_told, in_order)

@@ -1,21 +1,14 @@
-use Rattle.std.proofs.Common.{◌∙◌, List, All, ap, map, subst, sym}
+use Rattle.std.proofs.Common.{◌∙◌, List, All, ap, subst, sym}
 use Rattle.std.specs.Prelude.{string_bytes}
-use Rattle.rf2_rows.specs.Release.{Name}
-use Rattle.snapshot.specs.NamesInside.{IsPlaced, name_in}
+use Rattle.snapshot.specs.NamesInside.{IsPlaced}
 use Rattle.snapshot.specs.Chosen.{marked}
 use Rattle.snapshot.specs.Listed.{in_list, items_chosen}
 use Rattle.snapshot.specs.declared.names.NameRow.{NameRow}
 use Rattle.snapshot.specs.declared.row_lists.Listing.TheVariants.{Name as ListedName}
-use Rattle.snapshot.proofs.ChosenItemLemmas.{All-marked, map-marked}
+use Rattle.snapshot.proofs.ChosenItemLemmas.{All-marked}
 use Rattle.snapshot.proofs.names.Names.choose.Goals as goal
 
 pub invariant_of-self : goal.invariant_of-self
 invariant_of-self c =
     subst (λ (rows : List NameRow). All (IsPlaced (string_bytes c.self.inside.texts)) rows) (sym (c.in_ok-self-inside.ensures ∙ ap (items_chosen (in_list ListedName c.args.marks.now) c.args.choices.now) c.as_slice.ensures.value))
     (All-marked (IsPlaced (string_bytes c.self.inside.texts)) (marked (in_list ListedName c.args.marks.now) c.args.choices.now) c.self.inside.rows.items c.self.invariant)
-
-pub returns : goal.returns
-returns c =
-    ap (map (name_in (string_bytes c.self.inside.texts))) (c.in_ok-self-inside.ensures ∙ ap (items_chosen (in_list ListedName c.args.marks.now) c.args.choices.now) c.as_slice.ensures.value)
-    ∙ map-marked (name_in (string_bytes c.self.inside.texts)) (marked (in_list ListedName c.args.marks.now) c.args.choices.now) c.self.inside.rows.items
-    ∙ ap (λ (items : List Name). items_chosen (in_list ListedName c.args.marks.now) c.args.choices.now items) c.self.view_is

@@ -1,9 +1,8 @@
-use Rattle.std.proofs.Common.{arith, ◌++◌, ◌∷◌, [], ◌∙◌, List, ap}
+use Rattle.std.proofs.Common.{arith, ◌∙◌, ap}
 use Rattle.std.proofs.lemmas.Grind.{common_steps}
 use Rattle.rf2_rows.specs.Rows.{row_fault}
-use Rattle.snapshot.specs.Taken.{Version}
 use Rattle.snapshot.specs.VersionsInside.{IsLineOf, version_in}
-use Rattle.snapshot.proofs.SpanLemmas.{all-push, rows-push, rows-same}
+use Rattle.snapshot.proofs.SpanLemmas.{all-push, rows-same}
 use Rattle.snapshot.proofs.VersionRowLemmas.{line-extends, version-extends}
 use Rattle.snapshot.proofs.versions.VersionRows.push.Goals as goal
 
@@ -27,7 +26,5 @@ pub returns-clause-ok : goal.returns-clause-ok
 returns-clause-ok c =
     let lines = c.self.inside.lines.items in
     let grown = c.push_bytes.new.texts.items in
-    rows-push (version_in lines) (version_in grown) (IsLineOf lines) (version-extends lines grown (c.args.text.now, c.in_ok-line.ensures.grown))
-    c.self.inside.rows.items c.push.new.self.items _ _ c.in_ok-push.ensures.items c.self.invariant
-    (λ i. record { code = c.args.code; place = c.args.place; kind = c.args.kind; text = c.in_ok-line.ensures.span.same i })
-    ∙ ap (λ (versions : List Version). versions ++ record { code = c.args.code; place = c.args.place; kind = c.args.kind; text = c.args.text.now } ∷ []) c.self.view_is
+    let kept = rows-same (version_in lines) (version_in grown) (IsLineOf lines) (version-extends lines grown (c.args.text.now, c.in_ok-line.ensures.grown)) c.self.inside.rows.items c.self.invariant in
+    grind (arith, common_steps, kept, c.in_ok-push.ensures.items, c.in_ok-line.ensures.span.same)
