@@ -1,16 +1,14 @@
 -- Of places without a fault no two chosen rows of active concepts have one identifier, and no list has more items than
 -- there are rows.
 use Rattle.std.proofs.lemmas.Grind.{common_steps}
-use Rattle.std.proofs.Common.{ℕ, ◌≡◌, ◌≤◌, ◌&&◌, ◌||◌, List, [], ◌∷◌, ◌++◌, length, map, Option, None, Some, append_assoc, arith, refl, sym, Bool, true, false, cond, nat_eq}
+use Rattle.std.proofs.Common.{ℕ, ◌≡◌, ◌≤◌, ◌||◌, List, [], ◌∷◌, ◌++◌, length, map, Option, None, Some, append_assoc, arith, refl, Bool, true, false, cond, nat_eq}
 use Rattle.std.specs.Prelude.{⊤, not}
 use Rattle.std.specs.List.{AllByRecursion, IsDistinct, cons_option, filter_map, list_any}
-use Rattle.std.proofs.lemmas.Bool.{eq-eqb}
 use Rattle.std.proofs.lemmas.Bool.Decides.{nat_tests}
 use Rattle.std.proofs.lemmas.List.{length-map}
 use Rattle.std.proofs.lemmas.List.Folds.{list_any-append}
 use Rattle.rf2_rows.specs.RowTexts.{RowText}
-use Rattle.rf2_rows.specs.Versions.{same_time}
-use Rattle.snapshot.specs.Chosen.{choices, chosen, is_later, is_repeated, is_superseded, marked, same_component}
+use Rattle.snapshot.specs.Chosen.{choices, chosen, is_repeated, is_superseded, marked}
 use Rattle.snapshot.specs.Contents.{text_of_row}
 use Rattle.snapshot.specs.Files.{Place, RowAt}
 use Rattle.snapshot.specs.Kept.{AreFew, IsReadFrom}
@@ -18,7 +16,7 @@ use Rattle.snapshot.specs.Limits.{row_total}
 use Rattle.snapshot.specs.Listed.{Listed, concept_listed}
 use Rattle.snapshot.specs.declared.limits.Limits.{Limits}
 use Rattle.snapshot.proofs.ChosenItemLemmas.{length-marked}
-use Rattle.snapshot.proofs.SingleLemmas.{any-at, same_component-sym}
+use Rattle.snapshot.proofs.SingleLemmas.{any-at}
 
 -- ---- a row is among others: what holds of none of them does not hold of it
 abbrev IsAmong : List RowAt → RowAt → Type 0
@@ -40,27 +38,6 @@ are_among front [] = tt
 are_among front (row ∷ rows) = grind (arith, common_steps, nat_tests, among-here, append_assoc, (are_among (front ++ row ∷ []) rows))
 
 -- ---- two chosen rows of active concepts have different identifiers
--- of two times of which neither is later the one is the other
-same_time-neither : (one other : Option ℕ) → is_later one other ≡ false → is_later other one ≡ false → same_time one other ≡ true
-same_time-neither None None first second = refl
-same_time-neither None (Some other) first second = sym first
-same_time-neither (Some one) None first second = sym second
-same_time-neither (Some one) (Some other) first second = eq-eqb one other (grind (arith, nat_tests, first, second))
-
-second_fails : (one other : Bool) → one ≡ true → (one && other) ≡ false → other ≡ false
-second_fails true other holds none = none
-second_fails false other holds none = absurd (cc)
-
--- of one component no row is chosen behind another that is
-one_chosen : (rows earlier : List RowAt) (row next : RowAt) → IsAmong rows row → IsAmong rows next → IsAmong earlier row
-    → is_superseded rows row ≡ false → is_superseded rows next ≡ false → is_repeated earlier next ≡ false → same_component row next ≡ true → ⊥
-one_chosen rows earlier row next among next_among before latest next_latest first same = grind (arith, common_steps, nat_tests, same_component-sym, same_time-neither, second_fails)
-
--- two rows of active concepts with one identifier are of one component
-listed_alike : (row next : RowAt) (id other : ℕ) → concept_listed (text_of_row row) ≡ Some id → concept_listed (text_of_row next) ≡ Some other → nat_eq id other ≡ true
-    → same_component row next ≡ true
-listed_alike row next id other = grind (arith, common_steps, nat_tests, nat_eq)
-
 -- the identifiers of the active concepts of rows
 abbrev active_ids : List RowAt → List ℕ
 active_ids rows = filter_map concept_listed (map text_of_row rows)

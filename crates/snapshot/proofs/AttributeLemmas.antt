@@ -1,6 +1,9 @@
 -- Attribute rows keep their values while the buffer of texts grows.
-use Rattle.std.proofs.Common.{ℕ, ◌≡◌, ◌&&◌, List, map, ap, refl}
-use Rattle.rf2_rows.specs.Release.{Attribute, text_value}
+use Rattle.std.proofs.Common.{arith}
+use Rattle.std.proofs.lemmas.Bool.Decides.{nat_tests}
+use Rattle.std.proofs.lemmas.Grind.{common_steps}
+use Rattle.std.proofs.Common.{ℕ, ◌≡◌, ◌&&◌, List, map}
+use Rattle.rf2_rows.specs.Release.{Attribute}
 use Rattle.snapshot.specs.AttributesInside.{IsWithinTexts, attribute_in, value_in}
 use Rattle.hierarchy.specs.Members.{has}
 use Rattle.snapshot.specs.Kept.{attributes_among, is_value_among}
@@ -10,21 +13,16 @@ use Rattle.std.specs.Prelude.{filter}
 use Rattle.std.proofs.lemmas.List.{length-map}
 use Rattle.snapshot.specs.declared.attributes.KeptRow.{KeptRow}
 use Rattle.snapshot.specs.declared.attributes.KeptValue.{KeptValue}
-use Rattle.snapshot.specs.declared.attributes.KeptValue.TheVariants.{Concept, Decimal, Other}
 use Rattle.snapshot.specs.declared.sorted_attributes.SortedRow.{SortedRow}
 use Rattle.snapshot.proofs.NameLemmas.{map-filter}
 use Rattle.snapshot.proofs.SpanLemmas.{span-extends, text-extends}
 
 module _ (texts grown : List ℕ) (extends : Extends texts grown) where
   value-extends : (value : KeptValue) → IsWithinTexts texts value → value_in grown value ≡ value_in texts value
-  value-extends (Concept concept) within = refl
-  value-extends (Decimal decimal) within = refl
-  value-extends (Other span) within = ap text_value (text-extends texts grown extends span within)
+  value-extends value h0 = grind (arith, common_steps, nat_tests, text-extends)
 
   pub within-extends : (value : KeptValue) → IsWithinTexts texts value → IsWithinTexts grown value
-  within-extends (Concept concept) within = tt
-  within-extends (Decimal decimal) within = tt
-  within-extends (Other span) within = span-extends texts grown extends span within
+  within-extends value h0 = grind (arith, common_steps, nat_tests, span-extends)
 
   pub attribute-extends : (row : KeptRow) → IsWithinTexts texts row.value → attribute_in grown row ≡ attribute_in texts row
   attribute-extends row within = λ i. record { source = row.source; type_id = row.type_id; group = row.group; value = value-extends row.value within i }

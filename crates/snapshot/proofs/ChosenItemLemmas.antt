@@ -26,10 +26,6 @@ module _ {X : Type 0} (list : Listing) where
       → items_chosen (in_list list (mark ∷ marks)) (choice ∷ choices) left ≡ items_chosen (in_list list marks) choices left
   passed-step mark marks choice choices left other = grind (arith, common_steps, nat_tests)
 
-  item-step : (mark : Listing) (marks : List Listing) (choice : Bool) (choices : List Bool) (left : List X) → same_listing mark list ≡ true
-      → items_chosen (in_list list (mark ∷ marks)) (choice ∷ choices) left ≡ marked (choice ∷ marked (in_list list marks) choices) left
-  item-step mark marks choice choices left same = grind (arith, common_steps, nat_tests)
-
   no_choices : (heres : List Bool) (left : List X) → items_chosen heres [] left ≡ []
   no_choices [] [] = refl
   no_choices [] (item ∷ left) = refl
@@ -37,10 +33,7 @@ module _ {X : Type 0} (list : Listing) where
   no_choices (here ∷ heres) (item ∷ left) = refl
 
   no_marks : (choices : List Bool) (left : List X) → items_chosen [] choices left ≡ []
-  no_marks [] [] = refl
-  no_marks [] (item ∷ left) = refl
-  no_marks (choice ∷ choices) [] = refl
-  no_marks (choice ∷ choices) (item ∷ left) = refl
+  no_marks choices left = grind (arith, common_steps, nat_tests)
 
   module _ (marks : List Listing) (choices : List Bool) (place : ℕ) (d : Listing) where
     pub row_passed : (e : Bool) (left : List X) → place < length marks → place < length choices → same_listing (get_or marks place d) list ≡ false

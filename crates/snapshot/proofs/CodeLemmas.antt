@@ -1,7 +1,7 @@
 -- The codes of versions: two rows have one code where they are of one component and time, and of one component the
 -- later one has the greater code.
 use Rattle.std.proofs.lemmas.Grind.{common_steps}
-use Rattle.std.proofs.Common.{ℕ, ◌≡◌, ◌<◌, ◌≤◌, ◌/◌, ◌^◌, ◌&&◌, ◌==◌, List, get_or, true, nat_lt, Option, None, Some, sym, ◌∙◌, ap, refl, arith, lit≤}
+use Rattle.std.proofs.Common.{ℕ, ◌≡◌, ◌<◌, ◌≤◌, ◌/◌, ◌^◌, ◌&&◌, ◌==◌, List, get_or, true, nat_lt, Option, None, Some, sym, ◌∙◌, ap, arith, lit≤}
 use Rattle.std.specs.Prelude.{IfSome}
 use Rattle.std.specs.List.Sorted.{IsStrictlyIncreasing}
 use Rattle.std.proofs.lemmas.Bool.{eq-eqb, ne_eqb}
@@ -24,17 +24,11 @@ time_code-small (Some time) is = omega arith
 
 -- two times are one where their codes are
 same_time-code : (one other : Option ℕ) → IsTime one → IsTime other → same_time one other ≡ (time_code one == time_code other)
-same_time-code None None is is' = refl
-same_time-code None (Some other) is is' = sym (ne_eqb 100000000 other (λ same. omega arith))
-same_time-code (Some one) None is is' = sym (ne_eqb one 100000000 (λ same. omega arith))
-same_time-code (Some one) (Some other) is is' = refl
+same_time-code one other h0 h1 = grind (arith, common_steps, nat_tests, ne_eqb)
 
 -- a later one has the greater code
 is_later-code : (one other : Option ℕ) → IsTime one → IsTime other → is_later one other ≡ nat_lt (time_code other) (time_code one)
-is_later-code None None is is' = refl
-is_later-code None (Some other) is is' = grind (arith, nat_tests)
-is_later-code (Some one) None is is' = grind (arith, nat_tests)
-is_later-code (Some one) (Some other) is is' = refl
+is_later-code one other h0 h1 = grind (arith, common_steps, nat_tests, nat_tests)
 
 -- the place of a row's key is read from its code
 pub key_place-code : (repeated : List ℕ) (row : Noted) (code : ℕ) (is : IsCodeOf repeated row code) → code / 2 ^ 32 ≡ is.place

@@ -1,10 +1,10 @@
 -- What comparing rows by their keys says of the rows.
 use Rattle.std.proofs.lemmas.Bool.Decides.{nat_tests}
 use Rattle.std.proofs.lemmas.Grind.{common_steps}
-use Rattle.std.proofs.Common.{ℕ, ◌≡◌, ◌+◌, ◌*◌, ◌^◌, ◌≤◌, ◌<◌, ◌∙◌, ◌&&◌, ◌||◌, ◌==◌, List, [], ◌∷◌, ◌++◌, length, get_or, true, false, Bool, Option, None, Some, append_assoc, ap, arith, suc, zero, cond, map, refl, sym, subst}
+use Rattle.std.proofs.Common.{ℕ, ◌≡◌, ◌+◌, ◌^◌, ◌≤◌, ◌<◌, ◌∙◌, ◌&&◌, ◌||◌, ◌==◌, List, [], ◌∷◌, ◌++◌, length, get_or, true, false, Bool, Option, None, Some, append_assoc, ap, arith, suc, zero, cond, map, refl, sym, subst}
 use Rattle.std.specs.Prelude.{⊤, Contains}
 use Rattle.std.specs.List.{cons_option, list_any}
-use Rattle.std.proofs.lemmas.Bool.{and_parts, eq-eqb, eqb-true, ltb-true, ne_eqb, or_left}
+use Rattle.std.proofs.lemmas.Bool.{and_parts, eq-eqb, ltb-true, or_left}
 use Rattle.std.proofs.lemmas.List.{append-nil, map-append}
 use Rattle.std.proofs.lemmas.List.Folds.{list_any-append}
 use Rattle.rf2_rows.specs.RowTexts.{row_text}
@@ -40,47 +40,13 @@ pos-within n uuids there = ltb-true (place_of uuids n) (length uuids) (place_wit
 pos-apart : (n m : ℕ) (uuids : List ℕ) → has uuids n ≡ true → has uuids m ≡ true → place_of uuids n ≡ place_of uuids m → n ≡ m
 pos-apart n m uuids there other same = sym (get_or-place_of uuids n there) ∙ ap (λ (place : ℕ). get_or uuids place 0) same ∙ get_or-place_of uuids m other
 
--- equal sums
-sum-tells : (base one other : ℕ) → ((base + one) == (base + other)) ≡ (one == other)
-sum-tells base one other = grind (arith, common_steps, nat_tests, eq-eqb, eqb-true, ne_eqb)
-
-apart-tells : (one other : ℕ) → one < other → (one == other) ≡ false
-apart-tells one other less = ne_eqb one other (λ same. absurd (omega (arith, less, same)))
-
-apart-tells' : (one other : ℕ) → other < one → (one == other) ≡ false
-apart-tells' one other less = ne_eqb one other (λ same. absurd (omega (arith, less, same)))
-
 -- a row whose key is known by the UUIDs that were met
 abbrev pub IsKnown : List ℕ → FileKind → List ℕ → Type 0
 IsKnown uuids kind text = IsShort (row_text kind text) × IsMet uuids (row_text kind text)
 
 key-tells : (uuids : List ℕ) (kind kind' : FileKind) (text text' : List ℕ) → length uuids < 2 ^ 63 → IsKnown uuids kind text → IsKnown uuids kind' text'
     → (key_in uuids (row_text kind text) == key_in uuids (row_text kind' text')) ≡ (same_kind kind kind' && (id_on kind text == id_on kind' text'))
-key-tells uuids Concept Concept text text' few one other = sum-tells (2 ^ 63) (id_on Concept text) (id_on Concept text')
-key-tells uuids Description Description text text' few one other = sum-tells (2 ^ 63 + 10 ^ 18) (id_on Description text) (id_on Description text')
-key-tells uuids Relationship Relationship text text' few one other = sum-tells (2 ^ 63 + 3 * 10 ^ 18) (id_on Relationship text) (id_on Relationship text')
-key-tells uuids Concrete Concrete text text' few one other = sum-tells (2 ^ 63 + 2 * 10 ^ 18) (id_on Concrete text) (id_on Concrete text')
-key-tells uuids Member Member text text' few one other = grind (arith, common_steps, nat_tests, eq-eqb, eqb-true, ne_eqb, pos-apart)
-key-tells uuids Concept Description text text' few one other = apart-tells _ _ (omega (arith, one.0))
-key-tells uuids Concept Relationship text text' few one other = apart-tells _ _ (omega (arith, one.0))
-key-tells uuids Concept Concrete text text' few one other = apart-tells _ _ (omega (arith, one.0))
-key-tells uuids Concept Member text text' few one other = apart-tells' _ _ (omega (arith, few, pos-within (id_on Member text') uuids other.1))
-key-tells uuids Description Concept text text' few one other = apart-tells' _ _ (omega (arith, other.0))
-key-tells uuids Description Relationship text text' few one other = apart-tells _ _ (omega (arith, one.0))
-key-tells uuids Description Concrete text text' few one other = apart-tells _ _ (omega (arith, one.0))
-key-tells uuids Description Member text text' few one other = apart-tells' _ _ (omega (arith, few, pos-within (id_on Member text') uuids other.1))
-key-tells uuids Relationship Concept text text' few one other = apart-tells' _ _ (omega (arith, other.0))
-key-tells uuids Relationship Description text text' few one other = apart-tells' _ _ (omega (arith, other.0))
-key-tells uuids Relationship Concrete text text' few one other = apart-tells' _ _ (omega (arith, other.0))
-key-tells uuids Relationship Member text text' few one other = apart-tells' _ _ (omega (arith, few, pos-within (id_on Member text') uuids other.1))
-key-tells uuids Concrete Concept text text' few one other = apart-tells' _ _ (omega (arith, other.0))
-key-tells uuids Concrete Description text text' few one other = apart-tells' _ _ (omega (arith, other.0))
-key-tells uuids Concrete Relationship text text' few one other = apart-tells _ _ (omega (arith, one.0))
-key-tells uuids Concrete Member text text' few one other = apart-tells' _ _ (omega (arith, few, pos-within (id_on Member text') uuids other.1))
-key-tells uuids Member Concept text text' few one other = apart-tells _ _ (omega (arith, few, pos-within (id_on Member text) uuids one.1))
-key-tells uuids Member Description text text' few one other = apart-tells _ _ (omega (arith, few, pos-within (id_on Member text) uuids one.1))
-key-tells uuids Member Relationship text text' few one other = apart-tells _ _ (omega (arith, few, pos-within (id_on Member text) uuids one.1))
-key-tells uuids Member Concrete text text' few one other = apart-tells _ _ (omega (arith, few, pos-within (id_on Member text) uuids one.1))
+key-tells uuids kind kind' text text' few one other = grind (arith, nat_tests, pos-within, pos-apart)
 
 -- ---- rows whose keys are known
 abbrev pub AreKnown : List ℕ → List RowAt → Type 0

@@ -17,7 +17,6 @@ use Rattle.snapshot.specs.Kept.{IsCycle, attributes_among, contents_from, finish
 use Rattle.snapshot.specs.Listed.{Listed}
 use Rattle.snapshot.specs.Numbering.{numbered_row, row_of_numbers}
 use Rattle.snapshot.specs.declared.fault.LoadFault.{LoadFault}
-use Rattle.snapshot.specs.declared.fault.LoadFault.TheVariants.{Cycle, Memory}
 use Rattle.snapshot.proofs.NumberingLemmas.{first_cyclic-Some, rows_of_numbers}
 
 -- a list does not grow by being brought in rising order
@@ -112,6 +111,4 @@ attributes_among-values concepts attributes = grind (arith, common_steps, nat_te
 
 -- the fault that names the least concept that reaches itself is that of the load
 pub least_cycle : (fault : LoadFault) (concepts : List ℕ) → IsStrictlyIncreasing concepts → (ends : List (ℕ × ℕ)) → IsLeastCycle fault concepts (filter_map (numbered_row concepts) ends) → IsCycle fault (first_cyclic concepts (rows_among concepts ends))
-least_cycle (Cycle id) concepts rises ends (concept, below, is, chain, least) other = grind (arith, common_steps, nat_tests, first_cyclic-Some)
-least_cycle Memory concepts rises ends cycle other = absurd (other (λ i. Memory))
-least_cycle fault concepts rises ends cycle other = absurd cycle
+least_cycle fault concepts ends h0 h1 h2 = grind (arith, common_steps, nat_tests, common_steps, first_cyclic-Some, nat_tests)

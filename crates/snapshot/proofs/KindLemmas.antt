@@ -1,8 +1,7 @@
 -- Kinds of files by their numbers, and how many rows of each kind there are.
 use Rattle.std.proofs.lemmas.Bool.Decides.{nat_tests}
 use Rattle.std.proofs.lemmas.Grind.{common_steps}
-use Rattle.std.proofs.Common.{ℕ, ◌≡◌, ◌+◌, zero, suc, true, List, [], ◌∷◌, ◌++◌, length, arith, cond, refl}
-use Rattle.std.proofs.lemmas.Bool.{eqb-true}
+use Rattle.std.proofs.Common.{◌≡◌, ◌+◌, true, List, [], ◌∷◌, ◌++◌, length, arith, cond, refl}
 use Rattle.std.proofs.lemmas.Cmp.{nat_eq_equiv}
 use Rattle.std.proofs.lemmas.List.Sums.{sum_by-append, sum_by-cons}
 use Rattle.rf2_rows.specs.declared.kind.FileKind.{FileKind}
@@ -11,23 +10,8 @@ use Rattle.snapshot.specs.Chosen.{kind_number, same_kind}
 use Rattle.snapshot.specs.Faults.{count_of_kind}
 use Rattle.snapshot.specs.Files.{RowAt}
 
--- the kind with a number
-abbrev kind_at : ℕ → FileKind
-kind_at zero = Concept
-kind_at (suc zero) = Description
-kind_at (suc (suc zero)) = Relationship
-kind_at (suc (suc (suc zero))) = Concrete
-kind_at (suc (suc (suc (suc n)))) = Member
-
-kind_at-number : (kind : FileKind) → kind_at (kind_number kind) ≡ kind
-kind_at-number Concept = refl
-kind_at-number Description = refl
-kind_at-number Relationship = refl
-kind_at-number Concrete = refl
-kind_at-number Member = refl
-
 pub kind_same : (one other : FileKind) → same_kind one other ≡ true → one ≡ other
-kind_same one other told = grind (arith, common_steps, nat_tests, eqb-true, kind_at-number)
+kind_same one other told = grind (arith, nat_tests)
 
 pub same_kind-sym : (one other : FileKind) → same_kind one other ≡ same_kind other one
 same_kind-sym one other = nat_eq_equiv.symm (kind_number one) (kind_number other)
@@ -42,11 +26,7 @@ count_of_kind-push kind rows row = omega (arith, sum_by-append (λ (other : RowA
 -- a row is of one kind
 one_kind : (kind : FileKind)
     → cond (same_kind kind Concept) 1 0 + cond (same_kind kind Description) 1 0 + cond (same_kind kind Relationship) 1 0 + cond (same_kind kind Concrete) 1 0 + cond (same_kind kind Member) 1 0 ≡ 1
-one_kind Concept = refl
-one_kind Description = refl
-one_kind Relationship = refl
-one_kind Concrete = refl
-one_kind Member = refl
+one_kind kind = grind (arith, nat_tests)
 
 -- rows are those of the five kinds
 pub length-kinds : (rows : List RowAt)

@@ -17,9 +17,7 @@ use Rattle.hierarchy.proofs.CutLemmas.{below_cut, cut, cut-push, end_within, fou
 
 -- the place of the row that comes first is that of a row, and the term there is its term
 pub place_within : (names : List Name) (place : Option ℕ) (first : Option Name) → option_map (slice_get names) place ≡ option_map Some first → IfSome place (λ at. at < length names)
-place_within names None first is = tt
-place_within names (Some at) None is = (cc)
-place_within names (Some at) (Some row) is = slice_get_within names at row (cc)
+place_within names place first h0 = grind (arith, common_steps, nat_tests, slice_get_within)
 
 term_at : (names : List Name) (place : Option ℕ) (first : Option Name) → option_map (slice_get names) place ≡ option_map Some first
     → option_map (λ (row : Name). row.term) (option_and_then (slice_get names) place) ≡ option_map (λ (row : Name). row.term) first

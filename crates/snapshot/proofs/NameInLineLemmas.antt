@@ -66,9 +66,7 @@ named_line texts digits concept from to same rise end line long =
 
 -- lines of one concept that are equal have the same name, or none
 name_text-same : (one other : Option (List ℕ)) → name_text one ≡ name_text other → one ≡ other
-name_text-same None None same = refl
-name_text-same (Some one) (Some other) same = grind (arith, common_steps, nat_tests, append_cancel_left, append_cancel_right)
-name_text-same one other same = (cc)
+name_text-same one other h0 = grind (arith, common_steps, nat_tests, append_cancel_left, append_cancel_right, common_steps, nat_tests)
 
 pub same_name : (concept : ℕ) (one other : Option (List ℕ)) → concept_line (λ _. one) concept ≡ concept_line (λ _. other) concept → one ≡ other
 same_name concept one other same = grind (arith, common_steps, nat_tests, append_cancel_left, append_cancel_right, name_text-same)

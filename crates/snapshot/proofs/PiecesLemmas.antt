@@ -42,9 +42,7 @@ pub record GaveLine (line : LineText) (old new : PieceLines) (after : Option (Li
 
 gave_text : (line : LineText) (old new : PieceLines) (before after : Option (List ℕ)) (rest : List ℕ) → GivesNext (Some line) old new before after → before ≡ Some rest
     → GaveLine line old new after rest
-gave_text line old new None after rest gives told = cc
-gave_text line old new (Some before) None rest gives told = absurd gives
-gave_text line old new (Some before) (Some now) rest gives told = grind (arith, common_steps, nat_tests)
+gave_text line old new before after rest h0 h1 = grind (arith, common_steps, nat_tests, common_steps, nat_tests)
 
 pub gave_line : (result : Result (Option Line) SourceFault) (line : Line) (old new : PieceLines) (before after : Option (List ℕ)) (rest : List ℕ)
     → Gives result old new before after → result ≡ Ok (Some line) → before ≡ Some rest → GaveLine (line_text line) old new after rest

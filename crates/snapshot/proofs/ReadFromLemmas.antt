@@ -1,19 +1,18 @@
 -- What is read of a release, where its rows were seen.
-use Rattle.std.proofs.Common.{rules}
-use Rattle.std.proofs.Common.{ℕ, ◌≡◌, ◌≤◌, ◌∙◌, ◌&&◌, ◌==◌, List, [], ◌∷◌, length, true, false, Bool, Option, None, Some, ap, cond, map, not, refl, suc, sym, subst}
+use Rattle.std.proofs.lemmas.Grind.{common_steps}
+use Rattle.std.proofs.Common.{arith, rules}
+use Rattle.std.proofs.Common.{ℕ, ◌≡◌, ◌≤◌, ◌∙◌, List, [], ◌∷◌, length, Bool, Option, None, Some, ap, map, refl, suc, sym, subst}
 use Rattle.std.specs.Prelude.{is_some}
 use Rattle.std.specs.List.{filter_map}
-use Rattle.rf2_rows.specs.RowTexts.{RowText, of_concept, of_concrete, of_description, of_member, of_relationship}
+use Rattle.rf2_rows.specs.RowTexts.{RowText}
 use Rattle.snapshot.specs.Chosen.{choices, chosen, marked}
 use Rattle.snapshot.specs.Contents.{text_of_row}
 use Rattle.snapshot.specs.Faults.{first_fault, first_of}
 use Rattle.snapshot.specs.Files.{Place, RowAt}
-use Rattle.snapshot.specs.InForce.{concrete_attribute, is_name, name_on, relationship_attribute}
 use Rattle.snapshot.specs.Kept.{IsReadFrom, Kept, nothing_kept, unmarked}
 use Rattle.snapshot.specs.Keys.{uuids_behind}
-use Rattle.snapshot.specs.Listed.{Listed, attribute_listed, concept_listed, in_list, is_concrete_attribute, isa_listed, items_chosen, listed_chosen, listed_of, listing_of, member_listed, name_listed, same_listing}
+use Rattle.snapshot.specs.Listed.{Listed, attribute_listed, concept_listed, in_list, isa_listed, items_chosen, listed_chosen, listed_of, listing_of, member_listed, name_listed, same_listing}
 use Rattle.snapshot.specs.Limits.{row_total}
-use Rattle.snapshot.specs.Metadata.{inferred_relationship, is_a}
 use Rattle.snapshot.specs.Seen.{AreSeen, IsSeen, first_conflict, kept_rows, keys_behind}
 use Rattle.snapshot.specs.declared.fault.LoadFault.{LoadFault}
 use Rattle.snapshot.specs.declared.limits.Limits.{Limits}
@@ -34,71 +33,21 @@ module _ (list : Listing) {X : Type 0} (pick : RowText → Option X) (same : (ro
   list-chosen : (rows : List RowText) (choices : List Bool) → items_chosen (in_list list (map listing_of rows)) choices (filter_map pick rows) ≡ filter_map pick (marked choices rows)
   list-chosen rows choices = ap (λ (heres : List Bool). items_chosen heres choices (filter_map pick rows)) (heres-is rows) ∙ chosen-picked pick rows choices
 
--- a row that one list may take is on that list where it takes it, and on no other
-here : {X : Type 0} (taken : Bool) (list : Listing) (item : X) → same_listing list list ≡ true → same_listing listing.Nowhere list ≡ false
-    → same_listing (cond taken list listing.Nowhere) list ≡ is_some (cond taken (Some item) None)
-here true list item same nowhere = same
-here false list item same nowhere = nowhere
-
-elsewhere : (taken : Bool) (list other : Listing) → same_listing list other ≡ false → same_listing listing.Nowhere other ≡ false
-    → same_listing (cond taken list listing.Nowhere) other ≡ false
-elsewhere true list other apart nowhere = apart
-elsewhere false list other apart nowhere = nowhere
-
--- a relationship row is an is-a row or one of an attribute
-abbrev related : (inferred isa : Bool) → Listing
-related inferred isa = cond (inferred && isa) listing.IsA (cond (inferred && not isa) listing.Attribute listing.Nowhere)
-
-related-isa : {X : Type 0} (inferred isa : Bool) (item : X) → same_listing (related inferred isa) listing.IsA ≡ is_some (cond (inferred && isa) (Some item) None)
-related-isa true true item = refl
-related-isa true false item = refl
-related-isa false isa item = refl
-
-related-attribute : {X : Type 0} (inferred isa : Bool) (item : X) → same_listing (related inferred isa) listing.Attribute ≡ is_some (cond (inferred && not isa) (Some item) None)
-related-attribute true true item = refl
-related-attribute true false item = refl
-related-attribute false isa item = refl
-
-unrelated : (inferred isa : Bool) (other : Listing) → same_listing listing.IsA other ≡ false → same_listing listing.Attribute other ≡ false
-    → same_listing listing.Nowhere other ≡ false → same_listing (related inferred isa) other ≡ false
-unrelated true true other isa attribute nowhere = isa
-unrelated true false other isa attribute nowhere = attribute
-unrelated false isa other is attribute nowhere = nowhere
-
+-- a row is on the list that takes it, and on no other
 concept-here : (row : RowText) → same_listing (listing_of row) listing.Concept ≡ is_some (concept_listed row)
-concept-here (of_concept row) = here (row.active) listing.Concept row.id refl refl
-concept-here (of_description row) = elsewhere (is_name row) listing.Name listing.Concept refl refl
-concept-here (of_concrete row) = elsewhere (is_concrete_attribute row) listing.Attribute listing.Concept refl refl
-concept-here (of_member row) = elsewhere (row.active) listing.Member listing.Concept refl refl
-concept-here (of_relationship row) = unrelated (row.active && (row.characteristic_type_id == inferred_relationship)) (row.type_id == is_a) listing.Concept refl refl refl
+concept-here row = grind (arith, common_steps)
 
 name-here : (row : RowText) → same_listing (listing_of row) listing.Name ≡ is_some (name_listed row)
-name-here (of_concept row) = elsewhere (row.active) listing.Concept listing.Name refl refl
-name-here (of_description row) = here (is_name row) listing.Name (name_on row) refl refl
-name-here (of_concrete row) = elsewhere (is_concrete_attribute row) listing.Attribute listing.Name refl refl
-name-here (of_member row) = elsewhere (row.active) listing.Member listing.Name refl refl
-name-here (of_relationship row) = unrelated (row.active && (row.characteristic_type_id == inferred_relationship)) (row.type_id == is_a) listing.Name refl refl refl
+name-here row = grind (arith, common_steps)
 
 isa-here : (row : RowText) → same_listing (listing_of row) listing.IsA ≡ is_some (isa_listed row)
-isa-here (of_concept row) = elsewhere (row.active) listing.Concept listing.IsA refl refl
-isa-here (of_description row) = elsewhere (is_name row) listing.Name listing.IsA refl refl
-isa-here (of_concrete row) = elsewhere (is_concrete_attribute row) listing.Attribute listing.IsA refl refl
-isa-here (of_member row) = elsewhere (row.active) listing.Member listing.IsA refl refl
-isa-here (of_relationship row) = related-isa (row.active && (row.characteristic_type_id == inferred_relationship)) (row.type_id == is_a) (row.source_id, row.destination_id)
+isa-here row = grind (arith, common_steps)
 
 attribute-here : (row : RowText) → same_listing (listing_of row) listing.Attribute ≡ is_some (attribute_listed row)
-attribute-here (of_concept row) = elsewhere (row.active) listing.Concept listing.Attribute refl refl
-attribute-here (of_description row) = elsewhere (is_name row) listing.Name listing.Attribute refl refl
-attribute-here (of_concrete row) = here (is_concrete_attribute row) listing.Attribute (concrete_attribute row) refl refl
-attribute-here (of_member row) = elsewhere (row.active) listing.Member listing.Attribute refl refl
-attribute-here (of_relationship row) = related-attribute (row.active && (row.characteristic_type_id == inferred_relationship)) (row.type_id == is_a) (relationship_attribute row)
+attribute-here row = grind (arith, common_steps)
 
 member-here : (row : RowText) → same_listing (listing_of row) listing.Member ≡ is_some (member_listed row)
-member-here (of_concept row) = elsewhere (row.active) listing.Concept listing.Member refl refl
-member-here (of_description row) = elsewhere (is_name row) listing.Name listing.Member refl refl
-member-here (of_concrete row) = elsewhere (is_concrete_attribute row) listing.Attribute listing.Member refl refl
-member-here (of_member row) = here (row.active) listing.Member (row.refset_id, row.referenced_component_id) refl refl
-member-here (of_relationship row) = unrelated (row.active && (row.characteristic_type_id == inferred_relationship)) (row.type_id == is_a) listing.Member refl refl refl
+member-here row = grind (arith, common_steps)
 
 lists-chosen : (rows : List RowText) (choices : List Bool) → unmarked (listed_chosen (listed_of rows) choices) ≡ unmarked (listed_of (marked choices rows))
 lists-chosen rows choices = search (rules, attribute-here, concept-here, isa-here, list-chosen, member-here, name-here)

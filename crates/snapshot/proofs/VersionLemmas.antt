@@ -39,12 +39,6 @@ versions-push : (repeated : List ℕ) (rows : List Noted) (row : Noted) (version
     → All (IsVersionAmong repeated rows) versions → All (IsVersionAmong repeated (rows ++ row ∷ [])) versions
 versions-push repeated rows row versions = search (rules, All-weaker, append_assoc)
 
--- the mark of one row more
-marks-push : (repeated : List ℕ) (rows : List Noted) (row : Noted) (marks new : List Bool) (mark : Bool)
-    → marks ≡ firsts repeated [] rows → new ≡ marks ++ mark ∷ [] → mark ≡ not (has repeated row.key && is_repeated rows row)
-    → new ≡ firsts repeated [] (rows ++ row ∷ [])
-marks-push repeated rows row marks new mark were are is = grind (arith, common_steps, nat_tests, firsts-push)
-
 -- a row is taken that is no first row of a version
 taken_pushed : (taken : Taken) (chosen : List Bool) (rows : List Noted) (row : Noted) (mark : Bool) → chosen ≡ taken.chosen ++ mark ∷ []
     → mark ≡ not (has taken.repeated row.key && is_repeated rows row) → IsOfVersion taken.repeated taken.versions row → HasTaken taken rows

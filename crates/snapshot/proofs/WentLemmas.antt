@@ -10,7 +10,7 @@ use Rattle.rf2_rows.specs.declared.kind.FileKind.{FileKind}
 use Rattle.rf2_rows.specs.declared.kind.FileKind.TheVariants.{Concept, Concrete, Description, Member, Relationship}
 use Rattle.snapshot.specs.Chosen.{same_kind}
 use Rattle.snapshot.specs.Faults.{conflict_behind, count_of_kind, crowd_behind, fault_at, fault_here, first_fault, first_of}
-use Rattle.snapshot.specs.Files.{Place, RowAt, first_line, later_line, no_line, row_at, rows_of}
+use Rattle.snapshot.specs.Files.{Place, RowAt, row_at, rows_of}
 use Rattle.snapshot.specs.Kept.{IsRead, IsShortAt, IsStopped, Kept, kept_after, kept_behind, nothing_kept, plain_fault}
 use Rattle.snapshot.specs.Limits.{left_behind, row_limit, row_total}
 use Rattle.snapshot.specs.RowsKept.{kept_in}
@@ -48,11 +48,7 @@ pub room-start : (limits : Limits) → HasRoom limits limits []
 room-start limits = record { bytes = refl; rows = λ kind. omega arith }
 
 left_behind-limit : (left : Limits) (kind other : FileKind) → row_limit (left_behind left kind) other ≡ row_limit left other - cond (same_kind kind other) 1 0
-left_behind-limit left kind Concept = refl
-left_behind-limit left kind Description = refl
-left_behind-limit left kind Relationship = refl
-left_behind-limit left kind Concrete = refl
-left_behind-limit left kind Member = refl
+left_behind-limit left kind other = grind (arith, nat_tests)
 
 at_most_one : (b : Bool) → cond b 1 0 ≤ 1
 at_most_one true = omega arith
@@ -71,9 +67,7 @@ none_left : (limit count : ℕ) → nat_le (limit - count) 0 ≡ nat_le limit co
 none_left limit count = grind (arith, common_steps, nat_tests, nat_le, nat_tests)
 
 here-is : (left limits : Limits) (place : Place) → left.bytes ≡ limits.bytes → fault_here left place ≡ fault_here limits place
-here-is left limits (no_line file kind) same = refl
-here-is left limits (first_line file kind line) same = rw same refl
-here-is left limits (later_line file kind line) same = rw same refl
+here-is left limits place h0 = grind (arith, common_steps, nat_tests)
 
 pub plain_fault-is : (left limits : Limits) (earlier : List RowAt) (place : Place) → HasRoom left limits earlier → plain_fault left place ≡ plain_at limits earlier place
 plain_fault-is left limits earlier place room = grind (arith, common_steps, nat_tests, here-is, nat_le, none_left)
