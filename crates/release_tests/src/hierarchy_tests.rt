@@ -74,7 +74,7 @@ fn is_set(words: &[u64], number: u32) -> bool {
 }
 
 // Whether each number below a count stands once in an order, and each parent before its child.
-fn is_parents_first(order: &[u32], count: u32, rows: &[(u32, u32)]) -> bool {
+pub fn is_parents_first(order: &[u32], count: u32, rows: &[(u32, u32)]) -> bool {
     order.len() == count as usize
         && (0..count).all(|concept| order.contains(&concept))
         && rows.iter().all(|(child, parent)| {

@@ -6,6 +6,7 @@ ghost use Rattle.std.specs.Prelude.{◌<◌, ◌^◌, length};
 ghost use Rattle.hierarchy.specs.Hierarchy.{IsWithin};
 ghost use Rattle.hierarchy.specs.KeyedLists.{AreItemsBelow, AreKeysBelow, lists_by};
 
+use crate::hierarchy_tests::is_parents_first;
 use hierarchy::{KeyedLists, least_cyclic, parents_first};
 use std::alloc::{AllocError, Global};
 use std::test::Fail;
@@ -92,17 +93,6 @@ fn pushes_lists(rt: HostRuntime) -> Result<(), Fail> {
     Ok(())
 }
 
-// Whether each number below a count stands once in an order, and each parent before its child.
-fn is_ordered(order: &[u32], count: u32, rows: &[(u32, u32)]) -> bool {
-    order.len() == count as usize
-        && (0..count).all(|concept| order.contains(&concept))
-        && rows.iter().all(|(child, parent)| {
-            let place = order.iter().position(|concept| concept == child);
-            let before = order.iter().position(|concept| concept == parent);
-            before < place
-        })
-}
-
 // Whether rows have an order with parents first, and the least concept that reaches itself.
 fn ordered(
     alloc: Global,
@@ -112,7 +102,7 @@ fn ordered(
     requires { IsWithin count rows.now }
 {
     let has_order = match parents_first(alloc, rows, count)? {
-        Some(order) => is_ordered(order.as_slice(), count, rows),
+        Some(order) => is_parents_first(order.as_slice(), count, rows),
         None => false,
     };
     Ok((has_order, least_cyclic(alloc, rows, count)?))
