@@ -4,7 +4,7 @@
 //! its turn.
 ghost use Rattle.std.specs.Prelude.{◌<◌, ◌^◌, length};
 ghost use Rattle.hierarchy.specs.Hierarchy.{IsWithin};
-ghost use Rattle.hierarchy.specs.KeyedLists.{AreItemsBelow, AreKeysBelow, lists_by};
+ghost use Rattle.hierarchy.specs.KeyedLists.{AreItemsBelow, AreKeysBelow, lists_by, turned as turned_of};
 
 use crate::hierarchy_tests::is_parents_first;
 use hierarchy::{KeyedLists, least_cyclic, parents_first};
@@ -51,6 +51,8 @@ fn are_listed(
 ) -> Result<bool, AllocError>
     requires keys { AreKeysBelow count pairs.now }
     requires items { AreItemsBelow count (lists_by count pairs.now) }
+    requires few { length (lists_by count pairs.now) < 2 ^ 32 }
+    requires few_turned { length (turned_of count (lists_by count pairs.now)) < 2 ^ 32 }
 {
     let lists = KeyedLists::from_pairs(alloc, count, pairs)?;
     let other = lists.turned(alloc, count)?;
@@ -80,7 +82,7 @@ fn pushed(alloc: Global) -> Result<KeyedLists, AllocError> {
 // Whether the three lists lie one behind the other.
 fn are_pushed(alloc: Global) -> Result<bool, AllocError> {
     let lists = pushed(alloc)?;
-    Ok(lists.flat() == [5, 1, 7] && lists.item_count() == 3)
+    Ok(lists.flat() == [5, 1, 7].as_slice() && lists.item_count() == 3)
 }
 
 #[test]
