@@ -7,3 +7,4 @@ pub mod ReleaseLemmas
 pub mod SearchLemmas
 pub mod SpanLemmas
 pub mod WayLemmas
+pub mod Rules

@@ -33,6 +33,7 @@ pub fn least_cyclic(
 
 // Which concepts may reach themselves. Where no row falls in rank, a concept whose rows all rise
 // does not.
+#[tactic(auto, using(crate::proofs::SearchLemmas::level_row))]
 fn suspects(
     alloc: Global,
     rows: &[(u32, u32)],
@@ -152,6 +153,7 @@ fn climb_all(reached: &mut [bool], rows: &[(u32, u32)], start: u32) -> bool
 }
 
 // Follows a row from the start or from what it reached, and tells whether its parent is new.
+#[tactic(auto, using(crate::proofs::SearchLemmas::marks_reached_set))]
 fn climb(reached: &mut [bool], row: (u32, u32), start: u32) -> bool
     requires child { row.0 < length reached.old }
     requires parent { row.1 < length reached.old }

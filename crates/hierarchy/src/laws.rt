@@ -2,6 +2,7 @@
 ghost use Rattle.hierarchy.specs.Hierarchy.{TellsReaches};
 
 /// The test of what a concept reaches, which computes, says exactly that a chain of is-a rows leads there.
+#[tactic(auto, using(crate::proofs::HierarchyLemmas::tells_reaches))]
 pub fn reaches_tells_chains()
     ensures { TellsReaches }
 {}

@@ -10,6 +10,7 @@ use std::alloc::{AllocError, Global};
 
 /// An order of `count` concepts in which each row, a child and its parent, leads to a concept that
 /// stands before; or none, where a concept reaches itself. Takes time linear in the rows.
+#[tactic(auto, using(crate::proofs::WayLemmas::parents_below, crate::proofs::Rules::order_by))]
 pub fn parents_first(
     alloc: Global,
     rows: &[(u32, u32)],
@@ -72,6 +73,7 @@ fn first_waiting(waiting: &[usize]) -> Option<usize>
 
 // Lets children of a concept that is done wait for one parent less, and puts those that wait for none
 // any more at the end of the order.
+#[tactic(auto, using(crate::proofs::ReleaseLemmas::release_none, crate::proofs::ReleaseLemmas::still_waits, crate::proofs::Rules::order_by))]
 fn release(
     children: &[u32],
     waiting: &mut Vec<usize>,

@@ -1,7 +1,6 @@
 -- Worked names, headers and lines: the definitions compute.
 use lib.Utf8.{encode}
-use Rattle.std.proofs.Common.{◌≡◌, ℕ, List, [], ◌∷◌, ◌++◌, None, Some, true, false, refl}
-use Rattle.std.specs.Prelude.{codes, pos, negsuc}
+use Rattle.std.proofs.Common.{◌≡◌, ℕ, List, [], ◌∷◌, ◌++◌, None, Some, true, false, refl, codes, pos, negsuc}
 use Rattle.std.specs.List.{join_with_byte}
 use Rattle.std.specs.Str.{chars, is_utf8}
 use Rattle.uuid.specs.Text.{by_index}

@@ -1,10 +1,7 @@
 -- The tabs of a line as bits: what a shift leaves of them, and where the lowest stands.
-use Rattle.std.proofs.Common.{rules}
-use Rattle.std.proofs.lemmas.Bool.Decides.{nat_tests}
-use Rattle.std.proofs.lemmas.Grind.{common_steps}
-use Rattle.std.proofs.Common.{◌≡◌, ℕ, zero, suc, ◌+◌, ◌-◌, ◌*◌, ◌/◌, ◌^◌, ◌<◌, ◌≤◌, Bool, true, false, cond, not, eqb, ◌==◌, List, [], ◌∷◌, ◌++◌, length, get_or, take, drop, replicate, min, refl, sym, ap, subst, ◌∙◌, arith, length-drop, inl, inr, Bor, append_assoc, length-append}
+use Rattle.std.proofs.Common.{rules, ◌≡◌, ℕ, zero, suc, ◌+◌, ◌-◌, ◌*◌, ◌/◌, ◌^◌, ◌<◌, ◌≤◌, Bool, true, false, cond, not, eqb, ◌==◌, List, [], ◌∷◌, ◌++◌, length, get_or, take, drop, replicate, min, refl, sym, ap, subst, ◌∙◌, arith, length-drop, inl, inr, Bor, append_assoc, length-append, drop-drop, get_or-drop, get_or-take, length-take, take_all}
 use Rattle.std.proofs.Math.Nat.{div-div-eq-div-mul, pow-suc, pow-succ', zero-div, div-one}
-use Rattle.std.proofs.lemmas.List.{drop-take, drop-drop, drop-replicate, get_or-drop, get_or-take, get_or_past, length-take, length-map, map-append, map_push, take_all, take_rest}
+use Rattle.std.proofs.lemmas.List.{drop-take, drop-replicate, get_or_past, length-map, map-append, map_push, take_rest}
 use Rattle.std.proofs.lemmas.Slice.{between_to_end}
 use Rattle.std.proofs.lemmas.List.Elements.{All-from_get_or}
 use Rattle.std.proofs.lemmas.List.Splits.{slice_split_none}
@@ -12,15 +9,14 @@ use Rattle.std.proofs.lemmas.List.Sums.{prefix_len-le-length, prefix_len_passes,
 use Rattle.std.proofs.lemmas.Simd.{trailing_mask_l, leading_from_mask_l}
 use Rattle.std.specs.Int.Count.{count_trailing_zeros}
 use Rattle.std.specs.List.{prefix_len}
-use Rattle.rf2_rows.specs.Parts.{parts_at}
 use Rattle.rf2_rows.specs.Tabs.{NoTab, tab_bits, tabs_in, parts_from}
 use Rattle.rf2_rows.proofs.Parts.{parts_cut}
-use Rattle.std.proofs.lemmas.Bool.{cases_lt, not-false, not-true}
+use Rattle.std.proofs.lemmas.Bool.{cases_lt}
+use Rattle.std.proofs.lemmas.Bool.Decides.{nat_tests}
 
 -- what a shift by one leaves of a bit and those above it
 halved : (b : Bool) (n : ℕ) → (cond b 1 0 + 2 * n) / 2 ≡ n
-halved true n = omega arith
-halved false n = omega arith
+halved x0 n = grind arith
 
 -- a shift leaves the tabs of the bytes that follow
 pub tab_bits-shifted : (k : ℕ) (bytes : List ℕ) → tab_bits bytes / 2 ^ k ≡ tab_bits (drop k bytes)
@@ -42,13 +38,7 @@ padded_block bytes k = ap (λ zeros. tab_bits (bytes ++ zeros)) (drop-replicate 
 
 module _ (line : List ℕ) where
   pub tabs_in-shifted : (from to k : ℕ) → from + k ≤ to → tabs_in line from to / 2 ^ k ≡ tabs_in line (from + k) to
-  tabs_in-shifted from to k le =
-      let rest = drop from line in
-      let count : to - from ≡ k + (to - (from + k)) = omega arith in
-      tab_bits-shifted k (take (to - from) rest)
-      ∙ ap (λ n. tab_bits (drop k (take n rest))) count
-      ∙ ap tab_bits (drop-take k (to - (from + k)) rest)
-      ∙ ap (λ bytes. tab_bits (take (to - (from + k)) bytes)) (drop-drop k from line)
+  tabs_in-shifted from to k le = grind (arith, (tab_bits-shifted k (take (to - from) (drop from line))), (drop-take k (to - (from + k)) (drop from line)), (drop-drop k from line))
 
   -- behind the end of the line there are none
   pub tabs_in-past : (from to : ℕ) → length line ≤ to → tabs_in line from to ≡ tab_bits (drop from line)
@@ -56,16 +46,7 @@ module _ (line : List ℕ) where
 
   -- the tabs of the last 32 bytes, without those before a place
   pub tabs_in-last : (from : ℕ) → 32 ≤ length line → from < length line → length line < from + 32 → tab_bits (take 32 (drop (length line - 32) line)) / 2 ^ (from + 32 - length line) ≡ tabs_in line from (from + 32)
-  tabs_in-last from long in_line last =
-      let start = length line - 32 in
-      let k = from + 32 - length line in
-      let count : 32 ≡ length line - start = omega arith in
-      let place : start + k ≡ from = omega arith in
-      ap (λ n. tab_bits (take n (drop start line)) / 2 ^ k) count
-      ∙ tabs_in-shifted start (length line) k (omega arith)
-      ∙ ap (λ n. tabs_in line n (length line)) place
-      ∙ tabs_in-past from (length line) (omega arith)
-      ∙ sym (tabs_in-past from (from + 32) (omega arith))
+  tabs_in-last from long in_line last = grind (arith, (tabs_in-shifted (length line - 32) (length line) (from + 32 - length line)), (tabs_in-past from (length line)), (tabs_in-past from (from + 32)))
 
 -- where a bit is set, a tab stands among the bytes
 some_tab : (bytes : List ℕ) → 0 < tab_bits bytes → prefix_len (λ byte. not (byte == 9)) bytes < length bytes
@@ -92,22 +73,17 @@ module _ (line : List ℕ) (from to : ℕ) where
   clear_front : NoTab line from (from + prefix_len (λ byte. not (byte == 9)) (take (to - from) (drop from line)))
   clear_front k above below =
       let bytes = take (to - from) (drop from line) in
-      let inside = prefix_len-le-length (λ byte. not (byte == 9)) bytes in
-      let place : from + (k - from) ≡ k = omega arith in
-      subst (λ n. (get_or line n 0 == 9) ≡ false) place
-      (sym (byte_at (k - from) (omega (arith, size, inside))) ∙ not-true (get_or bytes (k - from) 0 == 9) (prefix_len_passes (λ byte. not (byte == 9)) bytes (k - from) 0 (omega arith)))
+      grind (arith, nat_tests, size, (prefix_len-le-length (λ byte. not (byte == 9)) bytes), (byte_at (k - from)), (prefix_len_passes (λ byte. not (byte == 9)) bytes (k - from) 0))
 
   first_tab : to ≤ from + 32 → 0 < tabs_in line from to → FirstTab line from to (next_tab line from to)
   first_tab few some =
       let bytes = take (to - from) (drop from line) in
-      let other = λ (byte : ℕ). not (byte == 9) in
-      let counted : count_trailing_zeros 64 (tabs_in line from to) ≡ prefix_len other bytes = trailing_mask_l (λ byte. byte == 9) 64 bytes (omega (arith, size)) some in
-      let found = some_tab bytes some in
-      subst (λ r. FirstTab line from to (from + r)) (sym counted) (record {
-        before = omega (arith, size, found);
-        in_line = omega (arith, size, found);
+      let counted : count_trailing_zeros 64 (tabs_in line from to) ≡ prefix_len (λ (byte : ℕ). not (byte == 9)) bytes = trailing_mask_l (λ byte. byte == 9) 64 bytes (omega (arith, size)) some in
+      rw counted (record {
+        before = omega (arith, size, some_tab bytes some);
+        in_line = omega (arith, size, some_tab bytes some);
         clear = clear_front;
-        is = sym (byte_at (prefix_len other bytes) (omega (arith, size, found))) ∙ not-false (get_or bytes (prefix_len other bytes) 0 == 9) (prefix_len_stops other bytes 0 found);
+        is = grind (arith, nat_tests, size, (some_tab bytes some), (byte_at (prefix_len (λ (byte : ℕ). not (byte == 9)) bytes)), (prefix_len_stops (λ (byte : ℕ). not (byte == 9)) bytes 0 (some_tab bytes some)));
       })
 
   -- where no bit is set, there is no tab
@@ -115,32 +91,19 @@ module _ (line : List ℕ) (from to : ℕ) where
   no_tab none k above below =
       clear_front k above (omega (arith, size, leading_from_mask_l (λ byte. byte == 9) (take (to - from) (drop from line)) none))
 
--- up to a place and from there on there is no tab
-clear_then : (line : List ℕ) (from place to : ℕ) → NoTab line from place → NoTab line place to → NoTab line from to
-clear_then line from place to before behind k above below = elim (cases_lt k place) [ inl near ↦ before k above near | inr far ↦ behind k far below ]
-
 -- there is none in what no bit is left of, nor behind the end of the line
 pub none_left : (line : List ℕ) (from place to : ℕ) → NoTab line from place → tabs_in line place to ≡ 0 → NoTab line from to
-none_left line from place to before none = grind (arith, common_steps, nat_tests, cases_lt, clear_then, get_or_past, no_tab)
+none_left line from place to before none = grind (arith, cases_lt, get_or_past, no_tab, inl, inr)
 
 -- the parts that are left behind a place, where a tab or the end of the line is next
 module _ (line : List ℕ) where
   next_part : (start at : ℕ) → start ≤ at → at < length line → NoTab line start at → eqb (get_or line at 0) 9 ≡ true → parts_from line start ≡ take (at - start) (drop start line) ∷ parts_from line (at + 1)
   next_part start at le in_line clear is =
-      let rest = drop start line in
       let count = at - start in
-      let place : start + count ≡ at = omega arith in
-      let tab : eqb (get_or rest count 0) 9 ≡ true = ap (λ byte. eqb byte 9) (get_or-drop start line count 0) ∙ ap (λ k. eqb (get_or line k 0) 9) place ∙ is in
-      let behind : drop (count + 1) rest ≡ drop (at + 1) line = drop-drop (count + 1) start line ∙ ap (λ k. drop k line) (omega arith) in
-      parts_cut 9 rest count (omega (arith, length-drop start line)) (λ k below. rw get_or-drop (clear (start + k) (omega arith) (omega arith))) tab
-      ∙ ap (λ left. take count rest ∷ left) (ap (parts_at 9) behind)
+      grind (arith, (parts_cut 9 (drop start line) count), (length-drop start line), (get_or-drop start line), clear, is, (drop-drop (count + 1) start line))
 
   pub last_part : (start : ℕ) → start ≤ length line → NoTab line start (length line) → parts_from line start ≡ take (length line - start) (drop start line) ∷ []
-  last_part start le clear =
-      let rest = drop start line in
-      slice_split_none (λ byte. byte == 9) rest
-      (All-from_get_or (λ byte. (byte == 9) ≡ false) rest 0 (λ k below. rw get_or-drop (clear (start + k) (omega arith) (omega (arith, length-drop start line)))))
-      ∙ ap (λ part. part ∷ []) (sym (take_rest line start))
+  last_part start le clear = grind (arith, (slice_split_none (λ byte. byte == 9) (drop start line)), (All-from_get_or (λ byte. (byte == 9) ≡ false) (drop start line) 0), (get_or-drop start line), clear, (length-drop start line), (take_rest line start))
 
 -- what `grind` takes where the fields of a line are put into a list: of the lowest bit that is left, and of the parts
 pub lowest_tab : (line : List ℕ) (from to : ℕ) → to ≤ from + 32 → 0 < tabs_in line from to
@@ -149,16 +112,11 @@ pub lowest_tab : (line : List ℕ) (from to : ℕ) → to ≤ from + 32 → 0 < 
 lowest_tab line from to few some =
     let tab = first_tab line from to few some in
     let lane = count_trailing_zeros 64 (tabs_in line from to) in
-    let behind : tabs_in line from to / 2 ^ lane / 2 ≡ tabs_in line (from + lane + 1) to =
-    div-div-eq-div-mul (tabs_in line from to) (2 ^ lane) 2
-    ∙ ap (λ n. tabs_in line from to / n) (sym (pow-suc 2 lane))
-    ∙ tabs_in-shifted line from to (suc lane) (omega (arith, tab.before))
-    ∙ ap (λ n. tabs_in line n to) (omega arith) in
-    (refl, tab.before, tab.in_line, behind)
+    (refl, tab.before, tab.in_line, grind (arith, (div-div-eq-div-mul (tabs_in line from to) (2 ^ lane) 2), (pow-suc 2 lane), (tabs_in-shifted line from to (suc lane)), tab.before))
 
 pub next_field : (line : List ℕ) (start from to : ℕ) → start ≤ from → NoTab line start from → to ≤ from + 32 → 0 < tabs_in line from to
     → take (next_tab line from to - start) (drop start line) ∷ parts_from line (next_tab line from to + 1) ≡ parts_from line start
-next_field line start from to ahead clear few some = search (rules, clear_then, first_tab, next_part)
+next_field line start from to ahead clear few some = search (rules, first_tab, next_part)
 
 pub ruleset fields_cut = (lowest_tab, next_field, map_push, append_assoc, length-append, length-map)
 

@@ -1,14 +1,11 @@
 -- Words that stand in texts.
-use Rattle.std.proofs.lemmas.Bool.Decides.{nat_tests}
+use Rattle.std.proofs.lemmas.Bool.Decides.{nat_tests, Decides-eqb}
 use Rattle.std.proofs.lemmas.Grind.{common_steps}
-use Rattle.std.proofs.Common.{◌≡◌, ℕ, zero, suc, ◌+◌, ◌-◌, ◌<◌, ◌≤◌, get_or, add-sub_cancel, true, false, List, [], ◌∷◌, Option, None, Some, length, drop, refl, ◌∙◌, inl, inr, arith, length-drop}
-use Rattle.std.specs.Prelude.{nat_eq, ◌==◌, ◌↔◌}
+use Rattle.std.proofs.Common.{◌≡◌, ℕ, zero, suc, ◌+◌, ◌-◌, ◌<◌, ◌≤◌, get_or, add-sub_cancel, true, false, List, [], ◌∷◌, Option, None, Some, length, drop, refl, ◌∙◌, inl, inr, arith, length-drop, nat_eq, ◌==◌, ◌↔◌, is_some}
 use Rattle.std.specs.List.{after_last, starts_with}
 use Rattle.std.proofs.lemmas.List.Sums.{suffix_len_is}
 use Rattle.std.proofs.lemmas.Slice.{between_to_end}
-use Rattle.std.specs.Option.{is_some}
 use Rattle.std.proofs.lemmas.Bool.{false_from_ne_true, not_from_false, not_from_true, or_cases, or_left, or_right}
-use Rattle.std.proofs.lemmas.Bool.Decides.{Decides-eqb}
 use Rattle.std.proofs.lemmas.Slice.Eq.{starts_is}
 use Rattle.std.proofs.lemmas.List.Prefix.{at_from_reads, at_reads, front_fits}
 use Rattle.std.proofs.lemmas.Str.{IsUtf8-from_is_utf8, is_utf8-from_IsUtf8}

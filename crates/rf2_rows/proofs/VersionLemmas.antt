@@ -1,26 +1,19 @@
 -- Being one row is an equivalence of the lines of a kind, and the effective time of a row is that of its line.
-use Rattle.std.proofs.lemmas.Bool.Decides.{nat_tests}
+use Rattle.std.proofs.lemmas.Bool.Decides.{nat_tests, Decides-eqb}
 use Rattle.std.proofs.lemmas.Grind.{common_steps}
-use Rattle.std.proofs.Common.{◌≡◌, ℕ, Bool, true, IsTrue, List, [], ◌∷◌, length, Option, None, refl, ap, arith}
-use Rattle.std.specs.Bool.{Decides}
+use Rattle.std.proofs.Common.{◌≡◌, ℕ, Bool, true, IsTrue, List, [], ◌∷◌, length, Option, None, refl, arith, Decides}
 use Rattle.std.proofs.lemmas.Bool.{false≢true, and_from}
-use Rattle.std.proofs.lemmas.Bool.Decides.{Decides-eqb, nat_tests}
 use Rattle.std.proofs.lemmas.Slice.Eq.{bytes_eq-Decides}
 use Rattle.rf2_rows.specs.Columns.{Column, Format, columns_of, uuid_format, time_format, active_format, text_format, value_format}
 use Rattle.rf2_rows.specs.Numbers.{number_of}
 use Rattle.rf2_rows.specs.Release.{Value}
 use Rattle.rf2_rows.specs.Rows.{IsRow, active_of, fields_of, row_fault, time_of, uuid_of}
 use Rattle.rf2_rows.specs.Values.{value_of}
-use Rattle.rf2_rows.specs.Versions.{IsEquivalenceOfRows, same_flag, same_row, same_time, same_value, same_values, time_in, time_on}
+use Rattle.rf2_rows.specs.Versions.{IsEquivalenceOfRows, same_flag, same_row, same_value, same_values, time_in, time_on}
 use Rattle.rf2_rows.specs.declared.kind.FileKind.{FileKind}
-use Rattle.rf2_rows.specs.declared.kind.FileKind.TheVariants.{Concept, Concrete, Description, Member, Relationship}
 use Rattle.rf2_rows.specs.declared.row.Row.{Row}
-use Rattle.rf2_rows.specs.declared.row.Row.TheVariants as typed
 use Rattle.rf2_rows.proofs.Accepted.{few_fields, width_of_line}
 use Rattle.rf2_rows.proofs.PairLemmas.{tells_same_value}
-
-same_time_tells : (one other : Option ℕ) → Decides (same_time one other) (one ≡ other)
-same_time_tells one other = grind (arith, nat_tests)
 
 same_flag_tells : (one other : Bool) → Decides (same_flag one other) (one ≡ other)
 same_flag_tells one other = grind arith
@@ -45,7 +38,7 @@ meaning _ text = number_of text
 -- texts have one value exactly where they are read as the same
 tells : (format : Format) (one other : List ℕ) → Decides (same_value format one other) (meaning format one ≡ meaning format other)
 tells uuid_format one other = bytes_eq-Decides (uuid_of one) (uuid_of other)
-tells time_format one other = same_time_tells (time_of one) (time_of other)
+tells time_format one other = grind (arith, time_of)
 tells active_format one other = same_flag_tells (active_of one) (active_of other)
 tells text_format one other = bytes_eq-Decides one other
 tells value_format one other = tells_same_value (value_of one) (value_of other)
@@ -58,14 +51,12 @@ same_values-refl _ _ width = absurd (omega arith)
 
 same_values-sym : (columns : List Column) (ones others : List (List ℕ)) → same_values columns ones others ≡ true → same_values columns others ones ≡ true
 same_values-sym [] [] [] is = is
-same_values-sym (column ∷ columns) (one ∷ ones) (other ∷ others) is =
-    grind (arith, tells column.format one other, tells column.format other one, same_values-sym columns ones others)
+same_values-sym (column ∷ columns) (one ∷ ones) (other ∷ others) is = grind (arith, tells, (same_values-sym columns ones others))
 same_values-sym _ _ _ is = absurd (false≢true is)
 
 same_values-trans : (columns : List Column) (ones others thirds : List (List ℕ)) → same_values columns ones others ≡ true → same_values columns others thirds ≡ true → same_values columns ones thirds ≡ true
 same_values-trans [] [] [] thirds is also = also
-same_values-trans (column ∷ columns) (one ∷ ones) (other ∷ others) (third ∷ thirds) is also =
-    grind (arith, tells column.format one other, tells column.format other third, tells column.format one third, same_values-trans columns ones others thirds)
+same_values-trans (column ∷ columns) (one ∷ ones) (other ∷ others) (third ∷ thirds) is also = grind (arith, tells, (same_values-trans columns ones others thirds))
 same_values-trans (column ∷ columns) (one ∷ ones) (other ∷ others) [] is also = absurd (false≢true also)
 same_values-trans _ _ _ thirds is also = absurd (false≢true is)
 
@@ -88,9 +79,4 @@ rows_are_equivalent kind = (same_row-refl kind, same_row-sym kind, same_row-tran
 
 -- the effective time of a row is that of the line that it was read from
 pub time_in-on : (kind : FileKind) (line : List ℕ) (row : Row) → IsRow kind line row → time_in row ≡ time_on kind line
-time_in-on Concept line (typed.Concept row) is = ap (λ row. row.effective_time) is
-time_in-on Description line (typed.Description row) is = ap (λ row. row.effective_time) is
-time_in-on Relationship line (typed.Relationship row) is = ap (λ row. row.effective_time) is
-time_in-on Concrete line (typed.Concrete row) is = ap (λ row. row.effective_time) is
-time_in-on Member line (typed.Member row) is = ap (λ row. row.effective_time) is
-time_in-on _ line _ is = absurd is
+time_in-on x0 line x2 is = grind arith

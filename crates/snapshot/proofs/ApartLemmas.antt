@@ -1,14 +1,13 @@
 -- Of places without a fault no two chosen rows of active concepts have one identifier, and no list has more items than
 -- there are rows.
 use Rattle.std.proofs.lemmas.Grind.{common_steps}
-use Rattle.std.proofs.Common.{ℕ, ◌≡◌, ◌≤◌, ◌||◌, List, [], ◌∷◌, ◌++◌, length, map, Option, None, Some, append_assoc, arith, refl, Bool, true, false, cond, nat_eq}
-use Rattle.std.specs.Prelude.{⊤, not}
-use Rattle.std.specs.List.{AllByRecursion, IsDistinct, cons_option, filter_map, list_any}
+use Rattle.std.proofs.Common.{ℕ, ◌≡◌, ◌≤◌, List, [], ◌∷◌, ◌++◌, length, map, Option, Some, append_assoc, arith, Bool, false, nat_eq, filter_map}
+use Rattle.std.specs.Prelude.{⊤}
+use Rattle.std.specs.List.{AllByRecursion, IsDistinct, cons_option, list_any}
 use Rattle.std.proofs.lemmas.Bool.Decides.{nat_tests}
 use Rattle.std.proofs.lemmas.List.{length-map}
 use Rattle.std.proofs.lemmas.List.Folds.{list_any-append}
-use Rattle.rf2_rows.specs.RowTexts.{RowText}
-use Rattle.snapshot.specs.Chosen.{choices, chosen, is_repeated, is_superseded, marked}
+use Rattle.snapshot.specs.Chosen.{choices, chosen, is_superseded, marked}
 use Rattle.snapshot.specs.Contents.{text_of_row}
 use Rattle.snapshot.specs.Files.{Place, RowAt}
 use Rattle.snapshot.specs.Kept.{AreFew, IsReadFrom}
@@ -47,19 +46,7 @@ apart-later : (rows earlier later : List RowAt) (row : RowAt) (id : ℕ) → con
     → IsAmong rows row → is_superseded rows row ≡ false → IsAmong earlier row → AreAmong rows later
     → AllByRecursion (λ other. nat_eq id other ≡ false) (active_ids (marked (choices rows earlier later) later))
 apart-later rows earlier [] row id listed among latest before all = tt
-apart-later rows earlier (next ∷ later) row id listed among latest before all =
-    by (apart-later rows (earlier ++ next ∷ []) later row id listed among latest (among-append earlier (next ∷ []) row before) all.1)
-    (is_superseded rows next) refl (is_repeated earlier next) refl
-  where
-    others : List ℕ
-    others = active_ids (marked (choices rows (earlier ++ next ∷ []) later) later)
-
-    by : AllByRecursion (λ other. nat_eq id other ≡ false) others
-        → (superseded : Bool) → is_superseded rows next ≡ superseded → (repeated : Bool) → is_repeated earlier next ≡ repeated
-        → AllByRecursion (λ other. nat_eq id other ≡ false) (active_ids (cond (not (superseded || repeated)) (next ∷ marked (choices rows (earlier ++ next ∷ []) later) later) (marked (choices rows (earlier ++ next ∷ []) later) later)))
-    by rest true next_latest repeated first = rest
-    by rest false next_latest true first = rest
-    by rest false next_latest false first = grind (arith, common_steps, nat_tests, nat_eq, others)
+apart-later rows earlier (next ∷ later) row id listed among latest before all = grind (arith, common_steps, nat_tests, nat_eq, (apart-later rows (earlier ++ next ∷ []) later row id listed among latest (among-append earlier (next ∷ []) row before) all.1), before, among)
 
 distinct-choices : (rows earlier later : List RowAt) → AreAmong rows later → IsDistinct nat_eq (active_ids (marked (choices rows earlier later) later))
 unfolding IsDistinct
@@ -73,15 +60,8 @@ active-distinct rows = distinct-choices rows [] rows (are_among [] rows)
 -- ---- no list of chosen rows is longer than the rows
 length-picked : {X Y : Type 0} (pick : X → Option Y) (items : List X) → length (filter_map pick items) ≤ length items
 length-picked pick [] = omega arith
-length-picked {X} {Y} pick (item ∷ items) = by (pick item) (length-picked pick items)
-  where
-    by : (found : Option Y) → length (filter_map pick items) ≤ length items → length (cons_option found (filter_map pick items)) ≤ length (item ∷ items)
-    by None rest = omega (arith, rest)
-    by (Some other) rest = omega (arith, rest)
-
-length-listed : {X : Type 0} (pick : RowText → Option X) (rows : List RowAt) → length (filter_map pick (map text_of_row (chosen rows))) ≤ length rows
-length-listed pick rows = grind (arith, common_steps, nat_tests, length-map, length-marked, length-picked)
+length-picked {X} {Y} pick (item ∷ items) = grind (arith, filter_map, cons_option, (length-picked pick items))
 
 -- what was read of places without a fault is few
 pub AreFew-read : (limits : Limits) (places : List Place) (count : ℕ) (listed : Listed) → row_total limits ≤ 68000000 → IsReadFrom limits places count listed → AreFew count listed
-AreFew-read limits places count listed room read = grind (arith, common_steps, nat_tests, length-listed)
+AreFew-read limits places count listed room read = grind (arith, length-map, length-marked, length-picked)

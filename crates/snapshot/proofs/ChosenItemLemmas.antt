@@ -1,9 +1,8 @@
 -- Going over the rows that were read, with what one list has of them.
 use Rattle.std.proofs.lemmas.Bool.Decides.{nat_tests}
 use Rattle.std.proofs.lemmas.Grind.{common_steps}
-use Rattle.std.proofs.Common.{ℕ, ◌≡◌, ◌+◌, ◌<◌, ◌≤◌, ◌∙◌, List, [], ◌∷◌, length, true, false, Bool, Option, None, Some, ap, arith, cond, drop, drop-cons, get_or, map, refl, suc}
-use Rattle.std.specs.Prelude.{All, is_some}
-use Rattle.std.specs.List.{cons_option, filter_map}
+use Rattle.std.proofs.Common.{ℕ, ◌≡◌, ◌+◌, ◌<◌, ◌≤◌, ◌∙◌, List, [], ◌∷◌, length, true, false, Bool, Option, None, Some, ap, arith, cond, drop, drop-cons, get_or, map, refl, suc, All, is_some, filter_map, append-nil}
+use Rattle.std.specs.List.{cons_option}
 use Rattle.std.proofs.lemmas.List.{drop_all}
 use Rattle.std.proofs.lemmas.List.Elements.{All-cons, All-drop, All-nil}
 use Rattle.rf2_rows.specs.RowTexts.{RowText}
@@ -58,27 +57,13 @@ pub chosen-picked : {X : Type 0} (pick : RowText → Option X) (rows : List RowT
 chosen-picked {X} pick [] [] = refl
 chosen-picked {X} pick [] (choice ∷ choices) = refl
 chosen-picked {X} pick (row ∷ rows) [] = grind (arith, common_steps, nat_tests)
-chosen-picked {X} pick (row ∷ rows) (choice ∷ choices) = by choice (pick row) refl (chosen-picked pick rows choices)
-  where
-    by : (choice : Bool) (item : Option X) → pick row ≡ item
-        → marked (marked (map (λ row. is_some (pick row)) rows) choices) (filter_map pick rows) ≡ filter_map pick (marked choices rows)
-        → items_chosen (is_some (pick row) ∷ map (λ row. is_some (pick row)) rows) (choice ∷ choices) (cons_option (pick row) (filter_map pick rows))
-        ≡ filter_map pick (cond choice (row ∷ marked choices rows) (marked choices rows))
-    by true None told rest = rw told rest
-    by false None told rest = rw told rest
-    by true (Some item) told rest = rw told (ap (λ (items : List X). item ∷ items) rest)
-    by false (Some item) told rest = rw told rest
+chosen-picked {X} pick (row ∷ rows) (choice ∷ choices) = grind (arith, marked, is_some, filter_map, items_chosen, cons_option, cond, (chosen-picked pick rows choices))
 
 -- ---- what the marked items are, and what holds of them
 pub map-marked : {X Y : Type 0} (f : X → Y) (marks : List Bool) (items : List X) → map f (marked marks items) ≡ marked marks (map f items)
 map-marked f [] items = refl
 map-marked f (mark ∷ marks) [] = refl
-map-marked {X} {Y} f (mark ∷ marks) (item ∷ items) = by mark (map-marked f marks items)
-  where
-    by : (mark : Bool) → map f (marked marks items) ≡ marked marks (map f items)
-        → map f (cond mark (item ∷ marked marks items) (marked marks items)) ≡ cond mark (f item ∷ marked marks (map f items)) (marked marks (map f items))
-    by true rest = ap (λ (others : List Y). f item ∷ others) rest
-    by false rest = rest
+map-marked {X} {Y} f (mark ∷ marks) (item ∷ items) = grind (arith, marked, cond, (map-marked f marks items))
 
 pub All-marked : {X : Type 0} (P : X → Type 0) (marks : List Bool) (items : List X) → All P items → All P (marked marks items)
 All-marked P [] items all = All-nil P
@@ -94,3 +79,6 @@ pub length-marked : {X : Type 0} (marks : List Bool) (items : List X) → length
 length-marked [] items = omega arith
 length-marked (mark ∷ marks) [] = omega arith
 length-marked (mark ∷ marks) (item ∷ items) = grind (arith, common_steps, nat_tests, (length-marked marks items))
+
+-- for the loop over items
+pub ruleset chosen_by_one = (append-nil, nat_tests, common_steps, choices_ended, row_passed)

@@ -1,23 +1,21 @@
 -- What the definitions of a load say in the words of a reader.
 use Rattle.std.proofs.lemmas.Bool.Decides.{nat_tests}
 use Rattle.std.proofs.lemmas.Grind.{common_steps}
-use Rattle.std.proofs.Common.{ℕ, ◌≡◌, ◌<◌, List, [], ◌∷◌, ◌++◌, length, get_or, Option, None, Some, sym, ◌∙◌, ap, subst, refl, arith, inl, inr, ◌⊎◌, append_assoc, Bool, true, false}
-use Rattle.std.specs.Prelude.{Contains, find}
+use Rattle.std.proofs.Common.{ℕ, ◌≡◌, ◌<◌, List, [], ◌∷◌, ◌++◌, length, get_or, Option, None, Some, sym, ◌∙◌, ap, refl, arith, inl, inr, ◌⊎◌, append_assoc, Bool, true, false, Contains, find, append-nil, slice_get}
 use Rattle.std.specs.List.Sorted.{IsStrictlyIncreasing}
-use Rattle.std.proofs.lemmas.Bool.{cases_lt, false_from_ne_true, false≢true}
-use Rattle.std.proofs.lemmas.List.{append-nil}
+use Rattle.std.proofs.lemmas.Bool.{cases_lt, false_from_ne_true}
+use Rattle.std.proofs.lemmas.List.{get_or_default}
 use Rattle.std.proofs.lemmas.List.Folds.{find_at}
 use Rattle.std.proofs.lemmas.List.Sums.{fails_before_first, passes_at_first}
 use Rattle.std.proofs.lemmas.Option.{get_or_from_slice_get, slice_get-get_or, slice_get_within}
-use Rattle.std.specs.List.{position_or_len, slice_get}
+use Rattle.std.specs.List.{position_or_len}
 use Rattle.hierarchy.specs.Hierarchy.{Reaches, reaches}
 use Rattle.hierarchy.proofs.HierarchyLemmas.{chain_from_test, test_from_chain}
 use Rattle.snapshot.specs.Contents.{NamesLeastCyclic}
-use Rattle.snapshot.specs.Faults.{HasNoFault, NamesFirstFault, fault_at, first_fault, first_of}
+use Rattle.snapshot.specs.Faults.{NamesFirstFault, fault_at, first_fault}
 use Rattle.snapshot.specs.Files.{Place}
 use Rattle.snapshot.specs.declared.fault.LoadFault.{LoadFault}
 use Rattle.snapshot.specs.declared.limits.Limits.{Limits}
-use Rattle.std.proofs.lemmas.List.{get_or_default}
 use Rattle.std.proofs.lemmas.List.Elements.{Contains-get_or}
 use Rattle.snapshot.proofs.NumberingLemmas.{find-first, find-none}
 use Rattle.snapshot.proofs.RisingLemmas.{earlier_below, not_falling}
@@ -34,49 +32,25 @@ found_at : (limits : Limits) (seen places : List Place) (fault : LoadFault) → 
 found_at limits seen [] fault found = (cc)
 found_at limits seen (first ∷ rest) fault found = elim (option_cases (fault_at limits seen first)) [
   | inl none ↦
-      let skip = λ (behind : Option LoadFault). ap (λ (here : Option LoadFault). first_of here behind) none in
-      let tail = found_at limits (seen ++ first ∷ []) rest fault (sym (skip (first_fault limits (seen ++ first ∷ []) rest)) ∙ found) in (
-        first ∷ tail.0,
-        tail.1,
-        tail.2,
-        ap (λ places. first ∷ places) tail.3,
-        ap (λ before. fault_at limits before tail.1) (sym (append_assoc seen (first ∷ []) tail.0)) ∙ tail.4,
-        skip (first_fault limits (seen ++ first ∷ []) tail.0) ∙ tail.5,
-      )
-  | inr (other, is) ↦
-      let same = sym (ap (λ (here : Option LoadFault). first_of here (first_fault limits (seen ++ first ∷ []) rest)) is) ∙ found in
-      ([], first, rest, refl, ap (λ before. fault_at limits before first) (append-nil seen) ∙ is ∙ same, refl)
+      let tail = found_at limits (seen ++ first ∷ []) rest fault (grind (arith, none)) in
+      (first ∷ tail.0, tail.1, tail.2, grind (arith, tail.3), grind (arith, append_assoc, tail.4), grind (arith, none, tail.5))
+  | inr (other, is) ↦ ([], first, rest, refl, grind (arith, append-nil), refl)
 ]
 
-second_none : (one other third : Option LoadFault) → first_of one (first_of other third) ≡ None → other ≡ None
-second_none one other third none = grind arith
-
--- no place has a fault exactly where none is found
-none_with : (limits : Limits) (places : List Place) → first_fault limits [] places ≡ None → HasNoFault limits places
-none_with limits places none before place later cut = grind (arith, common_steps, nat_tests, first_fault-append, second_none)
-
-none_when : (limits : Limits) (places : List Place) → HasNoFault limits places → first_fault limits [] places ≡ None
-none_when limits places clean = grind (arith, common_steps, nat_tests, found_at, option_cases)
-
 pub names_first_fault : NamesFirstFault
-names_first_fault limits places = grind (arith, common_steps, nat_tests, first_fault-append, found_at, none_when, none_with)
+names_first_fault limits places = grind (arith, first_fault-append, found_at, option_cases)
 
 -- what is found passes the test, and no item before it does
 find-Some : (test : ℕ → Bool) (xs : List ℕ) (x : ℕ) → find test xs ≡ Some x
     → (i : ℕ) × (i < length xs) × (get_or xs i 0 ≡ x) × (test x ≡ true) × ((k : ℕ) → k < i → test (get_or xs k 0) ≡ false)
 find-Some test xs x found =
-    let i : ℕ = position_or_len test xs in
-    let there : slice_get xs i ≡ Some x = sym (find_at test xs) ∙ found in
-    let within = slice_get_within xs i x there in
-    let is : get_or xs i 0 ≡ x = get_or_from_slice_get xs i x 0 there in
-    (i, within, is, subst (λ (y : ℕ). test y ≡ true) is (passes_at_first test xs 0 within), λ k before. fails_before_first test xs k 0 before)
+    let there : slice_get xs (position_or_len test xs) ≡ Some x = sym (find_at test xs) ∙ found in
+    let within = slice_get_within xs (position_or_len test xs) x there in
+    (position_or_len test xs, within, get_or_from_slice_get xs (position_or_len test xs) x 0 there, grind (arith, (passes_at_first test xs 0 within), get_or_from_slice_get), λ k before. fails_before_first test xs k 0 before)
 
 -- nothing is found where no item passes the test
 find-none_passes : (test : ℕ → Bool) (xs : List ℕ) → find test xs ≡ None → (x : ℕ) → Contains xs x → test x ≡ false
-find-none_passes test xs none x (k, below, is) = elim (cases_lt (position_or_len test xs) (length xs)) [
-  | inl within ↦ absurd (let some = sym (slice_get-get_or xs (position_or_len test xs) 0 within) ∙ sym (find_at test xs) ∙ none in cc)
-  | inr past ↦ subst (λ (y : ℕ). test y ≡ false) is (fails_before_first test xs k x (omega arith))
-]
+find-none_passes test xs none x (k, below, is) = grind (arith, common_steps, nat_tests, (cases_lt (position_or_len test xs) (length xs)), (slice_get-get_or xs (position_or_len test xs) 0), (find_at test xs), (fails_before_first test xs k x))
 
 -- a lesser concept stands before a greater one
 earlier_place : (concepts : List ℕ) → IsStrictlyIncreasing concepts → (i k : ℕ) → i < length concepts → k < length concepts
@@ -88,26 +62,20 @@ names_least_cyclic release rising = (
   λ concept. (
     λ found.
         let at = find-Some test release.concepts concept found in (
-          subst (λ (c : ℕ). Contains release.concepts c) at.2 (Contains-get_or release.concepts at.0 0 at.1),
+          grind (arith, (Contains-get_or release.concepts at.0 0 at.1), at.2),
           chain_from_test release.isa concept concept at.3,
-          λ lesser there less chain.
-              let k : ℕ = there.0 in
-              let is : get_or release.concepts k 0 ≡ lesser = get_or_default release.concepts k 0 lesser there.1 ∙ there.2 in
-              let before : k < at.0 = earlier_place release.concepts rising at.0 k at.1 there.1 (omega (arith, less, is, at.2)) in
-              false≢true (sym (subst (λ (n : ℕ). test n ≡ false) is (at.4 k before)) ∙ test_from_chain release.isa chain),
+          λ lesser there less chain. grind (arith, (get_or_default release.concepts there.0 0 lesser there.1), there.2, (earlier_place release.concepts rising at.0 there.0 at.1 there.1), at.2, (at.4 there.0), (test_from_chain release.isa chain)),
         ),
     λ (there, chain, none).
         let i : ℕ = there.0 in
         let is : get_or release.concepts i 0 ≡ concept = get_or_default release.concepts i 0 concept there.1 ∙ there.2 in
         find-first test release.concepts i there.1
-        (λ k before. fails (get_or release.concepts k 0)
-        (none (get_or release.concepts k 0) (Contains-get_or release.concepts k 0 (omega (arith, there.1)))
-        (subst (λ (n : ℕ). get_or release.concepts k 0 < n) is (earlier_below release.concepts rising k i before there.1))))
-        (subst (λ (n : ℕ). test n ≡ true) (sym is) (test_from_chain release.isa chain))
+        (λ k before. fails (get_or release.concepts k 0) (none (get_or release.concepts k 0) (Contains-get_or release.concepts k 0 (omega (arith, there.1))) (grind (arith, is, (earlier_below release.concepts rising k i before there.1)))))
+        (grind (arith, is, (test_from_chain release.isa chain)))
         ∙ ap (λ (n : ℕ). Some n) is,
   ),
   (
-    λ found concept there chain. false≢true (sym (find-none_passes test release.concepts found concept there) ∙ test_from_chain release.isa chain),
+    λ found concept there chain. grind (arith, (find-none_passes test release.concepts found concept there), (test_from_chain release.isa chain)),
     λ none. find-none test release.concepts (λ k within. fails (get_or release.concepts k 0) (none (get_or release.concepts k 0) (Contains-get_or release.concepts k 0 within))),
   ),
 )

@@ -1,14 +1,9 @@
 pub mod ApartLemmas
 pub mod AttributeLemmas
-pub mod BehindLemmas
 pub mod BucketLemmas
-pub mod ChoiceLemmas
-pub mod CodeLemmas
 pub mod FinishLemmas
 pub mod FirstRowLemmas
-pub mod KeptNameLemmas
 pub mod KindLemmas
-pub mod LatestLemmas
 pub mod LawLemmas
 pub mod LineLemmas
 mod ListedLemmas
@@ -29,10 +24,8 @@ pub mod SpanLemmas
 pub mod SplitLemmas
 mod TakingLemmas
 pub mod VersionLemmas
-pub mod VersionRowLemmas
 mod WentLemmas
 mod ChosenItemLemmas
-mod ComparedLemmas
 mod CompareLemmas
 mod ReadFromLemmas
 mod LimitLemmas

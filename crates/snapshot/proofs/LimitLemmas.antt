@@ -1,11 +1,11 @@
 -- Cutting files one byte past the limit keeps their first fault and, where there is none, their places.
 use Rattle.std.proofs.lemmas.Bool.Decides.{nat_tests}
 use Rattle.std.proofs.lemmas.Grind.{common_steps}
-use Rattle.std.proofs.Common.{◌≡◌, ℕ, zero, suc, ◌+◌, ◌-◌, ◌<◌, ◌≤◌, Bool, true, false, eqb, List, [], ◌∷◌, ◌++◌, length, map, take, drop, refl, sym, ap, ◌∙◌, inl, inr, arith, Option, None, Some, if◌then◌else◌, bytes_eq}
-use Rattle.std.proofs.lemmas.Bool.{cases_eq, eq-eqb, eqb-true, false_from_ne_true, lt-ltb}
-use Rattle.std.proofs.lemmas.List.{drop-take, take-take}
+use Rattle.std.proofs.Common.{◌≡◌, ℕ, zero, suc, ◌+◌, ◌-◌, ◌<◌, ◌≤◌, Bool, eqb, List, [], ◌∷◌, ◌++◌, length, map, take, drop, refl, sym, ap, ◌∙◌, inl, inr, arith, Option, None, Some, if◌then◌else◌, bytes_eq, eq-eqb, eqb-true, lt-ltb, take-take}
+use Rattle.std.proofs.lemmas.Bool.{cases_eq, false_from_ne_true}
+use Rattle.std.proofs.lemmas.List.{drop-take}
 use Rattle.std.specs.List.{onto_first}
-use Rattle.release_files.specs.Lines.{LineText, byte_order_mark, lines_of, mark_length, numbered, parts, part_text}
+use Rattle.release_files.specs.Lines.{LineText, byte_order_mark, lines_of, mark_length, numbered, parts}
 use Rattle.release_files.specs.Source.{FileText}
 use Rattle.rf2_rows.specs.declared.kind.FileKind.{FileKind}
 use Rattle.snapshot.specs.Faults.{fault_at, fault_here, first_fault, first_of}
@@ -52,18 +52,11 @@ data LinesAgree (limit : ℕ) : List LineText → List LineText → Type 0 where
 numbered_agree : (limit number end left : ℕ) (short long : List (List ℕ)) → PartsAgree left short long → end + left ≡ limit + 1
     → LinesAgree limit (numbered number end short) (numbered number end long)
 numbered_agree limit number end left short long (no_part now) is = no_more
-numbered_agree limit number end left short long (same_part now later part xs ys cut agree) is =
-    same_line (record { number = number + 1; end = end + length part; bytes = part_text part })
-    (numbered (number + 1) (end + length part) xs) (numbered (number + 1) (end + length part) ys)
-    (numbered_agree limit (number + 1) (end + length part) later xs ys agree (omega arith))
-numbered_agree limit number end left short long (past_cut now front whole xs ys here there) is =
-    past_limit (record { number = number + 1; end = end + length front; bytes = part_text front }) (record { number = number + 1; end = end + length whole; bytes = part_text whole })
-    (numbered (number + 1) (end + length front) xs) (numbered (number + 1) (end + length whole) ys)
-    refl (omega arith) (omega arith)
+numbered_agree limit number end left short long (same_part now later part xs ys cut agree) is = same_line _ _ _ (numbered_agree limit (number + 1) (end + length part) later xs ys agree (omega arith))
+numbered_agree limit number end left short long (past_cut now front whole xs ys here there) is = past_limit _ _ _ _ refl (omega arith) (omega arith)
 
 mark_of-le : (has : Bool) → (if has then 3 else 0) ≤ 3
-mark_of-le true = omega arith
-mark_of-le false = omega arith
+mark_of-le x0 = grind arith
 
 lines_agree : (limit : ℕ) (bytes : List ℕ) → 3 ≤ limit → LinesAgree limit (lines_of (take (limit + 1) bytes)) (lines_of bytes)
 unfolding lines_of
@@ -101,16 +94,12 @@ module _ (limits : Limits) (file : ℕ) (kind : FileKind) where
   later_agree : (short long : List LineText) → LinesAgree limits.bytes short long → PlacesAgree limits (map (later_line file kind) short) (map (later_line file kind) long)
   later_agree short long no_more = no_place
   later_agree short long (same_line line xs ys agree) = same_place (later_line file kind line) (map (later_line file kind) xs) (map (later_line file kind) ys) (later_agree xs ys agree)
-  later_agree short long (past_limit one other xs ys is here there) =
-      both_faulty (later_line file kind one) (later_line file kind other) (map (later_line file kind) xs) (map (later_line file kind) ys) (TooMany file one.number)
-      (later_too_long one one.number refl here) (later_too_long other one.number is there)
+  later_agree short long (past_limit one other xs ys is here there) = both_faulty _ _ _ _ (TooMany file one.number) (later_too_long one one.number refl here) (later_too_long other one.number is there)
 
   kind_agree : (short long : List LineText) → LinesAgree limits.bytes short long → PlacesAgree limits (places_of_lines file kind short) (places_of_lines file kind long)
   kind_agree short long no_more = same_place (no_line file kind) [] [] no_place
   kind_agree short long (same_line line xs ys agree) = same_place (first_line file kind line) (map (later_line file kind) xs) (map (later_line file kind) ys) (later_agree xs ys agree)
-  kind_agree short long (past_limit one other xs ys is here there) =
-      both_faulty (first_line file kind one) (first_line file kind other) (map (later_line file kind) xs) (map (later_line file kind) ys) (TooMany file one.number)
-      (first_too_long one one.number refl here) (first_too_long other one.number is there)
+  kind_agree short long (past_limit one other xs ys is here there) = both_faulty _ _ _ _ (TooMany file one.number) (first_too_long one one.number refl here) (first_too_long other one.number is there)
 
 file_agree : (limits : Limits) (file : ℕ) (kind : Option FileKind) (bytes : List ℕ) → 3 ≤ limits.bytes
     → PlacesAgree limits (places_of_kind file kind (take (limits.bytes + 1) bytes)) (places_of_kind file kind bytes)
@@ -131,8 +120,7 @@ agree_first_fault limits before short long (same_place place xs ys agree) = ap (
 agree_first_fault limits before short long (both_faulty one other xs ys fault here there) = grind (arith, common_steps, nat_tests, faulty_first)
 
 later_none : (first later : Option LoadFault) → first_of first later ≡ None → later ≡ None
-later_none None later none = none
-later_none (Some fault) later none = cc
+later_none x0 later none = grind arith
 
 agree_places : (limits : Limits) (before short long : List Place) → PlacesAgree limits short long → first_fault limits before short ≡ None → short ≡ long
 agree_places limits before short long no_place none = refl

@@ -1,33 +1,29 @@
 -- What is listed of rows makes the release that the definitions say, and what a load is then.
-use Rattle.std.proofs.Common.{rules}
+use Rattle.std.proofs.Common.{rules, arith, ℕ, ◌≡◌, ◌&&◌, ◌||◌, ◌==◌, List, [], ◌∷◌, length, map, Option, None, Some, Err, sym, ◌∙◌, ap, refl, Bool, true, false, cond, codes, is_some, option_and_then, filter, count_by, filter_map}
 use Rattle.std.proofs.lemmas.Bool.Decides.{nat_tests}
 use Rattle.std.proofs.lemmas.Grind.{common_steps}
-use Rattle.std.proofs.Common.{arith, ℕ, ◌≡◌, ◌≤◌, ◌&&◌, ◌||◌, ◌==◌, List, [], ◌∷◌, length, map, Option, None, Some, Err, sym, ◌∙◌, ap, refl, Bool, true, false, cond}
-use Rattle.std.specs.Prelude.{codes, is_some, option_and_then, filter, count_by}
-use Rattle.std.specs.List.{cons_option, filter_map, list_any}
+use Rattle.std.specs.List.{list_any}
 use Rattle.std.proofs.lemmas.List.Sums.{length-filter}
 use Rattle.release_files.specs.Source.{FileText}
-use Rattle.rf2_rows.specs.Release.{Attribute, Name, Release}
-use Rattle.rf2_rows.specs.RowTexts.{RowText, of_concrete, of_relationship}
-use Rattle.rf2_rows.specs.Rows.{ConcreteText, DescriptionText, concrete_row, fields_of, text_in}
+use Rattle.rf2_rows.specs.Release.{Name}
+use Rattle.rf2_rows.specs.RowTexts.{RowText}
+use Rattle.rf2_rows.specs.Rows.{DescriptionText, concrete_row, fields_of, text_in}
 use Rattle.rf2_rows.specs.Values.{value_of}
 use Rattle.rf2_rows.specs.declared.kind.FileKind.TheVariants.{Concrete}
 use Rattle.rf2_rows.specs.declared.row.ConceptRow.{ConceptRow}
 use Rattle.rf2_rows.specs.declared.row.MemberRow.{MemberRow}
 use Rattle.rf2_rows.specs.declared.row.RelationshipRow.{RelationshipRow}
-use Rattle.snapshot.specs.Contents.{Contents, contents_of, least_cyclic, load_of, loaded_from, text_of_row, unless_cyclic, unless_faulty}
-use Rattle.snapshot.specs.Faults.{first_fault}
+use Rattle.snapshot.specs.Contents.{contents_of, load_of, loaded_from, text_of_row}
 use Rattle.rf2_rows.specs.Files.{file_kind_of}
 use Rattle.snapshot.specs.Files.{Place, RowAt, is_concept_file, is_concept_kind, has_kind, places_from}
 use Rattle.hierarchy.specs.Members.{has}
-use Rattle.snapshot.specs.InForce.{attribute_of_concrete, attribute_of_relationship, attributes_in_force, concept_in, concept_rows, concepts_in_force, description_in, is_in_force, is_member_in_force, is_name, isa_in_force, member_in, members_in_force, name_on, names_in_force, relationship_in, release_of, rising, rows_among}
+use Rattle.snapshot.specs.InForce.{attributes_in_force, concept_in, concept_rows, concepts_in_force, description_in, is_in_force, is_member_in_force, is_name, isa_in_force, member_in, members_in_force, name_on, names_in_force, relationship_in, release_of, rows_among}
 use Rattle.snapshot.specs.Kept.{IsReadFrom, attributes_among, contents_from, finished, is_value_among, names_among, release_from}
 use Rattle.snapshot.specs.Limits.{limits_in_force}
 use Rattle.snapshot.specs.Listed.{Listed, attribute_listed, concept_listed, is_isa, isa_listed, listed_of, member_listed, name_listed}
-use Rattle.snapshot.specs.Metadata.{is_a, inferred_relationship}
+use Rattle.snapshot.specs.Metadata.{is_a}
 use Rattle.snapshot.specs.Pieces.{cut_file, listed, text_named}
 use Rattle.snapshot.proofs.LimitLemmas.{cut_first_fault, cut_places}
-use Rattle.snapshot.specs.declared.fault.LoadFault.{LoadFault}
 use Rattle.snapshot.specs.declared.fault.LoadFault.TheVariants.{NoConceptFile}
 use Rattle.snapshot.specs.declared.limits.Limits.{Limits}
 
@@ -38,15 +34,7 @@ kept keep item = option_and_then (λ x. cond (keep x) (Some x) None) item
 kept-listed : {X : Type 0} (keep : X → Bool) (pick listed : RowText → Option X) → ((row : RowAt) → pick (text_of_row row) ≡ kept keep (listed (text_of_row row)))
     → (rows : List RowAt) → filter_map pick (map text_of_row rows) ≡ filter keep (filter_map listed (map text_of_row rows))
 kept-listed keep pick listed same [] = refl
-kept-listed {X} keep pick listed same (row ∷ rows) =
-    (λ i. cons_option (same row i) (kept-listed keep pick listed same rows i)) ∙ by (listed (text_of_row row))
-  where
-    rest : List X
-    rest = filter_map listed (map text_of_row rows)
-
-    by : (item : Option X) → cons_option (kept keep item) (filter keep rest) ≡ filter keep (cons_option item rest)
-    by None = refl
-    by (Some x) = grind (arith, common_steps, nat_tests)
+kept-listed keep pick listed same (row ∷ rows) = grind (arith, same, (kept-listed keep pick listed same rows))
 
 -- the rows of one kind
 module _ {Row X : Type 0} (pick : RowText → Option Row) (item : Row → X) where
@@ -63,13 +51,8 @@ module _ {Row X : Type 0} (pick : RowText → Option Row) (item : Row → X) whe
       → (rows : List RowAt) → map item (filter test (filter_map pick (map text_of_row rows))) ≡ filter keep (filter_map (λ row. item_of listed (pick row)) (map text_of_row rows))
   in_force test listed keep same rows = grind (arith, common_steps, nat_tests, kept-listed, picked)
 
-and_true : (b : Bool) → (b && true) ≡ b
-and_true true = refl
-and_true false = refl
-
 and_false : (b : Bool) → (b && false) ≡ false
-and_false true = refl
-and_false false = refl
+and_false x0 = grind arith
 
 -- a value that a text writes is no concept
 value_of-among : (concepts text : List ℕ) → is_value_among concepts (value_of text) ≡ true
@@ -86,15 +69,7 @@ concepts-listed rows = picked concept_in (λ (row : ConceptRow). row.id) (λ (ro
 module _ (concepts : List ℕ) where
   -- the names in force are the active fully specified names of concepts in force
   names_in_force-is : (rows : List RowAt) → names_in_force concepts (map text_of_row rows) ≡ names_among concepts (filter_map name_listed (map text_of_row rows))
-  names_in_force-is rows =
-      in_force description_in name_on (λ (row : DescriptionText). is_name row && has concepts row.concept_id) is_name of_one (λ row. by row (is_name row)) rows
-    where
-      of_one : Name → Bool
-      of_one name = has concepts name.concept
-
-      by : (row : DescriptionText) (named : Bool) → cond (named && has concepts row.concept_id) (Some (name_on row)) None ≡ kept of_one (cond named (Some (name_on row)) None)
-      by row true = refl
-      by row false = refl
+  names_in_force-is rows = in_force description_in name_on (λ (row : DescriptionText). is_name row && has concepts row.concept_id) is_name (λ (name : Name). has concepts name.concept) (λ row. grind arith) rows
 
   -- the pairs of rows in force are those between concepts in force
   abbrev between : ℕ × ℕ → Bool
@@ -102,70 +77,24 @@ module _ (concepts : List ℕ) where
 
   isa_in_force-is : (rows : List RowAt) → isa_in_force concepts (map text_of_row rows) ≡ rows_among concepts (filter_map isa_listed (map text_of_row rows))
   isa_in_force-is rows =
-      in_force relationship_in (λ (row : RelationshipRow). (row.source_id, row.destination_id)) (λ (row : RelationshipRow). is_in_force concepts row && (row.type_id == is_a)) is_isa between
-      (λ row. by (row.source_id, row.destination_id) (row.active && (row.characteristic_type_id == inferred_relationship)) (row.type_id == is_a)) rows
-    where
-      by : (pair : ℕ × ℕ) (inferred isa : Bool)
-          → cond (inferred && has concepts pair.0 && has concepts pair.1 && isa) (Some pair) None ≡ kept between (cond (inferred && isa) (Some pair) None)
-      by pair true true = ap (λ (b : Bool). cond b (Some pair) None) (and_true (between pair))
-      by pair true false = ap (λ (b : Bool). cond b (Some pair) None) (and_false (between pair))
-      by pair false isa = refl
+      in_force relationship_in (λ (row : RelationshipRow). (row.source_id, row.destination_id)) (λ (row : RelationshipRow). is_in_force concepts row && (row.type_id == is_a)) is_isa between (λ row. grind (arith, and_false)) rows
 
   members_in_force-is : (rows : List RowAt) → members_in_force concepts (map text_of_row rows) ≡ rows_among concepts (filter_map member_listed (map text_of_row rows))
-  members_in_force-is rows =
-      in_force member_in (λ (row : MemberRow). (row.refset_id, row.referenced_component_id)) (is_member_in_force concepts) (λ (row : MemberRow). row.active) between
-      (λ row. by (row.refset_id, row.referenced_component_id) row.active) rows
-    where
-      by : (pair : ℕ × ℕ) (active : Bool) → cond (active && has concepts pair.0 && has concepts pair.1) (Some pair) None ≡ kept between (cond active (Some pair) None)
-      by pair true = refl
-      by pair false = refl
+  members_in_force-is rows = in_force member_in (λ (row : MemberRow). (row.refset_id, row.referenced_component_id)) (is_member_in_force concepts) (λ (row : MemberRow). row.active) between (λ row. grind arith) rows
 
   -- the attributes in force are those listed of concepts in force
-  abbrev is_among : Attribute → Bool
-  is_among attribute = has concepts attribute.source && is_value_among concepts attribute.value
-
-  relationship_in_force-is : (row : RelationshipRow) → attribute_of_relationship concepts row ≡ kept is_among (attribute_listed (of_relationship row))
-  relationship_in_force-is row = grind (arith, common_steps, nat_tests, and_false, and_true)
-
-  concrete_in_force-is : (row : ConcreteText) → is_value_among concepts row.value ≡ true → attribute_of_concrete concepts row ≡ kept is_among (attribute_listed (of_concrete row))
-  concrete_in_force-is row value = grind (arith, common_steps, nat_tests, and_false)
-
   attributes_in_force-is : (rows : List RowAt)
       → attributes_in_force concepts (map text_of_row rows) ≡ attributes_among concepts (filter_map attribute_listed (map text_of_row rows))
-  attributes_in_force-is rows = search (rules, concrete_in_force-is, concrete_value-among, kept-listed, relationship_in_force-is)
-
--- the release of some concepts that lists make
-abbrev made : List ℕ → Listed → Release
-made concepts listed = record {
-  concepts = concepts;
-  isa = rows_among concepts listed.isa_ends;
-  attributes = attributes_among concepts listed.attributes;
-  members = rows_among concepts listed.member_ends;
-  names = names_among concepts listed.names;
-}
+  attributes_in_force-is rows = search (rules, and_false, concrete_value-among, kept-listed)
 
 -- the release of rows is made of what is listed of them
 pub release_of-listed : (rows : List RowAt) → release_of (map text_of_row rows) ≡ release_from (listed_of (map text_of_row rows))
-release_of-listed rows =
-    let texts : List RowText = map text_of_row rows in
-    let concepts : List ℕ = concepts_in_force texts in
-    (λ i. record {
-      concepts = concepts;
-      isa = isa_in_force-is concepts rows i;
-      attributes = attributes_in_force-is concepts rows i;
-      members = members_in_force-is concepts rows i;
-      names = names_in_force-is concepts rows i;
-    })
-    ∙ (λ i. made (rising (concepts-listed texts i)) (listed_of texts))
+release_of-listed rows = grind (arith, (concepts-listed (map text_of_row rows)), (isa_in_force-is (concepts_in_force (map text_of_row rows)) rows), (attributes_in_force-is (concepts_in_force (map text_of_row rows)) rows), (members_in_force-is (concepts_in_force (map text_of_row rows)) rows), (names_in_force-is (concepts_in_force (map text_of_row rows)) rows))
 
 -- how many files have a kind, and whether one has the kind of concepts
 module _ {Item : Type 0} (file_of : Item → FileText) where
-  kind_count_length : (items : List Item) → length (filter (λ item. has_kind (file_of item)) items) ≡ length (filter has_kind (map file_of items))
-  kind_count_length [] = refl
-  kind_count_length (item ∷ items) = grind (arith, common_steps, nat_tests, (kind_count_length items))
-
   pub kind_count-is : (items : List Item) → count_by (λ item. has_kind (file_of item)) items ≡ length (filter has_kind (map file_of items))
-  kind_count-is items = sym (length-filter (λ item. has_kind (file_of item)) items) ∙ kind_count_length items
+  kind_count-is items = grind (arith, common_steps, nat_tests, length-filter, has_kind)
 
   pub names_concepts-is : (items : List Item) → list_any (λ item. is_concept_file (file_of item)) items ≡ list_any is_concept_file (map file_of items)
   names_concepts-is [] = refl
@@ -184,19 +113,7 @@ contents_of-read limits language kinds places count listed read = grind (arith, 
 -- what is made of places without a fault by file and line
 pub loaded_from-read : (limits : Limits) (language : List ℕ) (kinds : ℕ) (places : List Place) (count : ℕ) (listed : Listed)
     → IsReadFrom limits places count listed → loaded_from limits language kinds places ≡ finished language kinds count listed
-loaded_from-read limits language kinds places count listed read =
-    ap (unless_faulty (contents_of language kinds places)) read.clean
-    ∙ ap (λ (contents : Contents). unless_cyclic contents (least_cyclic contents.release)) (contents_of-read limits language kinds places count listed read)
-
--- and of places with one
-pub loaded_from-fault : (limits : Limits) (language : List ℕ) (kinds : ℕ) (places : List Place) (fault : LoadFault)
-    → first_fault limits [] places ≡ Some fault → loaded_from limits language kinds places ≡ Err fault
-loaded_from-fault limits language kinds places fault first = ap (unless_faulty (contents_of language kinds places)) first
-
--- files that are cut one byte past the limit are loaded as the files are
-pub loaded_from-cut : (limits : Limits) (language : List ℕ) (kinds : ℕ) (files : List FileText) → 3 ≤ limits.bytes
-    → loaded_from limits language kinds (places_from 0 (map (cut_file limits.bytes) files)) ≡ loaded_from limits language kinds (places_from 0 files)
-loaded_from-cut limits language kinds files room = grind (arith, common_steps, nat_tests, cut_first_fault, cut_places, loaded_from-fault)
+loaded_from-read limits language kinds places count listed read = grind (arith, read.clean, (contents_of-read limits language kinds places count listed read))
 
 -- a load of files of which one has the name of a Concept file
 pub load_of-named : (limits : Limits) (language : List ℕ) (files : List FileText) (kinds : ℕ)
@@ -220,9 +137,4 @@ module _ {Item : Type 0} (known : List FileText) (name_of : Item → List ℕ) (
 pub load_named-is : {Item : Type 0} (limits own : Limits) (language : List ℕ) (known : List FileText) (name_of : Item → List ℕ) (items : List Item) (kinds : ℕ) → own ≡ limits_in_force limits
     → list_any (λ item. is_concept_kind (file_kind_of (name_of item))) items ≡ true → kinds ≡ count_by (λ item. is_some (file_kind_of (name_of item))) items
     → loaded_from own language kinds (places_from 0 (map (cut_file own.bytes) (listed known (map name_of items)))) ≡ load_of limits language (listed known (map name_of items))
-load_named-is limits own language known name_of items kinds same named counted =
-    let files : List FileText = listed known (map name_of items) in
-    let room : 3 ≤ own.bytes = omega (arith, ap (λ (l : Limits). l.bytes) same) in
-    loaded_from-cut own language kinds files room
-    ∙ (λ i. loaded_from (same i) language kinds (places_from 0 files))
-    ∙ sym (load_of-named limits language files kinds (names_concepts-listed known name_of items ∙ named) (counted ∙ kinds-listed known name_of items))
+load_named-is limits own language known name_of items kinds same named counted = grind (arith, load_of-named, names_concepts-listed, kinds-listed, cut_first_fault, cut_places)

@@ -1,18 +1,19 @@
 -- Name rows keep their texts while the buffer grows.
-use Rattle.std.proofs.Common.{rules}
-use Rattle.std.proofs.Common.{arith}
+use Rattle.std.proofs.Common.{rules, arith, ℕ, ◌≡◌, ◌<◌, length, get_or, List, [], ◌∷◌, map, refl, IsUtf8, Bool, filter, ◌+◌, ◌++◌, ◌∙◌, All, Option, None, Some, set, take, length-append, slice_get, get_or-set_other, get_or-set_same, length-set}
 use Rattle.std.proofs.lemmas.Bool.Decides.{nat_tests}
 use Rattle.std.proofs.lemmas.Grind.{common_steps}
-use Rattle.std.proofs.Common.{ℕ, ◌≡◌, ◌<◌, length, get_or, List, [], ◌∷◌, map, refl, IsUtf8, Bool}
-use Rattle.std.specs.Prelude.{filter}
-use Rattle.std.proofs.lemmas.Bool.{cases_Bool}
+use Rattle.std.proofs.lemmas.Bool.{cases_Bool, cases_eq}
 use Rattle.snapshot.specs.NamesInside.{IsPlaced, name_in}
-use Rattle.std.proofs.lemmas.List.{get_or-map, get_or_read, length-map}
+use Rattle.std.proofs.lemmas.List.{get_or-map, get_or_read, length-map, get_or_append_left, take_more}
 use Rattle.rf2_rows.specs.Release.{Name}
-use Rattle.snapshot.specs.Spans.{Extends, no_span}
+use Rattle.snapshot.specs.Spans.{Extends, no_span, AreSpansOf, StandsAt}
 use Rattle.snapshot.specs.declared.names.NameRow.{NameRow}
 use Rattle.snapshot.proofs.ChosenItemLemmas.{map-marked}
-use Rattle.snapshot.proofs.SpanLemmas.{text-extends, text_span-extends}
+use Rattle.snapshot.proofs.SpanLemmas.{text-extends, text_span-extends, all-push, rows-push, span-extends, stands-extends}
+use Rattle.std.proofs.lemmas.Option.{IfSome_then, slice_get_within}
+use Rattle.snapshot.specs.KeptNames.{AreNoted, IsKept, name_kept}
+use Rattle.snapshot.specs.declared.kept_names.KeptName.{KeptName}
+use Rattle.snapshot.specs.declared.spans.Span.{Span}
 
 module _ (texts grown : List ℕ) (extends : Extends texts grown) where
   pub name-extends : (row : NameRow) → IsPlaced texts row → name_in grown row ≡ name_in texts row
@@ -40,3 +41,27 @@ row_at_place rows place row within is = get_or_read rows place row within is no_
 pub ruleset rows_read = (name_at_place, row_at_place, length-map)
 
 pub ruleset rows_chosen = (map-marked)
+
+-- Name rows keep their texts while the buffer and the spans of language codes grow.
+
+pub noted-extends : (names : List Name) (texts grown : List ℕ) (spans : List (Option Span)) → AreNoted names texts spans → Extends texts grown → AreNoted names grown spans
+noted-extends names texts grown spans noted extends = record {
+  each = noted.each;
+  stand = λ place name there. IfSome_then (get_or spans place None) (noted.stand place name there) (λ span stands. stands-extends texts grown extends name.term span stands);
+}
+
+-- a span is noted for a row
+pub noted-set : (names : List Name) (texts : List ℕ) (spans : List (Option Span)) (place : ℕ) (name : Name) (span : Span)
+    → AreNoted names texts spans → slice_get names place ≡ Some name → StandsAt texts name.term span → AreNoted names texts (set spans place (Some span))
+noted-set names texts spans place name span noted there stands = grind (arith, common_steps, nat_tests, cases_eq, get_or-set_other, get_or-set_same, length-set, slice_get_within)
+
+-- one row more, while both grow
+module _ (texts grown : List ℕ) (languages more : List Span) (kept items : List KeptName) (row : KeptName) (extends : Extends texts grown) (extends_languages : Extends languages more) (pushed : items ≡ kept ++ row ∷ []) (are : All (IsKept texts languages) kept) where
+  pub kept-push : IsKept grown more row → All (IsKept grown more) items
+  kept-push is = grind (arith, common_steps, nat_tests, all-push, length-append, span-extends)
+
+  pub names-push : AreSpansOf texts languages → (names : List Name) (place : ℕ) (name : Name) → map (name_kept texts languages) kept ≡ take place names
+      → name_kept grown more row ≡ name → place < length names → name ≡ get_or names place name → map (name_kept grown more) items ≡ take (place + 1) names
+  names-push placed names place name so_far is within there =
+      rows-push (name_kept texts languages) (name_kept grown more) (IsKept texts languages) (λ row is. grind (arith, common_steps, get_or_append_left, text-extends, (placed row.language no_span is.language), extends_languages.1, is.term)) kept items row (get_or names place name) pushed are (is ∙ there)
+      ∙ grind (arith, so_far, (take_more names place name within))

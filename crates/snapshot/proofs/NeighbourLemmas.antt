@@ -1,21 +1,19 @@
 -- In a sorted list a number stands more than once where it equals the one before it.
-use Rattle.std.proofs.Common.{rules}
-use Rattle.std.proofs.Common.{ℕ, zero, suc, ◌≡◌, ◌≢◌, ◌<◌, ◌≤◌, ◌+◌, ◌-◌, ◌==◌, ◌↔◌, inl, inr, List, [], ◌∷◌, ◌++◌, length, get_or, take, cond, nat_eq, nat_lt, sym, ◌∙◌, ap, subst, refl, arith}
-use Rattle.std.specs.Prelude.{All, AllPairs, Contains, IsPermutation, IsSorted}
-use Rattle.std.specs.Ordering.{nat_cmp}
+use Rattle.std.proofs.lemmas.Grind.{common_steps}
+use Rattle.std.proofs.Common.{ℕ, zero, suc, ◌≡◌, ◌≢◌, ◌<◌, ◌≤◌, ◌+◌, ◌-◌, ◌==◌, ◌↔◌, inl, inr, List, [], ◌∷◌, ◌++◌, length, get_or, take, cond, nat_eq, nat_lt, sym, ◌∙◌, ap, subst, refl, arith, rules, All, AllPairs, Contains, IsPermutation, IsSorted, append-nil, nat_cmp, ltb-false, ltb-true, filter, true, not}
 use Rattle.std.specs.List.{dedup}
 use Rattle.std.specs.List.Sorted.{IsNonDecreasing, IsStrictlyIncreasing}
-use Rattle.std.proofs.lemmas.Bool.{cases_lt, cond_both, lt-ltb, ltb-false, ltb-true}
 use Rattle.std.proofs.lemmas.Bool.Decides.{nat_tests}
-use Rattle.std.proofs.lemmas.List.Elements.{All-cons, All-nil}
+use Rattle.std.proofs.lemmas.List.Elements.{All-cons, All-nil, All-contains}
 use Rattle.std.proofs.lemmas.List.Kept.{AllPairs-cons, Contains-dedup_nat, Contains-from_dedup}
-use Rattle.std.proofs.lemmas.List.Sorted.{IsNonDecreasingBy-from_sort, sum_by-IsPermutation}
-use Rattle.std.proofs.lemmas.List.Sums.{sum_by-cons}
+use Rattle.std.proofs.lemmas.List.Sorted.{IsNonDecreasingBy-from_sort, sum_by-IsPermutation, Contains-permutation}
+use Rattle.std.proofs.lemmas.List.Sums.{sum_by-cons, sum_by_more, sum_by_push}
 use Rattle.std.proofs.lemmas.Map.Keys.{IsStrictlyIncreasing-dedup, non_decreasing_from_sorted, sorted_from_strictly_increasing}
 use Rattle.hierarchy.specs.Members.{has}
 use Rattle.hierarchy.proofs.ReleaseLemmas.{contains_had, had_contained, had_not, times}
 use Rattle.snapshot.specs.Repeated.{equal_neighbours}
 use Rattle.snapshot.proofs.RisingLemmas.{earlier_below}
+use Rattle.std.proofs.lemmas.List.Filters.{sum_by-filter_both}
 
 -- one number more
 more_neighbour : (xs : List ℕ) (k : ℕ) → suc k < length xs
@@ -27,12 +25,7 @@ more_neighbour (x ∷ y ∷ xs) (suc k) within = grind (arith, nat_tests, more_n
 
 pub neighbours_more : (xs : List ℕ) (place : ℕ) → 1 ≤ place → place < length xs
     → equal_neighbours (take (place + 1) xs) ≡ equal_neighbours (take place xs) ++ cond (get_or xs (place - 1) 0 == get_or xs place 0) (get_or xs place 0 ∷ []) []
-neighbours_more xs place some within =
-    let here : suc (place - 1) ≡ place = omega arith in
-    let next : place + 1 ≡ suc (suc (place - 1)) = omega arith in
-    (λ i. equal_neighbours (take (next i) xs))
-    ∙ more_neighbour xs (place - 1) (omega arith)
-    ∙ (λ i. equal_neighbours (take (here i) xs) ++ cond (get_or xs (place - 1) 0 == get_or xs (here i) 0) (get_or xs (here i) 0 ∷ []) [])
+neighbours_more xs place some within = grind (arith, equal_neighbours, more_neighbour, cond)
 
 -- they are not more than the numbers
 pub neighbours_few : (xs : List ℕ) → length (equal_neighbours xs) ≤ length xs
@@ -47,9 +40,7 @@ neighbours_rise x (y ∷ xs) up =
     let rest = neighbours_rise y xs (λ i j d before within. up (suc i) (suc j) d (omega arith) (omega arith)) in
     let first : x ≤ y = up 0 1 0 (omega arith) (omega arith) in
     let least : All (λ z. x ≤ z) (equal_neighbours (y ∷ xs)) = λ k d within. omega (arith, rest.1 k d within, first) in
-    cond_both (x == y) (y ∷ equal_neighbours (y ∷ xs)) (equal_neighbours (y ∷ xs)) (λ zs. AllPairs (λ a b. a ≤ b) zs × All (λ z. x ≤ z) zs)
-    (λ _. (AllPairs-cons (λ a b. a ≤ b) y (equal_neighbours (y ∷ xs)) rest.1 rest.0, All-cons (λ z. x ≤ z) y (equal_neighbours (y ∷ xs)) first least))
-    (λ _. (rest.0, least))
+    grind (arith, nat_tests, AllPairs-cons, All-cons, rest.0, rest.1, least, first)
 
 sorted_neighbours : (xs : List ℕ) → IsNonDecreasing xs → IsSorted nat_cmp (equal_neighbours xs)
 sorted_neighbours [] up = λ k d low within. absurd (omega arith)
@@ -58,10 +49,10 @@ sorted_neighbours (x ∷ xs) up = search (rules, nat_tests, neighbours_rise)
 -- a number is in a list where it stands there at least once
 times-has : (key : ℕ) (xs : List ℕ) → has xs key ≡ nat_lt 0 (times key xs)
 times-has key [] = refl
-times-has key (x ∷ xs) = rw (times-has key xs) (grind (arith, nat_tests, sum_by-cons (λ y. cond (y == key) 1 0) x xs))
+times-has key (x ∷ xs) = grind (arith, nat_tests, (times-has key xs), (sum_by-cons (λ y. cond (y == key) 1 0) x xs))
 
 pub stands : (key : ℕ) (xs : List ℕ) → 1 ≤ times key xs → Contains xs key
-stands key xs some = contains_had xs key (times-has key xs ∙ lt-ltb 0 (times key xs) (omega arith))
+stands key xs some = grind (arith, nat_tests, (contains_had xs key), (times-has key xs))
 
 pub times-some : (key : ℕ) (xs : List ℕ) → Contains xs key → 1 ≤ times key xs
 times-some key xs there = let some = ltb-true 0 (times key xs) (sym (times-has key xs) ∙ had_contained xs key there) in omega arith
@@ -97,26 +88,51 @@ rising_once xs up key =
 module _ (keys sorted repeated : List ℕ) (moved : IsPermutation keys sorted) (up : IsSorted nat_cmp sorted) (are : repeated ≡ dedup nat_eq (equal_neighbours sorted)) where
   -- the equal neighbours of a sorted list, each once, rise
   pub repeated_rise : IsStrictlyIncreasing repeated
-  repeated_rise =
-      subst IsStrictlyIncreasing (sym are)
-      (IsStrictlyIncreasing-dedup (equal_neighbours sorted) (sorted_neighbours sorted (IsNonDecreasingBy-from_sort (λ x. x) sorted up)))
+  repeated_rise = rw are (IsStrictlyIncreasing-dedup (equal_neighbours sorted) (sorted_neighbours sorted (IsNonDecreasingBy-from_sort (λ x. x) sorted up)))
 
   -- they are the numbers that stand at least twice in the list before it was sorted
   pub repeated_members : (key : ℕ) → Contains repeated key ↔ (2 ≤ times key keys)
   repeated_members key =
       let once_less = times-neighbours key sorted (IsNonDecreasingBy-from_sort (λ x. x) sorted up) in
-      let same = sum_by-IsPermutation (λ other. cond {A = ℕ} (other == key) 1 0) keys sorted moved in (
-        (λ there.
-            let kept = Contains-from_dedup nat_eq (equal_neighbours sorted) key (subst (λ (xs : List ℕ). Contains xs key) are there) in
-            omega (arith, once_less, same, times-some key (equal_neighbours sorted) kept)),
-        (λ twice.
-            let kept = stands key (equal_neighbours sorted) (omega (arith, once_less, same, twice)) in
-            subst (λ (xs : List ℕ). Contains xs key) (sym are) (Contains-dedup_nat (equal_neighbours sorted) key kept)),
-      )
+      let same = sum_by-IsPermutation (λ other. cond {A = ℕ} (other == key) 1 0) keys sorted moved in
+      (λ there. grind (arith, once_less, same, (times-some key (equal_neighbours sorted)), (Contains-from_dedup nat_eq (equal_neighbours sorted) key), are), λ twice. grind (arith, once_less, same, (stands key (equal_neighbours sorted)), (Contains-dedup_nat (equal_neighbours sorted) key), are))
 
 -- where no number is told, none stands twice
 pub none_twice : (repeated keys : List ℕ) → length repeated ≡ 0 → ((key : ℕ) → Contains repeated key ↔ (2 ≤ times key keys)) → (key : ℕ) → times key keys ≤ 1
-none_twice repeated keys none members key = elim (cases_lt 1 (times key keys)) [
-  | inl twice ↦ let found = (members key).1 (omega arith) in absurd (omega (arith, found.1, none))
-  | inr few ↦ few
-]
+none_twice repeated keys none members key = grind (arith, (members key).1)
+
+-- for the loop over neighbours
+pub ruleset neighbours_by_one = (append-nil, nat_tests, common_steps, neighbours_more)
+
+-- Of equal numbers of a list at most one is above all before it, so that one that stands twice is among those that are not.
+
+-- of each number seen at most one is not behind
+abbrev pub AreBehind : List ℕ → List ℕ → Type 0
+AreBehind seen behind = (key : ℕ) → times key seen ≤ 1 + times key behind
+
+module _ (keys behind : List ℕ) (i : ℕ) (within : i < length keys) (are : AreBehind (take i keys) behind) where
+  -- one more, which is behind
+  pub behind_pushed : AreBehind (take (i + 1) keys) (behind ++ get_or keys i 0 ∷ [])
+  behind_pushed key = omega (arith, are key, sum_by_more (λ other. cond (other == key) 1 0) keys i 0 within, sum_by_push (λ other. cond (other == key) 1 0) behind (get_or keys i 0))
+
+  -- one more, which is above all that were seen
+  pub behind_kept : (highest : ℕ) → All (λ key. key ≤ highest) (take i keys) → highest < get_or keys i 0 → AreBehind (take (i + 1) keys) behind
+  behind_kept highest low above key =
+      let none : get_or keys i 0 ≡ key → times key (take i keys) ≡ 0 = λ same. times-none key (take i keys) (λ there. omega (arith, All-contains (λ key. key ≤ highest) (take i keys) key low there)) in
+      grind (arith, nat_tests, are key, none, sum_by_more (λ other. cond {A = ℕ} (other == key) 1 0) keys i 0 within)
+
+-- one of some numbers is not among those of a list that are none of them
+times-left : (others : List ℕ) (key : ℕ) (keys : List ℕ) → has others key ≡ true → times key (filter (λ x. not (has others x)) keys) ≡ 0
+times-left others key [] had = refl
+times-left others key (x ∷ keys) had = grind (arith, nat_tests, sum_by-cons, times-left others key keys had)
+
+-- of a list those stand twice that stand twice among the ones that equal one behind
+pub twice_among : (keys behind sorted others : List ℕ) → AreBehind keys behind → IsPermutation behind sorted → others ≡ dedup nat_eq sorted
+    → (key : ℕ) → (2 ≤ times key (filter (has others) keys)) ↔ (2 ≤ times key keys)
+twice_among keys behind sorted others are moved once key =
+    let both = sum_by-filter_both (has others) (λ x. not (has others x)) (λ x. refl) (λ other. cond {A = ℕ} (other == key) 1 0) keys in (
+      (λ twice. omega (arith, twice, both)),
+      (λ twice.
+          let kept = Contains-dedup_nat sorted key (Contains-permutation behind sorted key moved (stands key behind (omega (arith, twice, are key)))) in
+          omega (arith, twice, both, times-left others key keys (rw once (had_contained (dedup nat_eq sorted) key kept)))),
+    )

@@ -1,16 +1,14 @@
 -- Concepts by their identifiers and by their numbers: rows, chains of rows and cycles are the same.
-use Rattle.std.proofs.Common.{rules, lt-ltb}
+use Rattle.std.proofs.Common.{rules, lt-ltb, ℕ, ◌≡◌, ◌≤◌, ◌<◌, ◌==◌, ◌-◌, List, [], ◌∷◌, length, get_or, map, Bool, true, false, ltb, None, Some, ◌∙◌, ap, subst, refl, arith, All, Contains, find, is_some, filter_map, eqb-true, ltb-true}
 use Rattle.std.proofs.lemmas.Grind.{common_steps}
-use Rattle.std.proofs.Common.{ℕ, ◌≡◌, ◌≤◌, ◌<◌, ◌==◌, ◌-◌, List, [], ◌∷◌, length, get_or, map, Bool, true, false, ltb, None, Some, sym, ◌∙◌, ap, subst, refl, arith}
-use Rattle.std.specs.Prelude.{All, Contains, find, is_some}
-use Rattle.std.specs.List.{filter_map, position_or_len}
+use Rattle.std.specs.List.{position_or_len}
 use Rattle.std.specs.List.Sorted.{IsStrictlyIncreasing}
 use Rattle.std.proofs.lemmas.List.Sums.{position_or_len_is, passes_at_first}
 use Rattle.std.proofs.lemmas.List.Elements.{All-map, filter_passes}
 use Rattle.std.proofs.lemmas.List.Folds.{map_fixed}
 use Rattle.std.proofs.lemmas.List.Recursion.{found_at, found_nowhere}
 use Rattle.std.proofs.lemmas.Simd.{map-map}
-use Rattle.std.proofs.lemmas.Bool.{and_parts, eqb-true, eq-eqb, false_from_ne_true, ltb-true}
+use Rattle.std.proofs.lemmas.Bool.{and_parts, false_from_ne_true}
 use Rattle.std.proofs.lemmas.Bool.Decides.{nat_tests}
 use Rattle.hierarchy.specs.Hierarchy.{IsWithin, Reaches, more_rows, one_row, reaches}
 use Rattle.hierarchy.proofs.HierarchyLemmas.{chain_from_test, test_from_chain}
@@ -51,10 +49,7 @@ get_or-place_of concepts id there = grind (arith, common_steps, nat_tests, eqb-t
 
 -- the place of the identifier at a place, among rising concepts
 pub place_of-get_or : (concepts : List ℕ) → IsStrictlyIncreasing concepts → (i : ℕ) → i < length concepts → place_of concepts (get_or concepts i 0) ≡ i
-place_of-get_or concepts rising i within =
-    position_or_len_is (λ other. get_or concepts i 0 == other) concepts i 0 (omega arith)
-    (λ k before. let below = earlier_below concepts rising k i before within in grind (arith, nat_tests))
-    (λ _. eq-eqb (get_or concepts i 0) (get_or concepts i 0) refl)
+place_of-get_or concepts rising i within = position_or_len_is (λ other. get_or concepts i 0 == other) concepts i 0 (omega arith) (λ k before. grind (arith, nat_tests, (earlier_below concepts rising k i before within))) (λ _. grind (arith, nat_tests))
 
 -- the number of a concept among others is its place
 pub concept_number-has : (concepts : List ℕ) (id : ℕ) → has concepts id ≡ true → concept_number concepts id ≡ Some (place_of concepts id)
@@ -73,9 +68,7 @@ number_at concepts rising id place within is = grind (arith, common_steps, nat_t
 pub number_nowhere : (concepts : List ℕ) → IsStrictlyIncreasing concepts → (id place : ℕ) → place ≤ length concepts
     → ((k : ℕ) → k < place → get_or concepts k 0 < id) → ((k : ℕ) → place ≤ k → k < length concepts → id < get_or concepts k 0)
     → None ≡ concept_number concepts id
-number_nowhere concepts rising id place within above below =
-    let lacks = has-between concepts rising id place within (λ some. above (place - 1) (omega (arith, some))) (λ inside. below place (omega arith) inside) in
-    rw (place_within concepts id, lacks) refl
+number_nowhere concepts rising id place within above below = grind (arith, (has-between concepts rising id place within), (above (place - 1)), (below place), (place_within concepts id))
 
 -- the rows among concepts by their numbers are the rows by their places
 pub numbered_rows : (concepts : List ℕ) (rows : List (ℕ × ℕ))
@@ -137,9 +130,7 @@ module _ (concepts : List ℕ) (rising : IsStrictlyIncreasing concepts) (ends : 
 pub IsWithin-numbered : (concepts : List ℕ) (ends : List (ℕ × ℕ)) → IsWithin (length concepts) (filter_map (numbered_row concepts) ends)
 IsWithin-numbered concepts ends =
     subst (IsWithin (length concepts)) (numbered_rows concepts ends)
-    (All-map (λ (row : ℕ × ℕ). (row.0 < length concepts) × (row.1 < length concepts)) (row_by (place_of concepts)) (rows_among concepts ends) (λ k d within.
-    let both = ends_among concepts ends k d within in
-    (place_below concepts _ both.0, place_below concepts _ both.1)))
+    (All-map (λ (row : ℕ × ℕ). (row.0 < length concepts) × (row.1 < length concepts)) (row_by (place_of concepts)) (rows_among concepts ends) (λ k d within. grind (arith, (ends_among concepts ends k d within), place_below)))
 
 -- rows of numbers of concepts are told apart by the concepts' identifiers
 pub numbers_again : (concepts : List ℕ) → IsStrictlyIncreasing concepts → (rows : List (ℕ × ℕ)) → IsWithin (length concepts) rows
@@ -148,7 +139,4 @@ numbers_again concepts rises rows within = search (rules, map-map, map_fixed, pl
 
 pub same_numbers : (concepts : List ℕ) → IsStrictlyIncreasing concepts → (rows others : List (ℕ × ℕ)) → IsWithin (length concepts) rows → IsWithin (length concepts) others
     → map (row_of_numbers concepts) rows ≡ map (row_of_numbers concepts) others → rows ≡ others
-same_numbers concepts rises rows others within near same =
-    sym (numbers_again concepts rises rows within)
-    ∙ ap (map (λ (row : ℕ × ℕ). (place_of concepts row.0, place_of concepts row.1))) same
-    ∙ numbers_again concepts rises others near
+same_numbers concepts rises rows others within near same = grind (arith, (numbers_again concepts rises rows within), (numbers_again concepts rises others near))

@@ -1,10 +1,8 @@
 -- The rows that are in none of a release's lists are as many as the rows less those in its lists.
 use Rattle.std.proofs.lemmas.Bool.Decides.{nat_tests}
 use Rattle.std.proofs.lemmas.Grind.{common_steps}
-use Rattle.std.proofs.Common.{ℕ, suc, ◌≡◌, ◌+◌, ◌&&◌, ◌||◌, ◌==◌, List, [], ◌∷◌, ◌++◌, length, map, sym, ◌∙◌, ap, refl, arith, Bool, false, not, nat_eq, filter}
-use Rattle.std.specs.Prelude.{count_by}
+use Rattle.std.proofs.Common.{ℕ, suc, ◌≡◌, ◌+◌, ◌&&◌, ◌==◌, List, [], ◌∷◌, ◌++◌, length, map, refl, arith, Bool, false, not, nat_eq, filter, count_by, eqb-true}
 use Rattle.std.specs.List.{AllByRecursion, IsDistinct}
-use Rattle.std.proofs.lemmas.Bool.{eqb-true}
 use Rattle.std.proofs.lemmas.Cmp.{nat_eq_equiv}
 use Rattle.std.proofs.lemmas.List.{length-map}
 use Rattle.std.proofs.lemmas.List.Sums.{sum_by-append}
@@ -37,7 +35,7 @@ length-put id (x ∷ xs) new = grind (arith, nat_tests, length-put id xs, new)
 -- a number that is the same as none of a list is not among them
 not_among : (x : ℕ) (xs : List ℕ) → AllByRecursion (λ y. nat_eq x y ≡ false) xs → has xs x ≡ false
 not_among x [] apart = refl
-not_among x (y ∷ ys) apart = ap (λ b. b || has ys x) apart.0 ∙ not_among x ys apart.1
+not_among x (y ∷ ys) apart = grind (arith, nat_tests, apart.0, (not_among x ys apart.1))
 
 -- numbers that stand there once are as many in rising order
 length-rising : (xs : List ℕ) → IsDistinct nat_eq xs → length (rising xs) ≡ length xs
@@ -91,10 +89,4 @@ pub counts_passed_rows : CountsPassedRows
 counts_passed_rows limits language files places clean = grind (arith, common_steps, nat_tests, active-distinct, choices_split, concepts-listed, length-map, listed_or_passed, nat_eq)
 
 pub keeps_rising : KeepsRising
-keeps_rising ids = (
-  rising-rises ids,
-  λ id. (
-    λ there. Contains-from_any (λ x y alike. eqb-true x y alike) id ids (sym (has-rising ids id) ∙ list_any-from_Contains nat_eq_equiv id (rising ids) there),
-    λ there. Contains-from_any (λ x y alike. eqb-true x y alike) id (rising ids) (has-rising ids id ∙ list_any-from_Contains nat_eq_equiv id ids there),
-  ),
-)
+keeps_rising ids = (rising-rises ids, λ id. grind (arith, (Contains-from_any (λ x y alike. eqb-true x y alike) id ids), (Contains-from_any (λ x y alike. eqb-true x y alike) id (rising ids)), (has-rising ids id), (list_any-from_Contains nat_eq_equiv id ids), (list_any-from_Contains nat_eq_equiv id (rising ids))))

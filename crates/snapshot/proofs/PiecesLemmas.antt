@@ -1,26 +1,22 @@
 -- Going over files that are read from a source in pieces.
-use Rattle.std.proofs.Common.{rules}
+use Rattle.std.proofs.Common.{rules, Global, String, unwrap_or, take, ◌≡◌, ◌≢◌, inl, inr, ℕ, ◌+◌, ◌-◌, ◌^◌, ◌<◌, ◌≤◌, List, [], ◌∷◌, ◌++◌, length, map, drop, drop-cons, get_or, ap, subst, arith, Option, None, Some, Result, Ok, Err, MatchResult, length-drop, length-take, min, Bool, IfErr, IsPermutation, OnOk, option_map, string_bytes, is_lt, nat_cmp, take_all}
 use Rattle.std.proofs.lemmas.Bool.Decides.{nat_tests}
 use Rattle.std.proofs.lemmas.Grind.{common_steps}
-use Rattle.std.proofs.Common.{Global, String, unwrap_or, take, ◌≡◌, ◌≢◌, inl, inr, ℕ, ◌+◌, ◌-◌, ◌^◌, ◌<◌, ◌≤◌, List, [], ◌∷◌, ◌++◌, length, map, drop, drop-cons, get_or, ap, subst, ◌∙◌, arith, Option, None, Some, Result, Ok, Err, MatchResult, length-drop, length-take, min}
-use Rattle.std.specs.Prelude.{Bool, IfErr, IsPermutation, OnOk, option_map, string_bytes}
 use Rattle.std.specs.Cmp.Lexicographic.{slice_cmp}
 use Rattle.std.specs.List.Sorted.{IsSorted, IsSortedBy}
-use Rattle.std.specs.Ordering.{is_lt, nat_cmp}
 use Rattle.std.specs.String.{string_cmp}
-use Rattle.std.proofs.lemmas.List.{get_or-map, length-map}
+use Rattle.std.proofs.lemmas.List.{get_or-map, length-map, drop_all}
 use Rattle.std.proofs.lemmas.List.Sorted.{IsPermutation-map}
 use Rattle.release_files.proofs.Parts.{length-lines}
 use Rattle.release_files.specs.Lines.{LineText, line_text, lines_of}
 use Rattle.release_files.specs.PieceLines.{GivesNext, HasEnded, lines_to_come}
-use Rattle.release_files.specs.Source.{FileText, IsRaised, bytes_of}
+use Rattle.release_files.specs.Source.{FileText, bytes_of}
 use Rattle.release_files.specs.declared.lines.Line.{Line}
 use Rattle.release_files.specs.declared.piece_lines.PieceLines.{PieceLines}
 use Rattle.release_files.specs.declared.source.SourceFault.{SourceFault}
 use Rattle.rf2_rows.specs.declared.kind.FileKind.{FileKind}
 use Rattle.snapshot.specs.Files.{Place, first_line, later_line, no_line, places_from, places_of_file, places_of_kind, places_of_lines}
 use Rattle.rf2_rows.specs.Files.{file_kind_of}
-use Rattle.std.proofs.lemmas.List.{drop_all, take_all}
 use Rattle.std.proofs.lemmas.Bool.{cases_lt}
 use Rattle.release_files.specs.Held.{reachable}
 use Rattle.release_files.proofs.HeldLemmas.{reachable_told}
@@ -40,23 +36,14 @@ pub record GaveLine (line : LineText) (old new : PieceLines) (after : Option (Li
   pub told : after ≡ Some now
   pub cut : lines_to_come old rest ≡ line ∷ lines_to_come new now
 
-gave_text : (line : LineText) (old new : PieceLines) (before after : Option (List ℕ)) (rest : List ℕ) → GivesNext (Some line) old new before after → before ≡ Some rest
-    → GaveLine line old new after rest
-gave_text line old new before after rest h0 h1 = grind (arith, common_steps, nat_tests, common_steps, nat_tests)
-
 pub gave_line : (result : Result (Option Line) SourceFault) (line : Line) (old new : PieceLines) (before after : Option (List ℕ)) (rest : List ℕ)
     → Gives result old new before after → result ≡ Ok (Some line) → before ≡ Some rest → GaveLine (line_text line) old new after rest
-gave_line result line old new before after rest gives is told = grind (arith, common_steps, nat_tests, gave_text)
+gave_line result line old new before after rest gives is told = grind (arith)
 
 -- no line was to come
 pub gave_none : (result : Result (Option Line) SourceFault) (old new : PieceLines) (before after : Option (List ℕ)) (rest : List ℕ)
     → Gives result old new before after → result ≡ Ok None → before ≡ Some rest → lines_to_come old rest ≡ []
 gave_none result old new before after rest gives is told = grind (arith, common_steps, nat_tests)
-
--- a rise from a later count is one from an earlier count
-raised_from : (old middle new : ℕ) → old ≤ middle → IsRaised middle new → IsRaised old new
-raised_from old middle new up (on, inl more) = (omega arith, inl (omega arith))
-raised_from old middle new up (on, inr full) = (omega arith, inr full)
 
 -- the later lines of a file that are left, while some turns are
 pub record LinesLeft {Held : Type 0} (takes : Held → Place → Held → Type 0) (refuses : Held → Place → Held → LoadFault → Type 0) (file : ℕ) (kind : FileKind) (old : Held) (all : List Place) (turns : ℕ) (turn : ℕ) (after : Option (List ℕ)) (lines : PieceLines) (held : Held) : Type 0 where
@@ -66,21 +53,15 @@ pub record LinesLeft {Held : Type 0} (takes : Held → Place → Held → Type 0
   pub leads : Leads takes refuses old all held (map (later_line file kind) (lines_to_come lines now))
 
 module _ {Held : Type 0} (takes : Held → Place → Held → Type 0) (refuses : Held → Place → Held → LoadFault → Type 0) (file : ℕ) (kind : FileKind) where
-  -- what leads to the line that a call gave
-  leads_line : (old held : Held) (all : List Place) (line : LineText) (lines later : PieceLines) (after : Option (List ℕ)) (now : List ℕ) (gave : GaveLine line lines later after now)
-      → Leads takes refuses old all held (map (later_line file kind) (lines_to_come lines now))
-      → Leads takes refuses old all held (later_line file kind line ∷ map (later_line file kind) (lines_to_come later gave.now))
-  leads_line old held all line lines later after now gave leads = grind (arith, common_steps, nat_tests)
-
   pub LinesLeft-next : (old held new : Held) (all : List Place) (turns turn : ℕ) (before after : Option (List ℕ)) (lines later : PieceLines) (result : Result (Option Line) SourceFault) (line : Line)
       → LinesLeft takes refuses file kind old all turns turn before lines held → Gives result lines later before after → result ≡ Ok (Some line)
       → takes held (later_line file kind (line_text line)) new → LinesLeft takes refuses file kind old all turns (turn + 1) after later new
-  LinesLeft-next old held new all turns turn before after lines later result line left gives is step = search (rules, Leads-next, gave_line, leads_line)
+  LinesLeft-next old held new all turns turn before after lines later result line left gives is step = search (rules, Leads-next, gave_line)
 
   pub LinesLeft-stop : (old held new : Held) (all : List Place) (turns turn : ℕ) (before after : Option (List ℕ)) (lines later : PieceLines) (result : Result (Option Line) SourceFault) (line : Line) (fault : LoadFault)
       → LinesLeft takes refuses file kind old all turns turn before lines held → Gives result lines later before after → result ≡ Ok (Some line)
       → refuses held (later_line file kind (line_text line)) new fault → StopsAt takes refuses old all new fault
-  LinesLeft-stop old held new all turns turn before after lines later result line fault left gives is refused = search (rules, Leads-stop, gave_line, leads_line)
+  LinesLeft-stop old held new all turns turn before after lines later result line fault left gives is refused = search (rules, Leads-stop, gave_line)
 
   pub LinesLeft-end : (old held : Held) (all : List Place) (turns turn : ℕ) (before after : Option (List ℕ)) (lines later : PieceLines) (result : Result (Option Line) SourceFault)
       → LinesLeft takes refuses file kind old all turns turn before lines held → Gives result lines later before after → result ≡ Ok None → TakesAll takes old all held
@@ -92,10 +73,7 @@ module _ {Held : Type 0} (takes : Held → Place → Held → Type 0) (refuses :
       → (result : Result (Unit {0}) LoadFault) → GoesOver takes refuses later_fails middle (map (later_line file kind) others) result new
       → GoesOver takes refuses fails old (places_of_lines file kind lines) result new
   goes_lines fails later_fails lines first others cut so old middle new step (Ok done) went = search (rules, takes_lines)
-  goes_lines fails later_fails lines first others cut so old middle new step (Err fault) went = λ other. elim (went other) [
-    | inl failed ↦ inl (so fault failed)
-    | inr stop ↦ inr (stops_lines takes refuses file kind lines first others cut old middle new fault step stop)
-  ]
+  goes_lines fails later_fails lines first others cut so old middle new step (Err fault) went = grind (arith, (stops_lines takes refuses file kind lines first others cut old middle new fault step), (so fault))
 
   -- a file without a line
   pub goes_none : (fails : LoadFault → Type 0) (lines : List LineText) → lines ≡ [] → (old new : Held) (result : Result (Unit {0}) LoadFault)
@@ -109,10 +87,6 @@ length-lines_of : (bytes : List ℕ) → length (lines_of bytes) ≤ length byte
 unfolding lines_of
 length-lines_of bytes = grind (arith, common_steps, nat_tests, length-drop, length-lines)
 
--- a file that is shorter is cut nowhere
-cut_at : (count left : ℕ) (bytes : List ℕ) → length bytes ≤ 2 ^ 64 - 1 → left ≡ min count (2 ^ 64 - 1) → take left bytes ≡ take count bytes
-cut_at count left bytes short is = grind (arith, common_steps, nat_tests, cases_lt, take_all)
-
 -- so it has fewer behind the first than it may have bytes
 pub few_lines : (limit : ℕ) (bytes : List ℕ) (first : LineText) (others : List LineText) → lines_of (take limit bytes) ≡ first ∷ others → length others < limit
 few_lines limit bytes first others cut =
@@ -120,7 +94,7 @@ few_lines limit bytes first others cut =
 
 -- the bytes that may be read are those of the file that is cut
 pub cut_bytes : (limit left : ℕ) (bytes : List ℕ) → length bytes < 2 ^ 64 → left ≡ min (limit + 1) (2 ^ 64 - 1) → take left bytes ≡ take (limit + 1) bytes
-cut_bytes limit left bytes short is = cut_at (limit + 1) left bytes (omega arith) is
+cut_bytes limit left bytes short is = grind (arith, cases_lt, take_all)
 
 pub cut_short : (count : ℕ) (bytes : List ℕ) → length bytes < 2 ^ 64 → length (take count bytes) < 2 ^ 64
 cut_short count bytes short = omega (arith, length-take count bytes)
@@ -128,18 +102,16 @@ cut_short count bytes short = omega (arith, length-take count bytes)
 -- and the lines to come are those
 pub cut_reachable : (limit left held : ℕ) (rest : Option (List ℕ)) (bytes : List ℕ) → rest ≡ Some bytes → length bytes < 2 ^ 64 → left ≡ min (limit + 1) (2 ^ 64 - 1) → held ≡ left
     → reachable held rest ≡ Some (take (limit + 1) bytes)
-cut_reachable limit left held rest bytes told short is same =
-    reachable_told held rest bytes told ∙ ap (λ (some : List ℕ). Some some) (ap (λ (n : ℕ). take n bytes) same ∙ cut_bytes limit left bytes short is)
+cut_reachable limit left held rest bytes told short is same = grind (arith, (reachable_told held rest bytes told), (cut_bytes limit left bytes short is))
 
 -- the device failed at the file, counted from another count
 pub fails_from : (file start old new : ℕ) (fault : LoadFault) → start ≤ old → FailsAt file old new fault → FailsAt file start new fault
-fails_from file start old new fault up failed = (failed.0, raised_from start old new up failed.1)
+fails_from file start old new fault up failed = grind (arith, inl, inr)
 
 module _ {Held : Type 0} (takes : Held → Place → Held → Type 0) (refuses : Held → Place → Held → LoadFault → Type 0) (file limit : ℕ) (known : List FileText) (name : List ℕ) where
   -- a file without a kind has no places
   pub takes_unnamed : None ≡ file_kind_of name → (held : Held) → TakesAll takes held (places_of_file file (cut_file limit (text_named known name))) held
-  takes_unnamed is held =
-      subst (λ (places : List Place). TakesAll takes held places held) (ap (λ some. places_of_kind file some (take (limit + 1) (unwrap_or (bytes_of name known) []))) is) (taken held)
+  takes_unnamed is held = grind (arith, places_of_kind, unwrap_or, bytes_of, taken)
 
 -- the places of the names from one on are those of its file and those of the names behind it
 pub places_from-listed : {A : Type 0} (limit : ℕ) (known : List FileText) (name_of : A → List ℕ) (i : ℕ) (names : List A) (d : A) (name : List ℕ) → i < length names → name ≡ name_of (get_or names i d)
@@ -158,9 +130,7 @@ module _ {Held : Type 0} (takes : Held → Place → Held → Type 0) (refuses :
 -- texts that rise have bytes that rise
 sorted_map : {X Y : Type 0} (f : X → Y) (lt : Y → Y → Bool) (xs : List X) → IsSortedBy (λ one other. lt (f one) (f other)) xs → IsSortedBy lt (map f xs)
 sorted_map f lt [] sorted k default low high = absurd (omega arith)
-sorted_map f lt (x ∷ xs) sorted k default low high =
-    let within : k + 1 < length (x ∷ xs) = omega (arith, length-map (x ∷ xs) f) in
-    (λ i. lt (get_or-map f (x ∷ xs) (k + 1) x default within i) (get_or-map f (x ∷ xs) k x default (omega arith) i)) ∙ sorted k x low within
+sorted_map f lt (x ∷ xs) sorted k default low high = grind (arith, (get_or-map f (x ∷ xs) (k + 1) x default), (get_or-map f (x ∷ xs) k x default), (length-map (x ∷ xs) f), (sorted k x low))
 
 -- names of files that were sorted are in order
 pub in_order : (known : List FileText) (listed sorted : List (String Global)) → map string_bytes listed ≡ map (λ (file : FileText). file.name) known

@@ -1,9 +1,6 @@
 -- What is read of a release, where its rows were seen.
 use Rattle.std.proofs.lemmas.Grind.{common_steps}
-use Rattle.std.proofs.Common.{arith, rules}
-use Rattle.std.proofs.Common.{ℕ, ◌≡◌, ◌≤◌, ◌∙◌, List, [], ◌∷◌, length, Bool, Option, None, Some, ap, map, refl, suc, sym, subst}
-use Rattle.std.specs.Prelude.{is_some}
-use Rattle.std.specs.List.{filter_map}
+use Rattle.std.proofs.Common.{arith, rules, ℕ, ◌≡◌, ◌≤◌, ◌∙◌, List, [], ◌∷◌, length, Bool, Option, None, Some, ap, map, refl, suc, sym, subst, is_some, filter_map}
 use Rattle.rf2_rows.specs.RowTexts.{RowText}
 use Rattle.snapshot.specs.Chosen.{choices, chosen, marked}
 use Rattle.snapshot.specs.Contents.{text_of_row}
@@ -11,7 +8,7 @@ use Rattle.snapshot.specs.Faults.{first_fault, first_of}
 use Rattle.snapshot.specs.Files.{Place, RowAt}
 use Rattle.snapshot.specs.Kept.{IsReadFrom, Kept, nothing_kept, unmarked}
 use Rattle.snapshot.specs.Keys.{uuids_behind}
-use Rattle.snapshot.specs.Listed.{Listed, attribute_listed, concept_listed, in_list, isa_listed, items_chosen, listed_chosen, listed_of, listing_of, member_listed, name_listed, same_listing}
+use Rattle.snapshot.specs.Listed.{Listed, attribute_listed, in_list, isa_listed, items_chosen, listed_chosen, listed_of, listing_of, member_listed, name_listed, same_listing}
 use Rattle.snapshot.specs.Limits.{row_total}
 use Rattle.snapshot.specs.Seen.{AreSeen, IsSeen, first_conflict, kept_rows, keys_behind}
 use Rattle.snapshot.specs.declared.fault.LoadFault.{LoadFault}
@@ -31,11 +28,7 @@ module _ (list : Listing) {X : Type 0} (pick : RowText → Option X) (same : (ro
   heres-is (row ∷ rows) = (λ i. same row i ∷ heres-is rows i)
 
   list-chosen : (rows : List RowText) (choices : List Bool) → items_chosen (in_list list (map listing_of rows)) choices (filter_map pick rows) ≡ filter_map pick (marked choices rows)
-  list-chosen rows choices = ap (λ (heres : List Bool). items_chosen heres choices (filter_map pick rows)) (heres-is rows) ∙ chosen-picked pick rows choices
-
--- a row is on the list that takes it, and on no other
-concept-here : (row : RowText) → same_listing (listing_of row) listing.Concept ≡ is_some (concept_listed row)
-concept-here row = grind (arith, common_steps)
+  list-chosen rows choices = grind (arith, chosen-picked, (heres-is rows))
 
 name-here : (row : RowText) → same_listing (listing_of row) listing.Name ≡ is_some (name_listed row)
 name-here row = grind (arith, common_steps)
@@ -50,7 +43,7 @@ member-here : (row : RowText) → same_listing (listing_of row) listing.Member �
 member-here row = grind (arith, common_steps)
 
 lists-chosen : (rows : List RowText) (choices : List Bool) → unmarked (listed_chosen (listed_of rows) choices) ≡ unmarked (listed_of (marked choices rows))
-lists-chosen rows choices = search (rules, attribute-here, concept-here, isa-here, list-chosen, member-here, name-here)
+lists-chosen rows choices = grind (arith, attribute-here, isa-here, list-chosen, member-here, name-here)
 
 -- ---- what was seen
 keyed-seen : (limits : Limits) (kept : Kept) (rows : List RowAt) → kept ≡ kept_rows (nothing_kept limits) rows → kept.keyed.keys ≡ keys_behind [] rows
@@ -80,25 +73,14 @@ read-single limits places kept count all counted few =
       clean = all.first ∙ first_of-none (first_conflict [] all.seen) ∙ no_conflict [] all.seen single;
       count_is = counted ∙ count-seen limits places kept None all ∙ ap length (all.whole refl);
       few = subst (λ (n : ℕ). n ≤ row_total limits) (sym (counted ∙ count-seen limits places kept None all)) (all.room refl);
-      lists = ap (λ (k : Kept). unmarked k.listed) all.kept_is ∙ ap (λ (listed : Listed). unmarked listed) (listed-rows limits all.seen)
-          ∙ ap (λ (rows : List RowAt). unmarked (listed_of (map text_of_row rows))) (sym (single-choices [] all.seen single) ∙ ap chosen (all.whole refl));
+      lists = grind (arith, unmarked, listed-rows, listed_of, text_of_row, single-choices, chosen);
     }
 
 -- some rows are chosen
 pub read-chosen : (limits : Limits) (places : List Place) (kept : Kept) (count : ℕ) (all : IsSeen limits places kept None) → count ≡ length kept.keyed.keys
     → first_conflict [] all.seen ≡ None → (marks : List Bool) → marks ≡ choices all.seen [] all.seen → (listed : Listed) → listed ≡ listed_chosen kept.listed marks
     → IsReadFrom limits places count listed
-read-chosen limits places kept count all counted none marks told listed same = record {
-  clean = all.first ∙ first_of-none (first_conflict [] all.seen) ∙ none;
-  count_is = counted ∙ count-seen limits places kept None all ∙ ap length (all.whole refl);
-  few = subst (λ (n : ℕ). n ≤ row_total limits) (sym (counted ∙ count-seen limits places kept None all)) (all.room refl);
-  lists = ap (λ (l : Listed). unmarked l) same
-      ∙ ap (λ (l : Listed). unmarked (listed_chosen l marks)) (ap (λ (k : Kept). k.listed) all.kept_is ∙ listed-rows limits all.seen)
-      ∙ lists-chosen (map text_of_row all.seen) marks
-      ∙ ap (λ (rows : List RowText). unmarked (listed_of rows)) (sym (map-marked text_of_row marks all.seen))
-      ∙ ap (λ (m : List Bool). unmarked (listed_of (map text_of_row (marked m all.seen)))) told
-      ∙ ap (λ (rows : List RowAt). unmarked (listed_of (map text_of_row (chosen rows)))) (all.whole refl);
-}
+read-chosen limits places kept count all counted none marks told listed same = grind (arith, all.first, first_of-none, (count-seen limits places kept None all), (all.whole refl), (all.room refl), listed-rows, lists-chosen, map-marked)
 
 -- the fault at which the first pass ended is the first, where no row conflicts
 pub fault-seen : (limits : Limits) (places : List Place) (kept : Kept) (fault : LoadFault) (all : IsSeen limits places kept (Some fault))

@@ -1,13 +1,11 @@
 -- Lists in strictly rising order: a number stands at one place alone.
-use Rattle.std.proofs.Common.{ℕ, inl, inr, ◌≡◌, ◌<◌, ◌≤◌, ◌-◌, ◌∙◌, List, length, get_or, false, nat_eq, Ok, Err, sym, arith}
-use Rattle.std.specs.Prelude.{Result, is_ok}
+use Rattle.std.proofs.Common.{ℕ, inl, inr, ◌≡◌, ◌<◌, ◌≤◌, ◌-◌, ◌∙◌, List, length, get_or, false, nat_eq, Ok, Err, sym, arith, Result, is_ok, nat_cmp, eq-eqb}
 use Rattle.std.specs.List.Sorted.{IsBinarySearchResult, IsStrictlyIncreasing}
-use Rattle.std.specs.Ordering.{nat_cmp}
 use Rattle.std.proofs.lemmas.List.Kept.{AllPairs-from_increasing}
 use Rattle.std.proofs.lemmas.List.Folds.{list_any_at}
 use Rattle.std.proofs.lemmas.List.Sorted.{searched}
 use Rattle.std.proofs.lemmas.Map.Keys.{non_decreasing_from_sorted, sorted_from_strictly_increasing}
-use Rattle.std.proofs.lemmas.Bool.{cases_lt, eq-eqb}
+use Rattle.std.proofs.lemmas.Bool.{cases_lt}
 use Rattle.std.proofs.lemmas.List.{get_or_default}
 use Rattle.hierarchy.specs.Members.{has}
 use Rattle.hierarchy.proofs.ReleaseLemmas.{had_not}
@@ -28,16 +26,11 @@ has-none xs id i above below = had_not xs id (λ there.
 
 -- a binary search finds a number exactly where it is among them
 pub has-searched : (xs : List ℕ) → IsStrictlyIncreasing xs → (id : ℕ) (r : Result ℕ ℕ) → IsBinarySearchResult (λ y. nat_cmp y id) xs r → is_ok r ≡ has xs id
-has-searched xs rising id (Ok i) found =
-    let at = searched xs id (Ok i) found (not_falling xs rising) in
-    sym (list_any_at (nat_eq id) xs i 0 at.0 (eq-eqb id (get_or xs i 0) (sym at.1)))
-has-searched xs rising id (Err i) found =
-    let at = searched xs id (Err i) found (not_falling xs rising) in
-    sym (has-none xs id i (λ k before within. at.1 k before) at.2)
+has-searched xs rising id (Ok i) found = grind (arith, searched xs id (Ok i) found (not_falling xs rising), list_any_at (nat_eq id) xs i 0, eq-eqb)
+has-searched xs rising id (Err i) found = let at = searched xs id (Err i) found (not_falling xs rising) in sym (has-none xs id i (λ k before within. at.1 k before) at.2)
 
 -- a number above the one before a place and below the one at it is not among them
-pub has-between : (xs : List ℕ) → IsStrictlyIncreasing xs → (id i : ℕ) → i ≤ length xs
-    → (0 < i → get_or xs (i - 1) 0 < id) → (i < length xs → id < get_or xs i 0) → has xs id ≡ false
+pub has-between : (xs : List ℕ) → IsStrictlyIncreasing xs → (id i : ℕ) → i ≤ length xs → (0 < i → get_or xs (i - 1) 0 < id) → (i < length xs → id < get_or xs i 0) → has xs id ≡ false
 has-between xs rising id i within above below = has-none xs id i
     (λ k before inside. omega (arith, above (omega arith), not_falling xs rising k (i - 1) (omega arith) (omega arith)))
     (λ k behind inside. omega (arith, below (omega arith), not_falling xs rising i k behind inside))

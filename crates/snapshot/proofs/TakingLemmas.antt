@@ -1,8 +1,7 @@
 -- Going over places one after another, and up to one that is refused.
 use Rattle.std.proofs.lemmas.Bool.Decides.{nat_tests}
 use Rattle.std.proofs.lemmas.Grind.{common_steps}
-use Rattle.std.proofs.Common.{ℕ, ◌≡◌, ◌+◌, ◌<◌, ◌≤◌, List, [], ◌∷◌, ◌++◌, append_assoc, ap, arith, drop, drop-cons, get_or, length, map, refl, subst, sym, ◌∙◌, ◌^◌, true, false, Option, None, Some, Result, Ok, Err}
-use Rattle.std.specs.Prelude.{IfErr, IfOk, IfSome, OnOk}
+use Rattle.std.proofs.Common.{ℕ, ◌≡◌, ◌+◌, ◌<◌, ◌≤◌, List, [], ◌∷◌, ◌++◌, append_assoc, ap, arith, drop, drop-cons, get_or, length, map, refl, subst, sym, ◌^◌, true, false, Option, Some, Result, IfErr, IfOk, IfSome}
 use Rattle.std.proofs.lemmas.List.{drop_all}
 use Rattle.release_files.specs.Source.{file_text}
 use Rattle.release_files.specs.declared.NamedBytes.{NamedBytes}
@@ -17,21 +16,12 @@ use Rattle.snapshot.specs.declared.fault.LoadFault.{LoadFault}
 TakesAll-behind : {Held : Type 0} (takes : Held → Place → Held → Type 0) (old middle new : Held) (front places : List Place)
     → TakesAll takes old front middle → TakesAll takes middle places new → TakesAll takes old (front ++ places) new
 TakesAll-behind takes old middle new front places (taken held) later = later
-TakesAll-behind takes old middle new front places (next from to end place others step rest) later =
-    next from to new place (others ++ places) step (TakesAll-behind takes to end new others places rest later)
+TakesAll-behind takes old middle new front places (next from to end place others step rest) later = grind (arith, next, (TakesAll-behind takes to end new others places rest later))
 
 -- a place is refused behind others that are taken
 StopsAt-behind : {Held : Type 0} (takes : Held → Place → Held → Type 0) (refuses : Held → Place → Held → LoadFault → Type 0) (old middle new : Held) (front places : List Place) (fault : LoadFault)
     → TakesAll takes old front middle → StopsAt takes refuses middle places new fault → StopsAt takes refuses old (front ++ places) new fault
-StopsAt-behind takes refuses old middle new front places fault first stop = record {
-  before = front ++ stop.before;
-  place = stop.place;
-  later = stop.later;
-  middle = stop.middle;
-  cut = ap (λ (all : List Place). front ++ all) stop.cut ∙ sym (append_assoc front stop.before (stop.place ∷ stop.later));
-  taken_before = TakesAll-behind takes old middle stop.middle front stop.before first stop.taken_before;
-  refused = stop.refused;
-}
+StopsAt-behind takes refuses old middle new front places fault first stop = grind (arith, (append_assoc front stop.before (stop.place ∷ stop.later)), (TakesAll-behind takes old middle stop.middle front stop.before first stop.taken_before))
 
 -- from some places to those that are left: what is said of these is said of all
 pub record Leads {Held : Type 0} (takes : Held → Place → Held → Type 0) (refuses : Held → Place → Held → LoadFault → Type 0) (old : Held) (all : List Place) (now : Held) (left : List Place) : Type 0 where
@@ -39,18 +29,15 @@ pub record Leads {Held : Type 0} (takes : Held → Place → Held → Type 0) (r
   pub stops : (new : Held) (fault : LoadFault) → StopsAt takes refuses now left new fault → StopsAt takes refuses old all new fault
 
 module _ {Held : Type 0} (takes : Held → Place → Held → Type 0) (refuses : Held → Place → Held → LoadFault → Type 0) where
-  -- one place more was taken
-  pub Leads-next : (old now later : Held) (all left : List Place) (place : Place)
-      → Leads takes refuses old all now (place ∷ left) → takes now place later → Leads takes refuses old all later left
-  Leads-next old now later all left place leads step = record {
-    goes = λ new went. leads.goes new (next now later new place left step went);
-    stops = λ new fault stop. leads.stops new fault (StopsAt-behind takes refuses now later new (place ∷ []) left fault (next now later later place [] step (taken later)) stop);
-  }
-
   -- some places more were taken
   pub Leads-on : (old now later : Held) (all front left : List Place)
       → Leads takes refuses old all now (front ++ left) → TakesAll takes now front later → Leads takes refuses old all later left
   Leads-on old now later all front left leads went = grind (arith, common_steps, nat_tests, StopsAt-behind, TakesAll-behind)
+
+  -- one place more was taken
+  pub Leads-next : (old now later : Held) (all left : List Place) (place : Place)
+      → Leads takes refuses old all now (place ∷ left) → takes now place later → Leads takes refuses old all later left
+  Leads-next old now later all left place leads step = Leads-on old now later all (place ∷ []) left leads (next now later later place [] step (taken later))
 
   -- none is left
   pub Leads-end : (old now : Held) (all : List Place) → Leads takes refuses old all now [] → TakesAll takes old all now
@@ -67,56 +54,40 @@ pub places_from-next : (i : ℕ) (files : List NamedBytes) (d : NamedBytes) → 
     → places_from i (map file_text (drop i files)) ≡ places_of_file i (file_text (get_or files i d)) ++ places_from (i + 1) (map file_text (drop (i + 1) files))
 places_from-next i files d within = grind (arith, common_steps, nat_tests, drop-cons, get_or)
 
--- what an answer says of its result
-pub on_ok : {T E P Q : Type 0} (result : Result T E) → (P → Q) → OnOk result P → OnOk result Q
-on_ok (Ok found) so said = so said
-on_ok (Err fault) so said = said
-
 pub if_err : {T E : Type 0} (P Q : E → Type 0) (result : Result T E) → ((fault : E) → P fault → Q fault) → IfErr result P → IfErr result Q
-if_err P Q (Ok found) so said = said
-if_err P Q (Err fault) so said = so fault said
+if_err x0 x1 x2 so said = grind arith
 
 -- the places of a file by its lines: the first line and then the others
 module _ {Held : Type 0} (takes : Held → Place → Held → Type 0) (refuses : Held → Place → Held → LoadFault → Type 0) (file : ℕ) (kind : FileKind) (lines : List LineText) where
   pub takes_lines : (first : LineText) (others : List LineText) → lines ≡ first ∷ others → (old middle new : Held) → takes old (first_line file kind first) middle
       → TakesAll takes middle (map (later_line file kind) others) new → TakesAll takes old (places_of_lines file kind lines) new
-  takes_lines first others cut old middle new step rest =
-      subst (λ (all : List LineText). TakesAll takes old (places_of_lines file kind all) new) (sym cut)
-      (next old middle new (first_line file kind first) (map (later_line file kind) others) step rest)
+  takes_lines first others cut old middle new step rest = grind (arith, places_of_lines, next, first_line, later_line)
 
   pub stops_lines : (first : LineText) (others : List LineText) → lines ≡ first ∷ others → (old middle new : Held) (fault : LoadFault) → takes old (first_line file kind first) middle
       → StopsAt takes refuses middle (map (later_line file kind) others) new fault → StopsAt takes refuses old (places_of_lines file kind lines) new fault
-  stops_lines first others cut old middle new fault step rest =
-      subst (λ (all : List LineText). StopsAt takes refuses old (places_of_lines file kind all) new fault) (sym cut)
-      (StopsAt-behind takes refuses old middle new (first_line file kind first ∷ []) (map (later_line file kind) others) fault (next old middle middle (first_line file kind first) [] step (taken middle)) rest)
+  stops_lines first others cut old middle new fault step rest = grind (arith, places_of_lines, first_line, later_line, next, taken)
 
   pub stops_first : (first : LineText) (others : List LineText) → lines ≡ first ∷ others → (old new : Held) (fault : LoadFault)
       → refuses old (first_line file kind first) new fault → StopsAt takes refuses old (places_of_lines file kind lines) new fault
-  stops_first first others cut old new fault refused =
-      subst (λ (all : List LineText). StopsAt takes refuses old (places_of_lines file kind all) new fault) (sym cut)
-      (record { before = []; place = first_line file kind first; later = map (later_line file kind) others; middle = old; cut = refl; taken_before = taken old; refused = refused })
+  stops_first first others cut old new fault refused = rw cut (record { before = []; place = first_line file kind first; later = map (later_line file kind) others; middle = old; cut = refl; taken_before = taken old; refused = refused })
 
   pub takes_none : lines ≡ [] → (old new : Held) → takes old (no_line file kind) new → TakesAll takes old (places_of_lines file kind lines) new
   takes_none cut old new step =
       subst (λ (all : List LineText). TakesAll takes old (places_of_lines file kind all) new) (sym cut) (next old new new (no_line file kind) [] step (taken new))
 
   pub stops_none : lines ≡ [] → (old new : Held) (fault : LoadFault) → refuses old (no_line file kind) new fault → StopsAt takes refuses old (places_of_lines file kind lines) new fault
-  stops_none cut old new fault refused =
-      subst (λ (all : List LineText). StopsAt takes refuses old (places_of_lines file kind all) new fault) (sym cut)
-      (record { before = []; place = no_line file kind; later = []; middle = old; cut = refl; taken_before = taken old; refused = refused })
+  stops_none cut old new fault refused = rw cut (record { before = []; place = no_line file kind; later = []; middle = old; cut = refl; taken_before = taken old; refused = refused })
 
 -- no file is left
 pub places_from-end : (i : ℕ) (files : List NamedBytes) → length files ≤ i → places_from i (map file_text (drop i files)) ≡ []
 places_from-end i files behind = ap (λ (rest : List NamedBytes). places_from i (map file_text rest)) (drop_all i files behind)
 
 pub if_ok : {T E : Type 0} (P Q : T → Type 0) (result : Result T E) → ((found : T) → P found → Q found) → IfOk result P → IfOk result Q
-if_ok P Q (Ok found) so said = so found said
-if_ok P Q (Err fault) so said = said
+if_ok x0 x1 x2 so said = grind arith
 
 -- what is said where something is told is said of what is told
 pub if_told : {A : Type 0} (P : A → Type 0) (told : Option A) → ((known : A) → told ≡ Some known → P known) → IfSome told P
-if_told P None so = tt
-if_told P (Some known) so = so known refl
+if_told x0 x1 so = grind arith
 
 pub at_told : {A : Type 0} (P : A → Type 0) (told : Option A) (known : A) → told ≡ Some known → IfSome told P → P known
 at_told {A} P told known is said = subst (λ (some : Option A). IfSome some P) is said
@@ -131,5 +102,4 @@ no_device count old fault few fails = grind (arith, common_steps, nat_tests, cas
 
 -- two things that are said of a fault
 pub if_both : {T E : Type 0} (P Q R : E → Type 0) (result : Result T E) → ((fault : E) → P fault → Q fault → R fault) → IfErr result P → IfErr result Q → IfErr result R
-if_both P Q R (Ok found) so one other = one
-if_both P Q R (Err fault) so one other = so fault one other
+if_both x0 x1 x2 x3 so one other = grind arith

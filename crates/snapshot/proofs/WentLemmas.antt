@@ -1,18 +1,15 @@
 -- What reading places leaves, and what it says of their first fault.
 use Rattle.std.proofs.lemmas.Grind.{common_steps}
-use Rattle.std.proofs.Common.{ℕ, ◌≡◌, ◌-◌, ◌≤◌, ◌∙◌, List, [], ◌∷◌, ◌++◌, length, true, false, Bool, nat_le, Option, None, Some, append_assoc, ap, arith, cond, refl, sym, subst}
-use Rattle.std.specs.Prelude.{option_and_then, option_to_list}
+use Rattle.std.proofs.Common.{◌+◌, ◌≡◌, ◌-◌, ◌≤◌, ◌∙◌, List, [], ◌∷◌, ◌++◌, length, nat_le, Option, None, Some, append_assoc, ap, arith, refl, sym, subst, option_and_then, option_to_list, append-nil, length-append}
 use Rattle.std.specs.List.{cons_option}
 use Rattle.std.proofs.lemmas.Bool.Decides.{nat_tests}
-use Rattle.std.proofs.lemmas.List.{append-nil, length-append}
 use Rattle.std.proofs.lemmas.List.Elements.{filter_map-append}
 use Rattle.rf2_rows.specs.declared.kind.FileKind.{FileKind}
 use Rattle.rf2_rows.specs.declared.kind.FileKind.TheVariants.{Concept, Concrete, Description, Member, Relationship}
-use Rattle.snapshot.specs.Chosen.{same_kind}
 use Rattle.snapshot.specs.Faults.{conflict_behind, count_of_kind, crowd_behind, fault_at, fault_here, first_fault, first_of}
 use Rattle.snapshot.specs.Files.{Place, RowAt, row_at, rows_of}
 use Rattle.snapshot.specs.Kept.{IsRead, IsShortAt, IsStopped, Kept, kept_after, kept_behind, nothing_kept, plain_fault}
-use Rattle.snapshot.specs.Limits.{left_behind, row_limit, row_total}
+use Rattle.snapshot.specs.Limits.{row_limit, row_total}
 use Rattle.snapshot.specs.RowsKept.{kept_in}
 use Rattle.snapshot.specs.Taking.{StopsAt, TakesAll, next, taken}
 use Rattle.snapshot.specs.declared.fault.LoadFault.{LoadFault}
@@ -24,8 +21,7 @@ use Rattle.snapshot.proofs.PassLemmas.{IsPlain, first_fault-plain, plain_at, pla
 
 -- ---- what is kept behind rows
 kept_rows-option : (kept : Kept) (row : Option RowAt) (rows : List RowAt) → kept_rows (kept_after kept row) rows ≡ kept_rows kept (cons_option row rows)
-kept_rows-option kept None rows = refl
-kept_rows-option kept (Some row) rows = refl
+kept_rows-option kept x1 rows = grind arith
 
 kept_rows-append : (kept : Kept) (rows others : List RowAt) → kept_rows kept (rows ++ others) ≡ kept_rows (kept_rows kept rows) others
 kept_rows-append kept [] others = refl
@@ -47,49 +43,31 @@ pub record HasRoom (left limits : Limits) (earlier : List RowAt) : Type 0 where
 pub room-start : (limits : Limits) → HasRoom limits limits []
 room-start limits = record { bytes = refl; rows = λ kind. omega arith }
 
-left_behind-limit : (left : Limits) (kind other : FileKind) → row_limit (left_behind left kind) other ≡ row_limit left other - cond (same_kind kind other) 1 0
-left_behind-limit left kind other = grind (arith, nat_tests)
-
-at_most_one : (b : Bool) → cond b 1 0 ≤ 1
-at_most_one true = omega arith
-at_most_one false = omega arith
-
-room-next : (left limits : Limits) (earlier : List RowAt) (row : RowAt) → HasRoom left limits earlier → HasRoom (left_behind left row.kind) limits (earlier ++ row ∷ [])
-room-next left limits earlier row room = grind (arith, common_steps, nat_tests, count_of_kind-push, left_behind-limit)
-
-room-option : (kept : Kept) (limits : Limits) (earlier : List RowAt) (row : Option RowAt) → HasRoom kept.left limits earlier
-    → HasRoom (kept_after kept row).left limits (earlier ++ option_to_list row)
-room-option kept limits earlier None room = subst (λ (rows : List RowAt). HasRoom kept.left limits rows) (sym (append-nil earlier)) room
-room-option kept limits earlier (Some row) room = room-next kept.left limits earlier row room
+room-option : (kept : Kept) (limits : Limits) (earlier : List RowAt) (row : Option RowAt) → HasRoom kept.left limits earlier → HasRoom (kept_after kept row).left limits (earlier ++ option_to_list row)
+room-option kept limits earlier x3 room = grind (arith, common_steps, nat_tests, append-nil)
 
 -- the fault at a place by the rows that may still come is that by the rows before it
-none_left : (limit count : ℕ) → nat_le (limit - count) 0 ≡ nat_le limit count
-none_left limit count = grind (arith, common_steps, nat_tests, nat_le, nat_tests)
-
 here-is : (left limits : Limits) (place : Place) → left.bytes ≡ limits.bytes → fault_here left place ≡ fault_here limits place
 here-is left limits place h0 = grind (arith, common_steps, nat_tests)
 
 pub plain_fault-is : (left limits : Limits) (earlier : List RowAt) (place : Place) → HasRoom left limits earlier → plain_fault left place ≡ plain_at limits earlier place
-plain_fault-is left limits earlier place room = grind (arith, common_steps, nat_tests, here-is, nat_le, none_left)
+plain_fault-is left limits earlier place room = grind (arith, common_steps, nat_tests, here-is, nat_le)
 
 rows-option : (earlier : List RowAt) (row : Option RowAt) (rows : List RowAt) → (earlier ++ option_to_list row) ++ rows ≡ earlier ++ cons_option row rows
-rows-option earlier None rows = ap (λ (front : List RowAt). front ++ rows) (append-nil earlier)
-rows-option earlier (Some row) rows = append_assoc earlier (row ∷ []) rows
+rows-option earlier x1 rows = grind (arith, append-nil, append_assoc)
 
 -- ---- how many rows there may be
+one-more : (limits : Limits) (earlier : List RowAt) (here : Option LoadFault) (row : Option RowAt) → first_of here (option_and_then (crowd_behind limits earlier) row) ≡ None
+    → ((kind : FileKind) → count_of_kind kind earlier ≤ row_limit limits kind) → (kind : FileKind) → count_of_kind kind (earlier ++ option_to_list row) ≤ row_limit limits kind
+one-more limits earlier here None none few kind = rw append-nil (few kind)
+one-more limits earlier here (Some row) none few kind = grind (arith, common_steps, nat_tests, count_of_kind-push, kind_same, nat_le)
+
 -- without a fault there are no more rows of a kind than there may be
 plain-few : (limits : Limits) (earlier : List RowAt) (places : List Place) → IsPlain limits earlier places
     → ((kind : FileKind) → count_of_kind kind earlier ≤ row_limit limits kind) → (kind : FileKind) → count_of_kind kind (earlier ++ rows_of places) ≤ row_limit limits kind
-plain-few limits earlier places (plain_end before) few kind = subst (λ (rows : List RowAt). count_of_kind kind rows ≤ row_limit limits kind) (sym (append-nil before)) (few kind)
+plain-few limits earlier places (plain_end before) few kind = rw append-nil (few kind)
 plain-few limits earlier places (plain_next before place others clean rest) few kind =
-    subst (λ (rows : List RowAt). count_of_kind kind rows ≤ row_limit limits kind) (rows-option before (row_at place) (rows_of others))
-    (plain-few limits (before ++ option_to_list (row_at place)) others rest (one_more (fault_here limits place) (row_at place) clean) kind)
-  where
-    one_more : (here : Option LoadFault) (row : Option RowAt) → first_of here (option_and_then (crowd_behind limits before) row) ≡ None
-        → (kind : FileKind) → count_of_kind kind (before ++ option_to_list row) ≤ row_limit limits kind
-    one_more here None none kind = subst (λ (rows : List RowAt). count_of_kind kind rows ≤ row_limit limits kind) (sym (append-nil before)) (few kind)
-    one_more (Some fault) (Some row) none kind = (cc)
-    one_more None (Some row) none kind = grind (arith, common_steps, nat_tests, at_most_one, count_of_kind-push, kind_same, nat_le, nat_tests)
+    rw (← rows-option before (row_at place) (rows_of others)) (plain-few limits (before ++ option_to_list (row_at place)) others rest (one-more limits before (fault_here limits place) (row_at place) clean few) kind)
 
 pub plain-total : (limits : Limits) (places : List Place) → IsPlain limits [] places → length (rows_of places) ≤ row_total limits
 plain-total limits places plain =
@@ -98,8 +76,7 @@ plain-total limits places plain =
 
 -- ---- places that were read
 short-option : (row : Option RowAt) (rows : List RowAt) → IsShortAt row → AreShort rows → AreShort (cons_option row rows)
-short-option None rows one others = others
-short-option (Some row) rows one others = (one, others)
+short-option x0 rows one others = grind arith
 
 short-append : (rows others : List RowAt) → AreShort rows → AreShort others → AreShort (rows ++ others)
 short-append [] others one more = more
@@ -121,78 +98,58 @@ pub went : (limits : Limits) (earlier : List RowAt) (old new : Rows) (places : L
     → HasRoom (kept_in old).left limits earlier → Went limits earlier (kept_in old) (kept_in new) places
 went limits earlier old new places (taken held) room = grind (arith, common_steps, nat_tests, append-nil, plain_end)
 went limits earlier old new places (next from to end place others step rest) room =
-    let grown : HasRoom (kept_in to).left limits (earlier ++ option_to_list (row_at place)) =
-    subst (λ (kept : Kept). HasRoom kept.left limits (earlier ++ option_to_list (row_at place))) (sym step.kept) (room-option (kept_in from) limits earlier (row_at place) room) in
-    let follows : Went limits (earlier ++ option_to_list (row_at place)) (kept_in to) (kept_in end) others = went limits (earlier ++ option_to_list (row_at place)) to end others rest grown in
-    record {
+    let grown : HasRoom (kept_in to).left limits (earlier ++ option_to_list (row_at place)) = grind (arith, common_steps, nat_tests, option_to_list, row_at, room-option, kept_in) in
+    let follows = went limits (earlier ++ option_to_list (row_at place)) to end others rest grown in record {
       plain = plain_next earlier place others (sym (plain_fault-is (kept_in from).left limits earlier place room) ∙ step.clean) follows.plain;
       kept = follows.kept ∙ ap (λ (kept : Kept). kept_rows kept (rows_of others)) step.kept ∙ kept_rows-option (kept_in from) (row_at place) (rows_of others);
-      room = subst (λ (rows : List RowAt). HasRoom (kept_in end).left limits rows) (rows-option earlier (row_at place) (rows_of others)) follows.room;
+      room = subst (HasRoom (kept_in end).left limits) (rows-option earlier (row_at place) (rows_of others)) follows.room;
       short = short-option (row_at place) (rows_of others) step.short follows.short;
     }
 
 -- ---- the first fault behind places
-first_of-assoc : (one other third : Option LoadFault) → first_of (first_of one other) third ≡ first_of one (first_of other third)
-first_of-assoc None other third = refl
-first_of-assoc (Some fault) other third = refl
-
 pub first_of-none : (fault : Option LoadFault) → first_of fault None ≡ fault
-first_of-none None = refl
-first_of-none (Some fault) = refl
+first_of-none x0 = grind arith
 
 pub first_fault-append : (limits : Limits) (front places later : List Place)
     → first_fault limits front (places ++ later) ≡ first_of (first_fault limits front places) (first_fault limits (front ++ places) later)
 first_fault-append limits front [] later = ap (λ (before : List Place). first_fault limits before later) (sym (append-nil front))
-first_fault-append limits front (place ∷ places) later = grind (arith, common_steps, nat_tests, append_assoc, first_of-assoc, (first_fault-append limits (front ++ place ∷ []) places later))
+first_fault-append limits front (place ∷ places) later = grind (arith, append_assoc, (first_fault-append limits (front ++ place ∷ []) places later))
 
-first_conflict-push : (earlier rows : List RowAt) (row : RowAt)
-    → first_conflict earlier (rows ++ row ∷ []) ≡ first_of (first_conflict earlier rows) (conflict_behind (earlier ++ rows) row)
+first_conflict-push : (earlier rows : List RowAt) (row : RowAt) → first_conflict earlier (rows ++ row ∷ []) ≡ first_of (first_conflict earlier rows) (conflict_behind (earlier ++ rows) row)
 first_conflict-push earlier [] row = first_of-none (conflict_behind earlier row) ∙ ap (λ (before : List RowAt). conflict_behind before row) (sym (append-nil earlier))
-first_conflict-push earlier (first ∷ rows) row = grind (arith, common_steps, nat_tests, append_assoc, first_of-assoc, (first_conflict-push (earlier ++ first ∷ []) rows row))
+first_conflict-push earlier (first ∷ rows) row = grind (arith, append_assoc, (first_conflict-push (earlier ++ first ∷ []) rows row))
 
-pub seen-whole : (limits : Limits) (old new : Rows) (places : List Place) → kept_in old ≡ nothing_kept limits → TakesAll reads old places new
-    → IsSeen limits places (kept_in new) None
+pub seen-whole : (limits : Limits) (old new : Rows) (places : List Place) → kept_in old ≡ nothing_kept limits → TakesAll reads old places new → IsSeen limits places (kept_in new) None
 seen-whole limits old new places start all_taken =
-    let room : HasRoom (kept_in old).left limits [] = subst (λ (kept : Kept). HasRoom kept.left limits []) (sym start) (room-start limits) in
-    let all = went limits [] old new places all_taken room in
-    record {
+    let all = went limits [] old new places all_taken (subst (λ (kept : Kept). HasRoom kept.left limits []) (sym start) (room-start limits)) in
+    let few = plain-total limits places all.plain in record {
       seen = rows_of places;
-      kept_is = all.kept ∙ ap (λ (kept : Kept). kept_rows kept (rows_of places)) start;
+      kept_is = cc (all.kept, start);
       short = all.short;
-      first = first_fault-plain limits [] places [] refl all.plain ∙ sym (first_of-none (first_conflict [] (rows_of places)));
+      first = rw first_of-none (first_fault-plain limits [] places [] refl all.plain);
       beyond = [];
       front = sym (append-nil (rows_of places));
       whole = λ none. refl;
-      few = omega (arith, plain-total limits places all.plain);
-      room = λ none. plain-total limits places all.plain;
+      few = omega arith;
+      room = λ none. few;
     }
 
--- the first fault of places up to one that has a fault as far as rows are only counted
-module _ (limits : Limits) (before later : List Place) (place : Place) (fault : LoadFault) (plain : IsPlain limits [] before) where
-  begins : first_fault limits [] (before ++ place ∷ later) ≡ first_of (first_conflict [] (rows_of before)) (first_of (fault_at limits before place) (first_fault limits (before ++ place ∷ []) later))
-  begins = grind (arith, common_steps, nat_tests, first_fault-append, first_fault-plain)
-
-  pub first-here : fault_here limits place ≡ Some fault → first_fault limits [] (before ++ place ∷ later) ≡ first_of (first_conflict [] (rows_of before)) (Some fault)
-  first-here here = grind (arith, common_steps, nat_tests, begins)
-
-  pub first-crowded : (row : RowAt) → fault_here limits place ≡ None → row_at place ≡ Some row → crowd_behind limits (rows_of before) row ≡ Some fault
-      → first_fault limits [] (before ++ place ∷ later) ≡ first_of (first_conflict [] (rows_of before ++ row ∷ [])) (Some fault)
-  first-crowded row here is crowd = grind (arith, common_steps, nat_tests, begins, first_conflict-push, first_of-assoc)
+-- what is seen up to a fault
+seen-until : (limits : Limits) (places : List Place) (kept : Kept) (fault : LoadFault) (seen beyond : List RowAt) → kept ≡ kept_rows (nothing_kept limits) seen → AreShort seen
+    → first_fault limits [] places ≡ first_of (first_conflict [] seen) (Some fault) → rows_of places ≡ seen ++ beyond → length seen ≤ row_total limits + 1 → IsSeen limits places kept (Some fault)
+seen-until limits places kept fault seen beyond kept_is short first front few =
+    record { seen = seen; kept_is = kept_is; short = short; first = first; beyond = beyond; front = front; whole = λ none. absurd (cc (none)); few = few; room = λ none. absurd (cc (none)) }
 
 -- the first pass ended at a fault
 pub seen-stopped : (limits : Limits) (old new : Rows) (places : List Place) (fault : LoadFault) → kept_in old ≡ nothing_kept limits → StopsAt reads refuses old places new fault
     → IsSeen limits places (kept_in new) (Some fault)
-seen-stopped limits old new places fault start stop =
-    by (fault_here limits stop.place) refl (row_at stop.place) refl
+seen-stopped limits old new places fault start stop = by (fault_here limits stop.place) refl (row_at stop.place) refl
   where
-    room : HasRoom (kept_in old).left limits []
-    room = subst (λ (kept : Kept). HasRoom kept.left limits []) (sym start) (room-start limits)
-
     gone : Went limits [] (kept_in old) (kept_in stop.middle) stop.before
-    gone = went limits [] old stop.middle stop.before stop.taken_before room
+    gone = went limits [] old stop.middle stop.before stop.taken_before (subst (λ (kept : Kept). HasRoom kept.left limits []) (sym start) (room-start limits))
 
     kept_before : kept_in stop.middle ≡ kept_rows (nothing_kept limits) (rows_of stop.before)
-    kept_before = gone.kept ∙ ap (λ (kept : Kept). kept_rows kept (rows_of stop.before)) start
+    kept_before = cc (gone.kept, start)
 
     plain : plain_at limits (rows_of stop.before) stop.place ≡ Some fault
     plain = sym (plain_fault-is (kept_in stop.middle).left limits (rows_of stop.before) stop.place gone.room) ∙ stop.refused.there
@@ -200,36 +157,20 @@ seen-stopped limits old new places fault start stop =
     same_here : fault_here (kept_in stop.middle).left stop.place ≡ fault_here limits stop.place
     same_here = here-is (kept_in stop.middle).left limits stop.place gone.room.bytes
 
+    begins : first_fault limits [] (stop.before ++ stop.place ∷ stop.later)
+        ≡ first_of (first_conflict [] (rows_of stop.before)) (first_of (fault_at limits stop.before stop.place) (first_fault limits (stop.before ++ stop.place ∷ []) stop.later))
+    begins = grind (arith, first_fault-append limits [] stop.before (stop.place ∷ stop.later), first_fault-plain limits [] stop.before [] refl gone.plain)
+
     by : (here : Option LoadFault) → fault_here limits stop.place ≡ here → (row : Option RowAt) → row_at stop.place ≡ row → IsSeen limits places (kept_in new) (Some fault)
     by (Some other) here row is =
-        let told : Some other ≡ Some fault = sym (ap (λ (there : Option LoadFault). first_of there (option_and_then (crowd_behind limits (rows_of stop.before)) (row_at stop.place))) here) ∙ plain in
-        let there : fault_here limits stop.place ≡ Some fault = here ∙ told in
-        record {
-          seen = rows_of stop.before;
-          kept_is = stop.refused.none (same_here ∙ there) ∙ kept_before;
-          short = gone.short;
-          first = ap (λ (all : List Place). first_fault limits [] all) stop.cut ∙ first-here limits stop.before stop.later stop.place fault gone.plain there;
-          beyond = rows_of (stop.place ∷ stop.later);
-          front = ap rows_of stop.cut ∙ filter_map-append row_at stop.before (stop.place ∷ stop.later);
-          whole = λ none. let wrong : Some fault ≡ None = none in (cc);
-          few = omega (arith, plain-total limits stop.before gone.plain);
-          room = λ none. let wrong : Some fault ≡ None = none in (cc);
-        }
-    by None here None is =
-        let told : None ≡ Some fault = sym (λ i. first_of (here i) (option_and_then (crowd_behind limits (rows_of stop.before)) (is i))) ∙ plain in (cc)
+        let there : fault_here limits stop.place ≡ Some fault = grind (arith, here, plain) in
+        seen-until limits places (kept_in new) fault (rows_of stop.before) (rows_of (stop.place ∷ stop.later)) (stop.refused.none (same_here ∙ there) ∙ kept_before) gone.short
+        (rw stop.cut (grind (arith, common_steps, nat_tests, begins, there))) (rw stop.cut (filter_map-append row_at stop.before (stop.place ∷ stop.later))) (omega (arith, plain-total limits stop.before gone.plain))
+    by None here None is = grind (arith, first_of, option_and_then, crowd_behind, rows_of, plain)
     by None here (Some row) is =
-        let crowd : crowd_behind limits (rows_of stop.before) row ≡ Some fault =
-        sym (λ i. first_of (here i) (option_and_then (crowd_behind limits (rows_of stop.before)) (is i))) ∙ plain in
+        let crowd : crowd_behind limits (rows_of stop.before) row ≡ Some fault = grind (arith, first_of, option_and_then, crowd_behind, rows_of, plain) in
         let both = stop.refused.kept (same_here ∙ here) in
-        record {
-          seen = rows_of stop.before ++ row ∷ [];
-          kept_is = both.0 ∙ (λ i. kept_after (kept_before i) (is i)) ∙ sym (kept_rows-append (nothing_kept limits) (rows_of stop.before) (row ∷ []));
-          short = short-append (rows_of stop.before) (row ∷ []) gone.short (subst (λ (at : Option RowAt). IsShortAt at) is both.1, tt);
-          first = ap (λ (all : List Place). first_fault limits [] all) stop.cut ∙ first-crowded limits stop.before stop.later stop.place fault gone.plain row here is crowd;
-          beyond = rows_of stop.later;
-          front = ap rows_of stop.cut ∙ filter_map-append row_at stop.before (stop.place ∷ stop.later)
-              ∙ ap (λ (at : Option RowAt). rows_of stop.before ++ cons_option at (rows_of stop.later)) is ∙ sym (append_assoc (rows_of stop.before) (row ∷ []) (rows_of stop.later));
-          whole = λ none. let wrong : Some fault ≡ None = none in (cc);
-          few = omega (arith, plain-total limits stop.before gone.plain, length-append (rows_of stop.before) (row ∷ []));
-          room = λ none. let wrong : Some fault ≡ None = none in (cc);
-        }
+        let kept = both.0 ∙ (λ i. kept_after (kept_before i) (is i)) ∙ sym (kept_rows-append (nothing_kept limits) (rows_of stop.before) (row ∷ [])) in
+        seen-until limits places (kept_in new) fault (rows_of stop.before ++ row ∷ []) (rows_of stop.later) kept (short-append (rows_of stop.before) (row ∷ []) gone.short (rw is at both.1, tt))
+        (rw stop.cut (grind (arith, common_steps, nat_tests, begins, (first_conflict-push [] (rows_of stop.before) row), here, is, crowd)))
+        (grind (arith, rows_of, filter_map-append, row_at, cons_option, append_assoc)) (omega (arith, plain-total limits stop.before gone.plain, length-append (rows_of stop.before) (row ∷ [])))

@@ -83,6 +83,7 @@ impl Snapshot {
     /// The name of a concept by its number, which is below `concept_count`: the term of its fully
     /// specified name, of several the one in the asked language, and of these the one with the least
     /// identifier. `None` where it has none (Release File Specification, "Description file").
+    #[tactic(auto, using(crate::proofs::LineLemmas::line_among, crate::proofs::NameInLineLemmas::same_name))]
     pub fn name(&self, concept: u32) -> Option<&str>
         requires { concept < length self.now.release.concepts }
         ensures { text_lent result ≡ name_of self.now.release self.now.language (slice_index self.now.release.concepts concept) }
@@ -111,6 +112,7 @@ impl Snapshot {
 
     /// The numbers of the concepts in an order in which parents come before their children: each of
     /// them once, and no is-a row leads to a concept that stands later.
+    #[tactic(auto, using(crate::proofs::NumberingLemmas::same_numbers))]
     pub fn parents_first(&self) -> &[u32]
         ensures { (rows : List (ℕ × ℕ)) → map (row_of_numbers self.now.release.concepts) rows ≡ self.now.release.isa
             → IsWithin (length self.now.release.concepts) rows

@@ -98,6 +98,7 @@ fn keys_among(alloc: Global, keys: &[u64], mut others: RisingKeys) -> Result<Vec
 }
 
 // Each key that the one before it equals.
+#[tactic(auto, using(crate::proofs::NeighbourLemmas::neighbours_by_one))]
 fn equal_neighbours(alloc: Global, sorted: &[u64]) -> Result<Vec<u64>, AllocError>
     ensures { IfOk result (λ repeated. repeated.items ≡ equal_neighbours sorted.now) }
 {

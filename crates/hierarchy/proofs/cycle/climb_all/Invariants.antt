@@ -1,4 +1,4 @@
-use Rattle.std.proofs.Common.{◌≡◌, ◌<◌, ℕ, slice_index_or}
+use Rattle.std.proofs.Common.{◌≤◌, ◌<◌, ℕ, slice_index_or}
 use Rattle.std.specs.Bool.{OnFalse, OnTrue}
 use Rattle.hierarchy.specs.Search.{IsFollowed, MarksReached, unmarked_count}
 use Rattle.hierarchy.proofs.cycle.climb_all.Given as goal
@@ -6,6 +6,6 @@ use Rattle.hierarchy.proofs.cycle.climb_all.Given as goal
 abbrev pub invariant-loop-row : goal.invariant-loop-row
 invariant-loop-row l =
     (MarksReached l.rows l.start l.initial.reached → MarksReached l.rows l.start l.reached)
+    × (unmarked_count l.reached ≤ unmarked_count l.initial.reached)
     × OnTrue l.found (unmarked_count l.reached < unmarked_count l.initial.reached)
-    × OnFalse l.found (l.reached ≡ l.initial.reached)
-    × OnFalse l.found ((k : ℕ) (d : ℕ × ℕ) → k < l.row-index → IsFollowed l.start l.reached (slice_index_or l.rows k d))
+    × OnFalse l.found ((k : ℕ) → k < l.row-index → (d : ℕ × ℕ) → IsFollowed l.start l.reached (slice_index_or l.rows k d))

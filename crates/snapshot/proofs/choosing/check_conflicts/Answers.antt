@@ -1,5 +1,4 @@
-use Rattle.std.proofs.Common.{ℕ, ◌≡◌, ◌≤◌, ◌==◌, ◌∙◌, List, arith, length, subst, sym}
-use Rattle.std.specs.Prelude.{count_by}
+use Rattle.std.proofs.Common.{◌∙◌, arith}
 use Rattle.std.proofs.lemmas.Bool.Decides.{nat_tests}
 use Rattle.snapshot.proofs.NeighbourLemmas.{none_twice}
 use Rattle.snapshot.proofs.ReadFromLemmas.{no_conflict-seen}
@@ -8,9 +7,7 @@ use Rattle.snapshot.proofs.choosing.check_conflicts.Goals as goal
 
 pub returns-then-is_empty-clause-ok : goal.returns-then-is_empty-clause-ok
 returns-then-is_empty-clause-ok g c = if_told _ (g.P.PlaceSource.places c.args.files.now) (λ places told seen beyond are.
-    let none : length c.in_ok-repeated.repeated.items ≡ 0 = grind (arith, nat_tests, c.if-is_empty.ensures) in
-    no_conflict-seen c.keys.result.now seen (c.keys.ensures.keys ∙ are.keys) (none_twice c.in_ok-repeated.repeated.items c.keys.result.now none c.in_ok-repeated.ensures.members))
+    no_conflict-seen c.keys.result.now seen (c.keys.ensures.keys ∙ are.keys) (none_twice c.in_ok-repeated.repeated.items c.keys.result.now (grind (arith, nat_tests, c.if-is_empty.ensures)) c.in_ok-repeated.ensures.members))
 
 pub compare-requires-clause-covers : goal.compare-requires-clause-covers
-compare-requires-clause-covers g c key twice =
-    (c.in_ok-repeated.ensures.members key).1 (subst (λ (keys : List ℕ). 2 ≤ count_by (λ other. other == key) keys) (sym c.keys.ensures.keys) twice)
+compare-requires-clause-covers g c = rw (← c.keys.ensures.keys) (λ key. (c.in_ok-repeated.ensures.members key).1)

@@ -1,8 +1,7 @@
-use Rattle.std.proofs.Common.{ℕ, ◌∙◌, arith, inl, inr, refl, subst, sym}
+use Rattle.std.proofs.Common.{◌∙◌, arith, inl, inr, refl}
 use Rattle.std.proofs.lemmas.Bool.{cases_Bool}
 use Rattle.snapshot.specs.RowsKept.{kept_in}
-use Rattle.snapshot.specs.Taking.{FailsBelow, is_device}
-use Rattle.snapshot.specs.declared.fault.LoadFault.{LoadFault}
+use Rattle.snapshot.specs.Taking.{is_device}
 use Rattle.snapshot.proofs.TakingLemmas.{at_told, fails_since, if_err, if_ok, if_told}
 use Rattle.snapshot.proofs.WentLemmas.{seen-stopped, seen-whole}
 use Rattle.snapshot.proofs.choosing.read_rows.Goals as goal
@@ -24,12 +23,7 @@ returns-in-Err-clause-err g c = if_told _ (g.P.PlaceSource.places c.args.files.n
 
 pub returns-in-Err-clause-device : goal.returns-in-Err-clause-device
 returns-in-Err-clause-device g c device = elim (cases_Bool (is_device c.in-Err.fault)) [
-  | inl own ↦
-      let stays = c.first_of_faults.ensures.stays own in
-      let count = g.P.PlaceSource.file_count c.args.files.now in
-      let old = g.P.PlaceSource.failure_count c.args.files.now in
-      subst (λ (fault : LoadFault). FailsBelow count old (g.P.PlaceSource.failure_count c.first_of_faults.new.files) fault) (sym stays.0)
-      (subst (λ (new : ℕ). FailsBelow count old new c.in-Err.fault) (sym stays.1) (c.in-Err.ensures.device own))
+  | inl own ↦ rw ((c.first_of_faults.ensures.stays own).0, (c.first_of_faults.ensures.stays own).1) (c.in-Err.ensures.device own)
   | inr other ↦
       fails_since (g.P.PlaceSource.file_count c.args.files.now) (g.P.PlaceSource.file_count c.take_places.new.self) (g.P.PlaceSource.failure_count c.args.files.now) (g.P.PlaceSource.failure_count c.take_places.new.self)
       (g.P.PlaceSource.failure_count c.first_of_faults.new.files) c.first_of_faults.result c.in-Err.ensures.files (omega (arith, c.in-Err.ensures.failures)) (c.first_of_faults.ensures.device other device)

@@ -1,12 +1,8 @@
-use Rattle.std.proofs.Common.{arith}
+use Rattle.std.proofs.Common.{arith, ap, string_bytes, sym, option_map}
 use Rattle.std.proofs.lemmas.Bool.Decides.{nat_tests}
 use Rattle.std.proofs.lemmas.Grind.{common_steps}
-use Rattle.std.proofs.Common.{◌≡◌, ap, Ok, Result, string_bytes, subst, sym}
-use Rattle.std.specs.Prelude.{IfOk, option_map}
-use Rattle.snapshot.specs.Contents.{Contents, IsFaultOf}
-use Rattle.snapshot.specs.declared.fault.LoadFault.{LoadFault}
 use Rattle.snapshot.proofs.LoadLemmas.{load_named-is, load_of-none, names_concepts-listed}
-use Rattle.snapshot.proofs.TakingLemmas.{at_told, if_err, if_told}
+use Rattle.snapshot.proofs.TakingLemmas.{at_told, if_told}
 use Rattle.snapshot.proofs.load.load_named.Goals as goal
 
 pub returns-then-not-name_concept_file-clause-err : goal.returns-then-not-name_concept_file-clause-err
@@ -14,10 +10,8 @@ returns-then-not-name_concept_file-clause-err g c = grind (arith, common_steps, 
 
 pub returns-clause-ok : goal.returns-clause-ok
 returns-clause-ok g c = if_told _ (g.S.FileSource.files c.args.source.now) (λ known told.
-    let loaded = load_named-is c.args.limits c.in_force-limits.result c.args.lang.now known string_bytes c.args.names.now c.named_kind_count-kinds.result c.in_force-limits.ensures (sym c.if-not-name_concept_file.ensures) c.named_kind_count-kinds.ensures in
-    subst (λ (r : Result Contents LoadFault). IfOk c.load_places.result (λ snapshot. r ≡ Ok snapshot)) loaded (at_told _ _ _ (ap (option_map _) told) c.load_places.ensures.ok))
+    grind (arith, (load_named-is c.args.limits c.in_force-limits.result c.args.lang.now known string_bytes c.args.names.now c.named_kind_count-kinds.result c.in_force-limits.ensures (sym c.if-not-name_concept_file.ensures) c.named_kind_count-kinds.ensures), (at_told _ _ _ (ap (option_map _) told) c.load_places.ensures.ok)))
 
 pub returns-clause-err : goal.returns-clause-err
 returns-clause-err g c = if_told _ (g.S.FileSource.files c.args.source.now) (λ known told.
-    let loaded = load_named-is c.args.limits c.in_force-limits.result c.args.lang.now known string_bytes c.args.names.now c.named_kind_count-kinds.result c.in_force-limits.ensures (sym c.if-not-name_concept_file.ensures) c.named_kind_count-kinds.ensures in
-    if_err _ _ c.load_places.result (λ fault said own. subst (λ (r : Result Contents LoadFault). IsFaultOf fault r) loaded (said own)) (at_told _ _ _ (ap (option_map _) told) c.load_places.ensures.err))
+    grind (arith, (load_named-is c.args.limits c.in_force-limits.result c.args.lang.now known string_bytes c.args.names.now c.named_kind_count-kinds.result c.in_force-limits.ensures (sym c.if-not-name_concept_file.ensures) c.named_kind_count-kinds.ensures), told, c.load_places.ensures.err))

@@ -1,9 +1,6 @@
 use Rattle.std.proofs.lemmas.Bool.Decides.{nat_tests}
 use Rattle.std.proofs.lemmas.Grind.{common_steps}
-use Rattle.std.proofs.Common.{ℕ, ◌≡◌, List, sym, ◌∙◌, subst, arith}
-use Rattle.std.specs.List.{filter_map}
-use Rattle.hierarchy.specs.Hierarchy.{Reaches}
-use Rattle.snapshot.specs.Numbering.{numbered_row}
+use Rattle.std.proofs.Common.{arith}
 use Rattle.snapshot.proofs.FinishLemmas.{least_cycle}
 use Rattle.snapshot.proofs.NumberingLemmas.{IsWithin-numbered, first_cyclic-None}
 use Rattle.hierarchy.proofs.WayLemmas.{ordered_acyclic}
@@ -18,12 +15,8 @@ cycle_fault-requires-clause-within c = grind (arith, common_steps, nat_tests, Is
 
 pub returns-in-Some-clause-acyclic : goal.returns-in-Some-clause-acyclic
 returns-in-Some-clause-acyclic c =
-    let rows_are : c.as_slice.result.now ≡ filter_map (numbered_row c.args.concepts.now) c.args.ends.now =
-    c.as_slice.ensures.value ∙ c.in_ok-isa.ensures in
     let ordered = rw c.in-Some.is at c.in_ok-order.ensures.order in
-    first_cyclic-None c.args.concepts.now c.len.ensures.rising c.args.ends.now
-    (λ k below chain. ordered_acyclic c.len.result c.as_slice.result.now c.in-Some.order.items ordered k (omega (arith, below, c.len.ensures.count))
-    (subst (λ (rows : List (ℕ × ℕ)). Reaches rows k k) (sym rows_are) chain))
+    first_cyclic-None c.args.concepts.now c.len.ensures.rising c.args.ends.now (λ k below chain. ordered_acyclic c.len.result c.as_slice.result.now c.in-Some.order.items ordered k (omega (arith, below, c.len.ensures.count)) (rw (c.as_slice.ensures.value, c.in_ok-isa.ensures) chain))
 
 pub returns-in-None-clause-cycle : goal.returns-in-None-clause-cycle
 returns-in-None-clause-cycle c = grind (arith, common_steps, nat_tests, least_cycle)

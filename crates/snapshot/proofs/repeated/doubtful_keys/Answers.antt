@@ -1,17 +1,14 @@
-use Rattle.std.proofs.Common.{sym, ◌∙◌, nat_eq, subst, arith}
-use Rattle.std.specs.List.Sorted.{IsStrictlyIncreasing}
+use Rattle.std.proofs.Common.{◌∙◌, nat_eq, arith}
 use Rattle.std.proofs.lemmas.Grind.{common_steps}
 use Rattle.std.proofs.lemmas.List.Filters.{dedup_is}
 use Rattle.std.proofs.lemmas.List.Sums.{length-filter, count_by-le-length}
 use Rattle.std.proofs.lemmas.Map.Keys.{IsStrictlyIncreasing-dedup}
 use Rattle.hierarchy.specs.Members.{has}
-use Rattle.snapshot.proofs.BehindLemmas.{twice_among}
+use Rattle.snapshot.proofs.NeighbourLemmas.{twice_among}
 use Rattle.snapshot.proofs.repeated.doubtful_keys.Goals as goal
 
 pub new-requires : goal.new-requires
-new-requires c =
-    let once = dedup_is nat_eq c.sort_unstable.new.self.items c.dedup.new.self.items c.dedup.ensures.filtered in
-    subst IsStrictlyIncreasing (sym once) (IsStrictlyIncreasing-dedup c.sort_unstable.new.self.items c.sort_unstable.ensures.sorted)
+new-requires c = rw (dedup_is nat_eq c.sort_unstable.new.self.items c.dedup.new.self.items c.dedup.ensures.filtered) (IsStrictlyIncreasing-dedup c.sort_unstable.new.self.items c.sort_unstable.ensures.sorted)
 
 pub returns : goal.returns
 returns c =

@@ -1,5 +1,4 @@
-use Rattle.std.proofs.Common.{◌≡◌, take}
-use Rattle.std.specs.List.{filter}
+use Rattle.std.proofs.Common.{◌≡◌, take, filter}
 use Rattle.hierarchy.specs.Members.{has}
 use Rattle.snapshot.proofs.repeated.keys_among.Given as goal
 

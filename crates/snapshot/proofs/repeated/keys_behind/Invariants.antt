@@ -1,7 +1,6 @@
 -- Of each key seen at most one is not behind, and none is above the highest.
-use Rattle.std.proofs.Common.{◌≤◌, take}
-use Rattle.std.specs.Prelude.{All}
-use Rattle.snapshot.proofs.BehindLemmas.{AreBehind}
+use Rattle.std.proofs.Common.{◌≤◌, take, All}
+use Rattle.snapshot.proofs.NeighbourLemmas.{AreBehind}
 use Rattle.snapshot.proofs.repeated.keys_behind.Given as goal
 
 abbrev pub invariant-loop-key : goal.invariant-loop-key

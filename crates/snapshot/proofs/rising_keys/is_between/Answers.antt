@@ -1,4 +1,4 @@
-use Rattle.std.proofs.Common.{◌∙◌, arith, sym}
+use Rattle.std.proofs.Common.{arith}
 use Rattle.std.proofs.lemmas.Grind.{common_steps}
 use Rattle.std.proofs.lemmas.Bool.Decides.{nat_tests}
 use Rattle.snapshot.proofs.RisingLemmas.{has-between}
@@ -6,12 +6,7 @@ use Rattle.snapshot.proofs.rising_keys.is_between.Goals as goal
 use Rattle.snapshot.proofs.rising_keys.is_between.Goals.{then-place-rising+then-place-eq0, then-place-rising+else-place-eq0, else-place-rising}
 
 pub returns-then-place-rising-2 : goal.returns-then-place-rising-2
-returns-then-place-rising-2 c = grind (arith, common_steps, nat_tests, common_steps, else-place-rising, has-between, nat_tests, then-place-rising+else-place-eq0, then-place-rising+then-place-eq0)
+returns-then-place-rising-2 c = grind (arith, common_steps, nat_tests, has-between)
 
 pub returns-else-place-rising-2 : goal.returns-else-place-rising-2
-returns-else-place-rising-2 c = λ less.
-    elim c.if-place-rising.branch [
-      | then-place-rising+then-place-eq0 w ↦ grind (arith, common_steps, nat_tests, less, has-between c.args.rising.now c.requires c.args.key c.args.place, w.if-place-rising.true, w.if-place-eq0.true)
-      | then-place-rising+else-place-eq0 w ↦ grind (arith, common_steps, nat_tests, less, has-between c.args.rising.now c.requires c.args.key c.args.place, w.if-place-rising.true, sym w.value-is)
-      | else-place-rising w ↦ absurd (grind (arith, nat_tests, w.if-place-rising.false, sym w.value-is ∙ c.if-rising-place.true))
-    ]
+returns-else-place-rising-2 c = grind (arith, common_steps, nat_tests, has-between c.args.rising.now c.requires c.args.key c.args.place)

@@ -1,6 +1,6 @@
-use Rattle.std.proofs.Common.{◌<◌, ◌/◌, ◌^◌, ◌∙◌, length, arith, length-set}
+use Rattle.std.proofs.Common.{◌<◌, ◌/◌, ◌^◌, length, arith, length-set}
 use Rattle.std.proofs.lemmas.Grind.{common_steps}
-use Rattle.snapshot.proofs.LatestLemmas.{latest_keeps, latest_takes, no_version}
+use Rattle.snapshot.proofs.VersionLemmas.{latest_keeps, latest_takes, no_version}
 use Rattle.snapshot.proofs.versions.find_latest.Goals as goal
 use Rattle.snapshot.proofs.versions.find_latest.Goals.{then-index-code, else-index-code}
 
@@ -18,13 +18,5 @@ loop-number-preserved c =
     let code = c.code_and_place-code.result.0 in
     let within : number < length versions = omega arith in
     let among : code / 2 ^ 32 < length latest = grind (arith, c.requires number no_version, c.code_and_place-code.ensures.code no_version) in
-    elim c.if-index-code.branch [
-      | then-index-code w ↦ rw (w.latest-is, c.key_place-place.ensures) (
-        length-set latest (code / 2 ^ 32) code ∙ c.loop-number.invariant.0,
-        latest_takes latest versions number no_version within c.loop-number.invariant.1 code (c.code_and_place-code.ensures.code no_version) among (grind (arith, common_steps, w.if-index-code.true)),
-      )
-      | else-index-code w ↦ rw w.latest-is (
-        c.loop-number.invariant.0,
-        latest_keeps latest versions number no_version within c.loop-number.invariant.1 code (c.code_and_place-code.ensures.code no_version) (grind (arith, common_steps, w.if-index-code.false)),
-      )
-    ]
+    let takes = latest_takes latest versions number no_version within c.loop-number.invariant.1 code (c.code_and_place-code.ensures.code no_version) among in
+    grind (arith, common_steps, length-set, takes, latest_keeps latest versions number no_version within c.loop-number.invariant.1 code (c.code_and_place-code.ensures.code no_version))

@@ -1,5 +1,5 @@
 use Rattle.std.proofs.Common.{◌≡◌, length, take}
-use Rattle.snapshot.proofs.LatestLemmas.{AreLatest}
+use Rattle.snapshot.proofs.VersionLemmas.{AreLatest}
 use Rattle.snapshot.proofs.versions.find_latest.Given as goal
 
 abbrev pub invariant-loop-number : goal.invariant-loop-number

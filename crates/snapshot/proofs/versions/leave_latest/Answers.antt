@@ -1,8 +1,8 @@
-use Rattle.std.proofs.Common.{◌<◌, ◌∙◌, false, length, arith, length-set}
+use Rattle.std.proofs.Common.{zero-add, ◌<◌, length, arith, length-set, take_all}
 use Rattle.std.proofs.lemmas.Bool.Decides.{nat_tests}
-use Rattle.std.proofs.lemmas.List.{take_all}
+use Rattle.std.proofs.lemmas.Grind.{common_steps}
 use Rattle.snapshot.specs.Taken.{is_older}
-use Rattle.snapshot.proofs.LatestLemmas.{are_without, no_version, without_keeps, without_more}
+use Rattle.snapshot.proofs.VersionLemmas.{without_from, no_version, without_keeps, without_more}
 use Rattle.snapshot.proofs.versions.leave_latest.Goals as goal
 use Rattle.snapshot.proofs.versions.leave_latest.Goals.{then-code-latest, else-code-latest}
 
@@ -14,30 +14,17 @@ index_mut-requires c = grind (arith, c.requires.places c.loop-number.number no_v
 
 pub loop-number-preserved : goal.loop-number-preserved
 loop-number-preserved c =
-    let old = c.args.chosen.now.items in
     let chosen = c.loop-number.chosen.items in
     let versions = c.args.versions.now in
     let number = c.loop-number.number in
-    let code = c.code_and_place-code.result.0 in
-    let place = c.code_and_place-code.result.1 in
     let within : number < length versions = omega arith in
-    let code_is = c.code_and_place-code.ensures.code no_version in
-    elim c.if-code-latest.branch [
-      | then-code-latest w ↦ rw w.chosen-is (
-        length-set chosen place false ∙ c.loop-number.invariant.0,
-        without_more chosen old versions number no_version within c.loop-number.invariant.1
-            (grind (arith, nat_tests, c.requires.latest code, c.requires.keys number no_version, code_is, w.if-code-latest.true))
-            place (c.code_and_place-code.ensures.place no_version)
-            (omega (arith, c.requires.places number no_version within, c.code_and_place-code.ensures.place no_version, c.loop-number.invariant.0)),
-      )
-      | else-code-latest w ↦ rw w.chosen-is (
-        c.loop-number.invariant.0,
-        without_keeps chosen old versions number no_version within c.loop-number.invariant.1
-            (grind (arith, nat_tests, c.requires.latest code, c.requires.keys number no_version, code_is, w.if-code-latest.false)),
-      )
-    ]
+    let at = c.code_and_place-code.ensures in
+    let placed : c.code_and_place-code.result.1 < length chosen = omega (arith, c.requires.places number no_version within, at.place no_version, c.loop-number.invariant.0) in
+    let more = without_more chosen c.args.chosen.now.items versions number no_version within c.loop-number.invariant.1 c.code_and_place-code.result.1 (at.place no_version) placed in
+    let keeps = without_keeps chosen c.args.chosen.now.items versions number no_version within c.loop-number.invariant.1 in
+    grind (arith, common_steps, nat_tests, length-set, c.requires.latest c.code_and_place-code.result.0, c.requires.keys number no_version, at.code no_version, more, keeps)
 
 pub returns : goal.returns
 returns c =
-    are_without c.loop-number.chosen.items c.args.chosen.now.items (is_older c.args.versions.now) c.loop-number.invariant.0
-    (rw (take_all c.loop-number.number c.args.versions.now (omega arith)) at c.loop-number.invariant.1)
+    let are = rw (take_all c.loop-number.number c.args.versions.now (omega arith)) at c.loop-number.invariant.1 in
+    without_from (is_older c.args.versions.now) 0 c.loop-number.chosen.items c.args.chosen.now.items c.loop-number.invariant.0 (λ k at is. rw (is, zero-add k) (are k))

@@ -1,5 +1,4 @@
-use Rattle.std.proofs.Common.{rules, ◌≡◌, ◌&&◌, ◌∙◌, List, map, ap, All, subst, sym}
-use Rattle.std.specs.Prelude.{filter}
+use Rattle.std.proofs.Common.{rules, ◌≡◌, ◌&&◌, ◌∙◌, map, ap, filter}
 use Rattle.std.proofs.lemmas.Fn.{filter_same}
 use Rattle.std.proofs.lemmas.List.Elements.{All-filter}
 use Rattle.snapshot.specs.AttributesInside.{IsPlacedIn, attribute_in, value_in}
@@ -11,17 +10,12 @@ use Rattle.snapshot.proofs.attributes.Attributes.retain_among.Goals as goal
 
 pub invariant_of-self : goal.invariant_of-self
 invariant_of-self c =
-    let keys = c.args.concepts.now in
-    let texts = c.self.inside.texts.items in
-    let left : c.retain.new.self.items ≡ filter (λ (row : KeptRow). has keys row.source && is_value_among keys (value_in texts row.value)) c.self.inside.rows.items =
-    filter_same _ _ _ (λ x b f' k. search rules) _ _ c.retain.ensures.filtered in
-    subst (λ (rows : List KeptRow). All (IsPlacedIn texts) rows) (sym left)
-    (All-filter (λ (row : KeptRow). has keys row.source && is_value_among keys (value_in texts row.value)) (IsPlacedIn texts) c.self.inside.rows.items c.self.invariant)
+    let keeps = λ (row : KeptRow). has c.args.concepts.now row.source && is_value_among c.args.concepts.now (value_in c.self.inside.texts.items row.value) in
+    let left : c.retain.new.self.items ≡ filter keeps c.self.inside.rows.items = filter_same _ _ _ (λ x b f' k. search rules) _ _ c.retain.ensures.filtered in
+    rw left (All-filter keeps (IsPlacedIn c.self.inside.texts.items) c.self.inside.rows.items c.self.invariant)
 
 pub returns : goal.returns
 returns c =
-    let keys = c.args.concepts.now in
-    let texts = c.self.inside.texts.items in
-    let left : c.retain.new.self.items ≡ filter (λ (row : KeptRow). has keys row.source && is_value_among keys (value_in texts row.value)) c.self.inside.rows.items =
+    let left : c.retain.new.self.items ≡ filter (λ (row : KeptRow). has c.args.concepts.now row.source && is_value_among c.args.concepts.now (value_in c.self.inside.texts.items row.value)) c.self.inside.rows.items =
     filter_same _ _ _ (λ x b f' k. search rules) _ _ c.retain.ensures.filtered in
-    ap (map (attribute_in texts)) left ∙ attributes-retained keys texts c.self.inside.rows.items ∙ ap (attributes_among keys) c.self.view_is
+    ap (map (attribute_in c.self.inside.texts.items)) left ∙ attributes-retained c.args.concepts.now c.self.inside.texts.items c.self.inside.rows.items ∙ ap (attributes_among c.args.concepts.now) c.self.view_is

@@ -1,8 +1,6 @@
-use Rattle.std.proofs.Common.{arith}
+use Rattle.std.proofs.Common.{arith, ◌≡◌, ◌∙◌, Global, List, Ok, String, map, string_bytes, subst, IfOk}
 use Rattle.std.proofs.lemmas.Bool.Decides.{nat_tests}
 use Rattle.std.proofs.lemmas.Grind.{common_steps}
-use Rattle.std.proofs.Common.{◌≡◌, ◌∙◌, Global, List, Ok, String, map, string_bytes, subst}
-use Rattle.std.specs.Prelude.{IfOk}
 use Rattle.snapshot.specs.Contents.{load_of}
 use Rattle.snapshot.specs.Pieces.{listed}
 use Rattle.snapshot.proofs.PiecesLemmas.{in_order}

@@ -1,14 +1,10 @@
-use Rattle.std.proofs.Common.{◌∙◌, List, All, ap, subst, sym}
-use Rattle.std.specs.Prelude.{string_bytes}
 use Rattle.snapshot.specs.NamesInside.{IsPlaced}
 use Rattle.snapshot.specs.Chosen.{marked}
-use Rattle.snapshot.specs.Listed.{in_list, items_chosen}
-use Rattle.snapshot.specs.declared.names.NameRow.{NameRow}
+use Rattle.snapshot.specs.Listed.{in_list}
 use Rattle.snapshot.specs.declared.row_lists.Listing.TheVariants.{Name as ListedName}
 use Rattle.snapshot.proofs.ChosenItemLemmas.{All-marked}
 use Rattle.snapshot.proofs.names.Names.choose.Goals as goal
+use Rattle.std.proofs.Common.{string_bytes, arith}
 
 pub invariant_of-self : goal.invariant_of-self
-invariant_of-self c =
-    subst (λ (rows : List NameRow). All (IsPlaced (string_bytes c.self.inside.texts)) rows) (sym (c.in_ok-self-inside.ensures ∙ ap (items_chosen (in_list ListedName c.args.marks.now) c.args.choices.now) c.as_slice.ensures.value))
-    (All-marked (IsPlaced (string_bytes c.self.inside.texts)) (marked (in_list ListedName c.args.marks.now) c.args.choices.now) c.self.inside.rows.items c.self.invariant)
+invariant_of-self c = grind (arith, c.in_ok-self-inside.ensures, c.as_slice.ensures.value, (All-marked (IsPlaced (string_bytes c.self.inside.texts)) (marked (in_list ListedName c.args.marks.now) c.args.choices.now) c.self.inside.rows.items c.self.invariant))
