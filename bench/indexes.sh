@@ -6,7 +6,7 @@ set -eu
 here=$(cd "$(dirname "$0")" && pwd)
 release=$(cd "$1" && pwd)
 work=${2:-$(mktemp -d)}
-crates="sctid rf2_rows release_files idset snapshot ancestor_index postings"
+crates="sctid hierarchy rf2_rows release_files idset snapshot ancestor_index postings"
 mkdir -p "$work/crates"
 for crate in $crates; do
     [ -d "$work/crates/$crate" ] || cp -r "$here/../crates/$crate" "$work/crates/"

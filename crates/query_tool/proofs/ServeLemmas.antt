@@ -13,19 +13,19 @@ use Rattle.snapshot.specs.declared.fault.LoadFault.{LoadFault}
 use Rattle.snapshot.specs.declared.fault.LoadFault.TheVariants as load
 use Rattle.snapshot.specs.declared.limits.Limits.{Limits}
 use Rattle.answer_printer.specs.ReportText.{report_text}
-use Rattle.query_tool.specs.Fault.{CountsTurns, HaveFailed}
+use Rattle.query_run.specs.Fault.{CountsTurns, HaveFailed}
 use Rattle.query_tool.specs.Report.{report_of}
 use Rattle.sample_release.specs.SampleContents.{sample_contents}
 use Rattle.query_tool.specs.Serve.{CountsDevice, EndsWith, IsCut, IsLoadOf, IsServed, IsTask, ServesWith, Task, TellsLoadFault, fault_text, refusal_status_of, sample_task, status_of}
 use Rattle.query_tool.specs.Streams.{IsTold, Streams, streams}
-use Rattle.query_tool.specs.declared.query_run.RunFault.{RunFault}
-use Rattle.query_tool.specs.declared.query_run.RunFault.TheVariants.{Read, Write, Memory, Turns}
+use Rattle.query_run.specs.declared.running.RunFault.{RunFault}
+use Rattle.query_run.specs.declared.running.RunFault.TheVariants.{Read, Write, Memory, Turns}
 use Rattle.query_tool.specs.declared.service.Status.{Status}
 use Rattle.query_tool.specs.declared.service.Status.TheVariants.{Done, DeviceFault, WordsFault, ReleaseRefused, MemoryRefused}
-use Rattle.query_tool.specs.declared.streams.AnswerOutput.{Ghosts as Output}
-use Rattle.query_tool.specs.declared.streams.QueryInput.{Ghosts as Input}
-use Rattle.query_tool.specs.declared.words.Mode.{Mode}
-use Rattle.query_tool.specs.declared.words.Mode.TheVariants.{Sample, Query, Check}
+use Rattle.streams.specs.declared.output.AnswerOutput.{Ghosts as Output}
+use Rattle.streams.specs.declared.input.QueryInput.{Ghosts as Input}
+use Rattle.command_line.specs.declared.words.Mode.{Mode}
+use Rattle.command_line.specs.declared.words.Mode.TheVariants.{Sample, Query, Check}
 
 -- a fault that came while a release was served, and was told by its line
 pub stops_with : {R W E : Type 0} (r : Input R) (w : Output W) (e : Output E) (mode : Mode) (contents : Contents) (fault : RunFault) (status : Status) (before after : Streams R W E)

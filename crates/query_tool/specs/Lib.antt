@@ -1,9 +1,6 @@
 pub mod Answer
-pub mod CommandLine
 pub mod EngineInside
-pub mod Fault
-pub mod KeptLine
-pub mod Lines
+pub mod FrontLaw
 pub mod Report
 pub mod Serve
 pub mod Streams

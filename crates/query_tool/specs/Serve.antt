@@ -10,19 +10,20 @@ use Rattle.snapshot.specs.declared.fault.LoadFault.{LoadFault}
 use Rattle.snapshot.specs.declared.fault.LoadFault.TheVariants as load
 use Rattle.answer_printer.specs.LoadRefusal.{load_refusal}
 use Rattle.answer_printer.specs.ReportText.{report_text}
-use Rattle.query_tool.specs.Fault.{CountsTurns, EndsAt, HaveFailed}
-use Rattle.query_tool.specs.Lines.{AreWritten, query_lines}
+use Rattle.query_run.specs.Fault.{CountsTurns, EndsAt, HaveFailed}
+use Rattle.query_run.specs.Lines.{AreWritten, query_lines}
+use Rattle.query_tool.specs.Answer.{IsAnswer}
 use Rattle.query_tool.specs.Report.{report_of}
 use Rattle.sample_release.specs.SampleContents.{sample_contents}
 use Rattle.query_tool.specs.Streams.{IsTold, Streams}
-use Rattle.query_tool.specs.declared.query_run.RunFault.{RunFault}
-use Rattle.query_tool.specs.declared.query_run.RunFault.TheVariants.{Read, Write, Memory, Turns}
+use Rattle.query_run.specs.declared.running.RunFault.{RunFault}
+use Rattle.query_run.specs.declared.running.RunFault.TheVariants.{Read, Write, Memory, Turns}
 use Rattle.query_tool.specs.declared.service.Status.{Status}
 use Rattle.query_tool.specs.declared.service.Status.TheVariants.{Done, DeviceFault, WordsFault, ReleaseRefused, MemoryRefused}
-use Rattle.query_tool.specs.declared.streams.AnswerOutput.{Ghosts as Output}
-use Rattle.query_tool.specs.declared.streams.QueryInput.{Ghosts as Input}
-use Rattle.query_tool.specs.declared.words.Mode.{Mode}
-use Rattle.query_tool.specs.declared.words.Mode.TheVariants.{Sample, Query, Check}
+use Rattle.streams.specs.declared.output.AnswerOutput.{Ghosts as Output}
+use Rattle.streams.specs.declared.input.QueryInput.{Ghosts as Input}
+use Rattle.command_line.specs.declared.words.Mode.{Mode}
+use Rattle.command_line.specs.declared.words.Mode.TheVariants.{Sample, Query, Check}
 
 -- the number that the program ends with
 abbrev pub status_code : Status → ℕ
@@ -98,7 +99,7 @@ sample_task = record { mode = Sample; loaded = Ok sample_contents; names = [] }
 -- the query lines of an input to its end were answered
 pub record IsAnswered {R W E : Type 0} (r : Input R) (w : Output W) (contents : Contents) (before after : Streams R W E) : Type 0 where
   pub read : IsAtEnd (r.remaining after.input)
-  pub written : IfSome (r.remaining before.input) (λ bytes. AreWritten contents (query_lines bytes) (w.written before.output) (w.written after.output))
+  pub written : IfSome (r.remaining before.input) (λ bytes. AreWritten (IsAnswer contents) (query_lines bytes) (w.written before.output) (w.written after.output))
 
 -- the report was written, and nothing was read
 pub record IsReported {R W E : Type 0} (w : Output W) (contents : Contents) (before after : Streams R W E) : Type 0 where
@@ -121,9 +122,9 @@ pub record IsReportCut {R W E : Type 0} (w : Output W) (fault : RunFault) (conte
 -- what was read and written of what a mode asks for, where a fault came
 abbrev pub IsCut : {R W E : Type 0} → Input R → Output W → Mode → RunFault → Contents → Streams R W E → Streams R W E → Type 0
 IsCut r w Sample fault contents before after =
-    EndsAt fault contents (r.remaining before.input) (r.remaining after.input) (w.written before.output) (w.written after.output)
+    EndsAt fault (IsAnswer contents) (r.remaining before.input) (r.remaining after.input) (w.written before.output) (w.written after.output)
 IsCut r w Query fault contents before after =
-    EndsAt fault contents (r.remaining before.input) (r.remaining after.input) (w.written before.output) (w.written after.output)
+    EndsAt fault (IsAnswer contents) (r.remaining before.input) (r.remaining after.input) (w.written before.output) (w.written after.output)
 IsCut r w Check fault contents before after = IsReportCut w fault contents before after
 
 -- status 0: all was done, no stream has failed, and nothing was told

@@ -1,7 +1,7 @@
 -- The streams of a request, and what is written to one of them.
 use Rattle.std.specs.Prelude.{ℕ, ◌≡◌, false, List, take}
 use Rattle.std.specs.Io.KnownBytes.{Appends}
-use Rattle.query_tool.specs.declared.streams.AnswerOutput.{Ghosts}
+use Rattle.streams.specs.declared.output.AnswerOutput.{Ghosts}
 
 -- the streams: queries are read from the first, answers and reports are written to the second, and
 -- refusals and faults are told on the third

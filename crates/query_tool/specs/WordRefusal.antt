@@ -3,12 +3,12 @@ use Rattle.std.specs.Prelude.{ℕ, ◌≡◌, ◌<◌, true, false, List, length
 use Rattle.std.specs.Io.KnownBytes.{Appends}
 use Rattle.query_tool.specs.Serve.{fault_text}
 use Rattle.query_tool.specs.Streams.{IsTold, Outputs}
-use Rattle.query_tool.specs.declared.query_run.RunFault.TheVariants.{Write, Memory as no_memory}
+use Rattle.query_run.specs.declared.running.RunFault.TheVariants.{Write, Memory as no_memory}
 use Rattle.query_tool.specs.declared.service.Status.{Status}
 use Rattle.query_tool.specs.declared.service.Status.TheVariants.{Done, DeviceFault, WordsFault, MemoryRefused}
-use Rattle.query_tool.specs.declared.streams.AnswerOutput.{Ghosts as Output}
-use Rattle.query_tool.specs.declared.words.WordFault.{WordFault}
-use Rattle.query_tool.specs.declared.words.WordFault.TheVariants.{Usage, Help, Memory}
+use Rattle.streams.specs.declared.output.AnswerOutput.{Ghosts as Output}
+use Rattle.command_line.specs.declared.words.WordFault.{WordFault}
+use Rattle.command_line.specs.declared.words.WordFault.TheVariants.{Usage, Help, Memory}
 
 -- the text that was called for was written, and nothing was told
 pub record IsCallAnswered {W E : Type 0} (w : Output W) (text : List ℕ) (before after : Outputs W E) : Type 0 where

@@ -9,6 +9,7 @@ ghost use Rattle.snapshot.specs.Pieces.{AreInOrder, FailsToList, IsUnlisted, lis
 ghost use Rattle.snapshot.specs.Taking.{FailsBelow, is_device};
 ghost use Rattle.release_files.specs.Source.{file_text};
 ghost use Rattle.query_tool.specs.Answer.{constraint_answer, IsAnswer};
+ghost use Rattle.query_tool.specs.FrontLaw.{same_front};
 
 use answer_printer::{print_answer, print_fault};
 use constraint_tree::Constraint;
@@ -17,6 +18,7 @@ use ecl_parser::parse;
 use executor::execute;
 use idset::MixedSet;
 use postings::Indexes;
+use query_run::AnswerLine;
 use release_files::{FileSource, NamedBytes};
 use set_algebra::lower;
 use snapshot::{Limits, LoadFault, Snapshot};
@@ -92,7 +94,23 @@ impl Engine {
         ensures err { OnErr result (output.new.items ≡ output.old.items) }
         ensures rising { (tree : Tree) → IsStrictlyIncreasing (denotation self.now.release tree) }
     {
-        answer_line(alloc, &self.snapshot, &self.indexes, line, output)
+        answer_over(alloc, &self.snapshot, &self.indexes, line, output)
+    }
+}
+
+impl AnswerLine for Engine {
+    ghost answers = { IsAnswer };
+
+    ghost same_front = { same_front };
+
+    /// As `answer` does.
+    fn answer_line(
+        &self,
+        alloc: Global,
+        line: &[u8],
+        output: &mut Vec<u8>,
+    ) -> Result<(), AllocError> {
+        self.answer(alloc, line, output)
     }
 }
 
@@ -110,7 +128,7 @@ fn with_indexes(alloc: Global, snapshot: Snapshot) -> Result<Engine, LoadFault>
 }
 
 // Appends what answers a line over a release.
-fn answer_line(
+fn answer_over(
     alloc: Global,
     snapshot: &Snapshot,
     indexes: &Indexes,

@@ -3,17 +3,14 @@
 #![tactic(auto)]
 
 mod engine;
-mod folder;
 mod laws;
-mod query_run;
+mod program;
 mod service;
-mod streams;
-mod words;
 
 pub use crate::engine::Engine;
-pub use crate::folder::FolderSource;
 pub use crate::laws::one_answer;
-pub use crate::query_run::{RunFault, run};
+pub use crate::program::start;
 pub use crate::service::{Status, refuse_words, serve};
-pub use crate::streams::{AnswerOutput, IoFault, QueryInput, StreamInput, StreamOutput};
-pub use crate::words::{Mode, Request, WordFault, read_words};
+pub use command_line::{Mode, Request, WordFault, read_words};
+pub use query_run::{RunFault, run};
+pub use streams::{AnswerOutput, FolderSource, IoFault, QueryInput, StreamInput, StreamOutput};

@@ -11,14 +11,14 @@ ghost use Rattle.query_tool.specs.Streams.{IsTold, outputs, streams};
 ghost use Rattle.query_tool.specs.WordRefusal.{TellsWordFault};
 
 use crate::engine::Engine;
-use crate::query_run::{RunFault, run, write_all};
-use crate::streams::{AnswerOutput, QueryInput};
-use crate::words::{Mode, Request, WordFault};
 use answer_printer::{print_load_fault, print_report};
+use command_line::{Mode, Request, WordFault};
+use query_run::{RunFault, run};
 use release_files::FileSource;
 use sample_release::sample_files;
 use snapshot::{Limits, LoadFault, Snapshot};
 use std::alloc::{AllocError, Global};
+use streams::{AnswerOutput, QueryInput, write_all};
 
 /// How the program ended.
 #[derive(Clone, Copy, Debug, PartialEq, Eq)]
@@ -91,7 +91,7 @@ fn answer_sample<R: QueryInput, W: AnswerOutput, E: AnswerOutput>(
         (streams input.old output.old errors.old) (streams input.new output.new errors.new) }
 {
     match sample_engine(alloc) {
-        Ok(engine) => answer_all(alloc, &engine, input, output, errors),
+        Ok(engine) => answer_and_drop(alloc, engine, input, output, errors),
         Err(fault) => refuse(alloc, fault, &[], errors),
     }
 }
@@ -122,9 +122,28 @@ fn answer_source<S: FileSource, R: QueryInput, W: AnswerOutput, E: AnswerOutput>
 {
     let mut names = Vec::new(alloc);
     match Engine::load_from(alloc, source, &mut names, lang, Limits::standard()) {
-        Ok(engine) => answer_all(alloc, &engine, input, output, errors),
+        Ok(engine) => answer_and_drop(alloc, engine, input, output, errors),
         Err(fault) => refuse(alloc, fault, names.as_slice(), errors),
     }
+}
+
+// Answers the query lines of an input over a release, and lets the release go.
+fn answer_and_drop<R: QueryInput, W: AnswerOutput, E: AnswerOutput>(
+    alloc: Global,
+    engine: Engine,
+    input: &mut R,
+    output: &mut W,
+    errors: &mut E,
+) -> Status
+    requires input { R.has_failed input.old ≡ false }
+    requires output { W.has_failed output.old ≡ false }
+    requires errors { E.AnswerOutput.has_failed errors.old ≡ false }
+    ensures { ServesWith R.QueryInput W.AnswerOutput E.AnswerOutput Mode.Query engine result
+        (streams input.old output.old errors.old) (streams input.new output.new errors.new) }
+{
+    let status = answer_all(alloc, &engine, input, output, errors);
+    drop(engine);
+    status
 }
 
 // Answers the query lines of an input over a release.
@@ -186,17 +205,19 @@ fn report<S: FileSource>(
     ensures device { IfErr result (λ fault. CountsDevice (S.failure_count source.old) (S.failure_count source.new) (map string_bytes names.new.items) (Err fault)) }
 {
     match Snapshot::load_from(alloc, source, names, lang, Limits::standard()) {
-        Ok(snapshot) => Ok(printed(alloc, &snapshot)?),
+        Ok(snapshot) => Ok(printed(alloc, snapshot)?),
         Err(fault) => Err(fault),
     }
 }
 
-// The text of the report of a release.
-fn printed(alloc: Global, snapshot: &Snapshot) -> Result<Vec<u8>, AllocError>
-    ensures { IfOk result (λ text. text.items ≡ report_text (report_of snapshot.now)) }
+// The text of the report of a release, which is let go.
+fn printed(alloc: Global, snapshot: Snapshot) -> Result<Vec<u8>, AllocError>
+    ensures { IfOk result (λ text. text.items ≡ report_text (report_of snapshot)) }
 {
+    let report = snapshot.report();
+    drop(snapshot);
     let mut text = Vec::new(alloc);
-    print_report(alloc, &snapshot.report(), &mut text)?;
+    print_report(alloc, &report, &mut text)?;
     Ok(text)
 }
 

@@ -66,7 +66,22 @@ fn is_found<S: ConceptSet>(
     Ok(found.items(alloc)?.as_slice() == want)
 }
 
-// Whether a plan gives just the concepts with some numbers, in each form of set.
+// Whether a plan gives just the concepts with some numbers, in each form of set. What owns much is handed on and
+// dropped here and below: a function that owns it and has several ends is dear to prove.
+fn is_executed_and_drop(
+    alloc: Global,
+    snapshot: &Snapshot,
+    indexes: &Indexes,
+    plan: ConceptPlan,
+    want: &[u32],
+) -> Result<bool, AllocError>
+    requires { IsIndexOf indexes.now snapshot.now.release }
+{
+    let is_executed = is_executed(alloc, snapshot, indexes, &plan, want);
+    drop(plan);
+    is_executed
+}
+
 fn is_executed(
     alloc: Global,
     snapshot: &Snapshot,
@@ -94,9 +109,25 @@ fn is_answered(
     requires { IsIndexOf indexes.now snapshot.now.release }
 {
     match lower(alloc, constraint) {
-        Ok(plan) => is_executed(alloc, snapshot, indexes, &plan, want),
+        Ok(plan) => is_executed_and_drop(alloc, snapshot, indexes, plan, want),
         Err(AllocError) => Err(AllocError),
     }
+}
+
+fn assert_answered(
+    rt: &impl Abort,
+    alloc: Global,
+    snapshot: &Snapshot,
+    indexes: &Indexes,
+    constraint: Constraint,
+    want: &[u32],
+) -> Result<(), AllocError>
+    requires { IsIndexOf indexes.now snapshot.now.release }
+{
+    let holds = is_answered(alloc, snapshot, indexes, &constraint, want);
+    drop(constraint);
+    assert!(rt; holds?);
+    Ok(())
 }
 
 fn assert_executed(
@@ -110,10 +141,7 @@ fn assert_executed(
     requires { IsIndexOf indexes.now snapshot.now.release }
 {
     match parse(alloc, line) {
-        Ok(constraint) => {
-            assert!(rt; is_answered(alloc, snapshot, indexes, &constraint, want)?);
-            Ok(())
-        }
+        Ok(constraint) => assert_answered(rt, alloc, snapshot, indexes, constraint, want),
         // no constraint, or there was no memory to read it
         Err(_) => Err(AllocError),
     }
@@ -143,9 +171,23 @@ fn assert_rows(
     rows: &[(&[u8], &[u32])],
 ) -> Result<(), AllocError> {
     match Indexes::build(alloc, snapshot) {
-        Ok(indexes) => assert_rows_by(rt, alloc, snapshot, &indexes, rows),
+        Ok(indexes) => assert_rows_and_drop(rt, alloc, snapshot, indexes, rows),
         Err(AllocError) => Err(AllocError),
     }
+}
+
+fn assert_rows_and_drop(
+    rt: &impl Abort,
+    alloc: Global,
+    snapshot: &Snapshot,
+    indexes: Indexes,
+    rows: &[(&[u8], &[u32])],
+) -> Result<(), AllocError>
+    requires { IsIndexOf indexes snapshot.now.release }
+{
+    let done = assert_rows_by(rt, alloc, snapshot, &indexes, rows);
+    drop(indexes);
+    done
 }
 
 // Queries over a release, each by its numbers of concepts.
@@ -156,9 +198,20 @@ fn assert_all_executed(
     rows: &[(&[u8], &[u32])],
 ) -> Result<(), AllocError> {
     match Snapshot::load(alloc, files, "en", Limits::standard()) {
-        Ok(snapshot) => assert_rows(rt, alloc, &snapshot, rows),
+        Ok(snapshot) => assert_snapshot_and_drop(rt, alloc, snapshot, rows),
         Err(fault) => memory_alone(rt, fault),
     }
+}
+
+fn assert_snapshot_and_drop(
+    rt: &impl Abort,
+    alloc: Global,
+    snapshot: Snapshot,
+    rows: &[(&[u8], &[u32])],
+) -> Result<(), AllocError> {
+    let done = assert_rows(rt, alloc, &snapshot, rows);
+    drop(snapshot);
+    done
 }
 
 // Looks at whether a release that loads was refused for want of memory.

@@ -106,11 +106,23 @@ fn assert_index(
 ) -> Result<(), LoadFault> {
     match AncestorIndex::build(alloc, snapshot) {
         Ok(index) => {
-            assert_lists(rt, snapshot, &index, wants);
+            assert_lists_and_drop(rt, snapshot, index, wants);
             Ok(())
         }
         Err(AllocError) => Err(LoadFault::Memory),
     }
+}
+
+fn assert_lists_and_drop(
+    rt: &impl Abort,
+    snapshot: &Snapshot,
+    index: AncestorIndex,
+    wants: &[Around<'_>],
+)
+    requires { index ≡ hierarchy_of snapshot.now.release }
+{
+    assert_lists(rt, snapshot, &index, wants);
+    drop(index);
 }
 
 // Looks at the order of a release of so many is-a rows and concepts.
@@ -135,12 +147,23 @@ fn assert_hierarchy(
     wants: &[Around<'_>],
 ) -> Result<(), LoadFault> {
     match Snapshot::load(alloc, files, "en", Limits::standard()) {
-        Ok(snapshot) => {
-            assert_order(rt, &snapshot, rows, wants.len());
-            assert_index(rt, alloc, &snapshot, wants)
-        }
+        Ok(snapshot) => assert_order_and_index(rt, alloc, snapshot, rows, wants),
         Err(fault) => Err(fault),
     }
+}
+
+// Looks at a release and drops it: a function that owns one and has several ends is dear to prove.
+fn assert_order_and_index(
+    rt: &impl Abort,
+    alloc: Global,
+    snapshot: Snapshot,
+    rows: usize,
+    wants: &[Around<'_>],
+) -> Result<(), LoadFault> {
+    assert_order(rt, &snapshot, rows, wants.len());
+    let done = assert_index(rt, alloc, &snapshot, wants);
+    drop(snapshot);
+    done
 }
 
 #[test]

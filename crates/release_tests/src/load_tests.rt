@@ -576,13 +576,19 @@ fn numbers_in(
         },
     ];
     match Snapshot::load(alloc, &files, "en", Limits::standard()) {
-        Ok(snapshot) => (
-            snapshot.concept_count(),
-            snapshot.index_of(100005),
-            snapshot.index_of(1000004),
-        ),
+        Ok(snapshot) => numbers_of(snapshot),
         Err(_) => (0, None, None),
     }
+}
+
+fn numbers_of(snapshot: Snapshot) -> (u32, Option<u32>, Option<u32>) {
+    let numbers = (
+        snapshot.concept_count(),
+        snapshot.index_of(100005),
+        snapshot.index_of(1000004),
+    );
+    drop(snapshot);
+    numbers
 }
 
 // Equal rows are one whatever the order of the rows, and each row more is passed over.
@@ -614,13 +620,18 @@ fn takes_equal_rows_once_in_any_order(rt: HostRuntime) -> Result<(), Fail> {
 fn concept_counts(alloc: Global, bytes: &[u8]) -> Option<(u64, u64)> {
     let files = [NamedBytes { name: NAME, bytes }];
     match Snapshot::load(alloc, &files, "en", Limits::standard()) {
-        Ok(snapshot) => Some(counts_in(&snapshot.report())),
+        Ok(snapshot) => {
+            let report = report_and_drop(snapshot);
+            Some((report.concepts, report.passed))
+        }
         Err(_) => None,
     }
 }
 
-fn counts_in(report: &Report) -> (u64, u64) {
-    (report.concepts, report.passed)
+fn report_and_drop(snapshot: Snapshot) -> Report {
+    let report = snapshot.report();
+    drop(snapshot);
+    report
 }
 
 // Rows of one concept: the latest time counts, none at all is the latest, and of one time they are
@@ -711,7 +722,7 @@ fn report_with(alloc: Global, row: &[u8], first: bool) -> Result<Option<[u64; 6]
 fn report_of(alloc: Global, files: &[NamedBytes<'_>]) -> Option<[u64; 6]> {
     match Snapshot::load(alloc, files, "en", Limits::standard()) {
         Ok(snapshot) => {
-            let report = snapshot.report();
+            let report = report_and_drop(snapshot);
             Some([
                 report.concepts,
                 report.isa,

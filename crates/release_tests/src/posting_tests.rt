@@ -296,11 +296,16 @@ fn assert_release(
 ) -> Result<(), LoadFault> {
     match indexes_of(alloc, files) {
         Ok(indexes) => {
-            assert_indexes(rt, &indexes, wants);
+            assert_indexes_and_drop(rt, indexes, wants);
             Ok(())
         }
         Err(fault) => Err(fault),
     }
+}
+
+fn assert_indexes_and_drop(rt: &impl Abort, indexes: Indexes, wants: &Wants<'_>) {
+    assert_indexes(rt, &indexes, wants);
+    drop(indexes);
 }
 
 #[test]

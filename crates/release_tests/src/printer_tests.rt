@@ -113,9 +113,19 @@ fn check_answers_of<S: ConceptSet>(
 
 fn check_answers<S: ConceptSet>(rt: &impl Abort, alloc: Global) -> Result<(), AllocError> {
     match loaded(rt, alloc) {
-        Ok(snapshot) => check_answers_of::<S>(rt, alloc, &snapshot),
+        Ok(snapshot) => check_answers_and_drop::<S>(rt, alloc, snapshot),
         Err(AllocError) => Err(AllocError),
     }
+}
+
+fn check_answers_and_drop<S: ConceptSet>(
+    rt: &impl Abort,
+    alloc: Global,
+    snapshot: Snapshot,
+) -> Result<(), AllocError> {
+    let done = check_answers_of::<S>(rt, alloc, &snapshot);
+    drop(snapshot);
+    done
 }
 
 fn check_answers_again<S: ConceptSet>(rt: &impl Abort, alloc: Global) -> Result<(), AllocError> {

@@ -3,7 +3,7 @@ use Rattle.query_tool.proofs.service.answer_sample.Goals as goal
 
 pub returns-in-Ok : goal.returns-in-Ok
 returns-in-Ok g c =
-    ends_sample g.R.QueryInput g.W.AnswerOutput g.E.AnswerOutput c.in-Ok.engine c.answer_all.result _ _ c.in-Ok.ensures.ok c.answer_all.ensures
+    ends_sample g.R.QueryInput g.W.AnswerOutput g.E.AnswerOutput c.in-Ok.engine c.answer_and_drop.result _ _ c.in-Ok.ensures.ok c.answer_and_drop.ensures
 
 pub returns-in-Err : goal.returns-in-Err
 returns-in-Err g c =

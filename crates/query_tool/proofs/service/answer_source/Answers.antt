@@ -1,6 +1,6 @@
 use Rattle.std.proofs.Common.{Global, List, ℕ, Ok, Err, String, inl, map, refl, string_bytes, subst}
 use Rattle.query_tool.specs.Serve.{Task, TellsLoadFault}
-use Rattle.query_tool.specs.declared.words.Mode.TheVariants.{Query}
+use Rattle.command_line.specs.declared.words.Mode.TheVariants.{Query}
 use Rattle.query_tool.proofs.ServeLemmas.{counts_device, loaded_not, loaded_whole, refuses_with}
 use Rattle.query_tool.proofs.service.answer_source.Goals as goal
 
@@ -17,7 +17,7 @@ returns-in-Ok g c =
           device = tt;
         };
       },
-      inl (record { contents = c.in-Ok.engine; loaded = refl; ended = c.answer_all.ensures }),
+      inl (record { contents = c.in-Ok.engine; loaded = refl; ended = c.answer_and_drop.ensures }),
     )
 
 -- the files were refused

@@ -1,6 +1,6 @@
 use Rattle.std.proofs.Common.{Global, List, ℕ, Ok, Err, String, map, refl, string_bytes, subst, ◌∙◌}
 use Rattle.query_tool.specs.Serve.{Task, TellsLoadFault}
-use Rattle.query_tool.specs.declared.words.Mode.TheVariants.{Check}
+use Rattle.command_line.specs.declared.words.Mode.TheVariants.{Check}
 use Rattle.query_tool.proofs.ServeLemmas.{ends_cut, ends_reported, refuses_with}
 use Rattle.query_tool.proofs.service.report_source.Goals as goal
 

@@ -4,7 +4,7 @@ use Rattle.std.specs.Io.KnownBytes.{Appends}
 use Rattle.std.proofs.Math.Seq.{take-length}
 use Rattle.std.proofs.lemmas.Bool.{false≢true}
 use Rattle.query_tool.specs.Streams.{IsTold}
-use Rattle.query_tool.specs.declared.streams.AnswerOutput.{Ghosts}
+use Rattle.streams.specs.declared.output.AnswerOutput.{Ghosts}
 use Rattle.query_tool.proofs.service.tell.Goals as goal
 
 -- what a write of a line leaves, whether it fails or not

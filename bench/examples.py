@@ -1,0 +1,127 @@
+#!/usr/bin/env python3
+"""Runs what stands in examples/ and compares what is answered.
+
+    bench/examples.py [PROGRAM]
+
+PROGRAM is the built program, crates/hosecrag/out/hosecrag where it is left out. A line is printed for each case, and at
+the end `N passed, M failed`.
+"""
+import filecmp
+import os
+import subprocess
+import sys
+
+ROOT = os.path.dirname(os.path.dirname(os.path.abspath(__file__)))
+PROGRAM = os.path.abspath(sys.argv[1] if len(sys.argv) > 1 else f"{ROOT}/crates/hosecrag/out/hosecrag")
+EXAMPLES = f"{ROOT}/examples"
+EDITION = f"{EXAMPLES}/SnomedCT_SampleEdition_20240101"
+EXTENSION = f"{EXAMPLES}/SnomedCT_SampleExtension_20240601"
+os.environ["HOSECRAG"] = PROGRAM
+sys.path.insert(0, EXAMPLES)
+sys.dont_write_bytecode = True
+import hosecrag  # noqa: E402
+
+passed, failed = 0, 0
+
+
+def case(name, found, wanted):
+    global passed, failed
+    well = found == wanted
+    passed, failed = passed + well, failed + (not well)
+    print(f"{'ok' if well else 'FAILED'}  {name}" + ("" if well else f"\n    wanted {wanted!r}\n    found  {found!r}"))
+
+
+def run(*words, stdin=b""):
+    ended = subprocess.run(words, input=stdin, stdout=subprocess.PIPE, stderr=subprocess.PIPE, timeout=60)
+    return ended.returncode, ended.stdout.decode()
+
+
+def refused(kind, call):
+    """Returns the exception of a kind that a call raises, or None."""
+    try:
+        call()
+    except kind as error:
+        return error
+    return None
+
+
+def read(name):
+    with open(f"{EXAMPLES}/{name}", "rb") as it:
+        return it.read()
+
+
+def same_files(one, other):
+    """Returns the paths of files that are in one folder alone, or that differ."""
+    found = []
+    for at, _, names in os.walk(one):
+        for name in names:
+            path = os.path.relpath(f"{at}/{name}", one)
+            if not os.path.isfile(f"{other}/{path}") or not filecmp.cmp(f"{one}/{path}", f"{other}/{path}", shallow=False):
+                found.append(path)
+    return sorted(found)
+
+
+def queries():
+    case(
+        "queries over both packages",
+        run(PROGRAM, "query", EDITION, EXTENSION, stdin=read("queries.txt")),
+        (0, read("answers.txt").decode()),
+    )
+    sample = run(PROGRAM, stdin=b"*\n<<100005\n^108003\n")
+    case("the edition is the release that is built in", run(PROGRAM, "query", EDITION, stdin=b"*\n<<100005\n^108003\n"), sample)
+    stored = f"{ROOT}/crates/over_folders"
+    for package in (EDITION, EXTENSION):
+        case(f"the gate's copy of {os.path.basename(package)}", same_files(package, f"{stored}/data/{os.path.basename(package)}"), [])
+    for name, copy in (("queries.txt", "stdin"), ("answers.txt", "stdout")):
+        with open(f"{stored}/{copy}", "rb") as it:
+            case(f"the gate's copy of {name}", it.read(), read(name))
+
+
+def scripts():
+    status, rows = run(f"{EXAMPLES}/refset.sh", "<100005:105000=*", "108003", "900000000000207008", EDITION)
+    cells = [line.split("\t") for line in rows.split("\r\n")]
+    case("refset.sh ends well", status, 0)
+    case("refset.sh names the concepts", [row[5] for row in cells[1:-1]], ["101009", "102002", "103007"])
+    case("refset.sh gives each row six columns and an identifier of its own", ({len(row) for row in cells[:-1]}, len({row[0] for row in cells})), ({6}, 5))
+    case(
+        "compare.sh",
+        run(f"{EXAMPLES}/compare.sh", "<100005", EDITION, "--", EDITION, EXTENSION),
+        (0, "- 102002 |Gamma (finding)|\n+ 21000999103 |Epsilon (finding)|\n"),
+    )
+    case("compare.sh of one release", run(f"{EXAMPLES}/compare.sh", "<100005", EDITION, "--", EDITION), (0, ""))
+    rule = "(<100005:104001=*) MINUS (<100005:104001=<<106004)"
+    case("quality.sh, a rule that is kept", run(f"{EXAMPLES}/quality.sh", rule, EDITION), (0, ""))
+    case(
+        "quality.sh, a rule that is broken",
+        run(f"{EXAMPLES}/quality.sh", "<100005 MINUS (*:104001=106004)", EDITION),
+        (1, "103007 |Delta (finding)|\n"),
+    )
+    case("quality.sh, no query", run(f"{EXAMPLES}/quality.sh", "100005 AND", EDITION)[0], 2)
+    case("quality.sh, no release", run(f"{EXAMPLES}/quality.sh", "*", "/nowhere")[0], 2)
+
+
+def module():
+    with hosecrag.Hosecrag(EDITION, EXTENSION) as engine:
+        case("expand", engine.expand("^108003"), [(101009, "Beta (finding)"), (103007, "Delta (finding)"), (21000999103, "Epsilon (finding)")])
+        case("expand, a concept without a name", engine.expand("108003"), [(108003, None)])
+        case("count, over two lines", engine.count("<<100005\nMINUS 102002"), 4)
+        case("is_member", [engine.is_member(it, "<100005:{104001=<<106004,105000=*}") for it in (101009, 103007)], [True, False])
+        error = refused(hosecrag.Refused, lambda: engine.count("100005 XOR 101009"))
+        case("a refusal", (error.cause, error.offset, error.form), ("token", 7, None))
+        error = refused(hosecrag.Refused, lambda: engine.expand("*{{C active=1}}"))
+        case("a form that is not answered", (error.cause, error.offset, error.form), ("unsupported", 1, "filter"))
+        case("brackets make no query of a text", refused(hosecrag.Refused, lambda: engine.is_member(100005, "*) OR (*")).cause, "syntax")
+        case("it goes on behind a refusal", engine.count("*"), 10)
+    with hosecrag.Hosecrag(EDITION, lang="da") as engine:
+        case("another language", engine.expand("103007"), [(103007, "Delta (fund)")])
+    with hosecrag.Hosecrag() as engine:
+        case("the release that is built in", engine.count("<100005"), 3)
+    case("no release", str(refused(hosecrag.ReleaseRefused, lambda: hosecrag.Hosecrag(f"{EDITION}/Snapshot/Refset"))), "REFUSED no-concept-file")
+    case("no folder", refused(hosecrag.Fault, lambda: hosecrag.Hosecrag("/nowhere")).status, 1)
+
+
+queries()
+scripts()
+module()
+print(f"{passed} passed, {failed} failed")
+sys.exit(1 if failed else 0)

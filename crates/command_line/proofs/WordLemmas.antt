@@ -1,0 +1,105 @@
+-- What a command that was named has, by the matches of the words.
+use Rattle.std.proofs.Common.{◌≡◌, ◌≢◌, ◌∙◌, ◌⊎◌, ◌||◌, Bool, true, false, if◌then◌else◌, inl, inr, ap, ap₂, List, [], Option, None, Some, Box, Global, option_map, box_value, Result, Ok, Err, IfOk, IfErr, codes, refl, subst}
+use Rattle.std.specs.Borrow.{Bor}
+use Rattle.std.specs.Prelude.{bytes_eq, unwrap_or}
+use Rattle.std.proofs.lemmas.Slice.Eq.{bytes_eq-Decides}
+use Rattle.clap.specs.Words.{IsAmong, Row, Text, fault_of, first_of, found_of, rows_of, subcommand_of, subcommand_rows, subcommand_rows_of}
+use Rattle.clap.specs.Matches.{subcommand_name_of}
+use Rattle.clap.specs.declared.parser.matches.ArgMatches.{ArgMatches}
+use Rattle.clap.specs.declared.parser.matches.SubCommand.{SubCommand}
+use Rattle.clap.specs.declared.parser.matches.ArgMatches.TheViews.{out-ArgMatches, out-SubCommand}
+use Rattle.clap.specs.declared.error.kind.ErrorKind.{ErrorKind}
+use Rattle.clap.specs.declared.error.kind.ErrorKind.TheVariants.{MissingSubcommand, OutOfMemory}
+use Rattle.command_line.specs.CommandLine.{Asks, CommandAsks, IsCall, IsFaultBy, IsNoRequest, IsRefusal, IsRequest, folders_named, folders_of, program}
+use Rattle.command_line.specs.declared.words.Mode.{Mode}
+use Rattle.command_line.specs.declared.words.Mode.TheVariants.{Sample, Query, Check}
+use Rattle.command_line.specs.declared.words.Request.{Request}
+use Rattle.command_line.specs.declared.words.WordFault.{WordFault}
+use Rattle.command_line.specs.declared.words.WordFault.TheVariants.{Usage, Help, Memory}
+
+-- the name and the arguments of the command are those of one command
+pub command_named : (matches : ArgMatches) (name : Text) (rows : List Row) → subcommand_name_of matches ≡ Some name
+    → option_map (λ (command : Text × List Row). command.1) (subcommand_rows_of matches) ≡ Some rows → subcommand_rows_of matches ≡ Some (name, rows)
+command_named matches name rows named held = by (out-ArgMatches matches).subcommand named held
+  where
+    by : (command : Option (Box SubCommand Global)) → option_map (λ (b : Box SubCommand Global). (out-SubCommand (box_value b)).name.now) command ≡ Some name
+        → option_map (λ (found : Text × List Row). found.1) (subcommand_rows command) ≡ Some rows → subcommand_rows command ≡ Some (name, rows)
+    by None named held = (cc)
+    by (Some command) named held =
+        let name_is : (out-SubCommand (box_value command)).name.now ≡ name = (cc) in
+        let rows_are : rows_of (found_of (out-SubCommand (box_value command)).matches) ≡ rows = (cc) in
+        (λ i. Some (name_is i, rows_are i))
+
+-- a text that is lent, or another where there is none
+pub lent_or : (lent : Option (Bor Text)) (other : Bor Text) (found : Option Text) → option_map (λ (text : Bor Text). text.now) lent ≡ found
+    → (unwrap_or lent other).now ≡ unwrap_or found other.now
+lent_or None other None is = refl
+lent_or None other (Some text) is = (cc)
+lent_or (Some lent) other None is = (cc)
+lent_or (Some lent) other (Some text) is = (cc)
+
+-- where clap finds no fault, what a command asks for the words ask for
+words_ask : (mode : Mode) (words : List Text) (request : Request) → fault_of program words ≡ [] → CommandAsks mode (subcommand_of program words) request → Asks mode words request
+words_ask Sample words request clean asked = absurd asked
+words_ask Query words request clean asked = (clean, asked)
+words_ask Check words request clean asked = (clean, asked)
+
+-- where the command is that of the words, so is the request
+pub request_is : (words : List Text) (command : Option (Text × List Row)) (result : Result Request WordFault) → command ≡ subcommand_of program words
+    → fault_of program words ≡ [] → IfOk result (λ (request : Request). CommandAsks request.mode command request) → IfOk result (IsRequest words)
+request_is words command (Ok request) named clean asked =
+    words_ask request.mode words request clean (subst (λ (c : Option (Text × List Row)). CommandAsks request.mode c request) named asked)
+request_is words command (Err fault) named clean asked = tt
+
+-- the folders that a command `query` or `check` names are those of its rows
+pub names_folders : (command : Option (Text × List Row)) (name : Text) (rows : List Row) → command ≡ Some (name, rows)
+    → (name ≡ codes "query") ⊎ (name ≡ codes "check") → folders_named command ≡ folders_of rows
+names_folders command name rows is (inl query) = ap folders_named is ∙ ap (λ (n : Text). folders_named (Some (n, rows))) query
+names_folders command name rows is (inr check) = ap folders_named is ∙ ap (λ (n : Text). folders_named (Some (n, rows))) check
+
+-- the test whether two texts are the same, of two that are not
+unlike : (one other : Text) → one ≢ other → bytes_eq one other ≡ false
+unlike one other apart = by (bytes_eq one other) refl
+  where
+    by : (same : Bool) → bytes_eq one other ≡ same → bytes_eq one other ≡ false
+    by false is = is
+    by true is = absurd (apart ((bytes_eq-Decides one other).0 is))
+
+-- a command of another name names none
+pub names_no_folder : (command : Option (Text × List Row)) (name : Text) (rows : List Row) → command ≡ Some (name, rows)
+    → name ≢ codes "query" → name ≢ codes "check" → folders_named command ≡ []
+names_no_folder command name rows is other another =
+    ap folders_named is
+    ∙ ap₂ (λ (query check : Bool). if query || check then folders_of rows else []) (unlike name (codes "query") other) (unlike name (codes "check") another)
+
+-- where a command names no folder, it is no request, and no call for help
+pub is_no_request : (command : Option (Text × List Row)) (fault : WordFault) → IsFaultBy MissingSubcommand fault → folders_named command ≡ [] → IsNoRequest command fault
+is_no_request command (Usage text) by none = inl none
+is_no_request command (Help text) by none = absurd (no_call by)
+  where
+    no_call : IsCall MissingSubcommand → ⊥
+    no_call (inl help) = (cc)
+    no_call (inr version) = (cc)
+is_no_request command Memory by none = tt
+
+-- where the command is that of the words, so is the refusal
+pub refusal_is : (words : List Text) (command : Option (Text × List Row)) (result : Result Request WordFault) → command ≡ subcommand_of program words
+    → fault_of program words ≡ [] → IfErr result (IsNoRequest command) → IfErr result (IsRefusal words)
+refusal_is words command (Ok request) named clean none = tt
+refusal_is words command (Err (Usage text)) named clean none = inr (clean, subst (λ (c : Option (Text × List Row)). IsNoRequest c (Usage text)) named none)
+refusal_is words command (Err (Help text)) named clean none = absurd none
+refusal_is words command (Err Memory) named clean none = tt
+
+-- want of memory is no call
+no_memory : (kind : ErrorKind) → IsCall kind → kind ≡ OutOfMemory → ⊥
+no_memory kind (inl help) refused = (cc)
+no_memory kind (inr version) refused = (cc)
+
+-- a fault that tells of clap's error is a refusal of the words
+pub refusal_by : (words : List Text) (kind : ErrorKind) (fault : WordFault) → IsFaultBy kind fault
+    → (kind ≡ OutOfMemory) ⊎ IsAmong kind (fault_of program words) → IsRefusal words fault
+refusal_by words kind (Usage text) by (inl refused) = absurd (by.1 refused)
+refusal_by words kind (Usage text) by (inr among) = inl (kind, among, by.0)
+refusal_by words kind (Help text) by (inl refused) = absurd (no_memory kind by refused)
+refusal_by words kind (Help text) by (inr among) = (kind, among, by)
+refusal_by words kind Memory by found = tt

@@ -1,0 +1,42 @@
+use Rattle.std.proofs.Common.{◌≡◌, ◌∙◌, ap, refl, subst, true, []}
+use Rattle.rf2_rows.specs.Parts.{texts_of}
+use Rattle.clap.specs.Words.{App, app_of, is_simple, is_simple_and_free, HasKind, fault_of, kind_of, subcommand_of, subcommand_rows_of}
+use Rattle.clap.proofs.OnLiterals.{clap_on_literals}
+use Rattle.command_line.specs.CommandLine.{program}
+use Rattle.command_line.proofs.WordLemmas.{refusal_by, refusal_is, request_is}
+use Rattle.command_line.proofs.words.read_words.Goals as goal
+
+-- the program's command line is one of which clap tells the matches
+program_is_simple : is_simple program ≡ true
+unfolding clap_on_literals
+program_is_simple = refl
+
+-- and of which it tells the faults
+program_is_free : is_simple_and_free program ≡ true
+unfolding clap_on_literals
+program_is_free = refl
+
+pub returns-in-Ok-clause-asked : goal.returns-in-Ok-clause-asked
+returns-in-Ok-clause-asked c =
+    let is : app_of c.in_ok-command.command ≡ program = c.in_ok-command.ensures in
+    let named : subcommand_rows_of c.in-Ok.matches ≡ subcommand_of program (texts_of c.args.words.now) =
+    (c.in-Ok.ensures.matches (ap is_simple is ∙ program_is_simple)).1 ∙ ap (λ (app : App). subcommand_of app (texts_of c.args.words.now)) is in
+    let clean : fault_of program (texts_of c.args.words.now) ≡ [] =
+    subst (λ (app : App). fault_of app (texts_of c.args.words.now) ≡ []) is (c.in-Ok.ensures.kinds (ap is_simple_and_free is ∙ program_is_free)) in
+    request_is (texts_of c.args.words.now) (subcommand_rows_of c.in-Ok.matches) c.command_request.result named clean c.command_request.ensures.asked
+
+pub returns-in-Ok-clause-refused : goal.returns-in-Ok-clause-refused
+returns-in-Ok-clause-refused c =
+    let is : app_of c.in_ok-command.command ≡ program = c.in_ok-command.ensures in
+    let named : subcommand_rows_of c.in-Ok.matches ≡ subcommand_of program (texts_of c.args.words.now) =
+    (c.in-Ok.ensures.matches (ap is_simple is ∙ program_is_simple)).1 ∙ ap (λ (app : App). subcommand_of app (texts_of c.args.words.now)) is in
+    let clean : fault_of program (texts_of c.args.words.now) ≡ [] =
+    subst (λ (app : App). fault_of app (texts_of c.args.words.now) ≡ []) is (c.in-Ok.ensures.kinds (ap is_simple_and_free is ∙ program_is_free)) in
+    refusal_is (texts_of c.args.words.now) (subcommand_rows_of c.in-Ok.matches) c.command_request.result named clean c.command_request.ensures.refused
+
+pub returns-in-Err-clause-refused : goal.returns-in-Err-clause-refused
+returns-in-Err-clause-refused c =
+    let is : app_of c.in_ok-command.command ≡ program = c.in_ok-command.ensures in
+    let words = texts_of c.args.words.now in
+    refusal_by words (kind_of c.in-Err.error) c.word_fault.result c.word_fault.ensures
+    (subst (λ (app : App). HasKind (fault_of app words) c.in-Err.error) is (c.in-Err.ensures.kinds (ap is_simple_and_free is ∙ program_is_free)))

@@ -1,0 +1,158 @@
+-- What the words of a command line ask for. The words begin with the program's name. How words are read as
+-- arguments is clap's; here is what the program takes, and what a request is of it.
+use Rattle.std.specs.Prelude.{◌≡◌, ◌≢◌, ◌⊎◌, ◌<◌, ◌≤◌, ◌||◌, ℕ, ⊤, false, true, if◌then◌else◌, List, [], bytes_eq, length, map, codes, string_bytes, unwrap_or, Option, None, Some}
+use Rattle.clap.specs.Words.{App, IsAmong, Row, Rule, Text, all_of, fault_of, first_of, new_app, new_rule, subcommand_of, with_rule, with_subcommand}
+use Rattle.clap.specs.declared.builder.action.ArgAction.TheVariants.{Append}
+use Rattle.clap.specs.declared.builder.command.Command.{Command}
+use Rattle.clap.specs.declared.builder.command.Command.TheViews.{out-Command}
+use Rattle.clap.specs.declared.error.kind.ErrorKind.{ErrorKind}
+use Rattle.clap.specs.declared.error.kind.ErrorKind.TheVariants.{DisplayHelp, DisplayVersion, OutOfMemory}
+use Rattle.command_line.specs.declared.words.Mode.{Mode}
+use Rattle.command_line.specs.declared.words.Mode.TheVariants.{Sample, Query, Check}
+use Rattle.command_line.specs.declared.words.Request.{Request}
+use Rattle.command_line.specs.declared.words.WordFault.{WordFault}
+use Rattle.command_line.specs.declared.words.WordFault.TheVariants.{Usage, Help, Memory}
+
+-- folders, one of which has to be there and more may be, and `--lang` with a code of a language
+abbrev pub folder_rule : Rule
+folder_rule = record (new_rule (codes "FOLDER")) { required = true; action = Some Append }
+
+abbrev pub lang_rule : Rule
+lang_rule = record (new_rule (codes "lang")) { long = Some (codes "lang"); value_names = 1 }
+
+-- `query`, with both
+abbrev pub query_command : App
+query_command = with_rule (with_rule (new_app (codes "query")) folder_rule) lang_rule
+
+-- `check`, with the folders alone
+abbrev pub check_command : App
+check_command = with_rule (new_app (codes "check")) folder_rule
+
+-- none of its arguments is one of its commands too
+abbrev pub HasOwnArguments : Command → Type 0
+HasOwnArguments command = (out-Command command).has_globals ≡ false
+
+-- a command has to be named
+abbrev pub requiring_command : App → App
+requiring_command app = record app { top = record app.top { subcommand_required = true } }
+
+-- the version can be asked for
+abbrev pub having_version : App → App
+having_version app = record app { top = record app.top { has_version = true } }
+
+-- the program, without its commands
+abbrev pub bare_program : App
+bare_program = requiring_command (having_version (new_app (codes "hosecrag")))
+
+-- the program
+abbrev pub program : App
+program = with_subcommand (with_subcommand bare_program query_command.top) check_command.top
+
+-- the language whose names come first where none is given
+abbrev pub default_language : List ℕ
+default_language = codes "en"
+
+-- how many folders a release is read from at most
+abbrev pub most_folders : ℕ
+most_folders = 9
+
+-- one to nine folders
+abbrev pub AreOneToNine : List Text → Type 0
+AreOneToNine folders = (1 ≤ length folders) × (length folders ≤ most_folders)
+
+-- the folders of a request
+abbrev pub folders_in : Request → List Text
+folders_in request = map string_bytes request.folders.items
+
+-- the folders among a command's rows, in the order of their words
+abbrev pub folders_of : List Row → List Text
+folders_of rows = unwrap_or (all_of (codes "FOLDER") rows) []
+
+-- no word but the program's name asks for the built-in release, and for no folder
+abbrev pub AsksSample : List Text → Request → Type 0
+AsksSample words request = (length words ≤ 1) × (folders_in request ≡ []) × (string_bytes request.lang ≡ default_language)
+
+-- the folders of a request are those of a command's rows, one to nine of them
+abbrev pub HasFoldersOf : List Row → Request → Type 0
+HasFoldersOf rows request = (folders_in request ≡ folders_of rows) × AreOneToNine (folders_of rows)
+
+-- a command `query` asks for the release of its folders, and for its language first
+abbrev pub AsksQuery : Option (Text × List Row) → Request → Type 0
+AsksQuery command request =
+    (rows : List Row) × (command ≡ Some (codes "query", rows))
+    × HasFoldersOf rows request
+    × (unwrap_or (first_of (codes "lang") rows) default_language ≡ string_bytes request.lang)
+
+-- a command `check` asks for the report of its folders
+abbrev pub AsksCheck : Option (Text × List Row) → Request → Type 0
+AsksCheck command request =
+    (rows : List Row) × (command ≡ Some (codes "check", rows))
+    × HasFoldersOf rows request
+    × (string_bytes request.lang ≡ default_language)
+
+-- what a command asks for in each mode: none asks for the built-in release
+abbrev pub CommandAsks : Mode → Option (Text × List Row) → Request → Type 0
+CommandAsks Sample command request = ⊥
+CommandAsks Query command request = AsksQuery command request
+CommandAsks Check command request = AsksCheck command request
+
+-- what words ask for in each mode: a command is one in which clap finds no fault
+abbrev pub Asks : Mode → List Text → Request → Type 0
+Asks Sample words request = AsksSample words request
+Asks Query words request = (fault_of program words ≡ []) × AsksQuery (subcommand_of program words) request
+Asks Check words request = (fault_of program words ≡ []) × AsksCheck (subcommand_of program words) request
+
+-- the request is that of the words
+abbrev pub IsRequest : List Text → Request → Type 0
+IsRequest words request = Asks request.mode words request
+
+-- the folders that a command names, in the order of their words: those of `query` and of `check`
+abbrev pub folders_named : Option (Text × List Row) → List Text
+folders_named None = []
+folders_named (Some command) = if bytes_eq command.0 (codes "query") || bytes_eq command.0 (codes "check") then folders_of command.1 else []
+
+-- what is told of more folders than a release is read from
+abbrev pub too_many_text : Text
+too_many_text = codes "at most 9 folders\n"
+
+-- that is told, or memory was refused
+abbrev pub TellsTooMany : WordFault → Type 0
+TellsTooMany (Usage text) = string_bytes text ≡ too_many_text
+TellsTooMany (Help text) = ⊥
+TellsTooMany Memory = ⊤
+
+-- why no release is read from folders: there are none, or more than nine, and then that is told
+abbrev pub IsFaultOfFolders : List Text → WordFault → Type 0
+IsFaultOfFolders folders (Usage text) = (folders ≡ []) ⊎ ((most_folders < length folders) × TellsTooMany (Usage text))
+IsFaultOfFolders folders (Help text) = ⊥
+IsFaultOfFolders folders Memory = ⊤
+
+-- why a command that was named is no request: no release is read from the folders that it names
+abbrev pub IsNoRequest : Option (Text × List Row) → WordFault → Type 0
+IsNoRequest command fault = IsFaultOfFolders (folders_named command) fault
+
+-- a call for help, or for the version
+abbrev pub IsCall : ErrorKind → Type 0
+IsCall kind = (kind ≡ DisplayHelp) ⊎ (kind ≡ DisplayVersion)
+
+-- a fault tells of clap's error: of what was called for, or of words that are wrong
+abbrev pub IsFaultBy : ErrorKind → WordFault → Type 0
+IsFaultBy kind (Usage text) = (¬ IsCall kind) × (kind ≢ OutOfMemory)
+IsFaultBy kind (Help text) = IsCall kind
+IsFaultBy kind Memory = ⊤
+
+-- why words are refused: clap finds a fault in them that is no call for help or for the version; or it finds
+-- none, and they name no folder for `query` or `check`, or more than nine; or they are such a call; or memory was
+-- refused
+abbrev pub IsRefusal : List Text → WordFault → Type 0
+IsRefusal words (Usage text) =
+    ((kind : ErrorKind) × IsAmong kind (fault_of program words) × (¬ IsCall kind))
+    ⊎ ((fault_of program words ≡ []) × IsNoRequest (subcommand_of program words) (Usage text))
+IsRefusal words (Help text) = (kind : ErrorKind) × IsAmong kind (fault_of program words) × IsCall kind
+IsRefusal words Memory = ⊤
+
+-- the numbers of the faults
+abbrev pub word_fault_number : WordFault → ℕ
+word_fault_number (Usage text) = 1
+word_fault_number (Help text) = 2
+word_fault_number Memory = 3

@@ -1,0 +1,6 @@
+//! What the words of a command line ask of the program.
+#![tactic(auto)]
+
+mod words;
+
+pub use crate::words::{Mode, Request, WordFault, read_words};

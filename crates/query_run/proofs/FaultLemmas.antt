@@ -1,0 +1,134 @@
+-- What is written of the answers to some lines, seen from more lines.
+use Rattle.std.proofs.Common.{◌≡◌, ℕ, ◌+◌, ◌<◌, Bool, false, Result, Ok, Err, OnOk, List, [], ◌∷◌, ◌++◌, length, take, Option, refl, sym, ap, ◌∙◌, subst, append-nil, append_assoc, length-append, arith}
+use Rattle.std.specs.Prelude.{is_err}
+use Rattle.std.proofs.lemmas.Bool.{false≢true}
+use Rattle.std.specs.Io.KnownBytes.{Appends}
+use Rattle.std.proofs.KnownBytes.{Appends-nil, Appends-trans}
+use Rattle.std.proofs.Math.Seq.{take-append-add}
+use Rattle.std.proofs.lemmas.List.{take-append-le, get_or_append_left, get_or-append-add}
+use Rattle.query_run.specs.Lines.{Answers, AreAnswers, AreWritten}
+use Rattle.query_run.specs.Fault.{WritesFirst, WritesPart, LeavesWritten, IsAnswerFault, HaveFailed, CountsTurns, AnswersEnded, whole_answers}
+use Rattle.query_run.specs.declared.running.RunFault.{RunFault}
+use Rattle.query_run.specs.declared.running.RunFault.TheVariants.{Read, Write, Memory, Turns}
+
+-- what holds of a result that is no error
+pub on_ok_here : {T E : Type 0} {P : Type 0} (result : Result T E) → is_err result ≡ false → OnOk result P → P
+on_ok_here (Ok done) sound holds = holds
+on_ok_here (Err fault) sound holds = absurd (false≢true (sym sound))
+
+module _ (answers : Answers) where
+  -- no lines have no answers
+  pub answers_none : (written : Option (List ℕ)) → AreWritten answers [] written written
+  answers_none written = ([], refl, Appends-nil written)
+
+  -- one line has its answer
+  pub answers_one : (before after : Option (List ℕ)) (line text : List ℕ) → answers line text → Appends before after text → AreWritten answers (line ∷ []) before after
+  answers_one before after line text is wrote = (text, (text, [], is, refl, sym (append-nil text)), wrote)
+
+  -- the answers to more lines follow
+  answers_append : (lines more : List (List ℕ)) (text others : List ℕ) → AreAnswers answers lines text → AreAnswers answers more others → AreAnswers answers (lines ++ more) (text ++ others)
+  answers_append [] more text others none are = subst (λ (bytes : List ℕ). AreAnswers answers more (bytes ++ others)) (sym none) are
+  answers_append (line ∷ lines) more text others (first, rest, is, are, joined) follow = (
+    first,
+    rest ++ others,
+    is,
+    answers_append lines more rest others are follow,
+    ap (λ (bytes : List ℕ). bytes ++ others) joined ∙ append_assoc first rest others,
+  )
+
+  pub answers_then : (before mid after : Option (List ℕ)) (lines more : List (List ℕ)) → AreWritten answers lines before mid → AreWritten answers more mid after
+      → AreWritten answers (lines ++ more) before after
+  answers_then before mid after lines more (text, are, wrote) (others, follow, wrote_more) = (
+    text ++ others,
+    answers_append lines more text others are follow,
+    Appends-trans before mid after text others wrote wrote_more,
+  )
+
+  module _ (done lines : List (List ℕ)) (count : ℕ) (before mid after : Option (List ℕ)) where
+    first_after : AreWritten answers done before mid → WritesFirst answers lines count mid after
+        → WritesFirst answers (done ++ lines) (length done + count) before after
+    first_after first writes = (
+      omega (arith, length-append done lines, writes.0),
+      subst (λ (found : List (List ℕ)). AreWritten answers found before after) (sym (take-append-add done lines count))
+          (answers_then before mid after done (take count lines) first writes.1),
+    )
+
+    part_after : AreWritten answers done before mid → WritesPart answers lines count mid after
+        → WritesPart answers (done ++ lines) (length done + count) before after
+    part_after (text, are, wrote) (whole, next, place, within, wholes, is, less, writes) = (
+      text ++ whole,
+      next,
+      place,
+      omega (arith, length-append done lines),
+      subst (λ (found : List (List ℕ)). AreAnswers answers found (text ++ whole)) (sym (take-append-add done lines count)) (answers_append done (take count lines) text whole are wholes),
+      subst (λ (line : List ℕ). answers line next) (sym (get_or-append-add done lines count [])) is,
+      less,
+      subst (Appends before after) (sym (append_assoc text whole (take place next))) (Appends-trans before mid after text (whole ++ take place next) wrote writes),
+    )
+
+    -- other lines were answered before
+    pub LeavesWritten_after : (fault : RunFault) → AreWritten answers done before mid → LeavesWritten answers lines count fault mid after
+        → LeavesWritten answers (done ++ lines) (length done + count) fault before after
+    LeavesWritten_after (Read answered) first writes = first_after first writes
+    LeavesWritten_after (Write answered) first writes = part_after first writes
+    LeavesWritten_after (Memory answered) first writes = first_after first writes
+    LeavesWritten_after (Turns answered) first writes = first_after first writes
+
+  module _ (lines more : List (List ℕ)) (count : ℕ) (before after : Option (List ℕ)) where
+    first_of_more : WritesFirst answers lines count before after → WritesFirst answers (lines ++ more) count before after
+    first_of_more (within, writes) = (
+      omega (arith, length-append lines more),
+      subst (λ (found : List (List ℕ)). AreWritten answers found before after) (sym (take-append-le count lines more within)) writes,
+    )
+
+    part_of_more : WritesPart answers lines count before after → WritesPart answers (lines ++ more) count before after
+    part_of_more (whole, next, place, within, wholes, is, less, writes) = (
+      whole,
+      next,
+      place,
+      omega (arith, length-append lines more),
+      subst (λ (found : List (List ℕ)). AreAnswers answers found whole) (sym (take-append-le count lines more (omega arith))) wholes,
+      subst (λ (line : List ℕ). answers line next) (sym (get_or_append_left lines more [] count within)) is,
+      less,
+      writes,
+    )
+
+    -- other lines come behind
+    pub LeavesWritten-more : (fault : RunFault) → LeavesWritten answers lines count fault before after → LeavesWritten answers (lines ++ more) count fault before after
+    LeavesWritten-more (Read answered) writes = first_of_more writes
+    LeavesWritten-more (Write answered) writes = part_of_more writes
+    LeavesWritten-more (Memory answered) writes = first_of_more writes
+    LeavesWritten-more (Turns answered) writes = first_of_more writes
+
+  -- what a fault leaves of one answer
+  pub one_unwritten : (written : Option (List ℕ)) (line : List ℕ) → WritesFirst answers (line ∷ []) 0 written written
+  one_unwritten written line = (omega arith, answers_none written)
+
+  pub one_part : (before after : Option (List ℕ)) (line text : List ℕ) (place : ℕ) → answers line text → place < length text → Appends before after (take place text)
+      → WritesPart answers (line ∷ []) 0 before after
+  one_part before after line text place is less wrote = ([], text, place, omega arith, refl, is, less, wrote)
+
+-- what a fault of an answer says of a whole run
+pub AnswerFault-count : (fault : RunFault) (count : ℕ) (failed : Bool) → IsAnswerFault fault count failed → whole_answers fault ≡ count
+AnswerFault-count (Read answered) count failed is = absurd is
+AnswerFault-count (Write answered) count failed is = is.0
+AnswerFault-count (Memory answered) count failed is = is.0
+AnswerFault-count (Turns answered) count failed is = absurd is
+
+pub AnswerFault-failed : (fault : RunFault) (count : ℕ) (input output : Bool) → input ≡ false → IsAnswerFault fault count output → HaveFailed fault input output
+AnswerFault-failed (Read answered) count input output sound is = absurd is
+AnswerFault-failed (Write answered) count input output sound is = (sound, is.1)
+AnswerFault-failed (Memory answered) count input output sound is = (sound, is.1)
+AnswerFault-failed (Turns answered) count input output sound is = absurd is
+
+pub AnswerFault-turns : (fault : RunFault) (count : ℕ) (failed : Bool) (before after : ℕ) → IsAnswerFault fault count failed → CountsTurns fault before after
+AnswerFault-turns (Read answered) count failed before after is = absurd is
+AnswerFault-turns (Write answered) count failed before after is = tt
+AnswerFault-turns (Memory answered) count failed before after is = tt
+AnswerFault-turns (Turns answered) count failed before after is = absurd is
+
+pub AnswerFault-ended : (fault : RunFault) (count : ℕ) (failed : Bool) (read : List ℕ) → IsAnswerFault fault count failed → AnswersEnded fault read
+AnswerFault-ended (Read answered) count failed read is = absurd is
+AnswerFault-ended (Write answered) count failed read is = tt
+AnswerFault-ended (Memory answered) count failed read is = tt
+AnswerFault-ended (Turns answered) count failed read is = absurd is

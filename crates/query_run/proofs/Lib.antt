@@ -1,0 +1,4 @@
+mod FaultLemmas
+mod KeptLemmas
+mod LineLemmas
+mod RunLemmas

@@ -1,0 +1,21 @@
+use Rattle.std.proofs.Common.{◌≡◌, ℕ, ◌+◌, ◌≤◌, ◌++◌, false, List, length}
+use Rattle.query_run.specs.KeptLine.{IsCutTo, kept_of}
+use Rattle.query_run.specs.Lines.{AreWritten, HasNoFeed}
+use Rattle.query_run.proofs.running.Progress.take_piece.Given as goal
+
+-- whatever the line was of which the first pending bytes were kept: it and what came before the rest of the piece
+-- are cut into lines that were answered
+abbrev pub invariant-loop-line : goal.invariant-loop-line
+invariant-loop-line g l = record {
+  sound : g.W.AnswerOutput.has_failed l.output ≡ false;
+  few : l.self.answered + length l.rest ≤ l.fn.self.answered + length l.piece;
+  lines : (unended : List ℕ) → HasNoFeed unended → l.fn.self.pending.items ≡ kept_of unended
+      → (before : List ℕ) × (lines : List (List ℕ))
+      × (unended ++ l.piece ≡ before ++ l.rest)
+      × IsCutTo before lines l.self.pending.items
+      × (l.self.answered ≡ l.fn.self.answered + length lines)
+      × AreWritten (g.A.AnswerLine.answers l.answerer) lines (g.W.AnswerOutput.written l.fn.output) (g.W.AnswerOutput.written l.output);
+}
+
+abbrev pub decreases-loop-line : goal.decreases-loop-line
+decreases-loop-line g l = length l.rest

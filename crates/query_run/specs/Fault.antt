@@ -1,0 +1,79 @@
+-- What a run that ends at a fault leaves behind.
+use Rattle.std.specs.Prelude.{◌≡◌, ◌⊎◌, ℕ, ◌+◌, ◌-◌, ◌^◌, ◌<◌, ◌≤◌, Bool, true, false, List, [], ◌++◌, length, take, slice_index_or, Option, ⊤}
+use Rattle.std.specs.Io.KnownBytes.{Appends, Consumes}
+use Rattle.query_run.specs.Lines.{Answers, AreAnswers, AreWritten, line_feed_count, query_lines}
+use Rattle.query_run.specs.declared.running.RunFault.{RunFault}
+use Rattle.query_run.specs.declared.running.RunFault.TheVariants.{Read, Write, Memory, Turns}
+
+-- the numbers of the faults
+abbrev pub run_fault_number : RunFault → ℕ
+run_fault_number (Read count) = 1
+run_fault_number (Write count) = 2
+run_fault_number (Memory count) = 3
+run_fault_number (Turns count) = 4
+
+-- how many answers were written whole
+abbrev pub whole_answers : RunFault → ℕ
+whole_answers (Read count) = count
+whole_answers (Write count) = count
+whole_answers (Memory count) = count
+whole_answers (Turns count) = count
+
+-- the answers to the first lines were written, and nothing else
+abbrev pub WritesFirst : Answers → List (List ℕ) → ℕ → Option (List ℕ) → Option (List ℕ) → Type 0
+WritesFirst answers lines count before after =
+    (count ≤ length lines) × AreWritten answers (take count lines) before after
+
+-- the answers to the first lines were written and then a front of the next answer, not all of it
+abbrev pub WritesPart : Answers → List (List ℕ) → ℕ → Option (List ℕ) → Option (List ℕ) → Type 0
+WritesPart answers lines count before after =
+    (whole : List ℕ) × (next : List ℕ) × (place : ℕ)
+    × (count < length lines)
+    × AreAnswers answers (take count lines) whole
+    × answers (slice_index_or lines count []) next
+    × (place < length next)
+    × Appends before after (whole ++ take place next)
+
+-- what was written of the answers to some lines, `count` of them whole, where a fault came
+abbrev pub LeavesWritten : Answers → List (List ℕ) → ℕ → RunFault → Option (List ℕ) → Option (List ℕ) → Type 0
+LeavesWritten answers lines count (Read answered) before after = WritesFirst answers lines count before after
+LeavesWritten answers lines count (Write answered) before after = WritesPart answers lines count before after
+LeavesWritten answers lines count (Memory answered) before after = WritesFirst answers lines count before after
+LeavesWritten answers lines count (Turns answered) before after = WritesFirst answers lines count before after
+
+-- where no answer was under way, each line that ended was answered
+abbrev pub AnswersEnded : RunFault → List ℕ → Type 0
+AnswersEnded (Read count) read = count ≡ line_feed_count read
+AnswersEnded (Write count) read = ⊤
+AnswersEnded (Memory count) read = ⊤
+AnswersEnded (Turns count) read = count ≡ line_feed_count read
+
+-- at `Read` the input alone has failed, at `Write` the output alone, at the others neither
+abbrev pub HaveFailed : RunFault → Bool → Bool → Type 0
+HaveFailed (Read count) input output = (input ≡ true) × (output ≡ false)
+HaveFailed (Write count) input output = (input ≡ false) × (output ≡ true)
+HaveFailed (Memory count) input output = (input ≡ false) × (output ≡ false)
+HaveFailed (Turns count) input output = (input ≡ false) × (output ≡ false)
+
+-- at `Turns` the input was read 2^40 times, unless the count of its reads stands still at its end
+abbrev pub CountsTurns : RunFault → ℕ → ℕ → Type 0
+CountsTurns (Read count) before after = ⊤
+CountsTurns (Write count) before after = ⊤
+CountsTurns (Memory count) before after = ⊤
+CountsTurns (Turns count) before after = (after ≡ before + 2 ^ 40) ⊎ (after ≡ 2 ^ 64 - 1)
+
+-- a fault that an answer can meet, after `count` whole answers
+abbrev pub IsAnswerFault : RunFault → ℕ → Bool → Type 0
+IsAnswerFault (Read answered) count output = ⊥
+IsAnswerFault (Write answered) count output = (answered ≡ count) × (output ≡ true)
+IsAnswerFault (Memory answered) count output = (answered ≡ count) × (output ≡ false)
+IsAnswerFault (Turns answered) count output = ⊥
+
+-- a run has ended at a fault: some bytes were read, and of the answers to their lines the
+-- first were written, as many whole as the fault says
+abbrev pub EndsAt : RunFault → Answers → Option (List ℕ) → Option (List ℕ) → Option (List ℕ) → Option (List ℕ) → Type 0
+EndsAt fault answers given left before after =
+    (read : List ℕ)
+    × Consumes given left read
+    × LeavesWritten answers (query_lines read) (whole_answers fault) fault before after
+    × AnswersEnded fault read

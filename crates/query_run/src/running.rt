@@ -1,0 +1,255 @@
+//! The run: answers the query lines of an input one after the other.
+ghost use Rattle.std.specs.Prelude.{◌≡◌, ℕ, ◌+◌, ◌^◌, ◌<◌, ◌≤◌, ◌∷◌, ◌++◌, false, IfErr, IfOk, IfSome, List, MatchOption, OnErr, OnOk, [], is_err, length, take, vec_len};
+ghost use Rattle.std.specs.Io.KnownBytes.{IsAtEnd};
+ghost use Rattle.query_run.specs.Fault.{CountsTurns, EndsAt, HaveFailed, IsAnswerFault, LeavesWritten, run_fault_number};
+ghost use Rattle.query_run.specs.KeptLine.{IsCutTo, kept_of};
+ghost use Rattle.query_run.specs.Lines.{AreWritten, HasNoFeed, line_feed, query_lines};
+
+use crate::answering::AnswerLine;
+use bstr::ByteSlice;
+use std::alloc::{AllocError, Global};
+use streams::{AnswerOutput, QueryInput, write_all};
+
+/// Why a run ended before its input did, and how many answers were written whole. After `Write` a
+/// front of the next answer may have gone out too, after the others nothing of it.
+#[derive(Clone, Copy, Debug, PartialEq, Eq)]
+pub enum RunFault {
+    /// The input failed.
+    Read(u64),
+    /// The output failed.
+    Write(u64),
+    /// Memory was refused.
+    Memory(u64),
+    /// The input has not ended after 2^40 reads.
+    Turns(u64),
+}
+
+impl RunFault {
+    /// The number of the fault, from 1 to 4.
+    pub fn number(self) -> u8
+        ensures { result ≡ run_fault_number self }
+    {
+        match self {
+            RunFault::Read(_) => 1,
+            RunFault::Write(_) => 2,
+            RunFault::Memory(_) => 3,
+            RunFault::Turns(_) => 4,
+        }
+    }
+}
+
+// How often an input is read.
+const TURNS: u64 = 1 << 40;
+
+// How many bytes are read at once.
+const PIECE_LENGTH: usize = 65_536;
+
+// How many bytes of a line are kept until it ends: one more than a line may have.
+const KEPT_LENGTH: usize = 65_536;
+
+const LINE_FEED: u8 = b'\n';
+
+/// Answers each query line of an input, in order: what stands before a line feed, and what stands
+/// behind the last one unless it is empty. Answers how many they were. The answers to the lines
+/// that have ended are written before more is read.
+///
+/// A fault says how many answers were written whole: `Read` where the input fails, `Write` where
+/// the output fails, `Memory` where memory is refused, and `Turns` where the input has not ended
+/// after 2^40 reads.
+pub fn run<A: AnswerLine, R: QueryInput, W: AnswerOutput>(
+    alloc: Global,
+    answerer: &A,
+    input: &mut R,
+    output: &mut W,
+) -> Result<u64, RunFault>
+    requires input { R.has_failed input.old ≡ false }
+    requires output { W.has_failed output.old ≡ false }
+    ensures end { OnOk result (IsAtEnd (R.remaining input.new)) }
+    ensures count { IfOk result (λ count. IfSome (R.remaining input.old) (λ bytes. count ≡ length (query_lines bytes))) }
+    ensures answers { OnOk result (IfSome (R.remaining input.old) (λ bytes. AreWritten (A.answers answerer.now) (query_lines bytes) (W.written output.old) (W.written output.new))) }
+    ensures sound { OnOk result ((R.has_failed input.new ≡ false) × (W.has_failed output.new ≡ false)) }
+    ensures fault { IfErr result (λ fault. EndsAt fault (A.answers answerer.now) (R.remaining input.old) (R.remaining input.new) (W.written output.old) (W.written output.new)) }
+    ensures failed { IfErr result (λ fault. HaveFailed fault (R.has_failed input.new) (W.has_failed output.new)) }
+    ensures turns { IfErr result (λ fault. CountsTurns fault (R.read_count input.old) (R.read_count input.new)) }
+{
+    let mut buffer = match zeros(alloc, PIECE_LENGTH) {
+        Ok(buffer) => buffer,
+        Err(_) => return Err(RunFault::Memory(0)),
+    };
+    let piece = buffer.as_mut_slice();
+    let mut progress = Progress::new(alloc);
+    for _turn in 0..TURNS {
+        let count = match input.read(piece) {
+            Ok(count) => count,
+            Err(_) => return Err(RunFault::Read(progress.answered)),
+        };
+        if count == 0 {
+            return progress.finish(alloc, answerer, output);
+        }
+        match progress.take_piece(alloc, answerer, &piece[..count], output) {
+            Ok(()) => {}
+            Err(fault) => return Err(fault),
+        }
+    }
+    Err(RunFault::Turns(progress.answered))
+}
+
+// So many bytes of 0. Apart, so that a proof about them knows no more than how many they are.
+fn zeros(alloc: Global, count: usize) -> Result<Vec<u8>, AllocError>
+    ensures { IfOk result (λ bytes. vec_len bytes ≡ count) }
+{
+    vec![in alloc; 0u8; count]
+}
+
+// What a run carries from one piece of the input to the next: the first bytes of a line that has not
+// ended, room for an answer, and how many answers were written.
+#[derive(Drop)]
+struct Progress {
+    pending: Vec<u8>,
+    answer: Vec<u8>,
+    answered: u64,
+}
+
+impl Progress {
+    fn new(alloc: Global) -> Progress
+        ensures pending { result.pending.items ≡ [] }
+        ensures answered { result.answered ≡ 0 }
+    {
+        Progress {
+            pending: Vec::new(alloc),
+            answer: Vec::new(alloc),
+            answered: 0,
+        }
+    }
+
+    // Answers the lines that end in a piece of the input, and keeps what is behind them, as far as it
+    // is kept of a line. Whatever the line was of which the pending bytes are kept, its answer is that.
+    fn take_piece<A: AnswerLine, W: AnswerOutput>(
+        &mut self,
+        alloc: Global,
+        answerer: &A,
+        piece: &[u8],
+        output: &mut W,
+    ) -> Result<(), RunFault>
+        requires room { self.old.answered + length piece.now < 2 ^ 64 }
+        requires sound { W.has_failed output.old ≡ false }
+        ensures ok { OnOk result ((unended : List ℕ) → HasNoFeed unended → self.old.pending.items ≡ kept_of unended
+            → (lines : List (List ℕ))
+            × IsCutTo (unended ++ piece.now) lines self.new.pending.items
+            × (self.new.answered ≡ self.old.answered + length lines)
+            × AreWritten (A.answers answerer.now) lines (W.written output.old) (W.written output.new)) }
+        ensures few { OnOk result (self.new.answered ≤ self.old.answered + length piece.now) }
+        ensures sound { OnOk result (W.has_failed output.new ≡ false) }
+        ensures fault { IfErr result (λ fault. (unended : List ℕ) → HasNoFeed unended → self.old.pending.items ≡ kept_of unended
+            → (count : ℕ)
+            × IsAnswerFault fault (self.old.answered + count) (W.has_failed output.new)
+            × LeavesWritten (A.answers answerer.now) (query_lines (unended ++ piece.now)) count fault (W.written output.old) (W.written output.new)) }
+    {
+        let mut rest = piece;
+        while let Some((line, later)) = first_line(rest) {
+            match self.answer_line(alloc, answerer, line, output) {
+                Ok(()) => rest = later,
+                Err(fault) => return Err(fault),
+            }
+        }
+        match self.keep(rest) {
+            Ok(()) => Ok(()),
+            Err(_) => Err(RunFault::Memory(self.answered)),
+        }
+    }
+
+    // Adds bytes to those that are kept of a line.
+    fn keep(&mut self, bytes: &[u8]) -> Result<(), AllocError>
+        ensures pending { OnOk result (self.new.pending.items ≡ kept_of (self.old.pending.items ++ bytes.now)) }
+        ensures answered { self.new.answered ≡ self.old.answered }
+    {
+        self.pending.extend_from_slice(bytes)?;
+        self.pending.truncate(KEPT_LENGTH);
+        Ok(())
+    }
+
+    // Answers the line that the pending bytes begin and that `line` ends.
+    fn answer_line<A: AnswerLine, W: AnswerOutput>(
+        &mut self,
+        alloc: Global,
+        answerer: &A,
+        line: &[u8],
+        output: &mut W,
+    ) -> Result<(), RunFault>
+        requires room { self.old.answered + 1 < 2 ^ 64 }
+        requires sound { W.has_failed output.old ≡ false }
+        ensures pending { OnOk result (self.new.pending.items ≡ []) }
+        ensures answered { OnOk result (self.new.answered ≡ self.old.answered + 1) }
+        ensures sound { OnOk result (W.has_failed output.new ≡ false) }
+        ensures answer { OnOk result (AreWritten (A.answers answerer.now) ((self.old.pending.items ++ line.now) ∷ []) (W.written output.old) (W.written output.new)) }
+        ensures fault { IfErr result (λ fault.
+            IsAnswerFault fault self.old.answered (W.has_failed output.new)
+            × LeavesWritten (A.answers answerer.now) ((self.old.pending.items ++ line.now) ∷ []) 0 fault (W.written output.old) (W.written output.new)) }
+    {
+        if self.build_answer(alloc, answerer, line).is_err() {
+            return Err(RunFault::Memory(self.answered));
+        }
+        match write_all(self.answer.as_slice(), output) {
+            Ok(()) => {
+                self.answered += 1;
+                Ok(())
+            }
+            Err(_) => Err(RunFault::Write(self.answered)),
+        }
+    }
+
+    // Puts the answer to a line into `answer`, whole, and forgets the line.
+    fn build_answer<A: AnswerLine>(
+        &mut self,
+        alloc: Global,
+        answerer: &A,
+        line: &[u8],
+    ) -> Result<(), AllocError>
+        ensures pending { OnOk result (self.new.pending.items ≡ []) }
+        ensures answer { OnOk result (A.answers answerer.now (self.old.pending.items ++ line.now) self.new.answer.items) }
+        ensures answered { self.new.answered ≡ self.old.answered }
+    {
+        self.pending.extend_from_slice(line)?;
+        self.answer.clear();
+        answerer.answer_line(alloc, self.pending.as_slice(), &mut self.answer)?;
+        self.pending.clear();
+        Ok(())
+    }
+
+    // Answers a last line that no line feed ended, unless it is empty, and counts the answers.
+    fn finish<A: AnswerLine, W: AnswerOutput>(
+        &mut self,
+        alloc: Global,
+        answerer: &A,
+        output: &mut W,
+    ) -> Result<u64, RunFault>
+        requires unended { HasNoFeed self.old.pending.items }
+        requires room { self.old.answered + 1 < 2 ^ 64 }
+        requires sound { W.has_failed output.old ≡ false }
+        ensures count { IfOk result (λ count. count ≡ self.old.answered + length (query_lines self.old.pending.items)) }
+        ensures sound { OnOk result (W.has_failed output.new ≡ false) }
+        ensures answer { OnOk result (AreWritten (A.answers answerer.now) (query_lines self.old.pending.items) (W.written output.old) (W.written output.new)) }
+        ensures fault { IfErr result (λ fault.
+            IsAnswerFault fault self.old.answered (W.has_failed output.new)
+            × LeavesWritten (A.answers answerer.now) (query_lines self.old.pending.items) 0 fault (W.written output.old) (W.written output.new)) }
+    {
+        if self.pending.is_empty() {
+            return Ok(self.answered);
+        }
+        match self.answer_line(alloc, answerer, &[], output) {
+            Ok(()) => Ok(self.answered),
+            Err(fault) => Err(fault),
+        }
+    }
+}
+
+// What stands before the first line feed and what stands behind it, if there is one.
+fn first_line(bytes: &[u8]) -> Option<(&[u8], &[u8])>
+    ensures { MatchOption result (HasNoFeed bytes.now) (λ found.
+        (bytes.now ≡ found.0.now ++ line_feed ∷ found.1.now) × HasNoFeed found.0.now) }
+{
+    match bytes.find_byte(LINE_FEED) {
+        Some(at) => Some((&bytes[..at], &bytes[at + 1..])),
+        None => None,
+    }
+}

@@ -1,6 +1,0 @@
-use Rattle.std.proofs.Common.{ap, ◌∙◌}
-use Rattle.query_tool.specs.KeptLine.{kept_of}
-use Rattle.query_tool.proofs.query_run.Progress.keep.Goals as goal
-
-pub returns-clause-pending : goal.returns-clause-pending
-returns-clause-pending c = c.truncate.ensures.items ∙ ap kept_of c.in_ok-extend_from_slice.ensures.items

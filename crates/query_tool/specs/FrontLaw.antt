@@ -1,0 +1,39 @@
+-- Lines that begin alike are answered alike: with this an engine answers the lines of a run, which keeps no more of a line.
+use Rattle.std.proofs.Common.{◌≡◌, ℕ, ◌<◌, ◌≤◌, List, length, inl, inr, sym, ap, ◌∙◌, subst, min, arith}
+use Rattle.std.proofs.lemmas.Bool.{cases_lt}
+use Rattle.std.proofs.lemmas.List.{length-take, take_all}
+use Rattle.ecl_lexer.specs.Tokens.{most_bytes}
+use Rattle.ecl_lexer.specs.declared.fault.QueryFault.{QueryFault}
+use Rattle.ecl_lexer.specs.declared.fault.QueryFault.TheVariants.{Long, Utf8, Token, Unsupported, Limit, Depth, Syntax, Memory}
+use Rattle.constraint_tree.specs.Refusal.{IsRefusalOf}
+use Rattle.snapshot.specs.Contents.{Contents}
+use Rattle.answer_printer.specs.AnswerText.{refusal_text}
+use Rattle.query_run.specs.KeptLine.{kept_of}
+use Rattle.query_tool.specs.Answer.{IsAnswer}
+
+-- a line that is too long has no answer but that
+long_answer : (contents : Contents) (line text : List ℕ) → most_bytes < length line → IsAnswer contents line text → text ≡ refusal_text Long
+long_answer contents line text long (inl (tree, is, same)) = absurd (omega (arith, long, is.readable.0))
+long_answer contents line text long (inr (fault, is, same)) = by fault is same
+  where
+    by : (fault : QueryFault) → IsRefusalOf line fault → text ≡ refusal_text fault → text ≡ refusal_text Long
+    by Long is same = same
+    by Utf8 is same = absurd (omega (arith, long, is.0))
+    by (Token offset) is same = absurd (omega (arith, long, is.0.0))
+    by (Unsupported offset feature) is same = absurd (omega (arith, long, is.0.0))
+    by (Limit offset) is same = absurd (omega (arith, long, is.0.0))
+    by Depth is same = absurd (omega (arith, long, is.0.0))
+    by Syntax is same = absurd (omega (arith, long, is.0.0))
+    by Memory is same = absurd is
+
+-- lines with the same first bytes, one more than a line may have, are one line, or both are too long
+pub same_front : (contents : Contents) (one other text : List ℕ) → kept_of one ≡ kept_of other → IsAnswer contents one text → IsAnswer contents other text
+same_front contents one other text same answered =
+    let lengths : min 65536 (length one) ≡ min 65536 (length other) =
+    sym (length-take 65536 one) ∙ ap length same ∙ length-take 65536 other in
+    elim (cases_lt most_bytes (length one)) [
+      | inl long ↦ inr (Long, omega (arith, lengths), long_answer contents one text long answered)
+      | inr short ↦
+          let whole : one ≡ other = sym (take_all 65536 one (omega arith)) ∙ same ∙ take_all 65536 other (omega (arith, lengths)) in
+          subst (λ (line : List ℕ). IsAnswer contents line text) whole answered
+    ]

@@ -1,0 +1,60 @@
+//! The program over the words, the streams and the folders of the system.
+
+use crate::service::{Status, refuse_words, serve};
+use command_line::{Request, WordFault, read_words};
+use std::io::ErrorKind;
+use std::{env, io};
+use streams::{FolderSource, StreamInput, StreamOutput};
+
+/// Does what the words of the command line ask for, over the streams and the folders of the system, and answers how
+/// it ended.
+pub fn start(rt: &HostRuntime) -> Status {
+    match asked(rt) {
+        Ok(request) => fulfil(rt, &request),
+        Err(fault) => refuse_words(
+            &fault,
+            &mut StreamOutput::new(io::writer(rt)),
+            &mut StreamOutput::new(rt.stderr()),
+        ),
+    }
+}
+
+// What the words of the command line ask for.
+fn asked(rt: &HostRuntime) -> Result<Request, WordFault> {
+    let given = match env::args(rt) {
+        Ok(given) => given,
+        Err(error) => return Err(unread_words(rt, &error)),
+    };
+    let words: Vec<String> = given.collect(rt.alloc())?;
+    let texts: Vec<&str> = words.iter().map(|word| word.as_str()).collect(rt.alloc())?;
+    read_words(rt.alloc(), texts.as_slice())
+}
+
+// Why the words can't be had.
+fn unread_words(rt: &HostRuntime, error: &io::Error) -> WordFault {
+    if error.kind() == ErrorKind::OutOfMemory {
+        return WordFault::Memory;
+    }
+    match String::from_str(rt.alloc(), "error: a word is not UTF-8\n") {
+        Ok(text) => WordFault::Usage(text),
+        Err(_) => WordFault::Memory,
+    }
+}
+
+// Does what is asked of the release that is asked for.
+fn fulfil(rt: &HostRuntime, request: &Request) -> Status {
+    let mut source = FolderSource::new(rt, request.folders.as_slice());
+    fulfil_from(rt, request, &mut source)
+}
+
+// Does what is asked of the release of a source, over the streams of the system.
+fn fulfil_from(rt: &HostRuntime, request: &Request, source: &mut FolderSource<'_>) -> Status {
+    serve(
+        rt.alloc(),
+        request,
+        source,
+        &mut StreamInput::new(rt.reader()),
+        &mut StreamOutput::new(io::writer(rt)),
+        &mut StreamOutput::new(rt.stderr()),
+    )
+}

@@ -1,0 +1,9 @@
+use Rattle.std.proofs.Common.{◌≡◌}
+use Rattle.std.specs.Io.KnownBytes.{Keeps}
+use Rattle.streams.proofs.output.StreamOutputAnswerOutput.write.Given as goal
+
+abbrev pub invariant-loop : goal.invariant-loop
+invariant-loop g l = record {
+  bytes : Keeps (g.W.Write.contents l.fn.self.stream) (g.W.Write.contents l.self.stream);
+  failure : l.self.failed ≡ l.fn.self.failed;
+}

@@ -1,0 +1,269 @@
+//! The files of the folders of a release.
+ghost use Rattle.std.specs.Prelude.{◌≡◌, ◌≤◌, IfOk, None, Ok, length};
+ghost use Rattle.release_files.specs.Source.{CountsFailures};
+
+use crate::fault::TRIES;
+use release_files::{FileSource, SourceFault};
+use rf2_rows::file_kind;
+use std::alloc::{AllocError, Global};
+use std::collections::BTreeSet;
+use std::fs::{File, Metadata};
+use std::io::{ErrorKind, Read};
+use std::os::unix::fs::MetadataExt;
+use std::{fs, io, mem};
+
+// A folder has subfolders of this many levels; what lies deeper is not listed.
+const LEVELS: usize = 16;
+
+/// The plain files of folders and their subfolders as a source. The name of a file is its path below
+/// its folder, with `/` between the parts; of two folders and more it begins with the number of the
+/// folder, from 1, as `2/a/b.txt` does. Nothing is claimed of what the files hold.
+///
+/// `list` gives the names folder by folder. Links are followed, but below each of the folders each
+/// folder is entered once, whatever links lead to it: level by level, and in a folder in the byte
+/// order of the names. A link that leads nowhere is listed if its name tells of a kind of Snapshot
+/// file, so that it fails where it is opened, and is passed over otherwise. `open` opens plain files
+/// alone.
+#[derive(Drop)]
+pub struct FolderSource<'a> {
+    rt: &'a HostRuntime,
+    folders: &'a [String],
+    file: Option<File>,
+    failures: u64,
+}
+
+impl<'a> FolderSource<'a> {
+    /// A source of the files of these folders, with none open.
+    pub fn new(rt: &'a HostRuntime, folders: &'a [String]) -> FolderSource<'a>
+        ensures { ⟦<FolderSource<'a> as FileSource>⟧.failure_count result ≡ 0 }
+    {
+        FolderSource {
+            rt,
+            folders,
+            file: None,
+            failures: 0,
+        }
+    }
+
+    // What the system gave. Its failure is counted, and closes the file.
+    fn counted<T>(&mut self, given: io::Result<T>) -> Result<T, SourceFault>
+        ensures value { IfOk result (λ value. given ≡ Ok value) }
+        ensures failures { CountsFailures result self.old.failures self.new.failures }
+    {
+        match given {
+            Ok(value) => Ok(value),
+            Err(error) => {
+                self.file = None;
+                if error.kind() == ErrorKind::OutOfMemory {
+                    return Err(SourceFault::Memory);
+                }
+                self.failures = self.failures.saturating_add(1);
+                Err(SourceFault::Device)
+            }
+        }
+    }
+}
+
+impl<'a> FileSource for FolderSource<'a> {
+    ghost files = { λ _. None };
+
+    ghost rest = { λ _. None };
+
+    ghost failure_count = { λ source. source.failures };
+
+    fn failures(&self) -> u64 {
+        self.failures
+    }
+
+    fn list(&mut self) -> Result<Vec<String>, SourceFault> {
+        let names = list_folders(self.rt, self.folders);
+        self.counted(names)
+    }
+
+    fn open(&mut self, name: &str) -> Result<(), SourceFault> {
+        self.file = None;
+        let file = open_file(self.rt, self.folders, name);
+        self.file = Some(self.counted(file)?);
+        Ok(())
+    }
+
+    fn read(&mut self, buffer: &mut [u8]) -> Result<usize, SourceFault> {
+        let Some(file) = &mut self.file else {
+            return Ok(0);
+        };
+        let count = read_some(file, buffer);
+        self.counted(count)
+    }
+}
+
+// The names of the files of folders, folder by folder.
+fn list_folders(rt: &HostRuntime, folders: &[String]) -> io::Result<Vec<String>> {
+    if let [folder] = folders {
+        return list_files(rt, folder.as_str());
+    }
+    let mut names = Vec::new(rt.alloc());
+    for (index, folder) in folders.iter().enumerate() {
+        list_numbered(rt, index + 1, folder.as_str(), &mut names)?;
+    }
+    Ok(names)
+}
+
+// Adds the names of the files of a folder, each behind the number of the folder.
+fn list_numbered(
+    rt: &HostRuntime,
+    number: usize,
+    folder: &str,
+    names: &mut Vec<String>,
+) -> io::Result<()> {
+    for name in list_files(rt, folder)? {
+        names.push(format!(in rt.alloc(); "{number}/{name}")?)?;
+    }
+    Ok(())
+}
+
+fn open_file(rt: &HostRuntime, folders: &[String], name: &str) -> io::Result<File> {
+    match folder_and_path(folders, name) {
+        Some((folder, below)) => open_plain(rt, joined(rt.alloc(), folder, below)?.as_str()),
+        None => Err(io::Error::from(ErrorKind::NotFound)),
+    }
+}
+
+// The folder of a file, and the path below it.
+fn folder_and_path<'a>(folders: &'a [String], name: &'a str) -> Option<(&'a str, &'a str)> {
+    if let [folder] = folders {
+        return Some((folder.as_str(), name));
+    }
+    let (number, below) = name.split_once('/')?;
+    let index = number.parse::<usize>().ok()?.checked_sub(1)?;
+    Some((folders.get(index)?.as_str(), below))
+}
+
+// Opens a plain file. Nothing else is opened, since to open a pipe may wait without end.
+fn open_plain(rt: &HostRuntime, path: &str) -> io::Result<File> {
+    if fs::metadata(rt, path)?.is_file() {
+        return File::open(rt, path);
+    }
+    Err(io::Error::from(ErrorKind::InvalidInput))
+}
+
+// Reads the next bytes. A read that is interrupted is tried again, 1,000 times in all.
+fn read_some(file: &mut File, buffer: &mut [u8]) -> io::Result<usize>
+    ensures { IfOk result (λ count. count ≤ length buffer.new) }
+{
+    for _ in 0..TRIES {
+        match file.read(buffer) {
+            Ok(count) => return Ok(count),
+            Err(error) => {
+                if error.kind() != ErrorKind::Interrupted {
+                    return Err(error);
+                }
+            }
+        }
+    }
+    Err(io::Error::from(ErrorKind::Interrupted))
+}
+
+// The names of the plain files of a folder and its subfolders, level by level.
+fn list_files(rt: &HostRuntime, folder: &str) -> io::Result<Vec<String>> {
+    let mut walk = Walk::new(rt.alloc());
+    let mut level = Vec::new(rt.alloc());
+    level.push(String::new(rt.alloc()))?;
+    for _ in 0..=LEVELS {
+        for below in &level {
+            walk.enter(rt, folder, below.as_str())?;
+        }
+        level = mem::replace(&mut walk.next, Vec::new(rt.alloc()));
+    }
+    Ok(walk.names)
+}
+
+// What a walk through a folder and its subfolders has found. A path is one below the folder.
+#[derive(Drop)]
+struct Walk {
+    // The paths of the plain files.
+    names: Vec<String>,
+    // The paths of the folders of the next level, each with a `/` behind it.
+    next: Vec<String>,
+    // The folders that were entered, by their devices and their numbers there: a link may lead to one
+    // again.
+    entered: BTreeSet<(u64, u64)>,
+}
+
+impl Walk {
+    fn new(alloc: Global) -> Walk {
+        Walk {
+            names: Vec::new(alloc),
+            next: Vec::new(alloc),
+            entered: BTreeSet::new(alloc),
+        }
+    }
+
+    // Takes what a folder has, in the byte order of the names, unless the folder was entered before.
+    fn enter(&mut self, rt: &HostRuntime, folder: &str, below: &str) -> io::Result<()> {
+        let path = joined(rt.alloc(), folder, below)?;
+        let attributes = fs::metadata(rt, path.as_str())?;
+        if self.entered.insert((attributes.dev(), attributes.ino()))? {
+            for entry in entries(rt, path.as_str())? {
+                let mut name = String::from_str(rt.alloc(), below)?;
+                name.push_str(entry.as_str())?;
+                self.take(rt, folder, name)?;
+            }
+        }
+        Ok(())
+    }
+
+    // Takes a plain file or a folder by its path, or a link that leads nowhere, and nothing else.
+    fn take(&mut self, rt: &HostRuntime, folder: &str, name: String) -> io::Result<()> {
+        let path = joined(rt.alloc(), folder, name.as_str())?;
+        match fs::metadata(rt, path.as_str()) {
+            Ok(attributes) => self.take_by(name, &attributes),
+            Err(error) => self.take_lost(name, error),
+        }
+    }
+
+    fn take_by(&mut self, mut name: String, attributes: &Metadata) -> io::Result<()> {
+        if attributes.is_dir() {
+            name.push_str("/")?;
+            self.next.push(name)?;
+        } else if attributes.is_file() {
+            self.names.push(name)?;
+        }
+        Ok(())
+    }
+
+    // Takes a path that leads nowhere if its name is that of a file that would be read, so that it
+    // fails where it is opened. Other links that lead nowhere are passed over.
+    fn take_lost(&mut self, name: String, error: io::Error) -> io::Result<()> {
+        if error.kind() == ErrorKind::OutOfMemory {
+            return Err(error);
+        }
+        if file_kind(name.as_str()).is_some() {
+            self.names.push(name)?;
+            return Ok(());
+        }
+        match error.kind() {
+            ErrorKind::NotFound | ErrorKind::NotADirectory | ErrorKind::FilesystemLoop => Ok(()),
+            _ => Err(error),
+        }
+    }
+}
+
+// The names in a folder, in byte order.
+fn entries(rt: &HostRuntime, path: &str) -> io::Result<Vec<String>> {
+    let mut names = Vec::new(rt.alloc());
+    for entry in fs::read_dir(rt, path)? {
+        names.push(String::from_str(rt.alloc(), entry?.file_name())?)?;
+    }
+    names.sort()?;
+    Ok(names)
+}
+
+// A path below a folder. The folder itself is its word as it stands, so that an empty word is none.
+fn joined(alloc: Global, folder: &str, below: &str) -> Result<String, AllocError> {
+    let mut path = String::from_str(alloc, folder)?;
+    if !below.is_empty() {
+        path.push_str("/")?;
+        path.push_str(below)?;
+    }
+    Ok(path)
+}

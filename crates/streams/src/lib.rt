@@ -1,0 +1,13 @@
+//! What the program reads from and writes to: streams of queries and of answers, and the folders of a
+//! release.
+#![tactic(auto)]
+
+mod fault;
+mod folder;
+mod input;
+mod output;
+
+pub use crate::fault::IoFault;
+pub use crate::folder::FolderSource;
+pub use crate::input::{QueryInput, StreamInput};
+pub use crate::output::{AnswerOutput, StreamOutput, write_all};
