@@ -1,12 +1,10 @@
 -- Sets of lemmas that functions name.
-use Rattle.hierarchy.proofs.CutLemmas.{starts_long, ends-put, parts, parts-put, put_fits, rooms, rooms-put, starts-put}
+use Rattle.hierarchy.proofs.CutLemmas.{starts_long}
 use Rattle.hierarchy.proofs.KeyedLemmas.{none_counts, few_left, few_more, length-lengths, length-lists_by, length-turned, lengths, lengths_at_pair, turned_from-more}
-use Rattle.std.proofs.Common.{append-nil, length-set}
+use Rattle.std.proofs.Common.{append-nil}
 use Rattle.std.proofs.lemmas.List.{get_or_read, length-map}
 
 pub ruleset counts_by = (few_left, few_more, length-lengths, lengths, lengths_at_pair, none_counts, turned_from-more)
-
-pub ruleset filling_put_by = (length-set, ends-put, parts, parts-put, put_fits, rooms, rooms-put, starts-put)
 
 pub ruleset lists_long_by = (starts_long, length-turned)
 

@@ -9,7 +9,6 @@ use std::alloc::{AllocError, Global};
 
 /// A rank for each of `count` concepts: those that reach one another have one rank, and otherwise a
 /// child has a lower rank than its parent.
-#[tactic(auto, using(crate::proofs::KeyedLemmas::length_by, crate::proofs::WayLemmas::parents_below))]
 pub fn component_ranks(
     alloc: Global,
     rows: &[(u32, u32)],
@@ -56,7 +55,6 @@ pub fn rows_from(
 }
 
 // The places of each concept's rows.
-#[tactic(auto, using(crate::proofs::KeyedLemmas::length_by))]
 fn places_by_child(alloc: Global, rows: &[(u32, u32)], count: u32) -> Result<KeyedLists, AllocError>
     requires { IsWithin count rows.now }
     ensures { IfOk result (λ places. length places ≡ count) }
