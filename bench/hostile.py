@@ -43,6 +43,19 @@ def sample_files():
     return {name: texts[of] for name, of in re.findall(r'name: "([^"]+)",\s*bytes: (\w+)', source)}
 
 
+def files_open_in_a_run(folder):
+    """Returns which files of a folder a run has open once it has answered."""
+    with subprocess.Popen([PROGRAM, "query", folder], stdin=subprocess.PIPE, stdout=subprocess.PIPE) as process:
+        process.stdin.write(QUERY)
+        process.stdin.flush()
+        process.stdout.readline()
+        at = f"/proc/{process.pid}/fd"
+        links = [os.readlink(f"{at}/{it}") for it in os.listdir(at)]
+        process.stdin.close()
+        process.stdout.read()
+    return [it for it in links if it.startswith(folder)]
+
+
 def put(folder, files):
     os.makedirs(folder, exist_ok=True)
     for name, data in files.items():
@@ -222,6 +235,13 @@ def streams():
     case("help to a closed output", run("--help", before=closes(1))[::2], (1, b"FAULT write\n"))
     case("a closed input", run(before=closes(0)), (1, b"", b"FAULT read\n"))
     case("closed errors", run("query", "/nowhere", before=closes(2))[0], 1)
+    with folder() as room:
+        # a file that is opened must not get the place of a closed stream, and be read as queries
+        put(room, FILES)
+        case("a closed input, over a folder", run("query", room, before=closes(0)), (1, b"", b"FAULT read\n"))
+        case("a closed output, over a folder", run("query", room, stdin=QUERY, before=closes(1))[::2], (1, b"FAULT write\n"))
+        case("closed errors, over a folder", run("query", room, stdin=QUERY, before=closes(2))[:2], (0, ANSWER))
+        case("the files that are open in a run", files_open_in_a_run(room), [])
     case("an empty input", run(), (0, b"", b""))
     case("a byte order mark before the first query", run(stdin=b"\xef\xbb\xbf*\n")[1], b"ERR token 0\n")
 

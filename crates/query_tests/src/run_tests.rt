@@ -44,6 +44,19 @@ fn is_run(
         && output.failed() == matches!(ended.0, Err(RunFault::Write(_)))
 }
 
+// The same, of an engine that is dropped: a function that owns one and has several ends is dear to prove.
+fn is_run_and_drop(
+    alloc: Global,
+    engine: Engine,
+    given: Given<'_>,
+    taken: Taken,
+    ended: Ended<'_>,
+) -> bool {
+    let is_run = is_run(alloc, &engine, given, taken, ended);
+    drop(engine);
+    is_run
+}
+
 // Looks at whether a run over the sample release ends so.
 fn check_run(
     rt: &impl Abort,
@@ -54,7 +67,7 @@ fn check_run(
 ) -> Result<(), LoadFault> {
     match Engine::load(alloc, &sample(), "en", Limits::standard()) {
         Ok(engine) => {
-            assert!(rt; is_run(alloc, &engine, given, taken, ended));
+            assert!(rt; is_run_and_drop(alloc, engine, given, taken, ended));
             Ok(())
         }
         Err(fault) => Err(fault),
@@ -186,9 +199,23 @@ fn run_sample<R: QueryInput, W: AnswerOutput>(
     requires output { W.has_failed output.old ≡ false }
 {
     match Engine::load(alloc, &sample(), "en", Limits::standard()) {
-        Ok(engine) => Ok(run(alloc, &engine, input, output)),
+        Ok(engine) => Ok(run_and_drop(alloc, engine, input, output)),
         Err(fault) => Err(fault),
     }
+}
+
+fn run_and_drop<R: QueryInput, W: AnswerOutput>(
+    alloc: Global,
+    engine: Engine,
+    input: &mut R,
+    output: &mut W,
+) -> Result<u64, RunFault>
+    requires input { R.has_failed input.old ≡ false }
+    requires output { W.has_failed output.old ≡ false }
+{
+    let answer = run(alloc, &engine, input, output);
+    drop(engine);
+    answer
 }
 
 #[test]

@@ -194,6 +194,18 @@ fn answered_by(
     Ok(output)
 }
 
+// The same, of an engine that is dropped: a function that owns one and has several ends is dear to prove.
+fn answered_and_drop(
+    rt: &impl Abort,
+    alloc: Global,
+    engine: Engine,
+    line: &[u8],
+) -> Result<Vec<u8>, AllocError> {
+    let answered = answered_by(rt, alloc, &engine, line);
+    drop(engine);
+    answered
+}
+
 // What a release with the names of a language answers to a line.
 fn answered(
     rt: &impl Abort,
@@ -203,7 +215,7 @@ fn answered(
     line: &[u8],
 ) -> Result<Vec<u8>, AllocError> {
     match Engine::load(alloc, files, language, Limits::standard()) {
-        Ok(engine) => answered_by(rt, alloc, &engine, line),
+        Ok(engine) => answered_and_drop(rt, alloc, engine, line),
         Err(fault) => {
             assert!(rt; fault == LoadFault::Memory, "the release loads");
             Err(AllocError)

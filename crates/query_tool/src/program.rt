@@ -2,13 +2,48 @@
 
 use crate::service::{Status, refuse_words, serve};
 use command_line::{Request, WordFault, read_words};
+use std::fs::File;
 use std::io::ErrorKind;
 use std::{env, io};
-use streams::{FolderSource, StreamInput, StreamOutput};
+use streams::{FolderSource, StreamInput, StreamOutput, write_all};
 
 /// Does what the words of the command line ask for, over the streams and the folders of the system, and answers how
-/// it ended.
+/// it ended. A standard stream that is closed fails where it is read or written first.
 pub fn start(rt: &HostRuntime) -> Status {
+    match Closed::filled(rt) {
+        Ok(closed) => {
+            let status = outcome(rt);
+            drop(closed);
+            status
+        }
+        Err(_) => {
+            let _ = write_all(b"REFUSED device\n", &mut StreamOutput::new(rt.stderr()));
+            Status::DeviceFault
+        }
+    }
+}
+
+// Three descriptors of a folder, which can be neither read nor written. Where standard streams are closed they take
+// the places of these, the lowest that are free: else the first files of a release would, and be read as queries.
+#[derive(Drop)]
+struct Closed {
+    _first: File,
+    _second: File,
+    _third: File,
+}
+
+impl Closed {
+    fn filled(rt: &HostRuntime) -> io::Result<Closed> {
+        Ok(Closed {
+            _first: File::open(rt, "/")?,
+            _second: File::open(rt, "/")?,
+            _third: File::open(rt, "/")?,
+        })
+    }
+}
+
+// Does what the words of the command line ask for.
+fn outcome(rt: &HostRuntime) -> Status {
     match asked(rt) {
         Ok(request) => fulfil(rt, &request),
         Err(fault) => refuse_words(

@@ -23,7 +23,7 @@ const LEVELS: usize = 16;
 /// folder is entered once, whatever links lead to it: level by level, and in a folder in the byte
 /// order of the names. A link that leads nowhere is listed if its name tells of a kind of Snapshot
 /// file, so that it fails where it is opened, and is passed over otherwise. `open` opens plain files
-/// alone.
+/// alone, and a file is closed where its end is read.
 #[derive(Drop)]
 pub struct FolderSource<'a> {
     rt: &'a HostRuntime,
@@ -92,6 +92,9 @@ impl<'a> FileSource for FolderSource<'a> {
             return Ok(0);
         };
         let count = read_some(file, buffer);
+        if matches!(count, Ok(0)) && !buffer.is_empty() {
+            self.file = None;
+        }
         self.counted(count)
     }
 }
