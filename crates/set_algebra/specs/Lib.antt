@@ -5,5 +5,6 @@ pub mod Lowering
 pub mod Meaning
 pub mod Places
 pub mod Plan
+pub mod Views
 pub mod WorkedPlans
 pub mod WrongPlans

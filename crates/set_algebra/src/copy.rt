@@ -1,4 +1,4 @@
-//! Copies of plans.
+//! Copies of plans and of their pieces.
 ghost use Rattle.std.specs.Prelude.{◌≡◌, IfOk};
 ghost use Rattle.set_algebra.specs.Plan.{plan_of, plans_of, group_plan_of, group_plans_of, test_plan_of};
 
@@ -74,8 +74,9 @@ impl UnitPlan {
 }
 
 impl ValueTest {
+    /// A test that is equal to this one, with memory of its own. The error is want of memory.
     #[cycle(copy)]
-    fn copy(&self, alloc: Global) -> Result<ValueTest, AllocError>
+    pub fn copy(&self, alloc: Global) -> Result<ValueTest, AllocError>
         ensures { IfOk result (λ copy. test_plan_of copy ≡ test_plan_of self.now) }
     {
         Ok(match self {
@@ -86,24 +87,27 @@ impl ValueTest {
     }
 }
 
+/// A copy of the plan in a box. The error is want of memory.
 #[cycle(copy)]
-fn boxed(alloc: Global, plan: &ConceptPlan) -> Result<Box<ConceptPlan>, AllocError>
+pub fn boxed(alloc: Global, plan: &ConceptPlan) -> Result<Box<ConceptPlan>, AllocError>
     ensures { IfOk result (λ copy. plan_of copy.value ≡ plan_of plan.now) }
 {
     let copy = plan.copy(alloc)?;
     Ok(Box::new(alloc, copy)?)
 }
 
+/// A copy of the plan of groups in a box. The error is want of memory.
 #[cycle(copy)]
-fn boxed_unit(alloc: Global, plan: &UnitPlan) -> Result<Box<UnitPlan>, AllocError>
+pub fn boxed_unit(alloc: Global, plan: &UnitPlan) -> Result<Box<UnitPlan>, AllocError>
     ensures { IfOk result (λ copy. group_plan_of copy.value ≡ group_plan_of plan.now) }
 {
     let copy = plan.copy(alloc)?;
     Ok(Box::new(alloc, copy)?)
 }
 
+/// A copy of each plan, in their order. The error is want of memory.
 #[cycle(copy)]
-fn each(alloc: Global, plans: &[ConceptPlan]) -> Result<Vec<ConceptPlan>, AllocError>
+pub fn each(alloc: Global, plans: &[ConceptPlan]) -> Result<Vec<ConceptPlan>, AllocError>
     ensures { IfOk result (λ copies. plans_of copies.items ≡ plans_of plans.now) }
 {
     let mut copies = Vec::new(alloc);
@@ -114,8 +118,9 @@ fn each(alloc: Global, plans: &[ConceptPlan]) -> Result<Vec<ConceptPlan>, AllocE
     Ok(copies)
 }
 
+/// A copy of each plan of groups, in their order. The error is want of memory.
 #[cycle(copy)]
-fn each_unit(alloc: Global, plans: &[UnitPlan]) -> Result<Vec<UnitPlan>, AllocError>
+pub fn each_unit(alloc: Global, plans: &[UnitPlan]) -> Result<Vec<UnitPlan>, AllocError>
     ensures { IfOk result (λ copies. group_plans_of copies.items ≡ group_plans_of plans.now) }
 {
     let mut copies = Vec::new(alloc);

@@ -1,12 +1,13 @@
 //! Plans: the form that a query is executed in, and what they mean over a release.
 #![tactic(auto)]
 
-mod copy;
+pub mod copy;
 mod depth;
 mod equal;
 mod laws;
 mod lowering;
 mod plan;
+pub mod views;
 
 pub use crate::laws::{
     places_are_found_and_put, places_keep_the_meaning, plans_mean_concepts_in_force,

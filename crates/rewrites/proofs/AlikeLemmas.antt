@@ -1,0 +1,202 @@
+-- Nodes whose children mean the same mean the same.
+use Rattle.std.proofs.Common.{ℕ, ◌≡◌, ◌&&◌, ◌||◌, not, Bool, List, set, refl}
+use Rattle.std.proofs.Common.{ap, ◌∙◌}
+use Rattle.rf2_rows.specs.Release.{Release, Value}
+use Rattle.rf2_rows.specs.Pairs.{Pair}
+use Rattle.constraint_tree.specs.declared.operator.Operator.{Operator}
+use Rattle.constraint_tree.specs.declared.operator.Cardinality.{Cardinality}
+use Rattle.constraint_tree.specs.Passing.{is_within, is_outside}
+use Rattle.constraint_tree.specs.Walks.{has_concept, walks}
+use Rattle.constraint_tree.specs.Denotation.{is_component, is_value}
+use Rattle.set_algebra.specs.Meaning.{means, all_mean, some_means, leads, group_means, all_group_mean, some_group_means}
+use Rattle.set_algebra.specs.Meaning.{value_passes, has_pairs, has_groups, pairs_of}
+use Rattle.set_algebra.specs.Plan.{Plan, walk_plan, members_plan, and_plan, or_plan, minus_plan, values_plan}
+use Rattle.set_algebra.specs.Plan.{pairs_plan, units_plan, Plans, no_plans, plan_then, GroupPlan, and_group, or_group}
+use Rattle.set_algebra.specs.Plan.{minus_group, pairs_group, GroupPlans, no_groups, group_then, TestPlan, within_plan}
+use Rattle.set_algebra.specs.Plan.{outside_plan}
+use Rattle.rewrites.proofs.Alike.{MeanAlike, GroupsMeanAlike, PassAlike, AllMeanAlike, AllGroupsMeanAlike}
+
+-- a node means what it means
+pub plan_itself : (plan : Plan) → MeanAlike plan plan
+plan_itself plan = record { mean = λ release. refl }
+
+pub group_itself : (plan : GroupPlan) → GroupsMeanAlike plan plan
+group_itself plan = record { mean = λ release. refl }
+
+pub test_itself : (test : TestPlan) → PassAlike test test
+test_itself test = record { pass = λ release. refl }
+
+-- by what lies between
+pub plan_by_two : (one between other : Plan) → MeanAlike one between → MeanAlike between other → MeanAlike one other
+plan_by_two one between other first then = record { mean = λ release. first.mean release ∙ then.mean release }
+
+pub group_by_two : (one between other : GroupPlan) → GroupsMeanAlike one between → GroupsMeanAlike between other
+    → GroupsMeanAlike one other
+group_by_two one between other first then = record { mean = λ release. first.mean release ∙ then.mean release }
+
+-- lists of plans of which each means the same: in all of them, in some, and along them as types
+all_alike : (release : Release) (olds news : Plans) → AllMeanAlike olds news
+    → all_mean release olds ≡ all_mean release news
+all_alike release no_plans no_plans alike = refl
+all_alike release (plan_then old olds) (plan_then new news) (first, rest) =
+    ap {B = ℕ → Bool} (λ (set : ℕ → Bool) (concept : ℕ). set concept && all_mean release olds concept)
+    (first.mean release)
+    ∙ ap {B = ℕ → Bool} (λ (set : ℕ → Bool) (concept : ℕ). means release new concept && set concept)
+    (all_alike release olds news rest)
+all_alike release no_plans (plan_then new news) alike = absurd alike
+all_alike release (plan_then old olds) no_plans alike = absurd alike
+
+some_alike : (release : Release) (olds news : Plans) → AllMeanAlike olds news
+    → some_means release olds ≡ some_means release news
+some_alike release no_plans no_plans alike = refl
+some_alike release (plan_then old olds) (plan_then new news) (first, rest) =
+    ap {B = ℕ → Bool} (λ (set : ℕ → Bool) (concept : ℕ). set concept || some_means release olds concept)
+    (first.mean release)
+    ∙ ap {B = ℕ → Bool} (λ (set : ℕ → Bool) (concept : ℕ). means release new concept || set concept)
+    (some_alike release olds news rest)
+some_alike release no_plans (plan_then new news) alike = absurd alike
+some_alike release (plan_then old olds) no_plans alike = absurd alike
+
+along_alike : (release : Release) (set other : ℕ → Bool) (olds news : Plans) → set ≡ other → AllMeanAlike olds news
+    → leads release set olds ≡ leads release other news
+along_alike release set other no_plans no_plans start alike = start
+along_alike release set other (plan_then old olds) (plan_then new news) start (first, rest) =
+    along_alike release (is_value release set (means release old)) (is_value release other (means release new)) olds
+    news
+    (ap (λ (from : ℕ → Bool). is_value release from (means release old)) start ∙ ap (is_value release other) (first.mean release))
+    rest
+along_alike release set other no_plans (plan_then new news) start alike = absurd alike
+along_alike release set other (plan_then old olds) no_plans start alike = absurd alike
+
+-- each kind of node, by its children
+pub walk_alike : (operator : Operator) (old new : Plan) → MeanAlike old new
+    → MeanAlike (walk_plan operator old) (walk_plan operator new)
+walk_alike operator old new alike = record {
+  mean =
+      λ release.
+      ap {B = ℕ → Bool}
+      (λ (set : ℕ → Bool) (concept : ℕ). has_concept release concept && walks release operator set concept)
+      (alike.mean release);
+}
+
+pub members_alike : (old new : Plan) → MeanAlike old new → MeanAlike (members_plan old) (members_plan new)
+members_alike old new alike = record { mean = λ release. ap (is_component release) (alike.mean release) }
+
+pub and_alike : (olds news : Plans) → AllMeanAlike olds news → MeanAlike (and_plan olds) (and_plan news)
+and_alike olds news alike = record {
+  mean =
+      λ release.
+      ap {B = ℕ → Bool} (λ (set : ℕ → Bool) (concept : ℕ). has_concept release concept && set concept)
+      (all_alike release olds news alike);
+}
+
+pub or_alike : (olds news : Plans) → AllMeanAlike olds news → MeanAlike (or_plan olds) (or_plan news)
+or_alike olds news alike = record { mean = λ release. some_alike release olds news alike }
+
+pub minus_alike : (first new_first second new_second : Plan) → MeanAlike first new_first → MeanAlike second new_second
+    → MeanAlike (minus_plan first second) (minus_plan new_first new_second)
+minus_alike first new_first second new_second alike also = record {
+  mean = λ release.
+      ap {B = ℕ → Bool} (λ (set : ℕ → Bool) (concept : ℕ). set concept && not (means release second concept))
+      (alike.mean release)
+      ∙ ap {B = ℕ → Bool} (λ (set : ℕ → Bool) (concept : ℕ). means release new_first concept && not (set concept))
+      (also.mean release);
+}
+
+pub values_alike : (start new_start : Plan) (names new_names : Plans) → MeanAlike start new_start
+    → AllMeanAlike names new_names → MeanAlike (values_plan start names) (values_plan new_start new_names)
+values_alike start new_start names new_names alike also = record {
+  mean =
+      λ release.
+      along_alike release (means release start) (means release new_start) names new_names (alike.mean release) also;
+}
+
+-- as many pairs, by types and tests that say the same
+pairs_counted : (count : Cardinality) (types other : ℕ → Bool) (passes others : Value → Bool) → types ≡ other
+    → passes ≡ others → has_pairs count types passes ≡ has_pairs count other others
+pairs_counted count types other passes others is also =
+    ap (λ (set : ℕ → Bool). has_pairs count set passes) is ∙ ap (has_pairs count other) also
+
+pub pairs_alike : (back : Bool) (count : Cardinality) (types new_types : Plan) (test new_test : TestPlan)
+    → MeanAlike types new_types → PassAlike test new_test
+    → MeanAlike (pairs_plan back count types test) (pairs_plan back count new_types new_test)
+pairs_alike back count types new_types test new_test alike also = record {
+  mean = λ release.
+      ap {B = ℕ → Bool}
+      (λ (enough : List Pair → Bool) (concept : ℕ). has_concept release concept && enough (pairs_of release back concept))
+      (pairs_counted count (means release types) (means release new_types) (value_passes release test)
+      (value_passes release new_test) (alike.mean release) (also.pass release));
+}
+
+pub units_alike : (count : Cardinality) (old new : GroupPlan) → GroupsMeanAlike old new
+    → MeanAlike (units_plan count old) (units_plan count new)
+units_alike count old new alike = record {
+  mean =
+      λ release.
+      ap {B = ℕ → Bool}
+      (λ (set : List Pair → Bool) (concept : ℕ). has_concept release concept && has_groups release count set concept)
+      (alike.mean release);
+}
+
+pub within_alike : (old new : Plan) → MeanAlike old new → PassAlike (within_plan old) (within_plan new)
+within_alike old new alike = record { pass = λ release. ap is_within (alike.mean release) }
+
+pub outside_alike : (old new : Plan) → MeanAlike old new → PassAlike (outside_plan old) (outside_plan new)
+outside_alike old new alike = record { pass = λ release. ap is_outside (alike.mean release) }
+
+-- plans of groups
+all_groups_alike : (release : Release) (olds news : GroupPlans) → AllGroupsMeanAlike olds news
+    → all_group_mean release olds ≡ all_group_mean release news
+all_groups_alike release no_groups no_groups alike = refl
+all_groups_alike release (group_then old olds) (group_then new news) (first, rest) =
+    ap {B = List Pair → Bool}
+    (λ (set : List Pair → Bool) (pairs : List Pair). set pairs && all_group_mean release olds pairs)
+    (first.mean release)
+    ∙ ap {B = List Pair → Bool}
+    (λ (set : List Pair → Bool) (pairs : List Pair). group_means release new pairs && set pairs)
+    (all_groups_alike release olds news rest)
+all_groups_alike release no_groups (group_then new news) alike = absurd alike
+all_groups_alike release (group_then old olds) no_groups alike = absurd alike
+
+some_groups_alike : (release : Release) (olds news : GroupPlans) → AllGroupsMeanAlike olds news
+    → some_group_means release olds ≡ some_group_means release news
+some_groups_alike release no_groups no_groups alike = refl
+some_groups_alike release (group_then old olds) (group_then new news) (first, rest) =
+    ap {B = List Pair → Bool}
+    (λ (set : List Pair → Bool) (pairs : List Pair). set pairs || some_group_means release olds pairs)
+    (first.mean release)
+    ∙ ap {B = List Pair → Bool}
+    (λ (set : List Pair → Bool) (pairs : List Pair). group_means release new pairs || set pairs)
+    (some_groups_alike release olds news rest)
+some_groups_alike release no_groups (group_then new news) alike = absurd alike
+some_groups_alike release (group_then old olds) no_groups alike = absurd alike
+
+pub and_groups_alike : (olds news : GroupPlans) → AllGroupsMeanAlike olds news
+    → GroupsMeanAlike (and_group olds) (and_group news)
+and_groups_alike olds news alike = record { mean = λ release. all_groups_alike release olds news alike }
+
+pub or_groups_alike : (olds news : GroupPlans) → AllGroupsMeanAlike olds news
+    → GroupsMeanAlike (or_group olds) (or_group news)
+or_groups_alike olds news alike = record { mean = λ release. some_groups_alike release olds news alike }
+
+pub minus_groups_alike : (first new_first second new_second : GroupPlan) → GroupsMeanAlike first new_first
+    → GroupsMeanAlike second new_second → GroupsMeanAlike (minus_group first second) (minus_group new_first new_second)
+minus_groups_alike first new_first second new_second alike also = record {
+  mean = λ release.
+      ap {B = List Pair → Bool}
+      (λ (set : List Pair → Bool) (pairs : List Pair). set pairs && not (group_means release second pairs))
+      (alike.mean release)
+      ∙ ap {B = List Pair → Bool}
+      (λ (set : List Pair → Bool) (pairs : List Pair). group_means release new_first pairs && not (set pairs))
+      (also.mean release);
+}
+
+pub group_pairs_alike : (count : Cardinality) (types new_types : Plan) (test new_test : TestPlan)
+    → MeanAlike types new_types → PassAlike test new_test
+    → GroupsMeanAlike (pairs_group count types test) (pairs_group count new_types new_test)
+group_pairs_alike count types new_types test new_test alike also = record {
+  mean =
+      λ release.
+      pairs_counted count (means release types) (means release new_types) (value_passes release test)
+      (value_passes release new_test) (alike.mean release) (also.pass release);
+}

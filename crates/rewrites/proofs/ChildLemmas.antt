@@ -1,0 +1,136 @@
+-- A rule at a place in a child: the child of that number is there, or it is not.
+use Rattle.std.proofs.Common.{ℕ, zero, suc, ◌≡◌, ◌<◌, ◌≤◌, Bool, true, false, Some, None, List, [], ◌∷◌, length}
+use Rattle.std.proofs.Common.{get_or, option_map, refl, sym, ap, ◌∙◌, arith}
+use Rattle.std.specs.Prelude.{slice_get, slice_set}
+use Rattle.set_algebra.specs.declared.plan.ConceptPlan.{ConceptPlan}
+use Rattle.set_algebra.specs.declared.plan.UnitPlan.{UnitPlan}
+use Rattle.set_algebra.specs.Plan.{Plan, plan_of, plans_of, plan_then, group_plan_of, group_plans_of, group_then}
+use Rattle.set_algebra.specs.Plan.{and_plan, or_plan, values_plan, and_group, or_group}
+use Rattle.set_algebra.specs.Places.{Node, concept_node, group_node, children, plan_nodes, group_nodes, plans_with}
+use Rattle.set_algebra.specs.Places.{groups_with, with_child}
+use Rattle.rewrites.specs.declared.rule.Rule.{Rule}
+use Rattle.rewrites.specs.Counts.{only_if}
+use Rattle.rewrites.specs.RulesAtPlaces.{rewritten_at, in_child}
+
+-- with the child of that number changed, where the rule makes something of it at the rest of the place
+pub step : (rule : Rule) (number : ℕ) (place : List ℕ) (whole child new : Node) (fits : Bool)
+    → slice_get (children whole) number ≡ Some child → only_if fits new ≡ rewritten_at rule place child
+    → only_if fits (with_child whole number new) ≡ rewritten_at rule (number ∷ place) whole
+step rule number place whole child new true is made =
+    ap (option_map (with_child whole number)) made ∙ sym (ap (in_child whole number (rewritten_at rule place)) is)
+step rule number place whole child new false is made =
+    ap (option_map (with_child whole number)) made ∙ sym (ap (in_child whole number (rewritten_at rule place)) is)
+
+-- nothing, where there is no such child
+pub no_step : (rule : Rule) (number : ℕ) (place : List ℕ) (whole : Node) → slice_get (children whole) number ≡ None
+    → None ≡ rewritten_at rule (number ∷ place) whole
+no_step rule number place whole is = sym (ap (in_child whole number (rewritten_at rule place)) is)
+
+-- the part of a list of plans with that number
+part_at : (parts : List ConceptPlan) (number : ℕ) (old : ConceptPlan) → number < length parts
+    → old ≡ get_or parts number old → slice_get (plan_nodes (plans_of parts)) number ≡ Some (concept_node (plan_of old))
+part_at [] number old within is = absurd (omega arith)
+part_at (first ∷ rest) zero old within is = ap (λ (plan : ConceptPlan). Some (concept_node (plan_of plan))) (sym is)
+part_at (first ∷ rest) (suc number) old within is = part_at rest number old (omega arith) is
+
+-- past the end of the list there is no part
+no_part : (parts : List ConceptPlan) (number : ℕ) → length parts ≤ number
+    → slice_get (plan_nodes (plans_of parts)) number ≡ None
+no_part [] number past = refl
+no_part (first ∷ rest) zero past = absurd (omega arith)
+no_part (first ∷ rest) (suc number) past = no_part rest number (omega arith)
+
+-- the plans of a list with another item at its place
+with_part : (parts : List ConceptPlan) (number : ℕ) (new : ConceptPlan)
+    → plans_of (slice_set parts number new) ≡ plans_with (plans_of parts) number (plan_of new)
+with_part [] number new = refl
+with_part (first ∷ rest) zero new = refl
+with_part (first ∷ rest) (suc number) new = ap (plan_then (plan_of first)) (with_part rest number new)
+
+module _ (rule : Rule) (place : List ℕ) (parts : List ConceptPlan) (number : ℕ) where
+  pub none_and : length parts ≤ number
+      → None ≡ rewritten_at rule (number ∷ place) (concept_node (and_plan (plans_of parts)))
+  none_and past = no_step rule number place (concept_node (and_plan (plans_of parts))) (no_part parts number past)
+
+  pub none_or : length parts ≤ number
+      → None ≡ rewritten_at rule (number ∷ place) (concept_node (or_plan (plans_of parts)))
+  none_or past = no_step rule number place (concept_node (or_plan (plans_of parts))) (no_part parts number past)
+
+  pub none_values : (start : Plan) → length parts ≤ number
+      → None ≡ rewritten_at rule (suc number ∷ place) (concept_node (values_plan start (plans_of parts)))
+  none_values start past =
+      no_step rule (suc number) place (concept_node (values_plan start (plans_of parts))) (no_part parts number past)
+
+  module _ (old new : ConceptPlan) (fits : Bool) (within : number < length parts) (is : old ≡ get_or parts number old)
+      (made : only_if fits (concept_node (plan_of new)) ≡ rewritten_at rule place (concept_node (plan_of old))) where
+    pub part_and :
+        only_if fits (concept_node (and_plan (plans_of (slice_set parts number new))))
+        ≡ rewritten_at rule (number ∷ place) (concept_node (and_plan (plans_of parts)))
+    part_and =
+        ap (λ plans. only_if fits (concept_node (and_plan plans))) (with_part parts number new)
+        ∙ step rule number place (concept_node (and_plan (plans_of parts))) (concept_node (plan_of old))
+        (concept_node (plan_of new)) fits (part_at parts number old within is) made
+
+    pub part_or :
+        only_if fits (concept_node (or_plan (plans_of (slice_set parts number new))))
+        ≡ rewritten_at rule (number ∷ place) (concept_node (or_plan (plans_of parts)))
+    part_or =
+        ap (λ plans. only_if fits (concept_node (or_plan plans))) (with_part parts number new)
+        ∙ step rule number place (concept_node (or_plan (plans_of parts))) (concept_node (plan_of old))
+        (concept_node (plan_of new)) fits (part_at parts number old within is) made
+
+    pub part_values : (start : Plan)
+        → only_if fits (concept_node (values_plan start (plans_of (slice_set parts number new))))
+        ≡ rewritten_at rule (suc number ∷ place) (concept_node (values_plan start (plans_of parts)))
+    part_values start =
+        ap (λ plans. only_if fits (concept_node (values_plan start plans))) (with_part parts number new)
+        ∙ step rule (suc number) place (concept_node (values_plan start (plans_of parts))) (concept_node (plan_of old))
+        (concept_node (plan_of new)) fits (part_at parts number old within is) made
+
+-- the same of plans of groups
+unit_at : (parts : List UnitPlan) (number : ℕ) (old : UnitPlan) → number < length parts → old ≡ get_or parts number old
+    → slice_get (group_nodes (group_plans_of parts)) number ≡ Some (group_node (group_plan_of old))
+unit_at [] number old within is = absurd (omega arith)
+unit_at (first ∷ rest) zero old within is = ap (λ (plan : UnitPlan). Some (group_node (group_plan_of plan))) (sym is)
+unit_at (first ∷ rest) (suc number) old within is = unit_at rest number old (omega arith) is
+
+no_unit : (parts : List UnitPlan) (number : ℕ) → length parts ≤ number
+    → slice_get (group_nodes (group_plans_of parts)) number ≡ None
+no_unit [] number past = refl
+no_unit (first ∷ rest) zero past = absurd (omega arith)
+no_unit (first ∷ rest) (suc number) past = no_unit rest number (omega arith)
+
+with_unit : (parts : List UnitPlan) (number : ℕ) (new : UnitPlan)
+    → group_plans_of (slice_set parts number new) ≡ groups_with (group_plans_of parts) number (group_plan_of new)
+with_unit [] number new = refl
+with_unit (first ∷ rest) zero new = refl
+with_unit (first ∷ rest) (suc number) new = ap (group_then (group_plan_of first)) (with_unit rest number new)
+
+module _ (rule : Rule) (place : List ℕ) (parts : List UnitPlan) (number : ℕ) where
+  pub no_unit_and : length parts ≤ number
+      → None ≡ rewritten_at rule (number ∷ place) (group_node (and_group (group_plans_of parts)))
+  no_unit_and past =
+      no_step rule number place (group_node (and_group (group_plans_of parts))) (no_unit parts number past)
+
+  pub no_unit_or : length parts ≤ number
+      → None ≡ rewritten_at rule (number ∷ place) (group_node (or_group (group_plans_of parts)))
+  no_unit_or past = no_step rule number place (group_node (or_group (group_plans_of parts))) (no_unit parts number past)
+
+  module _ (old new : UnitPlan) (fits : Bool) (within : number < length parts) (is : old ≡ get_or parts number old)
+      (made : only_if fits (group_node (group_plan_of new)) ≡ rewritten_at rule place (group_node (group_plan_of old)))
+    where
+      pub unit_and :
+          only_if fits (group_node (and_group (group_plans_of (slice_set parts number new))))
+          ≡ rewritten_at rule (number ∷ place) (group_node (and_group (group_plans_of parts)))
+      unit_and =
+          ap (λ plans. only_if fits (group_node (and_group plans))) (with_unit parts number new)
+          ∙ step rule number place (group_node (and_group (group_plans_of parts))) (group_node (group_plan_of old))
+          (group_node (group_plan_of new)) fits (unit_at parts number old within is) made
+
+      pub unit_or :
+          only_if fits (group_node (or_group (group_plans_of (slice_set parts number new))))
+          ≡ rewritten_at rule (number ∷ place) (group_node (or_group (group_plans_of parts)))
+      unit_or =
+          ap (λ plans. only_if fits (group_node (or_group plans))) (with_unit parts number new)
+          ∙ step rule number place (group_node (or_group (group_plans_of parts))) (group_node (group_plan_of old))
+          (group_node (group_plan_of new)) fits (unit_at parts number old within is) made

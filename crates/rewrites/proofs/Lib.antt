@@ -1,0 +1,14 @@
+pub mod AdditiveLemmas
+pub mod Alike
+pub mod AlikeLemmas
+pub mod BoolLemmas
+pub mod ChildLemmas
+pub mod CountLemmas
+pub mod GroupLemmas
+pub mod GroupRuleLemmas
+pub mod KeepingLemmas
+pub mod ListLemmas
+pub mod RuleLemmas
+pub mod SimplifiedLemmas
+pub mod SimplifiedLists
+pub mod WalkLemmas

@@ -1,0 +1,119 @@
+-- A simplified plan means what the plan means.
+use Rattle.std.proofs.Common.{Option, Some, None}
+use Rattle.std.proofs.Math.Path.{fun_ext}
+use Rattle.std.specs.Prelude.{unwrap_or}
+use Rattle.rf2_rows.specs.Release.{Release}
+use Rattle.set_algebra.specs.Plan.{Plan, empty_plan, all_plan, one_plan, walk_plan, members_plan, and_plan, or_plan}
+use Rattle.set_algebra.specs.Plan.{minus_plan, values_plan, pairs_plan, units_plan, Plans, no_plans, plan_then}
+use Rattle.set_algebra.specs.Plan.{GroupPlan, nothing_group, every_group, and_group, or_group, minus_group, pairs_group}
+use Rattle.set_algebra.specs.Plan.{GroupPlans, no_groups, group_then, TestPlan, within_plan, outside_plan, number_plan}
+use Rattle.rewrites.specs.declared.rule.Rule.{Rule}
+use Rattle.rewrites.specs.declared.rule.Rule.TheVariants.{RangeAll, BraceOne, Same, Only}
+use Rattle.rewrites.specs.Rules.{rewritten, rewritten_group}
+use Rattle.rewrites.proofs.Alike.{MeanAlike, GroupsMeanAlike, PassAlike, AllMeanAlike, AllGroupsMeanAlike}
+use Rattle.rewrites.specs.Simplified.{tried, tried_group, shortened, shortened_group, simplified, all_simplified}
+use Rattle.rewrites.specs.Simplified.{group_simplified, all_groups_simplified, test_simplified}
+use Rattle.rewrites.proofs.RuleLemmas.{Keeps, plan_keeps}
+use Rattle.rewrites.proofs.GroupRuleLemmas.{KeepsGroup, group_keeps}
+use Rattle.rewrites.proofs.AlikeLemmas.{plan_itself, group_itself, test_itself, plan_by_two, group_by_two, walk_alike}
+use Rattle.rewrites.proofs.AlikeLemmas.{members_alike, and_alike, or_alike, minus_alike, values_alike, pairs_alike}
+use Rattle.rewrites.proofs.AlikeLemmas.{units_alike, within_alike, outside_alike, and_groups_alike, or_groups_alike}
+use Rattle.rewrites.proofs.AlikeLemmas.{minus_groups_alike, group_pairs_alike}
+
+-- what a rule makes of a plan, or the plan, means the same
+or_itself : (plan : Plan) (made : Option Plan) → ((release : Release) → Keeps release plan made)
+    → MeanAlike plan (unwrap_or made plan)
+or_itself plan None keeps = plan_itself plan
+or_itself plan (Some new) keeps = record { mean = λ release. fun_ext (keeps release) }
+
+-- so does what is tried
+tried_keeps : (rule : Rule) (plan : Plan) → MeanAlike plan (tried rule plan)
+tried_keeps rule plan = or_itself plan (rewritten rule plan) (λ release. plan_keeps release rule plan)
+
+-- and four of them one after the other
+shortened_keeps : (plan : Plan) → MeanAlike plan (shortened plan)
+unfolding shortened
+shortened_keeps plan =
+    let first : Plan = tried RangeAll plan in
+    let second : Plan = tried BraceOne first in
+    let third : Plan = tried Same second in
+    plan_by_two plan third (tried Only third)
+    (plan_by_two plan second third (plan_by_two plan first second (tried_keeps RangeAll plan) (tried_keeps BraceOne first)) (tried_keeps Same second))
+    (tried_keeps Only third)
+
+-- and so the node whose children mean the same, once it is shortened
+then_shortened : (old new : Plan) → MeanAlike old new → MeanAlike old (shortened new)
+then_shortened old new alike = plan_by_two old new (shortened new) alike (shortened_keeps new)
+
+-- the same of plans of groups
+group_or_itself : (plan : GroupPlan) (made : Option GroupPlan) → ((release : Release) → KeepsGroup release plan made)
+    → GroupsMeanAlike plan (unwrap_or made plan)
+group_or_itself plan None keeps = group_itself plan
+group_or_itself plan (Some new) keeps = record { mean = λ release. fun_ext (keeps release) }
+
+group_tried_keeps : (rule : Rule) (plan : GroupPlan) → GroupsMeanAlike plan (tried_group rule plan)
+group_tried_keeps rule plan =
+    group_or_itself plan (rewritten_group rule plan) (λ release. group_keeps release rule plan)
+
+group_shortened_keeps : (plan : GroupPlan) → GroupsMeanAlike plan (shortened_group plan)
+unfolding shortened_group
+group_shortened_keeps plan =
+    let first : GroupPlan = tried_group RangeAll plan in
+    let second : GroupPlan = tried_group Same first in
+    group_by_two plan second (tried_group Only second)
+    (group_by_two plan first second (group_tried_keeps RangeAll plan) (group_tried_keeps Same first))
+    (group_tried_keeps Only second)
+
+group_then_shortened : (old new : GroupPlan) → GroupsMeanAlike old new → GroupsMeanAlike old (shortened_group new)
+group_then_shortened old new alike = group_by_two old new (shortened_group new) alike (group_shortened_keeps new)
+
+-- a simplified plan means the same, by its children and then the node itself
+mutual
+  pub simplified_keeps : (plan : Plan) → MeanAlike plan (simplified plan)
+  simplified_keeps empty_plan = shortened_keeps empty_plan
+  simplified_keeps all_plan = shortened_keeps all_plan
+  simplified_keeps (one_plan number) = shortened_keeps (one_plan number)
+  simplified_keeps (walk_plan operator operand) =
+      then_shortened _ _ (walk_alike operator operand (simplified operand) (simplified_keeps operand))
+  simplified_keeps (members_plan operand) =
+      then_shortened _ _ (members_alike operand (simplified operand) (simplified_keeps operand))
+  simplified_keeps (and_plan parts) = then_shortened _ _ (and_alike parts (all_simplified parts) (all_keep parts))
+  simplified_keeps (or_plan parts) = then_shortened _ _ (or_alike parts (all_simplified parts) (all_keep parts))
+  simplified_keeps (minus_plan first second) =
+      then_shortened _ _
+      (minus_alike first (simplified first) second (simplified second) (simplified_keeps first) (simplified_keeps second))
+  simplified_keeps (values_plan start names) =
+      then_shortened _ _
+      (values_alike start (simplified start) names (all_simplified names) (simplified_keeps start) (all_keep names))
+  simplified_keeps (pairs_plan back count types test) =
+      then_shortened _ _
+      (pairs_alike back count types (simplified types) test (test_simplified test) (simplified_keeps types) (test_keeps test))
+  simplified_keeps (units_plan count units) =
+      then_shortened _ _ (units_alike count units (group_simplified units) (group_simplified_keeps units))
+
+  all_keep : (parts : Plans) → AllMeanAlike parts (all_simplified parts)
+  all_keep no_plans = tt
+  all_keep (plan_then first rest) = (simplified_keeps first, all_keep rest)
+
+  group_simplified_keeps : (plan : GroupPlan) → GroupsMeanAlike plan (group_simplified plan)
+  group_simplified_keeps nothing_group = group_shortened_keeps nothing_group
+  group_simplified_keeps every_group = group_shortened_keeps every_group
+  group_simplified_keeps (and_group parts) =
+      group_then_shortened _ _ (and_groups_alike parts (all_groups_simplified parts) (all_groups_keep parts))
+  group_simplified_keeps (or_group parts) =
+      group_then_shortened _ _ (or_groups_alike parts (all_groups_simplified parts) (all_groups_keep parts))
+  group_simplified_keeps (minus_group first second) =
+      group_then_shortened _ _
+      (minus_groups_alike first (group_simplified first) second (group_simplified second) (group_simplified_keeps first) (group_simplified_keeps second))
+  group_simplified_keeps (pairs_group count types test) =
+      group_then_shortened _ _
+      (group_pairs_alike count types (simplified types) test (test_simplified test) (simplified_keeps types) (test_keeps test))
+
+  all_groups_keep : (parts : GroupPlans) → AllGroupsMeanAlike parts (all_groups_simplified parts)
+  all_groups_keep no_groups = tt
+  all_groups_keep (group_then first rest) = (group_simplified_keeps first, all_groups_keep rest)
+
+  test_keeps : (test : TestPlan) → PassAlike test (test_simplified test)
+  test_keeps (within_plan operand) = within_alike operand (simplified operand) (simplified_keeps operand)
+  test_keeps (outside_plan operand) = outside_alike operand (simplified operand) (simplified_keeps operand)
+  test_keeps (number_plan compare number) = test_itself (number_plan compare number)

@@ -1,0 +1,156 @@
+-- Lists of plans of which a part is dropped or simplified.
+use Rattle.std.proofs.Common.{ℕ, zero, suc, ◌≡◌, ◌<◌, ◌+◌, Bool, true, None, List, [], ◌∷◌, length}
+use Rattle.std.proofs.Common.{get_or, refl, sym, ap, ◌∙◌, arith, add-one}
+use Rattle.std.specs.Prelude.{slice_set, remove, unwrap_or}
+use Rattle.std.proofs.lemmas.Bool.{false≢true}
+use Rattle.set_algebra.specs.declared.plan.ConceptPlan.{ConceptPlan}
+use Rattle.set_algebra.specs.declared.plan.UnitPlan.{UnitPlan}
+use Rattle.set_algebra.specs.EqualLaws.{decides_plan, decides_group}
+use Rattle.set_algebra.specs.Plan.{Plan, Plans, no_plans, plan_then, and_plan, or_plan, plan_of, plans_of, GroupPlan}
+use Rattle.set_algebra.specs.Plan.{GroupPlans, no_groups, group_then, and_group, or_group, group_plan_of}
+use Rattle.set_algebra.specs.Plan.{group_plans_of}
+use Rattle.set_algebra.specs.Views.{only_part, only_group_part}
+use Rattle.rewrites.specs.declared.rule.Rule.TheVariants.{Same}
+use Rattle.rewrites.specs.Counts.{only_if}
+use Rattle.rewrites.specs.Simplified.{tried, tried_group, begins_twice, group_begins_twice, simplified, all_simplified}
+use Rattle.rewrites.specs.Simplified.{group_simplified, all_groups_simplified}
+
+-- without the first of two equal plans
+pub first_dropped_and : (items new : List ConceptPlan) → begins_twice (plans_of items) ≡ true → new ≡ remove items 0
+    → and_plan (plans_of new) ≡ tried Same (and_plan (plans_of items))
+first_dropped_and [] new twice is = absurd (false≢true twice)
+first_dropped_and (first ∷ []) new twice is = absurd (false≢true twice)
+first_dropped_and (first ∷ (second ∷ rest)) new twice is =
+    let same : plan_of first ≡ plan_of second = (decides_plan (plan_of first) (plan_of second)).0 twice in
+    ap (λ (plans : List ConceptPlan). and_plan (plans_of plans)) is
+    ∙ ap (λ (plan : Plan). and_plan (plan_then plan (plans_of rest))) (sym same)
+    ∙ ap
+    (λ (b : Bool). unwrap_or (only_if b (and_plan (plan_then (plan_of first) (plans_of rest))))
+    (and_plan (plan_then (plan_of first) (plan_then (plan_of second) (plans_of rest)))))
+    (sym twice)
+
+pub first_dropped_or : (items new : List ConceptPlan) → begins_twice (plans_of items) ≡ true → new ≡ remove items 0
+    → or_plan (plans_of new) ≡ tried Same (or_plan (plans_of items))
+first_dropped_or [] new twice is = absurd (false≢true twice)
+first_dropped_or (first ∷ []) new twice is = absurd (false≢true twice)
+first_dropped_or (first ∷ (second ∷ rest)) new twice is =
+    let same : plan_of first ≡ plan_of second = (decides_plan (plan_of first) (plan_of second)).0 twice in
+    ap (λ (plans : List ConceptPlan). or_plan (plans_of plans)) is
+    ∙ ap (λ (plan : Plan). or_plan (plan_then plan (plans_of rest))) (sym same)
+    ∙ ap
+    (λ (b : Bool). unwrap_or (only_if b (or_plan (plan_then (plan_of first) (plans_of rest))))
+    (or_plan (plan_then (plan_of first) (plan_then (plan_of second) (plans_of rest)))))
+    (sym twice)
+
+-- a list of another length has no only plan
+pub not_only : (items : List ConceptPlan) → (length items ≡ 1 → ⊥) → only_part (plans_of items) ≡ None
+not_only [] long = refl
+not_only (first ∷ []) long = absurd (long refl)
+not_only (first ∷ (second ∷ rest)) long = refl
+
+-- a list of which the first are simplified
+abbrev pub up_to_here : ℕ → Plans → Plans
+up_to_here zero parts = parts
+up_to_here (suc i) no_plans = no_plans
+up_to_here (suc i) (plan_then first rest) = plan_then (simplified first) (up_to_here i rest)
+
+-- one more turn of a loop that simplifies each part
+pub here_more : (parts items : List ConceptPlan) (i : ℕ) (old new : ConceptPlan)
+    → plans_of items ≡ up_to_here i (plans_of parts) → i < length items → old ≡ get_or items i old
+    → plan_of new ≡ simplified (plan_of old) → plans_of (slice_set items i new) ≡ up_to_here (i + 1) (plans_of parts)
+here_more parts [] i old new so_far within is one = absurd (omega arith)
+here_more [] (first ∷ rest) zero old new so_far within is one = absurd (cc)
+here_more [] (first ∷ rest) (suc i) old new so_far within is one = absurd (cc)
+here_more (part ∷ parts) (first ∷ rest) zero old new so_far within is one =
+    let head : plan_of first ≡ plan_of part = cc in
+    let tail : plans_of rest ≡ plans_of parts = cc in
+    ap (λ (plan : Plan). plan_then plan (plans_of rest))
+    (one ∙ ap (λ (plan : ConceptPlan). simplified (plan_of plan)) is ∙ ap simplified head)
+    ∙ ap (plan_then (simplified (plan_of part))) tail
+here_more (part ∷ parts) (first ∷ rest) (suc i) old new so_far within is one =
+    let head : plan_of first ≡ simplified (plan_of part) = cc in
+    let tail : plans_of rest ≡ up_to_here i (plans_of parts) = cc in
+    rw add-one
+    (ap (λ (plan : Plan). plan_then plan (plans_of (slice_set rest i new))) head
+    ∙ ap (plan_then (simplified (plan_of part)))
+    (here_more parts rest i old new tail (omega arith) is one ∙ rw add-one refl))
+
+-- after the last turn all are simplified
+pub all_here : (parts : List ConceptPlan) (i : ℕ) → i ≡ length parts
+    → up_to_here i (plans_of parts) ≡ all_simplified (plans_of parts)
+all_here [] zero is = refl
+all_here [] (suc i) is = refl
+all_here (first ∷ rest) zero is = absurd (omega arith)
+all_here (first ∷ rest) (suc i) is = ap (plan_then (simplified (plan_of first))) (all_here rest i (omega arith))
+
+-- plans of groups
+-- without the first of two equal plans
+pub first_group_dropped_and : (items new : List UnitPlan) → group_begins_twice (group_plans_of items) ≡ true
+    → new ≡ remove items 0 → and_group (group_plans_of new) ≡ tried_group Same (and_group (group_plans_of items))
+first_group_dropped_and [] new twice is = absurd (false≢true twice)
+first_group_dropped_and (first ∷ []) new twice is = absurd (false≢true twice)
+first_group_dropped_and (first ∷ (second ∷ rest)) new twice is =
+    let same : group_plan_of first ≡ group_plan_of second =
+    (decides_group (group_plan_of first) (group_plan_of second)).0 twice in
+    ap (λ (plans : List UnitPlan). and_group (group_plans_of plans)) is
+    ∙ ap (λ (plan : GroupPlan). and_group (group_then plan (group_plans_of rest))) (sym same)
+    ∙ ap
+    (λ (b : Bool). unwrap_or (only_if b (and_group (group_then (group_plan_of first) (group_plans_of rest))))
+    (and_group (group_then (group_plan_of first) (group_then (group_plan_of second) (group_plans_of rest)))))
+    (sym twice)
+
+pub first_group_dropped_or : (items new : List UnitPlan) → group_begins_twice (group_plans_of items) ≡ true
+    → new ≡ remove items 0 → or_group (group_plans_of new) ≡ tried_group Same (or_group (group_plans_of items))
+first_group_dropped_or [] new twice is = absurd (false≢true twice)
+first_group_dropped_or (first ∷ []) new twice is = absurd (false≢true twice)
+first_group_dropped_or (first ∷ (second ∷ rest)) new twice is =
+    let same : group_plan_of first ≡ group_plan_of second =
+    (decides_group (group_plan_of first) (group_plan_of second)).0 twice in
+    ap (λ (plans : List UnitPlan). or_group (group_plans_of plans)) is
+    ∙ ap (λ (plan : GroupPlan). or_group (group_then plan (group_plans_of rest))) (sym same)
+    ∙ ap
+    (λ (b : Bool). unwrap_or (only_if b (or_group (group_then (group_plan_of first) (group_plans_of rest))))
+    (or_group (group_then (group_plan_of first) (group_then (group_plan_of second) (group_plans_of rest)))))
+    (sym twice)
+
+-- a list of another length has no only plan
+pub not_only_group_part : (items : List UnitPlan) → (length items ≡ 1 → ⊥)
+    → only_group_part (group_plans_of items) ≡ None
+not_only_group_part [] long = refl
+not_only_group_part (first ∷ []) long = absurd (long refl)
+not_only_group_part (first ∷ (second ∷ rest)) long = refl
+
+-- a list of which the first are group_simplified
+abbrev pub groups_up_to_here : ℕ → GroupPlans → GroupPlans
+groups_up_to_here zero parts = parts
+groups_up_to_here (suc i) no_groups = no_groups
+groups_up_to_here (suc i) (group_then first rest) = group_then (group_simplified first) (groups_up_to_here i rest)
+
+pub groups_here_more : (parts items : List UnitPlan) (i : ℕ) (old new : UnitPlan)
+    → group_plans_of items ≡ groups_up_to_here i (group_plans_of parts) → i < length items → old ≡ get_or items i old
+    → group_plan_of new ≡ group_simplified (group_plan_of old)
+    → group_plans_of (slice_set items i new) ≡ groups_up_to_here (i + 1) (group_plans_of parts)
+groups_here_more parts [] i old new so_far within is one = absurd (omega arith)
+groups_here_more [] (first ∷ rest) zero old new so_far within is one = absurd (cc)
+groups_here_more [] (first ∷ rest) (suc i) old new so_far within is one = absurd (cc)
+groups_here_more (part ∷ parts) (first ∷ rest) zero old new so_far within is one =
+    let head : group_plan_of first ≡ group_plan_of part = cc in
+    let tail : group_plans_of rest ≡ group_plans_of parts = cc in
+    ap (λ (plan : GroupPlan). group_then plan (group_plans_of rest))
+    (one ∙ ap (λ (plan : UnitPlan). group_simplified (group_plan_of plan)) is ∙ ap group_simplified head)
+    ∙ ap (group_then (group_simplified (group_plan_of part))) tail
+groups_here_more (part ∷ parts) (first ∷ rest) (suc i) old new so_far within is one =
+    let head : group_plan_of first ≡ group_simplified (group_plan_of part) = cc in
+    let tail : group_plans_of rest ≡ groups_up_to_here i (group_plans_of parts) = cc in
+    rw add-one
+    (ap (λ (plan : GroupPlan). group_then plan (group_plans_of (slice_set rest i new))) head
+    ∙ ap (group_then (group_simplified (group_plan_of part)))
+    (groups_here_more parts rest i old new tail (omega arith) is one ∙ rw add-one refl))
+
+pub all_groups_here : (parts : List UnitPlan) (i : ℕ) → i ≡ length parts
+    → groups_up_to_here i (group_plans_of parts) ≡ all_groups_simplified (group_plans_of parts)
+all_groups_here [] zero is = refl
+all_groups_here [] (suc i) is = refl
+all_groups_here (first ∷ rest) zero is = absurd (omega arith)
+all_groups_here (first ∷ rest) (suc i) is =
+    ap (group_then (group_simplified (group_plan_of first))) (all_groups_here rest i (omega arith))

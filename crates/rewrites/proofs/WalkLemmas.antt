@@ -1,0 +1,76 @@
+-- A walk of a walk along a transitive test.
+use Rattle.std.proofs.Common.{ℕ, ◌≡◌, ◌&&◌, ◌||◌, Bool, true, List, inl, inr}
+use Rattle.std.proofs.lemmas.Bool.{and_parts, and_from, or_cases, or_left}
+use Rattle.rf2_rows.specs.Release.{Release}
+use Rattle.hierarchy.specs.Hierarchy.{reaches}
+use Rattle.hierarchy.proofs.HierarchyLemmas.{chain_from_test, test_from_chain, chain_of_two}
+use Rattle.constraint_tree.specs.Walks.{has_concept, some_member}
+use Rattle.constraint_tree.proofs.WalkLemmas.{passing_item, some_item_passes, tells_in_force}
+use Rattle.rewrites.proofs.BoolLemmas.{same_if}
+
+-- a test of two concepts that is handed on
+abbrev pub IsTransitive : (ℕ → ℕ → Bool) → Type 0
+IsTransitive leads = (from between to : ℕ) → leads from between ≡ true → leads between to ≡ true → leads from to ≡ true
+
+-- reaching is handed on, downwards and upwards
+pub below_is_transitive : (rows : List (ℕ × ℕ)) → IsTransitive (λ (from to : ℕ). reaches rows from to)
+below_is_transitive rows from between to first then =
+    test_from_chain rows (chain_of_two (chain_from_test rows from between first) (chain_from_test rows between to then))
+
+pub above_is_transitive : (rows : List (ℕ × ℕ)) → IsTransitive (λ (from to : ℕ). reaches rows to from)
+above_is_transitive rows from between to first then =
+    test_from_chain rows (chain_of_two (chain_from_test rows to between then) (chain_from_test rows between from first))
+
+module _ (release : Release) (set : ℕ → Bool) (leads : ℕ → ℕ → Bool) (transitive : IsTransitive leads) where
+  -- in force, and leading to a member; and that or a member
+  abbrev beyond : ℕ → Bool
+  beyond member = has_concept release member && some_member release set (leads member)
+
+  abbrev there : ℕ → Bool
+  there member = has_concept release member && (set member || some_member release set (leads member))
+
+  -- by a member that a member leads to
+  by_two : (concept between : ℕ) → leads concept between ≡ true → some_member release set (leads between) ≡ true
+      → some_member release set (leads concept) ≡ true
+  by_two concept between first holds =
+      let found = passing_item (λ member. set member && leads between member) release.concepts holds in
+      let parts = and_parts (set found.0) (leads between found.0) found.2 in
+      some_item_passes (λ member. set member && leads concept member) release.concepts found.0 found.1
+      (and_from _ _ parts.0 (transitive concept between found.0 first parts.1))
+
+  -- what leads to what leads to a member leads to a member
+  pub beyond_twice : (concept : ℕ) → some_member release beyond (leads concept) ≡ true
+      → some_member release set (leads concept) ≡ true
+  beyond_twice concept holds =
+      let found = passing_item (λ member. beyond member && leads concept member) release.concepts holds in
+      let parts = and_parts (beyond found.0) (leads concept found.0) found.2 in
+      let inner = and_parts (has_concept release found.0) (some_member release set (leads found.0)) parts.0 in
+      by_two concept found.0 parts.1 inner.1
+
+  -- and so does what leads to a member or to what leads to one
+  there_then : (concept : ℕ) → some_member release there (leads concept) ≡ true
+      → some_member release set (leads concept) ≡ true
+  there_then concept holds =
+      let found = passing_item (λ member. there member && leads concept member) release.concepts holds in
+      let parts = and_parts (there found.0) (leads concept found.0) found.2 in
+      let inner =
+      and_parts (has_concept release found.0) (set found.0 || some_member release set (leads found.0)) parts.0 in
+      elim (or_cases (set found.0) (some_member release set (leads found.0)) inner.1) [
+        | inl here ↦
+            some_item_passes (λ member. set member && leads concept member) release.concepts found.0 found.1
+            (and_from _ _ here parts.1)
+        | inr further ↦ by_two concept found.0 parts.1 further
+      ]
+
+  -- which are all that lead to a member
+  then_there : (concept : ℕ) → some_member release set (leads concept) ≡ true
+      → some_member release there (leads concept) ≡ true
+  then_there concept holds =
+      let found = passing_item (λ member. set member && leads concept member) release.concepts holds in
+      let parts = and_parts (set found.0) (leads concept found.0) found.2 in
+      some_item_passes (λ member. there member && leads concept member) release.concepts found.0 found.1
+      (and_from _ _ (and_from _ _ ((tells_in_force release found.0).1 found.1) (or_left _ _ parts.0)) parts.1)
+
+  -- so both say the same
+  pub there_same : (concept : ℕ) → some_member release there (leads concept) ≡ some_member release set (leads concept)
+  there_same concept = same_if _ _ (there_then concept) (then_there concept)

@@ -1,0 +1,7 @@
+use Rattle.rewrites.proofs.ListLemmas.{braced_more}
+use Rattle.rewrites.proofs.braces.each_units.Goals as goal
+
+pub loop-part-preserved : goal.loop-part-preserved
+loop-part-preserved c =
+    braced_more _ _ _ _ _ _ _ c.in_ok-push.ensures.items c.loop-part-test.true c.part-item.is c.loop-part.invariant
+    c.in_ok-new.ensures

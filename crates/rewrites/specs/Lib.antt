@@ -1,0 +1,8 @@
+pub mod Counts
+pub mod Faults
+pub mod Gives
+pub mod PlanLists
+pub mod Rules
+pub mod RulesAtPlaces
+pub mod Simplified
+pub mod Steps

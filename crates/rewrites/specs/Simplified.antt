@@ -1,0 +1,73 @@
+-- The plan that simplifying gives: children before their parent, and of each node what RangeAll, BraceOne,
+-- Same and Only make of it, in this order, each tried once.
+use Rattle.std.specs.Prelude.{Bool, false, unwrap_or}
+use Rattle.set_algebra.specs.Equal.{same_plan, same_group}
+use Rattle.set_algebra.specs.Plan.{Plan, empty_plan, all_plan, one_plan, walk_plan, members_plan, and_plan, or_plan}
+use Rattle.set_algebra.specs.Plan.{minus_plan, values_plan, pairs_plan, units_plan, Plans, no_plans, plan_then}
+use Rattle.set_algebra.specs.Plan.{GroupPlan, nothing_group, every_group, and_group, or_group, minus_group, pairs_group}
+use Rattle.set_algebra.specs.Plan.{GroupPlans, no_groups, group_then, TestPlan, within_plan, outside_plan, number_plan}
+use Rattle.rewrites.specs.declared.rule.Rule.{Rule}
+use Rattle.rewrites.specs.declared.rule.Rule.TheVariants.{RangeAll, BraceOne, Same, Only}
+use Rattle.rewrites.specs.Rules.{rewritten, rewritten_group}
+
+-- what a rule makes of a plan, or the plan as it is
+abbrev pub tried : Rule → Plan → Plan
+tried rule plan = unwrap_or (rewritten rule plan) plan
+
+abbrev pub tried_group : Rule → GroupPlan → GroupPlan
+tried_group rule plan = unwrap_or (rewritten_group rule plan) plan
+
+-- what the four rules make of a node whose children are simplified; BraceOne makes nothing of a plan of groups
+unfoldable pub shortened : Plan → Plan
+shortened plan = tried Only (tried Same (tried BraceOne (tried RangeAll plan)))
+
+unfoldable pub shortened_group : GroupPlan → GroupPlan
+shortened_group plan = tried_group Only (tried_group Same (tried_group RangeAll plan))
+
+abbrev mutual
+  pub simplified : Plan → Plan
+  simplified empty_plan = shortened empty_plan
+  simplified all_plan = shortened all_plan
+  simplified (one_plan number) = shortened (one_plan number)
+  simplified (walk_plan operator operand) = shortened (walk_plan operator (simplified operand))
+  simplified (members_plan operand) = shortened (members_plan (simplified operand))
+  simplified (and_plan parts) = shortened (and_plan (all_simplified parts))
+  simplified (or_plan parts) = shortened (or_plan (all_simplified parts))
+  simplified (minus_plan first second) = shortened (minus_plan (simplified first) (simplified second))
+  simplified (values_plan start names) = shortened (values_plan (simplified start) (all_simplified names))
+  simplified (pairs_plan back count types test) =
+      shortened (pairs_plan back count (simplified types) (test_simplified test))
+  simplified (units_plan count units) = shortened (units_plan count (group_simplified units))
+
+  pub all_simplified : Plans → Plans
+  all_simplified no_plans = no_plans
+  all_simplified (plan_then first rest) = plan_then (simplified first) (all_simplified rest)
+
+  pub group_simplified : GroupPlan → GroupPlan
+  group_simplified nothing_group = shortened_group nothing_group
+  group_simplified every_group = shortened_group every_group
+  group_simplified (and_group parts) = shortened_group (and_group (all_groups_simplified parts))
+  group_simplified (or_group parts) = shortened_group (or_group (all_groups_simplified parts))
+  group_simplified (minus_group first second) =
+      shortened_group (minus_group (group_simplified first) (group_simplified second))
+  group_simplified (pairs_group count types test) =
+      shortened_group (pairs_group count (simplified types) (test_simplified test))
+
+  pub all_groups_simplified : GroupPlans → GroupPlans
+  all_groups_simplified no_groups = no_groups
+  all_groups_simplified (group_then first rest) = group_then (group_simplified first) (all_groups_simplified rest)
+
+  -- a test is no node: its plan is simplified
+  pub test_simplified : TestPlan → TestPlan
+  test_simplified (within_plan operand) = within_plan (simplified operand)
+  test_simplified (outside_plan operand) = outside_plan (simplified operand)
+  test_simplified (number_plan compare number) = number_plan compare number
+
+-- whether a list begins with two equal plans
+abbrev pub begins_twice : Plans → Bool
+begins_twice (plan_then first (plan_then second rest)) = same_plan first second
+begins_twice parts = false
+
+abbrev pub group_begins_twice : GroupPlans → Bool
+group_begins_twice (group_then first (group_then second rest)) = same_group first second
+group_begins_twice parts = false

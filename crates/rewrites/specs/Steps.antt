@@ -1,0 +1,25 @@
+-- Steps, one after another. A step of which nothing comes, or that would give a plan deeper than 1,024, is
+-- passed over, and the others are counted.
+use Rattle.std.specs.Prelude.{ℕ, ◌+◌, nat_le, Option, Some, None, is_some, unwrap_or, if◌then◌else◌, List, [], ◌∷◌}
+use Rattle.set_algebra.specs.Depth.{plan_depth}
+use Rattle.set_algebra.specs.Plan.{Plan}
+use Rattle.set_algebra.specs.Places.{Node, concept_node, group_node}
+use Rattle.rewrites.specs.declared.rule.Step.{Step}
+use Rattle.rewrites.specs.Counts.{only_if}
+use Rattle.rewrites.specs.RulesAtPlaces.{rewritten_at}
+
+-- a plan of concepts that is not too deep
+abbrev pub if_shallow : Option Node → Option Plan
+if_shallow None = None
+if_shallow (Some (concept_node new)) = only_if (nat_le (plan_depth new) 1024) new
+if_shallow (Some (group_node new)) = None
+
+-- what a step makes of a plan, if it is not passed over
+abbrev pub applied : Step → Plan → Option Plan
+applied step plan = if_shallow (rewritten_at step.rule step.place.now (concept_node plan))
+
+-- the plan after the steps, and how many were not passed over, with those before
+abbrev pub all_applied : List Step → Plan → ℕ → Plan × ℕ
+all_applied [] plan count = (plan, count)
+all_applied (step ∷ steps) plan count =
+    all_applied steps (unwrap_or (applied step plan) plan) (count + (if is_some (applied step plan) then 1 else 0))

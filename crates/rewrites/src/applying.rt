@@ -1,0 +1,98 @@
+//! Rules used at places of a plan that is given, one after another.
+ghost use Rattle.std.specs.Prelude.{◌≡◌, ◌≤◌, is_some, unwrap_or, IfOk, IfErr};
+ghost use Rattle.set_algebra.specs.Depth.{plan_depth};
+ghost use Rattle.set_algebra.specs.Plan.{plan_of};
+ghost use Rattle.rewrites.specs.RulesAtPlaces.{Makes, MakesNothing, MakesTooDeep, AlwaysMeanTheSame};
+ghost use Rattle.rewrites.specs.Steps.{applied, all_applied};
+ghost use Rattle.rewrites.specs.declared.fault.ApplyFault.TheVariants.{NotApplicable, TooDeep};
+
+use crate::changing::change;
+use crate::fault::ApplyFault;
+use crate::rule::{Rule, Step};
+use set_algebra::ConceptPlan;
+use std::alloc::{AllocError, Global};
+
+/// The deepest plan that a rule may give.
+const DEEPEST: u64 = 1024;
+
+/// What the rule makes of the plan at the place (`specs/Rules.antt`, `specs/RulesAtPlaces.antt`): the plan with
+/// another node in the stead of the one there. It means the same over every release, and is at most 1,024 deep.
+///
+/// The place is a list of the numbers of children from the root, from 0. On a fault the plan given comes back:
+/// NotApplicable where the place names no node or the rule makes nothing of the node there, TooDeep where the
+/// plan would be deeper than 1,024, and Memory where memory ran out.
+pub fn apply(
+    alloc: Global,
+    plan: ConceptPlan,
+    rule: Rule,
+    place: &[u32],
+) -> Result<ConceptPlan, (ConceptPlan, ApplyFault)>
+    ensures taken { IfOk result (λ new. Makes rule place.now (plan_of plan) (plan_of new)) }
+    ensures shallow { IfOk result (λ new. plan_depth (plan_of new) ≤ 1024) }
+    ensures meaning { IfOk result (λ new. AlwaysMeanTheSame (plan_of plan) (plan_of new)) }
+    ensures given { IfErr result (λ refused. refused.0 ≡ plan) }
+    ensures not_applicable { IfErr result (λ refused. refused.1 ≡ NotApplicable → MakesNothing rule place.now (plan_of plan)) }
+    ensures too_deep { IfErr result (λ refused. refused.1 ≡ TooDeep → MakesTooDeep rule place.now (plan_of plan)) }
+{
+    match new_plan(alloc, &plan, rule, place) {
+        Ok(new) => Ok(new),
+        Err(fault) => Err((plan, fault)),
+    }
+}
+
+// The same, by a copy of the plan, so that it stays as it is on a fault.
+fn new_plan(
+    alloc: Global,
+    plan: &ConceptPlan,
+    rule: Rule,
+    place: &[u32],
+) -> Result<ConceptPlan, ApplyFault>
+    ensures taken { IfOk result (λ new. Makes rule place.now (plan_of plan.now) (plan_of new)) }
+    ensures shallow { IfOk result (λ new. plan_depth (plan_of new) ≤ 1024) }
+    ensures not_applicable { IfErr result (λ fault. fault ≡ NotApplicable → MakesNothing rule place.now (plan_of plan.now)) }
+    ensures too_deep { IfErr result (λ fault. fault ≡ TooDeep → MakesTooDeep rule place.now (plan_of plan.now)) }
+{
+    let mut new = plan.copy(alloc)?;
+    let fits = change(alloc, &mut new, rule, place)?;
+    if !fits {
+        return Err(ApplyFault::NotApplicable);
+    }
+    if new.depth() > DEEPEST {
+        return Err(ApplyFault::TooDeep);
+    }
+    Ok(new)
+}
+
+/// The plan after the steps in their order, and how many of them were used. A step that `apply` answers with
+/// NotApplicable or TooDeep is passed over. The error is want of memory, and then the plan is spent.
+pub fn apply_all(
+    alloc: Global,
+    plan: ConceptPlan,
+    steps: &[Step],
+) -> Result<(ConceptPlan, u64), AllocError>
+    ensures steps { IfOk result (λ done. all_applied steps.now (plan_of plan) 0 ≡ (plan_of done.0, done.1)) }
+    ensures meaning { IfOk result (λ done. AlwaysMeanTheSame (plan_of plan) (plan_of done.0)) }
+{
+    let mut plan = plan;
+    let mut used = 0u64;
+    for step in steps {
+        let (next, fits) = after(alloc, plan, step)?;
+        plan = next;
+        used += u64::from(fits);
+    }
+    Ok((plan, used))
+}
+
+// The plan after a step, and whether it was used.
+fn after(alloc: Global, plan: ConceptPlan, step: &Step) -> Result<(ConceptPlan, bool), AllocError>
+    ensures plan { IfOk result (λ next. plan_of next.0 ≡ unwrap_or (applied step.now (plan_of plan)) (plan_of plan)) }
+    ensures used { IfOk result (λ next. next.1 ≡ is_some (applied step.now (plan_of plan))) }
+    ensures meaning { IfOk result (λ next. AlwaysMeanTheSame (plan_of plan) (plan_of next.0)) }
+{
+    match apply(alloc, plan, step.rule, step.place) {
+        Ok(new) => Ok((new, true)),
+        Err((same, ApplyFault::NotApplicable)) => Ok((same, false)),
+        Err((same, ApplyFault::TooDeep)) => Ok((same, false)),
+        Err((_, ApplyFault::Memory)) => Err(AllocError),
+    }
+}

@@ -1,0 +1,66 @@
+//! Rules of braces: BraceOr, BraceOne and BraceGuard.
+ghost use Rattle.std.specs.Prelude.{◌≡◌, IfOk};
+ghost use Rattle.set_algebra.specs.Plan.{plan_of, plans_of, group_plans_of, units_plan};
+ghost use Rattle.rewrites.specs.Gives.{Gives};
+ghost use Rattle.rewrites.specs.PlanLists.{plans_of_each};
+ghost use Rattle.rewrites.specs.Rules.{rewritten};
+ghost use Rattle.rewrites.specs.declared.rule.Rule.TheVariants.{BraceOr, BraceOne, BraceGuard};
+
+use crate::counts::{asks_none, asks_some, at_least, fits};
+use crate::fault::RuleFault;
+use crate::made::{both, pairs, units};
+use constraint_tree::Cardinality;
+use set_algebra::views::{first_unit_of, unit_and_of, unit_or_of, unit_pairs_of, units_of};
+use set_algebra::{ConceptPlan, UnitPlan};
+use std::alloc::{AllocError, Global};
+
+#[tactic(auto, using(set_algebra::proofs::PlanLemmas::plans_of_items))]
+pub(crate) fn brace_or(alloc: Global, plan: &ConceptPlan) -> Result<ConceptPlan, RuleFault>
+    ensures { Gives (rewritten BraceOr (plan_of plan.now)) result }
+{
+    let (count, groups) = units_of(plan)?;
+    let parts = unit_or_of(groups)?;
+    if asks_some(count) {
+        return Ok(ConceptPlan::Or(each_units(alloc, count, parts)?));
+    }
+    fits(asks_none(count))?;
+    Ok(ConceptPlan::And(each_units(alloc, count, parts)?))
+}
+
+fn each_units(
+    alloc: Global,
+    count: Cardinality,
+    parts: &[UnitPlan],
+) -> Result<Vec<ConceptPlan>, AllocError>
+    ensures { IfOk result (λ made. plans_of made.items ≡ plans_of_each (units_plan count) (group_plans_of parts.now)) }
+{
+    let mut made = Vec::new(alloc);
+    for part in parts {
+        let new = units(alloc, count, part)?;
+        made.push(new)?;
+    }
+    Ok(made)
+}
+
+pub(crate) fn brace_one(alloc: Global, plan: &ConceptPlan) -> Result<ConceptPlan, RuleFault>
+    ensures { Gives (rewritten BraceOne (plan_of plan.now)) result }
+{
+    let (count, groups) = units_of(plan)?;
+    let (some, types, test) = unit_pairs_of(groups)?;
+    fits(asks_some(some))?;
+    fits(asks_some(count) || asks_none(count))?;
+    Ok(pairs(alloc, false, count, types, test)?)
+}
+
+pub(crate) fn brace_guard(alloc: Global, plan: &ConceptPlan) -> Result<ConceptPlan, RuleFault>
+    ensures { Gives (rewritten BraceGuard (plan_of plan.now)) result }
+{
+    let (count, groups) = units_of(plan)?;
+    let (first, _rest) = first_unit_of(unit_and_of(groups)?)?;
+    let (some, types, test) = unit_pairs_of(first)?;
+    fits(count.min >= 1)?;
+    fits(some.min >= 1)?;
+    let guard = pairs(alloc, false, at_least(1), types, test)?;
+    let guarded = units(alloc, count, groups)?;
+    Ok(both(alloc, guard, guarded)?)
+}

@@ -1,0 +1,87 @@
+//! Rules of the types and the test of pairs: TypesOr and TestOr.
+ghost use Rattle.std.specs.Prelude.{◌≡◌, IfOk};
+ghost use Rattle.set_algebra.specs.Plan.{plan_of, plans_of, test_plan_of, pairs_plan, within_plan};
+ghost use Rattle.rewrites.specs.Gives.{Gives};
+ghost use Rattle.rewrites.specs.PlanLists.{plans_each};
+ghost use Rattle.rewrites.specs.Rules.{rewritten};
+ghost use Rattle.rewrites.specs.declared.rule.Rule.TheVariants.{TypesOr, TestOr};
+
+use crate::counts::{asks_some, fits};
+use crate::fault::RuleFault;
+use crate::made::pairs;
+use constraint_tree::Cardinality;
+use set_algebra::copy::boxed;
+use set_algebra::views::{or_of, pairs_of, within_of};
+use set_algebra::{ConceptPlan, ValueTest};
+use std::alloc::{AllocError, Global};
+
+#[tactic(auto, using(set_algebra::proofs::PlanLemmas::plans_of_items))]
+pub(crate) fn types_or(alloc: Global, plan: &ConceptPlan) -> Result<ConceptPlan, RuleFault>
+    ensures { Gives (rewritten TypesOr (plan_of plan.now)) result }
+{
+    let (back, count, types, test) = pairs_of(plan)?;
+    let parts = or_of(types)?;
+    fits(asks_some(count))?;
+    Ok(ConceptPlan::Or(each_type(alloc, back, count, parts, test)?))
+}
+
+fn each_type(
+    alloc: Global,
+    back: bool,
+    count: Cardinality,
+    parts: &[ConceptPlan],
+    test: &ValueTest,
+) -> Result<Vec<ConceptPlan>, AllocError>
+    ensures { IfOk result (λ made. plans_of made.items ≡ plans_each (λ part. pairs_plan back count part (test_plan_of test.now)) (plans_of parts.now)) }
+{
+    let mut made = Vec::new(alloc);
+    for part in parts {
+        let new = pairs(alloc, back, count, part, test)?;
+        made.push(new)?;
+    }
+    Ok(made)
+}
+
+#[tactic(auto, using(set_algebra::proofs::PlanLemmas::plans_of_items))]
+pub(crate) fn test_or(alloc: Global, plan: &ConceptPlan) -> Result<ConceptPlan, RuleFault>
+    ensures { Gives (rewritten TestOr (plan_of plan.now)) result }
+{
+    let (back, count, types, test) = pairs_of(plan)?;
+    let parts = or_of(within_of(test)?)?;
+    fits(asks_some(count))?;
+    Ok(ConceptPlan::Or(each_value(alloc, back, count, types, parts)?))
+}
+
+fn each_value(
+    alloc: Global,
+    back: bool,
+    count: Cardinality,
+    types: &ConceptPlan,
+    parts: &[ConceptPlan],
+) -> Result<Vec<ConceptPlan>, AllocError>
+    ensures { IfOk result (λ made. plans_of made.items ≡ plans_each (λ part. pairs_plan back count (plan_of types.now) (within_plan part)) (plans_of parts.now)) }
+{
+    let mut made = Vec::new(alloc);
+    for part in parts {
+        let new = pairs_within(alloc, back, count, types, part)?;
+        made.push(new)?;
+    }
+    Ok(made)
+}
+
+fn pairs_within(
+    alloc: Global,
+    back: bool,
+    count: Cardinality,
+    types: &ConceptPlan,
+    operand: &ConceptPlan,
+) -> Result<ConceptPlan, AllocError>
+    ensures { IfOk result (λ new. plan_of new ≡ pairs_plan back count (plan_of types.now) (within_plan (plan_of operand.now))) }
+{
+    Ok(ConceptPlan::Pairs {
+        back,
+        count,
+        types: boxed(alloc, types)?,
+        test: ValueTest::Within(boxed(alloc, operand)?),
+    })
+}

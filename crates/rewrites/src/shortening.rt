@@ -1,0 +1,157 @@
+//! What RangeAll, BraceOne, Same and Only make of a node, in place and without memory.
+ghost use Rattle.std.specs.Prelude.{◌≡◌, true, None, MatchResult};
+ghost use Rattle.set_algebra.specs.Plan.{plan_of, plans_of, no_plans, plan_then, and_plan, or_plan};
+ghost use Rattle.set_algebra.specs.Views.{only_part};
+ghost use Rattle.rewrites.specs.Simplified.{begins_twice, tried, shortened};
+ghost use Rattle.rewrites.specs.declared.rule.Rule.TheVariants.{RangeAll, BraceOne, Same, Only};
+
+use crate::counts::{asks_none, asks_some};
+use crate::ranges::settled;
+use set_algebra::views::first_of;
+use set_algebra::{ConceptPlan, UnitPlan};
+use std::mem;
+
+#[tactic(auto, unfolding(crate::specs::Simplified::shortened))]
+pub(crate) fn shorten(plan: &mut ConceptPlan)
+    ensures { plan_of plan.new ≡ shortened (plan_of plan.old) }
+{
+    if is_short(plan) {
+        return;
+    }
+    let node = mem::replace(plan, ConceptPlan::Empty);
+    *plan = without_only(without_same(without_braces(without_range(node))));
+}
+
+// Whether the node is of a kind that none of the rules is about, so that it need not be moved.
+#[tactic(auto, unfolding(crate::specs::Simplified::shortened))]
+fn is_short(plan: &ConceptPlan) -> bool
+    ensures { result ≡ true → shortened (plan_of plan.now) ≡ plan_of plan.now }
+{
+    match plan {
+        ConceptPlan::Empty | ConceptPlan::All | ConceptPlan::One(_) => true,
+        ConceptPlan::Walk(_, _) => true,
+        ConceptPlan::Members(_) => true,
+        ConceptPlan::Values(_, _) => true,
+        _ => false,
+    }
+}
+
+// Where a rule below makes nothing of the node, it comes back as it is.
+fn without_range(plan: ConceptPlan) -> ConceptPlan
+    ensures { plan_of result ≡ tried RangeAll (plan_of plan) }
+{
+    match settled(&plan) {
+        Some(new) => new,
+        None => plan,
+    }
+}
+
+fn without_braces(plan: ConceptPlan) -> ConceptPlan
+    ensures { plan_of result ≡ tried BraceOne (plan_of plan) }
+{
+    match plan {
+        ConceptPlan::Units { count, mut units } => {
+            if !asks_some(count) && !asks_none(count) {
+                return ConceptPlan::Units { count, units };
+            }
+            match mem::replace(&mut *units, UnitPlan::Nothing) {
+                UnitPlan::Pairs {
+                    count: some,
+                    types,
+                    test,
+                } => {
+                    if asks_some(some) {
+                        return ConceptPlan::Pairs {
+                            back: false,
+                            count,
+                            types,
+                            test,
+                        };
+                    }
+                    *units = UnitPlan::Pairs {
+                        count: some,
+                        types,
+                        test,
+                    };
+                    ConceptPlan::Units { count, units }
+                }
+                other => {
+                    *units = other;
+                    ConceptPlan::Units { count, units }
+                }
+            }
+        }
+        other => other,
+    }
+}
+
+#[tactic(auto, using(set_algebra::proofs::PlanLemmas::plans_of_items))]
+fn without_same(plan: ConceptPlan) -> ConceptPlan
+    ensures { plan_of result ≡ tried Same (plan_of plan) }
+{
+    match plan {
+        ConceptPlan::And(parts) => ConceptPlan::And(fewer(parts)),
+        ConceptPlan::Or(parts) => ConceptPlan::Or(fewer(parts)),
+        ConceptPlan::Minus(first, second) => {
+            if *first == *second {
+                ConceptPlan::Empty
+            } else {
+                ConceptPlan::Minus(first, second)
+            }
+        }
+        other => other,
+    }
+}
+
+// The parts without the first, where the second is equal to it.
+fn fewer(parts: Vec<ConceptPlan>) -> Vec<ConceptPlan>
+    ensures and { and_plan (plans_of result.items) ≡ tried Same (and_plan (plans_of parts.items)) }
+    ensures or { or_plan (plans_of result.items) ≡ tried Same (or_plan (plans_of parts.items)) }
+{
+    let mut parts = parts;
+    if begins_twice(&parts) {
+        drop(parts.remove(0));
+    }
+    parts
+}
+
+// Whether the first two are equal.
+fn begins_twice(parts: &[ConceptPlan]) -> bool
+    ensures { result ≡ begins_twice (plans_of parts.now) }
+{
+    let Ok((first, others)) = first_of(parts) else {
+        return false;
+    };
+    let Ok((second, _rest)) = first_of(others) else {
+        return false;
+    };
+    *first == *second
+}
+
+#[tactic(auto, using(set_algebra::proofs::PlanLemmas::plans_of_items))]
+fn without_only(plan: ConceptPlan) -> ConceptPlan
+    ensures { plan_of result ≡ tried Only (plan_of plan) }
+{
+    match plan {
+        ConceptPlan::And(parts) => match take_only(parts) {
+            Ok(only) => only,
+            Err(parts) => ConceptPlan::And(parts),
+        },
+        ConceptPlan::Or(parts) => match take_only(parts) {
+            Ok(only) => only,
+            Err(parts) => ConceptPlan::Or(parts),
+        },
+        other => other,
+    }
+}
+
+// The only part, or the parts as they were.
+fn take_only(parts: Vec<ConceptPlan>) -> Result<ConceptPlan, Vec<ConceptPlan>>
+    ensures { MatchResult result (λ only. plans_of parts.items ≡ plan_then (plan_of only) no_plans) (λ same. (plans_of same.items ≡ plans_of parts.items) × (only_part (plans_of parts.items) ≡ None)) }
+{
+    let mut parts = parts;
+    if parts.len() != 1 {
+        return Err(parts);
+    }
+    Ok(parts.remove(0))
+}

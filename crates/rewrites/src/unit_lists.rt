@@ -1,0 +1,94 @@
+//! Lists of plans of groups, made of copies.
+ghost use Rattle.std.specs.Prelude.{◌≡◌, IfOk};
+ghost use Rattle.set_algebra.specs.Plan.{group_plan_of, group_plans_of, no_groups, group_then, and_group};
+ghost use Rattle.rewrites.specs.PlanLists.{groups_joined, groups_then, groups_each};
+
+use set_algebra::UnitPlan;
+use set_algebra::copy::each_unit;
+use std::alloc::{AllocError, Global};
+
+// One list after another.
+#[tactic(auto, using(crate::proofs::ListLemmas::group_lists))]
+pub(crate) fn joined(
+    alloc: Global,
+    parts: &[UnitPlan],
+    others: &[UnitPlan],
+) -> Result<Vec<UnitPlan>, AllocError>
+    ensures { IfOk result (λ both. group_plans_of both.items ≡ groups_joined (group_plans_of parts.now) (group_plans_of others.now)) }
+{
+    let mut both = each_unit(alloc, parts)?;
+    let mut others = each_unit(alloc, others)?;
+    both.append(&mut others)?;
+    Ok(both)
+}
+
+// A list with one more at its end.
+#[tactic(auto, using(crate::proofs::ListLemmas::group_lists))]
+pub(crate) fn with_last(
+    alloc: Global,
+    parts: &[UnitPlan],
+    last: &UnitPlan,
+) -> Result<Vec<UnitPlan>, AllocError>
+    ensures { IfOk result (λ all. group_plans_of all.items ≡ groups_then (group_plans_of parts.now) (group_plan_of last.now)) }
+{
+    let mut all = each_unit(alloc, parts)?;
+    all.push(last.copy(alloc)?)?;
+    Ok(all)
+}
+
+// A list with one more at its front.
+#[tactic(auto, using(crate::proofs::ListLemmas::group_lists))]
+pub(crate) fn with_first(
+    alloc: Global,
+    first: UnitPlan,
+    rest: &[UnitPlan],
+) -> Result<Vec<UnitPlan>, AllocError>
+    ensures { IfOk result (λ all. group_plans_of all.items ≡ group_then (group_plan_of first) (group_plans_of rest.now)) }
+{
+    let mut all = vec![in alloc; first]?;
+    let mut others = each_unit(alloc, rest)?;
+    all.append(&mut others)?;
+    Ok(all)
+}
+
+pub(crate) fn two(
+    alloc: Global,
+    one: &UnitPlan,
+    other: &UnitPlan,
+) -> Result<Vec<UnitPlan>, AllocError>
+    ensures { IfOk result (λ both. group_plans_of both.items ≡ group_then (group_plan_of one.now) (group_then (group_plan_of other.now) no_groups)) }
+{
+    let one = one.copy(alloc)?;
+    let other = other.copy(alloc)?;
+    Ok(vec![in alloc; one, other]?)
+}
+
+// The `And` of a plan and further ones.
+#[tactic(auto, using(set_algebra::proofs::PlanLemmas::plans_of_items))]
+pub(crate) fn and_first(
+    alloc: Global,
+    first: &UnitPlan,
+    rest: &[UnitPlan],
+) -> Result<UnitPlan, AllocError>
+    ensures { IfOk result (λ new. group_plan_of new ≡ and_group (group_then (group_plan_of first.now) (group_plans_of rest.now))) }
+{
+    let first = first.copy(alloc)?;
+    Ok(UnitPlan::And(with_first(alloc, first, rest)?))
+}
+
+// The `And` of each plan and further ones.
+#[tactic(auto, using(set_algebra::proofs::PlanLemmas::plans_of_items))]
+pub(crate) fn each_with(
+    alloc: Global,
+    parts: &[UnitPlan],
+    rest: &[UnitPlan],
+) -> Result<Vec<UnitPlan>, AllocError>
+    ensures { IfOk result (λ made. group_plans_of made.items ≡ groups_each (λ part. and_group (group_then part (group_plans_of rest.now))) (group_plans_of parts.now)) }
+{
+    let mut made = Vec::new(alloc);
+    for part in parts {
+        let new = and_first(alloc, part, rest)?;
+        made.push(new)?;
+    }
+    Ok(made)
+}

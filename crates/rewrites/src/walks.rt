@@ -1,0 +1,95 @@
+//! Rules of walks and members: WalkOr and WalkTwice.
+ghost use Rattle.std.specs.Prelude.{◌≡◌, IfOk};
+ghost use Rattle.set_algebra.specs.Plan.{plan_of, plans_of, walk_plan, members_plan};
+ghost use Rattle.rewrites.specs.Gives.{Gives};
+ghost use Rattle.rewrites.specs.PlanLists.{plans_each};
+ghost use Rattle.rewrites.specs.Rules.{rewritten, goes_through, walk_of_walk};
+ghost use Rattle.rewrites.specs.declared.rule.Rule.TheVariants.{WalkOr, WalkTwice};
+
+use crate::counts::fits;
+use crate::fault::RuleFault;
+use constraint_tree::Operator;
+use set_algebra::ConceptPlan;
+use set_algebra::copy::boxed;
+use set_algebra::views::{or_of, walk_of};
+use std::alloc::{AllocError, Global};
+
+#[tactic(auto, using(set_algebra::proofs::PlanLemmas::plans_of_items))]
+pub(crate) fn walk_or(alloc: Global, plan: &ConceptPlan) -> Result<ConceptPlan, RuleFault>
+    ensures { Gives (rewritten WalkOr (plan_of plan.now)) result }
+{
+    match plan {
+        ConceptPlan::Walk(operator, operand) => {
+            let parts = or_of(operand)?;
+            fits(goes_through(*operator))?;
+            Ok(ConceptPlan::Or(each_walk(alloc, *operator, parts)?))
+        }
+        ConceptPlan::Members(operand) => {
+            let parts = or_of(operand)?;
+            Ok(ConceptPlan::Or(each_members(alloc, parts)?))
+        }
+        _ => Err(RuleFault::NotApplicable),
+    }
+}
+
+// All but `!!>` and `!!<`, which look at the set as a whole.
+fn goes_through(operator: Operator) -> bool
+    ensures { result ≡ goes_through operator }
+{
+    match operator {
+        Operator::Top | Operator::Bottom => false,
+        _ => true,
+    }
+}
+
+fn each_walk(
+    alloc: Global,
+    operator: Operator,
+    parts: &[ConceptPlan],
+) -> Result<Vec<ConceptPlan>, AllocError>
+    ensures { IfOk result (λ made. plans_of made.items ≡ plans_each (walk_plan operator) (plans_of parts.now)) }
+{
+    let mut made = Vec::new(alloc);
+    for part in parts {
+        let new = ConceptPlan::Walk(operator, boxed(alloc, part)?);
+        made.push(new)?;
+    }
+    Ok(made)
+}
+
+fn each_members(alloc: Global, parts: &[ConceptPlan]) -> Result<Vec<ConceptPlan>, AllocError>
+    ensures { IfOk result (λ made. plans_of made.items ≡ plans_each members_plan (plans_of parts.now)) }
+{
+    let mut made = Vec::new(alloc);
+    for part in parts {
+        let new = ConceptPlan::Members(boxed(alloc, part)?);
+        made.push(new)?;
+    }
+    Ok(made)
+}
+
+pub(crate) fn walk_twice(alloc: Global, plan: &ConceptPlan) -> Result<ConceptPlan, RuleFault>
+    ensures { Gives (rewritten WalkTwice (plan_of plan.now)) result }
+{
+    let (outer, walk) = walk_of(plan)?;
+    let (inner, operand) = walk_of(walk)?;
+    let operator = walk_of_walk(outer, inner).ok_or(RuleFault::NotApplicable)?;
+    Ok(ConceptPlan::Walk(operator, boxed(alloc, operand)?))
+}
+
+// The one walk that a walk of a walk is.
+fn walk_of_walk(outer: Operator, inner: Operator) -> Option<Operator>
+    ensures { result ≡ walk_of_walk outer inner }
+{
+    match (outer, inner) {
+        (Operator::DescendantsOrSelf, Operator::DescendantsOrSelf) => Some(
+            Operator::DescendantsOrSelf,
+        ),
+        (Operator::DescendantsOrSelf, Operator::Descendants) => Some(Operator::Descendants),
+        (Operator::Descendants, Operator::DescendantsOrSelf) => Some(Operator::Descendants),
+        (Operator::AncestorsOrSelf, Operator::AncestorsOrSelf) => Some(Operator::AncestorsOrSelf),
+        (Operator::AncestorsOrSelf, Operator::Ancestors) => Some(Operator::Ancestors),
+        (Operator::Ancestors, Operator::AncestorsOrSelf) => Some(Operator::Ancestors),
+        _ => None,
+    }
+}
