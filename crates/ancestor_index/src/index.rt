@@ -1,5 +1,6 @@
 //! The index of a hierarchy, and its look-ups.
 ghost use Rattle.std.specs.Prelude.{◌≡◌, ◌↔◌, ◌<◌, IfOk, IfSome, IsSome, length};
+ghost use Rattle.std.specs.List.{concat};
 ghost use Rattle.std.specs.List.Sorted.{IsStrictlyIncreasing};
 ghost use Rattle.hierarchy.specs.KeyedLists.{list_of};
 ghost use Rattle.ancestor_index.specs.HierarchyLists.{hierarchy_of};
@@ -57,6 +58,20 @@ impl AncestorIndex {
             children,
             wide,
         })
+    }
+
+    /// How many pairs of a concept and one of its ancestors there are.
+    pub fn ancestor_count(&self) -> usize
+        ensures { result ≡ length (concat self.now.ancestors) }
+    {
+        self.ancestors.flat().len()
+    }
+
+    /// How many pairs of a concept and one of its parents there are.
+    pub fn link_count(&self) -> usize
+        ensures { result ≡ length (concat self.now.parents) }
+    {
+        self.parents.flat().len()
     }
 
     /// The concepts that a concept reaches by is-a rows, in rising order. `concept` is below the number

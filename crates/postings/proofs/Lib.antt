@@ -31,5 +31,6 @@ pub mod SourceLemmas
 pub mod SourceRowLemmas
 pub mod SourcesToldLemmas
 pub mod SpanLemmas
+pub mod StatsLemmas
 pub mod UnitLemmas
 pub mod ValueLemmas

@@ -2,7 +2,7 @@
 use Rattle.std.specs.Prelude.{◌≡◌, ◌<◌, ◌^◌, length}
 use Rattle.std.specs.List.Sorted.{IsStrictlyIncreasing}
 use Rattle.postings.specs.Coded.{rows_coded}
-use Rattle.postings.specs.Indexed.{Indexed}
+use Rattle.postings.specs.Indexed.{HasListsFor, Indexed}
 use Rattle.postings.specs.KeptRows.{rows_kept}
 use Rattle.postings.specs.RowIndexes.{AreRowIndexes}
 use Rattle.postings.specs.ValueTables.{texts_in}
@@ -19,9 +19,10 @@ indexed_in inside = record {
 }
 
 -- the concepts rise and have numbers of less than 31 bits; the rows and their lists are those that they stand for; and each
--- concept has a list of members
+-- concept has its lists in the hierarchy, and a list of members
 pub record AreIndexed (inside : Inside) : Type 0 where
   pub rising : IsStrictlyIncreasing inside.concepts.items
   pub few : length inside.concepts.items < 2 ^ 31
   pub rows : AreRowIndexes inside.concepts.items (indexed_in inside).rows inside.rows
+  pub hierarchy : HasListsFor (length inside.concepts.items) inside.hierarchy
   pub members : length inside.members ≡ length inside.concepts.items

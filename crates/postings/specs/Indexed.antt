@@ -30,6 +30,13 @@ pub record IsIndexOf (indexed : Indexed) (release : Release) : Type 0 where
   pub rows : indexed.rows ≡ attributes_by_source release
   pub members : indexed.members ≡ members_of release
 
+-- each concept below a count has a list in each of the four families of a hierarchy
+pub record HasListsFor (count : ℕ) (hierarchy : Hierarchy) : Type 0 where
+  pub ancestors : length hierarchy.ancestors ≡ count
+  pub descendants : length hierarchy.descendants ≡ count
+  pub parents : length hierarchy.parents ≡ count
+  pub children : length hierarchy.children ≡ count
+
 -- the numbers of the rows of a type, of those whose value is a concept, and of those of a source
 abbrev pub rows_by_type : Indexed → ℕ → List ℕ
 rows_by_type indexed id = places_where (λ (row : Attribute). row.type_id == id) indexed.rows

@@ -12,4 +12,5 @@ pub mod Packed
 pub mod Places
 pub mod RowColumns
 pub mod RowIndexes
+pub mod Stats
 pub mod ValueTables

@@ -2,16 +2,19 @@
 ghost use Rattle.std.specs.Prelude.{◌≡◌, ◌<◌, ◌+◌, ◌^◌, IfOk, IfSome, Some, length, slice_get, slice_index};
 ghost use Rattle.std.specs.List.Sorted.{IsSorted, IsStrictlyIncreasing};
 ghost use Rattle.std.specs.Ordering.{int_cmp};
+ghost use Rattle.rf2_rows.specs.Release.{Release};
 ghost use Rattle.rf2_rows.specs.Rows.{value_lent};
 ghost use Rattle.snapshot.specs.AttributesBySource.{attribute_of, with_source};
 ghost use Rattle.hierarchy.specs.KeyedLists.{list_of};
 ghost use Rattle.snapshot.specs.Numbering.{concept_number};
 ghost use Rattle.postings.specs.Groups.{group_of, groups_before, groups_in, rows_of_group};
-ghost use Rattle.postings.specs.Indexed.{IsIndexOf, rows_by_source, rows_by_type, rows_by_value, types_of, value_at, values_of};
+ghost use Rattle.postings.specs.Indexed.{HasListsFor, IsIndexOf, rows_by_source, rows_by_type, rows_by_value, types_of, value_at, values_of};
 ghost use Rattle.postings.specs.RowColumns.{AreTypeColumns, AreValueColumns};
+ghost use Rattle.postings.specs.Stats.{stats_in, stats_of};
 
 use crate::columns::{TypeColumns, ValueColumns};
 use crate::row_indexes::{RowIndexes, row_indexes};
+use crate::stats::Stats;
 use ancestor_index::{AncestorIndex, linked_lists};
 use hierarchy::KeyedLists;
 use rf2_rows::{Decimal, Value};
@@ -68,6 +71,23 @@ impl Indexes {
         ensures { result.now ≡ self.now.hierarchy }
     {
         &self.hierarchy
+    }
+
+    /// How much there is in the release. It costs no more than reading six numbers.
+    pub fn stats(&self) -> Stats
+        ensures counts { result ≡ stats_in self.now }
+        ensures release { (release : Release) → IsIndexOf self.now release → result ≡ stats_of release }
+        ensures lists { HasListsFor (length self.now.concepts) self.now.hierarchy }
+        ensures members { length self.now.members ≡ length self.now.concepts }
+    {
+        Stats {
+            n: self.concept_count() as u64,
+            a: self.row_count() as u64,
+            g: self.group_count() as u64,
+            r: self.hierarchy.ancestor_count() as u64,
+            l: self.hierarchy.link_count() as u64,
+            m: self.members.flat().len() as u64,
+        }
     }
 
     /// How many concepts are in force.

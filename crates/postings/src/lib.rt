@@ -13,9 +13,11 @@ mod lists;
 mod mark;
 mod row_indexes;
 mod rows;
+mod stats;
 mod values;
 
 pub use crate::columns::{TypeColumns, ValueColumns};
 pub use crate::index::Indexes;
 pub use crate::laws::{first_rows_tell_the_pairs, groups_are_counted};
 pub use crate::mark::Mark;
+pub use crate::stats::Stats;

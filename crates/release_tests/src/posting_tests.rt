@@ -2,7 +2,7 @@
 //!
 //! Concepts go by their numbers: A 0, B 1, C 2, D 3, T 4, U 5, X 6, Y 7, Q 8 and Root 9.
 use crate::load_tests::{MEMBERS, RELATIONSHIPS, replaced, sample, sample_with};
-use postings::{Indexes, Mark};
+use postings::{Indexes, Mark, Stats};
 use release_files::NamedBytes;
 use rf2_rows::Value;
 use snapshot::{Limits, LoadFault, Snapshot};
@@ -263,7 +263,21 @@ fn assert_marks(rt: &impl Abort, sources: &[Mark], groups: &[Mark], wants: &[Cel
     }
 }
 
+// Each of these releases has the concepts, the hierarchy and the members of the sample.
+fn assert_stats(rt: &impl Abort, indexes: &Indexes, wants: &Wants<'_>) {
+    let want = Stats {
+        n: 10,
+        a: wants.row_count as u64,
+        g: wants.groups.len() as u64,
+        r: 15,
+        l: 10,
+        m: 2,
+    };
+    assert!(rt; indexes.stats() == want);
+}
+
 fn assert_indexes(rt: &impl Abort, indexes: &Indexes, wants: &Wants<'_>) {
+    assert_stats(rt, indexes, wants);
     assert_eq!(rt; indexes.index_of(103007), Some(3));
     assert_eq!(rt; indexes.index_of(INACTIVE), None);
     assert_eq!(rt; indexes.row_count(), wants.row_count);

@@ -2,6 +2,7 @@ use Rattle.std.proofs.Common.{ℕ, ◌≡◌, ◌<◌, ◌^◌, List, length, su
 use Rattle.std.specs.List.Sorted.{IsStrictlyIncreasing}
 use Rattle.snapshot.specs.AttributesBySource.{attributes_by_source}
 use Rattle.postings.proofs.BuildLemmas.{indexes_of_own, length-members, members_told, rows_told}
+use Rattle.postings.proofs.StatsLemmas.{lists_for}
 use Rattle.postings.proofs.index.Indexes.build.Goals as goal
 
 pub invariant_of-result : goal.invariant_of-result
@@ -12,6 +13,7 @@ invariant_of-result c =
       rising = subst (λ (ids : List ℕ). IsStrictlyIncreasing ids) (sym same) c.concept_count.ensures.rising;
       few = subst (λ (ids : List ℕ). length ids < 2 ^ 31) (sym same) c.concept_count.ensures.few;
       rows = indexes_of_own release.concepts all (attributes_by_source release) c.in_ok-rows.rows same c.in_ok-rows.ensures;
+      hierarchy = lists_for all release c.in_ok-hierarchy.hierarchy same c.in_ok-hierarchy.ensures.hierarchy;
       members = length-members release.concepts all c.concept_count.result c.member_rows.result.now c.in_ok-members.members same
           c.concept_count.ensures.count c.in_ok-members.ensures;
     }

@@ -1,0 +1,13 @@
+pub mod AskedLemmas
+pub mod ChoosingLemmas
+pub mod ConceptLemmas
+pub mod FloorLemmas
+pub mod FrontLemmas
+pub mod LeadLemmas
+pub mod LeastLemmas
+pub mod ListLemmas
+pub mod LoopLemmas
+pub mod OfferedLemmas
+pub mod PartLemmas
+pub mod Rules
+pub mod TallyLemmas

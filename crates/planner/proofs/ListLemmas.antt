@@ -1,0 +1,48 @@
+-- Lists that are read from a place on, and lists in which a place is written later; numbers that stand still.
+use Rattle.std.proofs.Common.{ℕ, zero, suc, ◌+◌, ◌-◌, ◌*◌, ◌∷◌, ◌++◌, [], ◌≡◌, ◌≤◌, ◌^◌, ◌∙◌, List, length, drop, sym, ap, arith, zero-add, append_assoc, inl, inr}
+use Rattle.std.specs.List.{slice_set}
+use Rattle.std.proofs.Math.Nat.{mul-suc, mul_comm}
+use Rattle.std.proofs.Math.Seq.{drop-nil, set-append_seam}
+use Rattle.std.proofs.lemmas.Bool.{cases_lt}
+use Rattle.planner.specs.Bounds.{capped}
+
+-- to drop some, and then some more
+pub drop_further : {X : Type 0} (a b : ℕ) (xs : List X) → drop a (drop b xs) ≡ drop (b + a) xs
+drop_further a zero xs = (λ i. drop (sym (zero-add a) i) xs)
+drop_further a (suc b) [] = drop-nil a ∙ sym (drop-nil (suc b + a))
+drop_further a (suc b) (x ∷ xs) =
+    let more : suc (b + a) ≡ suc b + a = omega arith in
+    drop_further a b xs ∙ (λ i. drop (more i) (x ∷ xs))
+
+-- behind the first, the choices of its types, and those of its test
+pub drop_leaf : {X : Type 0} (a b : ℕ) (xs : List X) → drop b (drop a (drop 1 xs)) ≡ drop (suc (a + b)) xs
+drop_leaf a b [] = ap (drop b) (drop-nil a) ∙ drop-nil b ∙ sym (drop-nil (suc (a + b)))
+drop_leaf a b (x ∷ xs) = drop_further b a xs
+
+-- what is written at a place that was kept free
+pub put_seam : {X : Type 0} (xs ys : List X) (free x : X) → slice_set ((xs ++ free ∷ []) ++ ys) (length xs) x ≡ xs ++ (x ∷ ys)
+put_seam xs ys free x =
+    ap (λ (all : List _). slice_set all (length xs) x) (append_assoc xs (free ∷ []) ys) ∙ set-append_seam xs free ys x
+
+pub put_seam_two : {X : Type 0} (xs ys zs : List X) (free x : X)
+    → slice_set (((xs ++ free ∷ []) ++ ys) ++ zs) (length xs) x ≡ xs ++ (x ∷ (ys ++ zs))
+put_seam_two xs ys zs free x =
+    ap (λ (all : List _). slice_set all (length xs) x) (append_assoc (xs ++ free ∷ []) ys zs) ∙ put_seam xs (ys ++ zs) free x
+
+-- a product of a number that stands still
+pub capped_product : (number count : ℕ) → capped (capped number * count) ≡ capped (count * number)
+capped_product number count = elim (cases_lt number (2 ^ 64)) [
+  | inl small ↦
+      let same : capped number ≡ number = omega arith in
+      ap (λ (n : ℕ). capped (n * count)) same ∙ ap capped (mul_comm number count)
+  | inr large ↦
+      let still : capped number ≡ 2 ^ 64 - 1 = omega arith in
+      ap (λ (n : ℕ). capped (n * count)) still ∙ past number count large
+]
+  where
+    past : (number count : ℕ) → 2 ^ 64 ≤ number → capped ((2 ^ 64 - 1) * count) ≡ capped (count * number)
+    past number zero large = omega arith
+    past number (suc count) large =
+        let left : (2 ^ 64 - 1) * suc count ≡ (2 ^ 64 - 1) * count + (2 ^ 64 - 1) = mul-suc (2 ^ 64 - 1) count in
+        let right : suc count * number ≡ number * count + number = mul_comm (suc count) number ∙ mul-suc number count in
+        omega (arith, left, right)

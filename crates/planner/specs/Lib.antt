@@ -1,0 +1,15 @@
+pub mod Alternatives
+pub mod Asked
+pub mod Bounds
+pub mod Chosen
+pub mod Counts
+pub mod Floors
+pub mod Leads
+pub mod Leaves
+pub mod Nodes
+pub mod Offered
+pub mod Physical
+pub mod PhysicalInside
+pub mod Sizes
+pub mod Tallies
+pub mod WorkedBounds

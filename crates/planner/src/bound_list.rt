@@ -1,0 +1,329 @@
+//! The own bounds of all nodes of a plan, a node before its children.
+ghost use Rattle.std.specs.Prelude.{◌≡◌, ◌<◌, ◌*◌, ◌++◌, ◌∷◌, [], IfOk, OnOk, drop, length};
+ghost use Rattle.std.specs.List.{slice_set};
+ghost use Rattle.set_algebra.specs.Plan.{group_plan_of, group_plans_of, plan_of, plans_of, test_plan_of};
+ghost use Rattle.planner.specs.Bounds.{capped, own_bounds, own_list};
+ghost use Rattle.planner.specs.Leaves.{group_count, group_leaves, groups_leaves, leaves, plan_count, plans_leaves, test_leaves};
+ghost use Rattle.planner.specs.Nodes.{group_list, groups_list, node_list, plans_list, test_list};
+ghost use Rattle.planner.specs.Sizes.{group_size, group_sizes, least_of, size as size_of, sizes, test_size, total};
+
+use crate::choice::{Choice, after_first, first_choice};
+use crate::counts::{concepts, groups, leaf, members, units as units_of, values, walk};
+use crate::leaf::capped_number;
+use crate::tally::Tally;
+use postings::Indexes;
+use set_algebra::{ConceptPlan, UnitPlan, ValueTest};
+use std::alloc::AllocError;
+
+/// How much a plan finds at most, and the choices behind its own.
+#[derive(Clone, Copy)]
+pub struct Listed<'a> {
+    /// In concepts or groups; exact.
+    pub size: u64,
+    /// The choices of the leaves behind the plan.
+    pub rest: &'a [Choice],
+}
+
+// The same of some plans together.
+#[derive(Clone, Copy)]
+struct ListedParts<'a> {
+    tally: Tally,
+    // how many they are, and so many times the sum of their sizes
+    count: u64,
+    product: u64,
+    rest: &'a [Choice],
+}
+
+/// Adds the own bounds of a plan of concepts, whose choices are those at the front of a list.
+#[cycle(list)]
+#[tactic(auto, using(crate::proofs::Rules::listing))]
+pub fn list<'a>(
+    plan: &ConceptPlan,
+    choices: &'a [Choice],
+    indexes: &Indexes,
+    bounds: &mut Vec<u64>,
+) -> Result<Listed<'a>, AllocError>
+    ensures bounds { OnOk result (bounds.new.items ≡ bounds.old.items ++ own_bounds indexes.now choices.now (plan_of plan.now)) }
+    ensures size { IfOk result (λ found. found.size ≡ size_of indexes.now choices.now (plan_of plan.now)) }
+    ensures rest { IfOk result (λ found. found.rest.now ≡ drop (leaves (plan_of plan.now)) choices.now) }
+{
+    let at = open(bounds)?;
+    match plan {
+        ConceptPlan::Empty => Ok(Listed {
+            size: 0,
+            rest: choices,
+        }),
+        ConceptPlan::All => Ok(Listed {
+            size: concepts(indexes),
+            rest: choices,
+        }),
+        ConceptPlan::One(_) => Ok(Listed {
+            size: 1,
+            rest: choices,
+        }),
+        ConceptPlan::Walk(operator, operand) => {
+            let inner = list(operand, choices, indexes, bounds)?;
+            let own = walk(indexes, *operator, operand, inner.size);
+            close(bounds, at, own.bound);
+            Ok(Listed {
+                size: own.size,
+                rest: inner.rest,
+            })
+        }
+        ConceptPlan::Members(operand) => {
+            let inner = list(operand, choices, indexes, bounds)?;
+            let own = members(indexes, operand, inner.size);
+            close(bounds, at, own.bound);
+            Ok(Listed {
+                size: own.size,
+                rest: inner.rest,
+            })
+        }
+        ConceptPlan::And(parts) => {
+            let inner = list_parts(parts, concepts(indexes), choices, indexes, bounds)?;
+            close(bounds, at, inner.tally.twice());
+            Ok(Listed {
+                size: inner.tally.least,
+                rest: inner.rest,
+            })
+        }
+        ConceptPlan::Or(parts) => {
+            let inner = list_parts(parts, concepts(indexes), choices, indexes, bounds)?;
+            close(bounds, at, inner.product);
+            Ok(Listed {
+                size: concepts(indexes).min(inner.tally.sum),
+                rest: inner.rest,
+            })
+        }
+        ConceptPlan::Minus(first, second) => {
+            let left = list(first, choices, indexes, bounds)?;
+            let right = list(second, left.rest, indexes, bounds)?;
+            close(bounds, at, left.size.saturating_add(right.size));
+            Ok(Listed {
+                size: left.size,
+                rest: right.rest,
+            })
+        }
+        ConceptPlan::Values(start, names) => {
+            let from = list(start, choices, indexes, bounds)?;
+            let types = list_parts(names, 0, from.rest, indexes, bounds)?;
+            let own = values(indexes, types.count, from.size);
+            close(bounds, at, own.bound);
+            Ok(Listed {
+                size: own.size,
+                rest: types.rest,
+            })
+        }
+        ConceptPlan::Pairs {
+            back,
+            count,
+            types,
+            test,
+        } => {
+            let of_types = list(types, after_first(choices), indexes, bounds)?;
+            let of_test = list_test(test, of_types.rest, indexes, bounds)?;
+            let leaf = leaf(
+                indexes,
+                concepts(indexes),
+                *back,
+                *count,
+                types,
+                test,
+                of_types.size,
+                of_test.size,
+            );
+            let choice = first_choice(choices);
+            close(bounds, at, capped_number(leaf.bound(choice)));
+            Ok(Listed {
+                size: leaf.size(choice),
+                rest: of_test.rest,
+            })
+        }
+        ConceptPlan::Units { count, units } => {
+            let inner = list_units(units, choices, indexes, bounds)?;
+            let own = units_of(*count, concepts(indexes), inner.size);
+            close(bounds, at, own.bound);
+            Ok(Listed {
+                size: own.size,
+                rest: inner.rest,
+            })
+        }
+    }
+}
+
+// Adds those of a plan of groups.
+#[cycle(list)]
+#[tactic(auto, using(crate::proofs::Rules::listing))]
+fn list_units<'a>(
+    plan: &UnitPlan,
+    choices: &'a [Choice],
+    indexes: &Indexes,
+    bounds: &mut Vec<u64>,
+) -> Result<Listed<'a>, AllocError>
+    ensures bounds { OnOk result (bounds.new.items ≡ bounds.old.items ++ group_list (own_list indexes.now) choices.now (group_plan_of plan.now)) }
+    ensures size { IfOk result (λ found. found.size ≡ group_size indexes.now choices.now (group_plan_of plan.now)) }
+    ensures rest { IfOk result (λ found. found.rest.now ≡ drop (group_leaves (group_plan_of plan.now)) choices.now) }
+{
+    let at = open(bounds)?;
+    match plan {
+        UnitPlan::Nothing => Ok(Listed {
+            size: 0,
+            rest: choices,
+        }),
+        UnitPlan::Every => Ok(Listed {
+            size: groups(indexes),
+            rest: choices,
+        }),
+        UnitPlan::And(parts) => {
+            let inner = list_unit_parts(parts, groups(indexes), choices, indexes, bounds)?;
+            close(bounds, at, inner.tally.twice());
+            Ok(Listed {
+                size: inner.tally.least,
+                rest: inner.rest,
+            })
+        }
+        UnitPlan::Or(parts) => {
+            let inner = list_unit_parts(parts, groups(indexes), choices, indexes, bounds)?;
+            close(bounds, at, inner.product);
+            Ok(Listed {
+                size: groups(indexes).min(inner.tally.sum),
+                rest: inner.rest,
+            })
+        }
+        UnitPlan::Minus(first, second) => {
+            let left = list_units(first, choices, indexes, bounds)?;
+            let right = list_units(second, left.rest, indexes, bounds)?;
+            close(bounds, at, left.size.saturating_add(right.size));
+            Ok(Listed {
+                size: left.size,
+                rest: right.rest,
+            })
+        }
+        UnitPlan::Pairs { count, types, test } => {
+            let of_types = list(types, after_first(choices), indexes, bounds)?;
+            let of_test = list_test(test, of_types.rest, indexes, bounds)?;
+            let leaf = leaf(
+                indexes,
+                groups(indexes),
+                false,
+                *count,
+                types,
+                test,
+                of_types.size,
+                of_test.size,
+            );
+            let choice = first_choice(choices);
+            close(bounds, at, capped_number(leaf.bound(choice)));
+            Ok(Listed {
+                size: leaf.size(choice),
+                rest: of_test.rest,
+            })
+        }
+    }
+}
+
+// Adds those of the plan of a test, if it has one.
+#[cycle(list)]
+fn list_test<'a>(
+    test: &ValueTest,
+    choices: &'a [Choice],
+    indexes: &Indexes,
+    bounds: &mut Vec<u64>,
+) -> Result<Listed<'a>, AllocError>
+    ensures bounds { OnOk result (bounds.new.items ≡ bounds.old.items ++ test_list (own_list indexes.now) choices.now (test_plan_of test.now)) }
+    ensures size { IfOk result (λ found. found.size ≡ test_size indexes.now choices.now (test_plan_of test.now)) }
+    ensures rest { IfOk result (λ found. found.rest.now ≡ drop (test_leaves (test_plan_of test.now)) choices.now) }
+{
+    match test {
+        ValueTest::Within(operand) | ValueTest::Outside(operand) => {
+            let found = list(operand, choices, indexes, bounds)?;
+            Ok(found)
+        }
+        ValueTest::Number(_, _) => Ok(Listed {
+            size: 0,
+            rest: choices,
+        }),
+    }
+}
+
+// Adds those of some plans of concepts.
+#[cycle(list)]
+fn list_parts<'a>(
+    parts: &[ConceptPlan],
+    all: u64,
+    choices: &'a [Choice],
+    indexes: &Indexes,
+    bounds: &mut Vec<u64>,
+) -> Result<ListedParts<'a>, AllocError>
+    ensures bounds { OnOk result (bounds.new.items ≡ bounds.old.items ++ plans_list (own_list indexes.now) choices.now (plans_of parts.now)) }
+    ensures count { IfOk result (λ found. found.count ≡ plan_count (plans_of parts.now)) }
+    ensures product { IfOk result (λ found. found.product ≡ capped (plan_count (plans_of parts.now) * total (sizes indexes.now choices.now (plans_of parts.now)))) }
+    ensures sum { IfOk result (λ found. found.tally.sum ≡ capped (total (sizes indexes.now choices.now (plans_of parts.now)))) }
+    ensures least { IfOk result (λ found. found.tally.least ≡ least_of all (sizes indexes.now choices.now (plans_of parts.now))) }
+    ensures rest { IfOk result (λ found. found.rest.now ≡ drop (plans_leaves (plans_of parts.now)) choices.now) }
+{
+    let mut tally = Tally::none(all);
+    let mut rest = choices;
+    for place in 0..parts.len() {
+        let part = list(&parts[place], rest, indexes, bounds)?;
+        tally = tally.with(place as u64, part.size);
+        rest = part.rest;
+    }
+    let count = parts.len() as u64;
+    Ok(ListedParts {
+        tally,
+        count,
+        product: tally.sum.saturating_mul(count),
+        rest,
+    })
+}
+
+// Adds those of some plans of groups.
+#[cycle(list)]
+fn list_unit_parts<'a>(
+    parts: &[UnitPlan],
+    all: u64,
+    choices: &'a [Choice],
+    indexes: &Indexes,
+    bounds: &mut Vec<u64>,
+) -> Result<ListedParts<'a>, AllocError>
+    ensures bounds { OnOk result (bounds.new.items ≡ bounds.old.items ++ groups_list (own_list indexes.now) choices.now (group_plans_of parts.now)) }
+    ensures count { IfOk result (λ found. found.count ≡ group_count (group_plans_of parts.now)) }
+    ensures product { IfOk result (λ found. found.product ≡ capped (group_count (group_plans_of parts.now) * total (group_sizes indexes.now choices.now (group_plans_of parts.now)))) }
+    ensures sum { IfOk result (λ found. found.tally.sum ≡ capped (total (group_sizes indexes.now choices.now (group_plans_of parts.now)))) }
+    ensures least { IfOk result (λ found. found.tally.least ≡ least_of all (group_sizes indexes.now choices.now (group_plans_of parts.now))) }
+    ensures rest { IfOk result (λ found. found.rest.now ≡ drop (groups_leaves (group_plans_of parts.now)) choices.now) }
+{
+    let mut tally = Tally::none(all);
+    let mut rest = choices;
+    for place in 0..parts.len() {
+        let part = list_units(&parts[place], rest, indexes, bounds)?;
+        tally = tally.with(place as u64, part.size);
+        rest = part.rest;
+    }
+    let count = parts.len() as u64;
+    Ok(ListedParts {
+        tally,
+        count,
+        product: tally.sum.saturating_mul(count),
+        rest,
+    })
+}
+
+// A place for the bound of a node, before those of its children.
+fn open(bounds: &mut Vec<u64>) -> Result<usize, AllocError>
+    ensures bounds { OnOk result (bounds.new.items ≡ bounds.old.items ++ 0 ∷ []) }
+    ensures at { IfOk result (λ at. at ≡ length bounds.old.items) }
+{
+    let at = bounds.len();
+    bounds.push(0)?;
+    Ok(at)
+}
+
+// Puts a bound in its place.
+fn close(bounds: &mut Vec<u64>, at: usize, bound: u64)
+    requires { at < length bounds.old.items }
+    ensures { bounds.new.items ≡ slice_set bounds.old.items at bound }
+{
+    bounds[at] = bound;
+}

@@ -1,0 +1,45 @@
+//! The ways in which a leaf of a plan can be answered.
+ghost use Rattle.std.specs.Prelude.{◌≡◌, drop};
+ghost use Rattle.planner.specs.Leaves.{first_choice as first_choice_of, first_of};
+
+/// Which attribute rows a leaf of a plan is answered from. A leaf is a node that counts pairs, of concepts or of groups
+/// (Expression Constraint Language, "Refinements").
+#[derive(Clone, Copy, Debug, PartialEq, Eq)]
+pub enum Choice {
+    /// Those of the values that pass its test, which says within which set a value is.
+    ByValue,
+    /// Those of its types.
+    ByType,
+    /// All.
+    Scan,
+}
+
+/// The first of some choices; where there is none the leaf is scanned.
+pub fn first_choice(choices: &[Choice]) -> Choice
+    ensures { result ≡ first_choice_of choices.now }
+{
+    match choices.first() {
+        Some(choice) => *choice,
+        None => Choice::Scan,
+    }
+}
+
+/// The choices behind the first.
+pub fn after_first(choices: &[Choice]) -> &[Choice]
+    ensures { result.now ≡ drop 1 choices.now }
+{
+    match choices.split_first() {
+        Some((_, rest)) => rest,
+        None => choices,
+    }
+}
+
+/// The first of some choices, if there is one.
+pub fn first(choices: &[Choice]) -> Option<Choice>
+    ensures { result ≡ first_of choices.now }
+{
+    match choices.first() {
+        Some(choice) => Some(*choice),
+        None => None,
+    }
+}

@@ -1,0 +1,425 @@
+//! The choices of a plan, and which part of each node that joins sets by AND is taken first.
+ghost use Rattle.std.specs.Prelude.{◌≡◌, ◌<◌, ◌++◌, ◌∷◌, [], IfOk, OnOk, drop, length};
+ghost use Rattle.std.specs.List.{slice_set};
+ghost use Rattle.set_algebra.specs.Plan.{group_plan_of, group_plans_of, plan_of, plans_of, test_plan_of};
+ghost use Rattle.planner.specs.Bounds.{capped};
+ghost use Rattle.planner.specs.Chosen.{chosen, group_chosen, groups_chosen, plans_chosen, test_chosen};
+ghost use Rattle.planner.specs.Leads.{lead_list, lead_of};
+ghost use Rattle.planner.specs.Leaves.{group_count, group_leaves, groups_leaves, leaves, plan_count, plans_leaves, test_leaves};
+ghost use Rattle.planner.specs.Nodes.{group_list, groups_list, node_list, plans_list, test_list};
+ghost use Rattle.planner.specs.Sizes.{group_size, group_sizes, least_of, size as size_of, sizes, test_size, total};
+
+use crate::choice::{Choice, after_first, first};
+use crate::counts::{concepts, groups, leaf, members, units as units_of, values, walk};
+use crate::tally::Tally;
+use postings::Indexes;
+use set_algebra::{ConceptPlan, UnitPlan, ValueTest};
+use std::alloc::{AllocError, Global};
+
+/// The choices of the leaves so far, and the places of the parts that are taken first.
+#[derive(Drop)]
+pub struct Choosing {
+    /// A node before its children.
+    pub choices: Vec<Choice>,
+    /// One for each node of either sort that joins sets by AND, a node before its children.
+    pub leads: Vec<u64>,
+}
+
+/// How much a plan finds at most, and the choices behind its own, both those that are asked for and those in their place.
+#[derive(Clone, Copy)]
+pub struct Settled<'a> {
+    /// In concepts or groups; exact.
+    pub size: u64,
+    /// Of the choices that are asked for those behind the plan.
+    pub asked: &'a [Choice],
+    /// Of the others those behind the plan.
+    pub others: &'a [Choice],
+}
+
+// The same of some plans together.
+#[derive(Clone, Copy)]
+struct SettledParts<'a> {
+    tally: Tally,
+    count: u64,
+    asked: &'a [Choice],
+    others: &'a [Choice],
+}
+
+/// Nothing chosen yet.
+pub fn nothing_chosen(alloc: Global) -> Choosing
+    ensures choices { result.choices.items ≡ [] }
+    ensures leads { result.leads.items ≡ [] }
+{
+    Choosing {
+        choices: Vec::new(alloc),
+        leads: Vec::new(alloc),
+    }
+}
+
+/// Adds the choices of a plan of concepts: of each leaf the one that is asked for, where it offers it; else another, where there
+/// is one; else the least. It goes through the plan once.
+#[cycle(settle)]
+#[tactic(auto, using(crate::proofs::Rules::settling))]
+pub fn settle<'a>(
+    plan: &ConceptPlan,
+    asked: &'a [Choice],
+    others: &'a [Choice],
+    indexes: &Indexes,
+    choosing: &mut Choosing,
+) -> Result<Settled<'a>, AllocError>
+    ensures choices { OnOk result (choosing.new.choices.items ≡ choosing.old.choices.items ++ chosen indexes.now asked.now others.now (plan_of plan.now)) }
+    ensures leads { OnOk result (choosing.new.leads.items ≡ choosing.old.leads.items ++ node_list (lead_list indexes.now) (chosen indexes.now asked.now others.now (plan_of plan.now)) (plan_of plan.now)) }
+    ensures size { IfOk result (λ found. found.size ≡ size_of indexes.now (chosen indexes.now asked.now others.now (plan_of plan.now)) (plan_of plan.now)) }
+    ensures asked { IfOk result (λ found. found.asked.now ≡ drop (leaves (plan_of plan.now)) asked.now) }
+    ensures others { IfOk result (λ found. found.others.now ≡ drop (leaves (plan_of plan.now)) others.now) }
+{
+    match plan {
+        ConceptPlan::Empty => Ok(Settled {
+            size: 0,
+            asked,
+            others,
+        }),
+        ConceptPlan::All => Ok(Settled {
+            size: concepts(indexes),
+            asked,
+            others,
+        }),
+        ConceptPlan::One(_) => Ok(Settled {
+            size: 1,
+            asked,
+            others,
+        }),
+        ConceptPlan::Walk(operator, operand) => {
+            let inner = settle(operand, asked, others, indexes, choosing)?;
+            Ok(Settled {
+                size: walk(indexes, *operator, operand, inner.size).size,
+                asked: inner.asked,
+                others: inner.others,
+            })
+        }
+        ConceptPlan::Members(operand) => {
+            let inner = settle(operand, asked, others, indexes, choosing)?;
+            Ok(Settled {
+                size: members(indexes, operand, inner.size).size,
+                asked: inner.asked,
+                others: inner.others,
+            })
+        }
+        ConceptPlan::And(parts) => {
+            let at = free_lead(choosing)?;
+            let inner = settle_parts(parts, concepts(indexes), asked, others, indexes, choosing)?;
+            put_lead(choosing, at, inner.tally.lead);
+            Ok(Settled {
+                size: inner.tally.least,
+                asked: inner.asked,
+                others: inner.others,
+            })
+        }
+        ConceptPlan::Or(parts) => {
+            let inner = settle_parts(parts, concepts(indexes), asked, others, indexes, choosing)?;
+            Ok(Settled {
+                size: concepts(indexes).min(inner.tally.sum),
+                asked: inner.asked,
+                others: inner.others,
+            })
+        }
+        ConceptPlan::Minus(first, second) => {
+            let left = settle(first, asked, others, indexes, choosing)?;
+            let right = settle(second, left.asked, left.others, indexes, choosing)?;
+            Ok(Settled {
+                size: left.size,
+                asked: right.asked,
+                others: right.others,
+            })
+        }
+        ConceptPlan::Values(start, names) => {
+            let from = settle(start, asked, others, indexes, choosing)?;
+            let types = settle_parts(names, 0, from.asked, from.others, indexes, choosing)?;
+            Ok(Settled {
+                size: values(indexes, types.count, from.size).size,
+                asked: types.asked,
+                others: types.others,
+            })
+        }
+        ConceptPlan::Pairs {
+            back,
+            count,
+            types,
+            test,
+        } => {
+            let at = free_choice(choosing)?;
+            let of_types = settle(
+                types,
+                after_first(asked),
+                after_first(others),
+                indexes,
+                choosing,
+            )?;
+            let of_test = settle_test(test, of_types.asked, of_types.others, indexes, choosing)?;
+            let leaf = leaf(
+                indexes,
+                concepts(indexes),
+                *back,
+                *count,
+                types,
+                test,
+                of_types.size,
+                of_test.size,
+            );
+            let choice = leaf.choice(first(asked), first(others));
+            put_choice(choosing, at, choice);
+            Ok(Settled {
+                size: leaf.size(choice),
+                asked: of_test.asked,
+                others: of_test.others,
+            })
+        }
+        ConceptPlan::Units { count, units } => {
+            let inner = settle_units(units, asked, others, indexes, choosing)?;
+            Ok(Settled {
+                size: units_of(*count, concepts(indexes), inner.size).size,
+                asked: inner.asked,
+                others: inner.others,
+            })
+        }
+    }
+}
+
+// Adds those of a plan of groups.
+#[cycle(settle)]
+#[tactic(auto, using(crate::proofs::Rules::settling))]
+fn settle_units<'a>(
+    plan: &UnitPlan,
+    asked: &'a [Choice],
+    others: &'a [Choice],
+    indexes: &Indexes,
+    choosing: &mut Choosing,
+) -> Result<Settled<'a>, AllocError>
+    ensures choices { OnOk result (choosing.new.choices.items ≡ choosing.old.choices.items ++ group_chosen indexes.now asked.now others.now (group_plan_of plan.now)) }
+    ensures leads { OnOk result (choosing.new.leads.items ≡ choosing.old.leads.items ++ group_list (lead_list indexes.now) (group_chosen indexes.now asked.now others.now (group_plan_of plan.now)) (group_plan_of plan.now)) }
+    ensures size { IfOk result (λ found. found.size ≡ group_size indexes.now (group_chosen indexes.now asked.now others.now (group_plan_of plan.now)) (group_plan_of plan.now)) }
+    ensures asked { IfOk result (λ found. found.asked.now ≡ drop (group_leaves (group_plan_of plan.now)) asked.now) }
+    ensures others { IfOk result (λ found. found.others.now ≡ drop (group_leaves (group_plan_of plan.now)) others.now) }
+{
+    match plan {
+        UnitPlan::Nothing => Ok(Settled {
+            size: 0,
+            asked,
+            others,
+        }),
+        UnitPlan::Every => Ok(Settled {
+            size: groups(indexes),
+            asked,
+            others,
+        }),
+        UnitPlan::And(parts) => {
+            let at = free_lead(choosing)?;
+            let inner = settle_unit_parts(
+                parts,
+                groups(indexes),
+                asked,
+                others,
+                indexes,
+                choosing,
+            )?;
+            put_lead(choosing, at, inner.tally.lead);
+            Ok(Settled {
+                size: inner.tally.least,
+                asked: inner.asked,
+                others: inner.others,
+            })
+        }
+        UnitPlan::Or(parts) => {
+            let inner = settle_unit_parts(
+                parts,
+                groups(indexes),
+                asked,
+                others,
+                indexes,
+                choosing,
+            )?;
+            Ok(Settled {
+                size: groups(indexes).min(inner.tally.sum),
+                asked: inner.asked,
+                others: inner.others,
+            })
+        }
+        UnitPlan::Minus(first, second) => {
+            let left = settle_units(first, asked, others, indexes, choosing)?;
+            let right = settle_units(second, left.asked, left.others, indexes, choosing)?;
+            Ok(Settled {
+                size: left.size,
+                asked: right.asked,
+                others: right.others,
+            })
+        }
+        UnitPlan::Pairs { count, types, test } => {
+            let at = free_choice(choosing)?;
+            let of_types = settle(
+                types,
+                after_first(asked),
+                after_first(others),
+                indexes,
+                choosing,
+            )?;
+            let of_test = settle_test(test, of_types.asked, of_types.others, indexes, choosing)?;
+            let leaf = leaf(
+                indexes,
+                groups(indexes),
+                false,
+                *count,
+                types,
+                test,
+                of_types.size,
+                of_test.size,
+            );
+            let choice = leaf.choice(first(asked), first(others));
+            put_choice(choosing, at, choice);
+            Ok(Settled {
+                size: leaf.size(choice),
+                asked: of_test.asked,
+                others: of_test.others,
+            })
+        }
+    }
+}
+
+// Adds those of the plan of a test, if it has one.
+#[cycle(settle)]
+fn settle_test<'a>(
+    test: &ValueTest,
+    asked: &'a [Choice],
+    others: &'a [Choice],
+    indexes: &Indexes,
+    choosing: &mut Choosing,
+) -> Result<Settled<'a>, AllocError>
+    ensures choices { OnOk result (choosing.new.choices.items ≡ choosing.old.choices.items ++ test_chosen indexes.now asked.now others.now (test_plan_of test.now)) }
+    ensures leads { OnOk result (choosing.new.leads.items ≡ choosing.old.leads.items ++ test_list (lead_list indexes.now) (test_chosen indexes.now asked.now others.now (test_plan_of test.now)) (test_plan_of test.now)) }
+    ensures size { IfOk result (λ found. found.size ≡ test_size indexes.now (test_chosen indexes.now asked.now others.now (test_plan_of test.now)) (test_plan_of test.now)) }
+    ensures asked { IfOk result (λ found. found.asked.now ≡ drop (test_leaves (test_plan_of test.now)) asked.now) }
+    ensures others { IfOk result (λ found. found.others.now ≡ drop (test_leaves (test_plan_of test.now)) others.now) }
+{
+    match test {
+        ValueTest::Within(operand) | ValueTest::Outside(operand) => {
+            let found = settle(operand, asked, others, indexes, choosing)?;
+            Ok(found)
+        }
+        ValueTest::Number(_, _) => Ok(Settled {
+            size: 0,
+            asked,
+            others,
+        }),
+    }
+}
+
+// Adds those of some plans of concepts.
+#[cycle(settle)]
+fn settle_parts<'a>(
+    parts: &[ConceptPlan],
+    all: u64,
+    asked: &'a [Choice],
+    others: &'a [Choice],
+    indexes: &Indexes,
+    choosing: &mut Choosing,
+) -> Result<SettledParts<'a>, AllocError>
+    ensures choices { OnOk result (choosing.new.choices.items ≡ choosing.old.choices.items ++ plans_chosen indexes.now asked.now others.now (plans_of parts.now)) }
+    ensures leads { OnOk result (choosing.new.leads.items ≡ choosing.old.leads.items ++ plans_list (lead_list indexes.now) (plans_chosen indexes.now asked.now others.now (plans_of parts.now)) (plans_of parts.now)) }
+    ensures count { IfOk result (λ found. found.count ≡ plan_count (plans_of parts.now)) }
+    ensures sum { IfOk result (λ found. found.tally.sum ≡ capped (total (sizes indexes.now (plans_chosen indexes.now asked.now others.now (plans_of parts.now)) (plans_of parts.now)))) }
+    ensures least { IfOk result (λ found. found.tally.least ≡ least_of all (sizes indexes.now (plans_chosen indexes.now asked.now others.now (plans_of parts.now)) (plans_of parts.now))) }
+    ensures lead { IfOk result (λ found. found.tally.lead ≡ lead_of (sizes indexes.now (plans_chosen indexes.now asked.now others.now (plans_of parts.now)) (plans_of parts.now))) }
+    ensures asked { IfOk result (λ found. found.asked.now ≡ drop (plans_leaves (plans_of parts.now)) asked.now) }
+    ensures others { IfOk result (λ found. found.others.now ≡ drop (plans_leaves (plans_of parts.now)) others.now) }
+{
+    let mut tally = Tally::none(all);
+    let mut asked_left = asked;
+    let mut others_left = others;
+    for place in 0..parts.len() {
+        let part = settle(&parts[place], asked_left, others_left, indexes, choosing)?;
+        tally = tally.with(place as u64, part.size);
+        asked_left = part.asked;
+        others_left = part.others;
+    }
+    Ok(SettledParts {
+        tally,
+        count: parts.len() as u64,
+        asked: asked_left,
+        others: others_left,
+    })
+}
+
+// Adds those of some plans of groups.
+#[cycle(settle)]
+fn settle_unit_parts<'a>(
+    parts: &[UnitPlan],
+    all: u64,
+    asked: &'a [Choice],
+    others: &'a [Choice],
+    indexes: &Indexes,
+    choosing: &mut Choosing,
+) -> Result<SettledParts<'a>, AllocError>
+    ensures choices { OnOk result (choosing.new.choices.items ≡ choosing.old.choices.items ++ groups_chosen indexes.now asked.now others.now (group_plans_of parts.now)) }
+    ensures leads { OnOk result (choosing.new.leads.items ≡ choosing.old.leads.items ++ groups_list (lead_list indexes.now) (groups_chosen indexes.now asked.now others.now (group_plans_of parts.now)) (group_plans_of parts.now)) }
+    ensures count { IfOk result (λ found. found.count ≡ group_count (group_plans_of parts.now)) }
+    ensures sum { IfOk result (λ found. found.tally.sum ≡ capped (total (group_sizes indexes.now (groups_chosen indexes.now asked.now others.now (group_plans_of parts.now)) (group_plans_of parts.now)))) }
+    ensures least { IfOk result (λ found. found.tally.least ≡ least_of all (group_sizes indexes.now (groups_chosen indexes.now asked.now others.now (group_plans_of parts.now)) (group_plans_of parts.now))) }
+    ensures lead { IfOk result (λ found. found.tally.lead ≡ lead_of (group_sizes indexes.now (groups_chosen indexes.now asked.now others.now (group_plans_of parts.now)) (group_plans_of parts.now))) }
+    ensures asked { IfOk result (λ found. found.asked.now ≡ drop (groups_leaves (group_plans_of parts.now)) asked.now) }
+    ensures others { IfOk result (λ found. found.others.now ≡ drop (groups_leaves (group_plans_of parts.now)) others.now) }
+{
+    let mut tally = Tally::none(all);
+    let mut asked_left = asked;
+    let mut others_left = others;
+    for place in 0..parts.len() {
+        let part = settle_units(&parts[place], asked_left, others_left, indexes, choosing)?;
+        tally = tally.with(place as u64, part.size);
+        asked_left = part.asked;
+        others_left = part.others;
+    }
+    Ok(SettledParts {
+        tally,
+        count: parts.len() as u64,
+        asked: asked_left,
+        others: others_left,
+    })
+}
+
+// A place for the choice of a leaf, before those of its sub-plans.
+fn free_choice(choosing: &mut Choosing) -> Result<usize, AllocError>
+    ensures choices { OnOk result (choosing.new.choices.items ≡ choosing.old.choices.items ++ Choice.Scan ∷ []) }
+    ensures leads { choosing.new.leads.items ≡ choosing.old.leads.items }
+    ensures at { IfOk result (λ at. at ≡ length choosing.old.choices.items) }
+{
+    let at = choosing.choices.len();
+    choosing.choices.push(Choice::Scan)?;
+    Ok(at)
+}
+
+// Puts a choice in its place.
+fn put_choice(choosing: &mut Choosing, at: usize, choice: Choice)
+    requires { at < length choosing.old.choices.items }
+    ensures choices { choosing.new.choices.items ≡ slice_set choosing.old.choices.items at choice }
+    ensures leads { choosing.new.leads.items ≡ choosing.old.leads.items }
+{
+    choosing.choices[at] = choice;
+}
+
+// A place for the part that a node takes first, before those of its children.
+fn free_lead(choosing: &mut Choosing) -> Result<usize, AllocError>
+    ensures leads { OnOk result (choosing.new.leads.items ≡ choosing.old.leads.items ++ 0 ∷ []) }
+    ensures choices { choosing.new.choices.items ≡ choosing.old.choices.items }
+    ensures at { IfOk result (λ at. at ≡ length choosing.old.leads.items) }
+{
+    let at = choosing.leads.len();
+    choosing.leads.push(0)?;
+    Ok(at)
+}
+
+// Puts it there.
+fn put_lead(choosing: &mut Choosing, at: usize, lead: u64)
+    requires { at < length choosing.old.leads.items }
+    ensures leads { choosing.new.leads.items ≡ slice_set choosing.old.leads.items at lead }
+    ensures choices { choosing.new.choices.items ≡ choosing.old.choices.items }
+{
+    choosing.leads[at] = lead;
+}

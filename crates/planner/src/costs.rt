@@ -1,0 +1,308 @@
+//! The size and the bound of a plan, node by node, each from those of its children.
+ghost use Rattle.std.specs.Prelude.{◌≡◌, ◌+◌, ◌*◌, drop};
+ghost use Rattle.planner.specs.Alternatives.{leaf_bound, leaf_size};
+ghost use Rattle.set_algebra.specs.Plan.{group_plan_of, group_plans_of, plan_of, plans_of, test_plan_of};
+ghost use Rattle.planner.specs.Bounds.{bound as bound_of, capped, own_number};
+ghost use Rattle.planner.specs.Leaves.{first_choice as first_choice_of, group_count, group_leaves, groups_leaves, leaves, plan_count, plans_leaves, test_leaves};
+ghost use Rattle.planner.specs.Nodes.{group_sum, groups_sum, node_sum, plans_sum, test_sum};
+ghost use Rattle.planner.specs.Sizes.{group_size, group_sizes, least_of, size as size_of, sizes, test_size, total};
+
+use crate::choice::{Choice, after_first, first_choice};
+use crate::counts::{concepts, groups, leaf, members, units as units_of, values, walk};
+use crate::leaf::{Leaf, capped_number};
+use crate::tally::Tally;
+use postings::Indexes;
+use set_algebra::{ConceptPlan, UnitPlan, ValueTest};
+
+/// How much a plan finds and how many items it visits at most, and the choices behind its own.
+#[derive(Clone, Copy)]
+pub struct PlanCost<'a> {
+    /// In concepts or groups; exact.
+    pub size: u64,
+    /// The sum over its nodes, or `u64::MAX` where it is larger.
+    pub bound: u64,
+    /// The choices of the leaves behind the plan.
+    pub rest: &'a [Choice],
+}
+
+// The same of some plans together.
+#[derive(Clone, Copy)]
+struct PartsCost<'a> {
+    tally: Tally,
+    // how many they are, and so many times the sum of their sizes
+    count: u64,
+    product: u64,
+    bound: u64,
+    rest: &'a [Choice],
+}
+
+/// Of a plan of concepts, whose choices are those at the front of a list. It takes no memory.
+#[cycle(cost)]
+#[tactic(auto, using(set_algebra::proofs::PlanLemmas::plans_of_items))]
+pub fn cost<'a>(plan: &ConceptPlan, choices: &'a [Choice], indexes: &Indexes) -> PlanCost<'a>
+    ensures size { result.size ≡ size_of indexes.now choices.now (plan_of plan.now) }
+    ensures bound { result.bound ≡ capped (bound_of indexes.now choices.now (plan_of plan.now)) }
+    ensures rest { result.rest.now ≡ drop (leaves (plan_of plan.now)) choices.now }
+{
+    match plan {
+        ConceptPlan::Empty => without_parts(0, choices),
+        ConceptPlan::All => without_parts(concepts(indexes), choices),
+        ConceptPlan::One(_) => without_parts(1, choices),
+        ConceptPlan::Walk(operator, operand) => {
+            let inner = cost(operand, choices, indexes);
+            let own = walk(indexes, *operator, operand, inner.size);
+            PlanCost {
+                size: own.size,
+                bound: own.bound.saturating_add(inner.bound),
+                rest: inner.rest,
+            }
+        }
+        ConceptPlan::Members(operand) => {
+            let inner = cost(operand, choices, indexes);
+            let own = members(indexes, operand, inner.size);
+            PlanCost {
+                size: own.size,
+                bound: own.bound.saturating_add(inner.bound),
+                rest: inner.rest,
+            }
+        }
+        ConceptPlan::And(parts) => {
+            let inner = parts_cost(parts, concepts(indexes), choices, indexes);
+            PlanCost {
+                size: inner.tally.least,
+                bound: inner.tally.twice().saturating_add(inner.bound),
+                rest: inner.rest,
+            }
+        }
+        ConceptPlan::Or(parts) => {
+            let inner = parts_cost(parts, concepts(indexes), choices, indexes);
+            PlanCost {
+                size: concepts(indexes).min(inner.tally.sum),
+                bound: inner.product.saturating_add(inner.bound),
+                rest: inner.rest,
+            }
+        }
+        ConceptPlan::Minus(first, second) => {
+            let left = cost(first, choices, indexes);
+            let right = cost(second, left.rest, indexes);
+            let inner = left.bound.saturating_add(right.bound);
+            PlanCost {
+                size: left.size,
+                bound: left.size.saturating_add(right.size).saturating_add(inner),
+                rest: right.rest,
+            }
+        }
+        ConceptPlan::Values(start, names) => {
+            let from = cost(start, choices, indexes);
+            let types = parts_cost(names, 0, from.rest, indexes);
+            let own = values(indexes, types.count, from.size);
+            let inner = from.bound.saturating_add(types.bound);
+            PlanCost {
+                size: own.size,
+                bound: own.bound.saturating_add(inner),
+                rest: types.rest,
+            }
+        }
+        ConceptPlan::Pairs {
+            back,
+            count,
+            types,
+            test,
+        } => {
+            let of_types = cost(types, after_first(choices), indexes);
+            let of_test = test_cost(test, of_types.rest, indexes);
+            let leaf = leaf(
+                indexes,
+                concepts(indexes),
+                *back,
+                *count,
+                types,
+                test,
+                of_types.size,
+                of_test.size,
+            );
+            let inner = of_types.bound.saturating_add(of_test.bound);
+            leaf_cost(&leaf, choices, inner, of_test.rest)
+        }
+        ConceptPlan::Units { count, units } => {
+            let inner = unit_cost(units, choices, indexes);
+            let own = units_of(*count, concepts(indexes), inner.size);
+            PlanCost {
+                size: own.size,
+                bound: own.bound.saturating_add(inner.bound),
+                rest: inner.rest,
+            }
+        }
+    }
+}
+
+// Of a plan of groups.
+#[cycle(cost)]
+#[tactic(auto, using(set_algebra::proofs::PlanLemmas::plans_of_items))]
+fn unit_cost<'a>(plan: &UnitPlan, choices: &'a [Choice], indexes: &Indexes) -> PlanCost<'a>
+    ensures size { result.size ≡ group_size indexes.now choices.now (group_plan_of plan.now) }
+    ensures bound { result.bound ≡ capped (group_sum (own_number indexes.now) choices.now (group_plan_of plan.now)) }
+    ensures rest { result.rest.now ≡ drop (group_leaves (group_plan_of plan.now)) choices.now }
+{
+    match plan {
+        UnitPlan::Nothing => without_parts(0, choices),
+        UnitPlan::Every => without_parts(groups(indexes), choices),
+        UnitPlan::And(parts) => {
+            let inner = unit_parts_cost(parts, groups(indexes), choices, indexes);
+            PlanCost {
+                size: inner.tally.least,
+                bound: inner.tally.twice().saturating_add(inner.bound),
+                rest: inner.rest,
+            }
+        }
+        UnitPlan::Or(parts) => {
+            let inner = unit_parts_cost(parts, groups(indexes), choices, indexes);
+            PlanCost {
+                size: groups(indexes).min(inner.tally.sum),
+                bound: inner.product.saturating_add(inner.bound),
+                rest: inner.rest,
+            }
+        }
+        UnitPlan::Minus(first, second) => {
+            let left = unit_cost(first, choices, indexes);
+            let right = unit_cost(second, left.rest, indexes);
+            let inner = left.bound.saturating_add(right.bound);
+            PlanCost {
+                size: left.size,
+                bound: left.size.saturating_add(right.size).saturating_add(inner),
+                rest: right.rest,
+            }
+        }
+        UnitPlan::Pairs { count, types, test } => {
+            let of_types = cost(types, after_first(choices), indexes);
+            let of_test = test_cost(test, of_types.rest, indexes);
+            let leaf = leaf(
+                indexes,
+                groups(indexes),
+                false,
+                *count,
+                types,
+                test,
+                of_types.size,
+                of_test.size,
+            );
+            let inner = of_types.bound.saturating_add(of_test.bound);
+            leaf_cost(&leaf, choices, inner, of_test.rest)
+        }
+    }
+}
+
+// Of the plan of a test, if it has one.
+#[cycle(cost)]
+fn test_cost<'a>(test: &ValueTest, choices: &'a [Choice], indexes: &Indexes) -> PlanCost<'a>
+    ensures size { result.size ≡ test_size indexes.now choices.now (test_plan_of test.now) }
+    ensures bound { result.bound ≡ capped (test_sum (own_number indexes.now) choices.now (test_plan_of test.now)) }
+    ensures rest { result.rest.now ≡ drop (test_leaves (test_plan_of test.now)) choices.now }
+{
+    match test {
+        ValueTest::Within(operand) | ValueTest::Outside(operand) => {
+            let inner = cost(operand, choices, indexes);
+            PlanCost {
+                size: inner.size,
+                bound: inner.bound,
+                rest: inner.rest,
+            }
+        }
+        ValueTest::Number(_, _) => without_parts(0, choices),
+    }
+}
+
+// Of some plans of concepts.
+#[cycle(cost)]
+fn parts_cost<'a>(
+    parts: &[ConceptPlan],
+    all: u64,
+    choices: &'a [Choice],
+    indexes: &Indexes,
+) -> PartsCost<'a>
+    ensures count { result.count ≡ plan_count (plans_of parts.now) }
+    ensures product { result.product ≡ capped (plan_count (plans_of parts.now) * total (sizes indexes.now choices.now (plans_of parts.now))) }
+    ensures sum { result.tally.sum ≡ capped (total (sizes indexes.now choices.now (plans_of parts.now))) }
+    ensures least { result.tally.least ≡ least_of all (sizes indexes.now choices.now (plans_of parts.now)) }
+    ensures bound { result.bound ≡ capped (plans_sum (own_number indexes.now) choices.now (plans_of parts.now)) }
+    ensures rest { result.rest.now ≡ drop (plans_leaves (plans_of parts.now)) choices.now }
+{
+    let mut tally = Tally::none(all);
+    let mut bound = 0u64;
+    let mut rest = choices;
+    for place in 0..parts.len() {
+        let part = cost(&parts[place], rest, indexes);
+        tally = tally.with(place as u64, part.size);
+        bound = bound.saturating_add(part.bound);
+        rest = part.rest;
+    }
+    let count = parts.len() as u64;
+    PartsCost {
+        tally,
+        count,
+        product: tally.sum.saturating_mul(count),
+        bound,
+        rest,
+    }
+}
+
+// Of some plans of groups.
+#[cycle(cost)]
+fn unit_parts_cost<'a>(
+    parts: &[UnitPlan],
+    all: u64,
+    choices: &'a [Choice],
+    indexes: &Indexes,
+) -> PartsCost<'a>
+    ensures count { result.count ≡ group_count (group_plans_of parts.now) }
+    ensures product { result.product ≡ capped (group_count (group_plans_of parts.now) * total (group_sizes indexes.now choices.now (group_plans_of parts.now))) }
+    ensures sum { result.tally.sum ≡ capped (total (group_sizes indexes.now choices.now (group_plans_of parts.now))) }
+    ensures least { result.tally.least ≡ least_of all (group_sizes indexes.now choices.now (group_plans_of parts.now)) }
+    ensures bound { result.bound ≡ capped (groups_sum (own_number indexes.now) choices.now (group_plans_of parts.now)) }
+    ensures rest { result.rest.now ≡ drop (groups_leaves (group_plans_of parts.now)) choices.now }
+{
+    let mut tally = Tally::none(all);
+    let mut bound = 0u64;
+    let mut rest = choices;
+    for place in 0..parts.len() {
+        let part = unit_cost(&parts[place], rest, indexes);
+        tally = tally.with(place as u64, part.size);
+        bound = bound.saturating_add(part.bound);
+        rest = part.rest;
+    }
+    let count = parts.len() as u64;
+    PartsCost {
+        tally,
+        count,
+        product: tally.sum.saturating_mul(count),
+        bound,
+        rest,
+    }
+}
+
+// Of a node that reads nothing.
+fn without_parts(size: u64, choices: &[Choice]) -> PlanCost<'_>
+    ensures size { result.size ≡ size }
+    ensures bound { result.bound ≡ 0 }
+    ensures rest { result.rest.now ≡ choices.now }
+{
+    PlanCost {
+        size,
+        bound: 0,
+        rest: choices,
+    }
+}
+
+// Of a leaf with its choice, where its sub-plans have a bound and leave the rest of the choices.
+fn leaf_cost<'a>(leaf: &Leaf, choices: &[Choice], inner: u64, rest: &'a [Choice]) -> PlanCost<'a>
+    ensures size { result.size ≡ leaf_size leaf.now (first_choice_of choices.now) }
+    ensures bound { result.bound ≡ capped (leaf_bound leaf.now (first_choice_of choices.now) + inner) }
+    ensures rest { result.rest.now ≡ rest.now }
+{
+    let choice = first_choice(choices);
+    PlanCost {
+        size: leaf.size(choice),
+        bound: capped_number(leaf.bound(choice)).saturating_add(inner),
+        rest,
+    }
+}

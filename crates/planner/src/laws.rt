@@ -1,0 +1,23 @@
+//! Laws about the definitions of this crate: functions that do nothing, each with the law as its contract.
+ghost use Rattle.planner.specs.Floors.{FloorWithinBound};
+ghost use Rattle.planner.specs.Leads.{LeadsAreLeast};
+ghost use Rattle.planner.specs.WorkedBounds.{BoundsByType, BoundsByValue, BoundsInBraces, BoundsOfOne, CountsSample};
+
+/// Whatever the choices, no plan visits more at least than it does at most.
+pub fn floor_within_bound()
+    ensures { FloorWithinBound }
+{}
+
+/// The place of the part that is taken first is that of the first part of the least size.
+pub fn leads_are_least()
+    ensures { LeadsAreLeast }
+{}
+
+/// What is counted of the sample release; and of four plans the choices where none is asked for, the bounds, and the floors.
+pub fn worked_bounds_hold()
+    ensures counts { CountsSample }
+    ensures by_value { BoundsByValue }
+    ensures by_type { BoundsByType }
+    ensures in_braces { BoundsInBraces }
+    ensures of_one { BoundsOfOne }
+{}

@@ -1,0 +1,18 @@
+//! How a plan is to be executed, and how many items that visits at most, before it runs.
+#![tactic(auto)]
+
+mod bound_list;
+mod choice;
+mod choosing;
+mod costs;
+mod counts;
+mod floors;
+mod laws;
+mod leaf;
+mod physical;
+mod tally;
+
+pub use crate::choice::Choice;
+pub use crate::floors::{PlanFloor, plan_floor, unit_floor};
+pub use crate::laws::{floor_within_bound, leads_are_least, worked_bounds_hold};
+pub use crate::physical::{PhysicalPlan, bound, choose, choose_with, floor, own_bounds};
