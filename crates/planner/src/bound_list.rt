@@ -8,8 +8,10 @@ ghost use Rattle.planner.specs.Nodes.{group_list, groups_list, node_list, plans_
 ghost use Rattle.planner.specs.Sizes.{group_size, group_sizes, least_of, size as size_of, sizes, test_size, total};
 
 use crate::choice::{Choice, after_first, first_choice};
-use crate::counts::{concepts, groups, leaf, members, units as units_of, values, walk};
-use crate::leaf::capped_number;
+use crate::counts::{
+    NodeCost, concepts, groups, in_all, in_first, in_some, leaf, members, units as units_of,
+    values, walk,
+};
 use crate::tally::Tally;
 use postings::Indexes;
 use set_algebra::{ConceptPlan, UnitPlan, ValueTest};
@@ -49,70 +51,40 @@ pub fn list<'a>(
 {
     let at = open(bounds)?;
     match plan {
-        ConceptPlan::Empty => Ok(Listed {
-            size: 0,
-            rest: choices,
-        }),
-        ConceptPlan::All => Ok(Listed {
-            size: concepts(indexes),
-            rest: choices,
-        }),
-        ConceptPlan::One(_) => Ok(Listed {
-            size: 1,
-            rest: choices,
-        }),
+        ConceptPlan::Empty => Ok(without_parts(0, choices)),
+        ConceptPlan::All => Ok(without_parts(concepts(indexes), choices)),
+        ConceptPlan::One(_) => Ok(without_parts(1, choices)),
         ConceptPlan::Walk(operator, operand) => {
             let inner = list(operand, choices, indexes, bounds)?;
             let own = walk(indexes, *operator, operand, inner.size);
-            close(bounds, at, own.bound);
-            Ok(Listed {
-                size: own.size,
-                rest: inner.rest,
-            })
+            Ok(closed(bounds, at, own, inner.rest))
         }
         ConceptPlan::Members(operand) => {
             let inner = list(operand, choices, indexes, bounds)?;
             let own = members(indexes, operand, inner.size);
-            close(bounds, at, own.bound);
-            Ok(Listed {
-                size: own.size,
-                rest: inner.rest,
-            })
+            Ok(closed(bounds, at, own, inner.rest))
         }
         ConceptPlan::And(parts) => {
             let inner = list_parts(parts, concepts(indexes), choices, indexes, bounds)?;
-            close(bounds, at, inner.tally.twice());
-            Ok(Listed {
-                size: inner.tally.least,
-                rest: inner.rest,
-            })
+            Ok(closed(bounds, at, in_all(&inner.tally), inner.rest))
         }
         ConceptPlan::Or(parts) => {
-            let inner = list_parts(parts, concepts(indexes), choices, indexes, bounds)?;
-            close(bounds, at, inner.product);
-            Ok(Listed {
-                size: concepts(indexes).min(inner.tally.sum),
-                rest: inner.rest,
-            })
+            let all = concepts(indexes);
+            let inner = list_parts(parts, all, choices, indexes, bounds)?;
+            let own = in_some(all, inner.tally.sum, inner.product);
+            Ok(closed(bounds, at, own, inner.rest))
         }
         ConceptPlan::Minus(first, second) => {
             let left = list(first, choices, indexes, bounds)?;
             let right = list(second, left.rest, indexes, bounds)?;
-            close(bounds, at, left.size.saturating_add(right.size));
-            Ok(Listed {
-                size: left.size,
-                rest: right.rest,
-            })
+            let own = in_first(left.size, right.size);
+            Ok(closed(bounds, at, own, right.rest))
         }
         ConceptPlan::Values(start, names) => {
             let from = list(start, choices, indexes, bounds)?;
             let types = list_parts(names, 0, from.rest, indexes, bounds)?;
             let own = values(indexes, types.count, from.size);
-            close(bounds, at, own.bound);
-            Ok(Listed {
-                size: own.size,
-                rest: types.rest,
-            })
+            Ok(closed(bounds, at, own, types.rest))
         }
         ConceptPlan::Pairs {
             back,
@@ -132,21 +104,13 @@ pub fn list<'a>(
                 of_types.size,
                 of_test.size,
             );
-            let choice = first_choice(choices);
-            close(bounds, at, capped_number(leaf.bound(choice)));
-            Ok(Listed {
-                size: leaf.size(choice),
-                rest: of_test.rest,
-            })
+            let own = leaf.cost(first_choice(choices));
+            Ok(closed(bounds, at, own, of_test.rest))
         }
         ConceptPlan::Units { count, units } => {
             let inner = list_units(units, choices, indexes, bounds)?;
             let own = units_of(*count, concepts(indexes), inner.size);
-            close(bounds, at, own.bound);
-            Ok(Listed {
-                size: own.size,
-                rest: inner.rest,
-            })
+            Ok(closed(bounds, at, own, inner.rest))
         }
     }
 }
@@ -166,38 +130,23 @@ fn list_units<'a>(
 {
     let at = open(bounds)?;
     match plan {
-        UnitPlan::Nothing => Ok(Listed {
-            size: 0,
-            rest: choices,
-        }),
-        UnitPlan::Every => Ok(Listed {
-            size: groups(indexes),
-            rest: choices,
-        }),
+        UnitPlan::Nothing => Ok(without_parts(0, choices)),
+        UnitPlan::Every => Ok(without_parts(groups(indexes), choices)),
         UnitPlan::And(parts) => {
             let inner = list_unit_parts(parts, groups(indexes), choices, indexes, bounds)?;
-            close(bounds, at, inner.tally.twice());
-            Ok(Listed {
-                size: inner.tally.least,
-                rest: inner.rest,
-            })
+            Ok(closed(bounds, at, in_all(&inner.tally), inner.rest))
         }
         UnitPlan::Or(parts) => {
-            let inner = list_unit_parts(parts, groups(indexes), choices, indexes, bounds)?;
-            close(bounds, at, inner.product);
-            Ok(Listed {
-                size: groups(indexes).min(inner.tally.sum),
-                rest: inner.rest,
-            })
+            let all = groups(indexes);
+            let inner = list_unit_parts(parts, all, choices, indexes, bounds)?;
+            let own = in_some(all, inner.tally.sum, inner.product);
+            Ok(closed(bounds, at, own, inner.rest))
         }
         UnitPlan::Minus(first, second) => {
             let left = list_units(first, choices, indexes, bounds)?;
             let right = list_units(second, left.rest, indexes, bounds)?;
-            close(bounds, at, left.size.saturating_add(right.size));
-            Ok(Listed {
-                size: left.size,
-                rest: right.rest,
-            })
+            let own = in_first(left.size, right.size);
+            Ok(closed(bounds, at, own, right.rest))
         }
         UnitPlan::Pairs { count, types, test } => {
             let of_types = list(types, after_first(choices), indexes, bounds)?;
@@ -212,12 +161,8 @@ fn list_units<'a>(
                 of_types.size,
                 of_test.size,
             );
-            let choice = first_choice(choices);
-            close(bounds, at, capped_number(leaf.bound(choice)));
-            Ok(Listed {
-                size: leaf.size(choice),
-                rest: of_test.rest,
-            })
+            let own = leaf.cost(first_choice(choices));
+            Ok(closed(bounds, at, own, of_test.rest))
         }
     }
 }
@@ -239,10 +184,7 @@ fn list_test<'a>(
             let found = list(operand, choices, indexes, bounds)?;
             Ok(found)
         }
-        ValueTest::Number(_, _) => Ok(Listed {
-            size: 0,
-            rest: choices,
-        }),
+        ValueTest::Number(_, _) => Ok(without_parts(0, choices)),
     }
 }
 
@@ -320,10 +262,27 @@ fn open(bounds: &mut Vec<u64>) -> Result<usize, AllocError>
     Ok(at)
 }
 
-// Puts a bound in its place.
-fn close(bounds: &mut Vec<u64>, at: usize, bound: u64)
+// Puts the bound of a node in its place, where its children leave the rest of the choices.
+fn closed<'a>(bounds: &mut Vec<u64>, at: usize, own: NodeCost, rest: &'a [Choice]) -> Listed<'a>
     requires { at < length bounds.old.items }
-    ensures { bounds.new.items ≡ slice_set bounds.old.items at bound }
+    ensures bounds { bounds.new.items ≡ slice_set bounds.old.items at own.bound }
+    ensures size { result.size ≡ own.size }
+    ensures rest { result.rest.now ≡ rest.now }
 {
-    bounds[at] = bound;
+    bounds[at] = own.bound;
+    Listed {
+        size: own.size,
+        rest,
+    }
+}
+
+// Of a node that reads nothing.
+fn without_parts(size: u64, choices: &[Choice]) -> Listed<'_>
+    ensures size { result.size ≡ size }
+    ensures rest { result.rest.now ≡ choices.now }
+{
+    Listed {
+        size,
+        rest: choices,
+    }
 }

@@ -1,15 +1,16 @@
 //! The size and the bound of a plan, node by node, each from those of its children.
 ghost use Rattle.std.specs.Prelude.{◌≡◌, ◌+◌, ◌*◌, drop};
-ghost use Rattle.planner.specs.Alternatives.{leaf_bound, leaf_size};
 ghost use Rattle.set_algebra.specs.Plan.{group_plan_of, group_plans_of, plan_of, plans_of, test_plan_of};
 ghost use Rattle.planner.specs.Bounds.{bound as bound_of, capped, own_number};
-ghost use Rattle.planner.specs.Leaves.{first_choice as first_choice_of, group_count, group_leaves, groups_leaves, leaves, plan_count, plans_leaves, test_leaves};
+ghost use Rattle.planner.specs.Leaves.{group_count, group_leaves, groups_leaves, leaves, plan_count, plans_leaves, test_leaves};
 ghost use Rattle.planner.specs.Nodes.{group_sum, groups_sum, node_sum, plans_sum, test_sum};
 ghost use Rattle.planner.specs.Sizes.{group_size, group_sizes, least_of, size as size_of, sizes, test_size, total};
 
 use crate::choice::{Choice, after_first, first_choice};
-use crate::counts::{concepts, groups, leaf, members, units as units_of, values, walk};
-use crate::leaf::{Leaf, capped_number};
+use crate::counts::{
+    NodeCost, concepts, groups, in_all, in_first, in_some, leaf, members, units as units_of,
+    values, walk,
+};
 use crate::tally::Tally;
 use postings::Indexes;
 use set_algebra::{ConceptPlan, UnitPlan, ValueTest};
@@ -51,57 +52,35 @@ pub fn cost<'a>(plan: &ConceptPlan, choices: &'a [Choice], indexes: &Indexes) ->
         ConceptPlan::Walk(operator, operand) => {
             let inner = cost(operand, choices, indexes);
             let own = walk(indexes, *operator, operand, inner.size);
-            PlanCost {
-                size: own.size,
-                bound: own.bound.saturating_add(inner.bound),
-                rest: inner.rest,
-            }
+            with_parts(own, inner.bound, inner.rest)
         }
         ConceptPlan::Members(operand) => {
             let inner = cost(operand, choices, indexes);
             let own = members(indexes, operand, inner.size);
-            PlanCost {
-                size: own.size,
-                bound: own.bound.saturating_add(inner.bound),
-                rest: inner.rest,
-            }
+            with_parts(own, inner.bound, inner.rest)
         }
         ConceptPlan::And(parts) => {
             let inner = parts_cost(parts, concepts(indexes), choices, indexes);
-            PlanCost {
-                size: inner.tally.least,
-                bound: inner.tally.twice().saturating_add(inner.bound),
-                rest: inner.rest,
-            }
+            with_parts(in_all(&inner.tally), inner.bound, inner.rest)
         }
         ConceptPlan::Or(parts) => {
-            let inner = parts_cost(parts, concepts(indexes), choices, indexes);
-            PlanCost {
-                size: concepts(indexes).min(inner.tally.sum),
-                bound: inner.product.saturating_add(inner.bound),
-                rest: inner.rest,
-            }
+            let all = concepts(indexes);
+            let inner = parts_cost(parts, all, choices, indexes);
+            let own = in_some(all, inner.tally.sum, inner.product);
+            with_parts(own, inner.bound, inner.rest)
         }
         ConceptPlan::Minus(first, second) => {
             let left = cost(first, choices, indexes);
             let right = cost(second, left.rest, indexes);
             let inner = left.bound.saturating_add(right.bound);
-            PlanCost {
-                size: left.size,
-                bound: left.size.saturating_add(right.size).saturating_add(inner),
-                rest: right.rest,
-            }
+            with_parts(in_first(left.size, right.size), inner, right.rest)
         }
         ConceptPlan::Values(start, names) => {
             let from = cost(start, choices, indexes);
             let types = parts_cost(names, 0, from.rest, indexes);
             let own = values(indexes, types.count, from.size);
             let inner = from.bound.saturating_add(types.bound);
-            PlanCost {
-                size: own.size,
-                bound: own.bound.saturating_add(inner),
-                rest: types.rest,
-            }
+            with_parts(own, inner, types.rest)
         }
         ConceptPlan::Pairs {
             back,
@@ -122,16 +101,12 @@ pub fn cost<'a>(plan: &ConceptPlan, choices: &'a [Choice], indexes: &Indexes) ->
                 of_test.size,
             );
             let inner = of_types.bound.saturating_add(of_test.bound);
-            leaf_cost(&leaf, choices, inner, of_test.rest)
+            with_parts(leaf.cost(first_choice(choices)), inner, of_test.rest)
         }
         ConceptPlan::Units { count, units } => {
             let inner = unit_cost(units, choices, indexes);
             let own = units_of(*count, concepts(indexes), inner.size);
-            PlanCost {
-                size: own.size,
-                bound: own.bound.saturating_add(inner.bound),
-                rest: inner.rest,
-            }
+            with_parts(own, inner.bound, inner.rest)
         }
     }
 }
@@ -149,29 +124,19 @@ fn unit_cost<'a>(plan: &UnitPlan, choices: &'a [Choice], indexes: &Indexes) -> P
         UnitPlan::Every => without_parts(groups(indexes), choices),
         UnitPlan::And(parts) => {
             let inner = unit_parts_cost(parts, groups(indexes), choices, indexes);
-            PlanCost {
-                size: inner.tally.least,
-                bound: inner.tally.twice().saturating_add(inner.bound),
-                rest: inner.rest,
-            }
+            with_parts(in_all(&inner.tally), inner.bound, inner.rest)
         }
         UnitPlan::Or(parts) => {
-            let inner = unit_parts_cost(parts, groups(indexes), choices, indexes);
-            PlanCost {
-                size: groups(indexes).min(inner.tally.sum),
-                bound: inner.product.saturating_add(inner.bound),
-                rest: inner.rest,
-            }
+            let all = groups(indexes);
+            let inner = unit_parts_cost(parts, all, choices, indexes);
+            let own = in_some(all, inner.tally.sum, inner.product);
+            with_parts(own, inner.bound, inner.rest)
         }
         UnitPlan::Minus(first, second) => {
             let left = unit_cost(first, choices, indexes);
             let right = unit_cost(second, left.rest, indexes);
             let inner = left.bound.saturating_add(right.bound);
-            PlanCost {
-                size: left.size,
-                bound: left.size.saturating_add(right.size).saturating_add(inner),
-                rest: right.rest,
-            }
+            with_parts(in_first(left.size, right.size), inner, right.rest)
         }
         UnitPlan::Pairs { count, types, test } => {
             let of_types = cost(types, after_first(choices), indexes);
@@ -187,7 +152,7 @@ fn unit_cost<'a>(plan: &UnitPlan, choices: &'a [Choice], indexes: &Indexes) -> P
                 of_test.size,
             );
             let inner = of_types.bound.saturating_add(of_test.bound);
-            leaf_cost(&leaf, choices, inner, of_test.rest)
+            with_parts(leaf.cost(first_choice(choices)), inner, of_test.rest)
         }
     }
 }
@@ -293,16 +258,15 @@ fn without_parts(size: u64, choices: &[Choice]) -> PlanCost<'_>
     }
 }
 
-// Of a leaf with its choice, where its sub-plans have a bound and leave the rest of the choices.
-fn leaf_cost<'a>(leaf: &Leaf, choices: &[Choice], inner: u64, rest: &'a [Choice]) -> PlanCost<'a>
-    ensures size { result.size ≡ leaf_size leaf.now (first_choice_of choices.now) }
-    ensures bound { result.bound ≡ capped (leaf_bound leaf.now (first_choice_of choices.now) + inner) }
+// Of a node, where its children have a bound and leave the rest of the choices.
+fn with_parts(own: NodeCost, inner: u64, rest: &[Choice]) -> PlanCost<'_>
+    ensures size { result.size ≡ own.size }
+    ensures bound { result.bound ≡ capped (own.bound + inner) }
     ensures rest { result.rest.now ≡ rest.now }
 {
-    let choice = first_choice(choices);
     PlanCost {
-        size: leaf.size(choice),
-        bound: capped_number(leaf.bound(choice)).saturating_add(inner),
+        size: own.size,
+        bound: own.bound.saturating_add(inner),
         rest,
     }
 }

@@ -1,5 +1,5 @@
 //! What is counted of a release for a node of a plan.
-ghost use Rattle.std.specs.Prelude.{◌≡◌, ◌==◌, ◌<◌, ◌+◌, if◌then◌else◌, ◌^◌, length};
+ghost use Rattle.std.specs.Prelude.{◌≡◌, ◌==◌, ◌<◌, ◌+◌, ◌*◌, if◌then◌else◌, min, ◌^◌, length};
 ghost use Rattle.hierarchy.specs.KeyedLists.{list_of};
 ghost use Rattle.set_algebra.specs.Plan.{plan_of, test_plan_of};
 ghost use Rattle.postings.specs.Groups.{groups_in};
@@ -9,6 +9,7 @@ ghost use Rattle.planner.specs.Counts.{is_extreme as is_extreme_of, leads_to_sel
 ghost use Rattle.planner.specs.Sizes.{members_size, values_size, walk_size};
 
 use crate::leaf::Leaf;
+use crate::tally::Tally;
 use ancestor_index::AncestorIndex;
 use constraint_tree::{Cardinality, Operator};
 use postings::Indexes;
@@ -231,6 +232,39 @@ pub fn units(count: Cardinality, all: u64, size: u64) -> NodeCost
             size: all.min(size),
             bound: size,
         }
+    }
+}
+
+/// Of what all of some parts find: each is read, and what is left behind each.
+pub fn in_all(parts: &Tally) -> NodeCost
+    ensures size { result.size ≡ parts.now.least }
+    ensures bound { result.bound ≡ capped (parts.now.sum * 2) }
+{
+    NodeCost {
+        size: parts.least,
+        bound: parts.sum.saturating_mul(2),
+    }
+}
+
+/// Of what one of some parts finds, where their sum, and so many times their sum, are known.
+pub fn in_some(all: u64, sum: u64, product: u64) -> NodeCost
+    ensures size { result.size ≡ min all sum }
+    ensures bound { result.bound ≡ product }
+{
+    NodeCost {
+        size: all.min(sum),
+        bound: product,
+    }
+}
+
+/// Of what the first of two finds and the second does not.
+pub fn in_first(first: u64, second: u64) -> NodeCost
+    ensures size { result.size ≡ first }
+    ensures bound { result.bound ≡ capped (first + second) }
+{
+    NodeCost {
+        size: first,
+        bound: first.saturating_add(second),
     }
 }
 

@@ -4,6 +4,7 @@ ghost use Rattle.planner.specs.Bounds.{capped};
 ghost use Rattle.planner.specs.Alternatives.{choice_of, least_choice as least_choice_of, leaf_bound, leaf_size, offers as offers_of};
 
 use crate::choice::Choice;
+use crate::counts::NodeCost;
 
 /// What the choice of a leaf rests on, all of it exact.
 #[derive(Clone, Copy, Debug)]
@@ -69,6 +70,17 @@ impl Leaf {
         }
     }
 
+    /// How much the leaf finds, and how many items it visits beside its sub-plans, at most.
+    pub fn cost(&self, choice: Choice) -> NodeCost
+        ensures size { result.size ≡ leaf_size self.now choice }
+        ensures bound { result.bound ≡ capped (leaf_bound self.now choice) }
+    {
+        NodeCost {
+            size: self.size(choice),
+            bound: capped_number(self.bound(choice)),
+        }
+    }
+
     /// The alternative of the least bound; of two with one bound the first of by value, by type and scan.
     pub fn least(&self) -> Choice
         ensures { result ≡ least_choice_of self.now }
@@ -102,8 +114,8 @@ impl Leaf {
     }
 }
 
-/// A number of 128 bits, or `u64::MAX` where it is larger.
-pub fn capped_number(number: u128) -> u64
+// A number of 128 bits, or `u64::MAX` where it is larger.
+fn capped_number(number: u128) -> u64
     ensures { result ≡ capped number }
 {
     if number < u64::MAX as u128 {

@@ -1,6 +1,7 @@
 //! A plan with its choices, and how much it visits.
 ghost use Rattle.std.specs.Prelude.{◌≡◌, IfOk, length};
 ghost use Rattle.set_algebra.specs.Plan.{plan_of};
+ghost use Rattle.postings.specs.Indexed.{Indexed};
 ghost use Rattle.planner.specs.Asked.{choices_with};
 ghost use Rattle.planner.specs.Bounds.{bound as bound_of, capped, own_bounds as own_bounds_of};
 ghost use Rattle.planner.specs.Chosen.{chosen, least_choices};
@@ -67,7 +68,8 @@ impl PhysicalPlan {
     /// For each node that joins sets by AND, of concepts or of groups, a node before its children: the place of the part that finds
     /// least, by its size at most. A plan is best executed from there.
     pub fn leads(&self) -> &[u64]
-        ensures { result.now ≡ self.now.leads }
+        ensures leads { result.now ≡ self.now.leads }
+        ensures led { (indexed : Indexed) × (self.now.leads ≡ leads indexed self.now.choices (plan_of self.now.plan)) }
     {
         self.leads.as_slice()
     }

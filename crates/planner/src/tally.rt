@@ -1,6 +1,5 @@
 //! The sizes of the parts of a node, taken one by one.
-ghost use Rattle.std.specs.Prelude.{◌≡◌, ◌*◌};
-ghost use Rattle.planner.specs.Bounds.{capped};
+ghost use Rattle.std.specs.Prelude.{◌≡◌};
 ghost use Rattle.planner.specs.Tallies.{no_tally, tally_with};
 
 /// What is kept of the sizes of some parts.
@@ -44,12 +43,5 @@ impl Tally {
                 lead: self.lead,
             }
         }
-    }
-
-    /// Twice their sum, or `u64::MAX` where that is more: each of them is read, and what is left behind each.
-    pub fn twice(&self) -> u64
-        ensures { result ≡ capped (self.now.sum * 2) }
-    {
-        self.sum.saturating_mul(2)
     }
 }

@@ -101,13 +101,13 @@ list-returns-in_ok-types-in-Values t c =
     let first = one.bounds ∙ (λ i. c.in_ok-at.ensures.bounds i ++ own_bounds indexed choices (start_is i)) in
     let both = two.bounds ∙ (λ i. first i ++ plans_list (own_list indexed) (behind i) (names_are i)) in
     record {
-      bounds = c.close-in-Values.ensures
+      bounds = c.closed-in-Values.ensures.bounds
           ∙ (λ i. slice_set (both i) (c.in_ok-at.ensures.at i) (own i))
           ∙ put_seam_two given (own_bounds indexed choices start) (plans_list (own_list indexed) (drop (leaves start) choices) names) 0
           (capped (values_bound indexed (plan_count names) (size indexed choices start)))
           ∙ sym (ap (λ (plan : Plan). given ++ own_bounds indexed choices plan) plan_is);
-      size = c.values-own.ensures.size ∙ (λ i. values_size indexed (types i) (from i)) ∙ sym (ap (size indexed choices) plan_is);
-      rest = two.rest
+      size = c.closed-in-Values.ensures.size ∙ c.values-own.ensures.size ∙ (λ i. values_size indexed (types i) (from i)) ∙ sym (ap (size indexed choices) plan_is);
+      rest = c.closed-in-Values.ensures.rest ∙ two.rest
           ∙ (λ i. drop (plans_leaves (names_are i)) (behind i))
           ∙ drop_further (plans_leaves names) (leaves start) choices
           ∙ sym (ap (λ (plan : Plan). drop (leaves plan) choices) plan_is);

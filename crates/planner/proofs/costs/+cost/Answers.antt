@@ -100,9 +100,9 @@ cost-returns-in-Values t c =
     let name_bound = c.parts_cost-types.ensures.bound ∙ (λ i. capped (plans_sum (own_number indexed) (behind i) (names_are i))) in
     let own_bound = c.values-own.ensures.bound ∙ (λ i. capped (values_bound indexed (types i) (from i))) in
     record {
-      size = c.values-own.ensures.size ∙ (λ i. values_size indexed (types i) (from i)) ∙ sym (ap (size indexed choices) plan_is);
+      size = c.with_parts-in-Values.ensures.size ∙ c.values-own.ensures.size ∙ (λ i. values_size indexed (types i) (from i)) ∙ sym (ap (size indexed choices) plan_is);
       bound = omega (arith, start_bound, name_bound, own_bound, ap (bound indexed choices) plan_is);
-      rest = c.parts_cost-types.ensures.rest
+      rest = c.with_parts-in-Values.ensures.rest ∙ c.parts_cost-types.ensures.rest
           ∙ (λ i. drop (plans_leaves (names_are i)) (behind i))
           ∙ drop_further (plans_leaves names) (leaves start) choices
           ∙ sym (ap (λ (plan : _). drop (leaves plan) choices) plan_is);
@@ -113,7 +113,7 @@ cost-returns-in-Pairs-clause-rest t c =
     let choices = c.args.choices.now in
     let types_are = ap (λ (plan : ConceptPlan). plan_of plan) c.deref-in-Pairs.ensures in
     let whole = ap (λ (plan : ConceptPlan). leaves (plan_of plan)) c.in-Pairs.is in
-    c.leaf_cost.ensures.rest ∙ c.test_cost-of_test.ensures.rest
+    c.with_parts-in-Pairs.ensures.rest ∙ c.test_cost-of_test.ensures.rest
     ∙ ap (drop (test_leaves (test_plan_of c.in-Pairs.test)))
     (c.cost-of_types.ensures.rest ∙ (λ i. drop (leaves (types_are i)) (c.after_first.ensures i)))
     ∙ drop_leaf (leaves (plan_of c.in-Pairs.types.value)) (test_leaves (test_plan_of c.in-Pairs.test)) choices
@@ -124,7 +124,7 @@ unit_cost-returns-in-Pairs-clause-rest t c =
     let choices = c.args.choices.now in
     let types_are = ap (λ (plan : ConceptPlan). plan_of plan) c.deref-in-Pairs.ensures in
     let whole = ap (λ (plan : UnitPlan). group_leaves (group_plan_of plan)) c.in-Pairs.is in
-    c.leaf_cost.ensures.rest ∙ c.test_cost-of_test.ensures.rest
+    c.with_parts-in-Pairs.ensures.rest ∙ c.test_cost-of_test.ensures.rest
     ∙ ap (drop (test_leaves (test_plan_of c.in-Pairs.test)))
     (c.cost-of_types.ensures.rest ∙ (λ i. drop (leaves (types_are i)) (c.after_first.ensures i)))
     ∙ drop_leaf (leaves (plan_of c.in-Pairs.types.value)) (test_leaves (test_plan_of c.in-Pairs.test)) choices
