@@ -1,6 +1,6 @@
 //! Files in memory as a source.
 ghost use Rattle.std.specs.Prelude.{◌≡◌, ◌≢◌, ◌+◌, ◌-◌, ◌^◌, ◌<◌, ◌≤◌, IfErr, IfOk, IfSome, MatchOption, OnOk, None, Some, [], length, map, min, string_bytes};
-ghost use Rattle.release_files.specs.Source.{IsRaised, bytes_of, file_text};
+ghost use Rattle.release_files.specs.Source.{CountsFailures, IsRaised, ReadsNext, bytes_of, file_text};
 
 use crate::NamedBytes;
 use crate::source::{FileSource, SourceFault};
@@ -34,6 +34,7 @@ impl<'a> MemoryFiles<'a> {
         ensures files { ⟦<MemoryFiles<'a> as FileSource>⟧.files result ≡ Some (map file_text files.now) }
         ensures closed { ⟦<MemoryFiles<'a> as FileSource>⟧.rest result ≡ Some [] }
         ensures failures { ⟦<MemoryFiles<'a> as FileSource>⟧.failure_count result ≡ 0 }
+        ensures asked { (result.piece ≡ piece) × (result.fail_at ≡ fail_at) × (result.calls ≡ 0) }
     {
         MemoryFiles {
             alloc,
@@ -53,6 +54,7 @@ impl<'a> MemoryFiles<'a> {
         ensures fault { IfErr result (λ fault. (self.new.calls ≡ self.old.fail_at) × (fault ≡ SourceFault.Device)
             × (self.new.rest.now ≡ []) × IsRaised self.old.failures self.new.failures) }
         ensures files { self.new.files ≡ self.old.files }
+        ensures piece { self.new.piece ≡ self.old.piece }
     {
         self.calls = self.calls.saturating_add(1);
         if self.calls == self.fail_at {
@@ -68,6 +70,7 @@ impl<'a> MemoryFiles<'a> {
         ensures raised { IsRaised self.old.failures self.new.failures }
         ensures calls { self.new.calls ≡ self.old.calls }
         ensures files { self.new.files ≡ self.old.files }
+        ensures piece { self.new.piece ≡ self.old.piece }
     {
         self.failures = self.failures.saturating_add(1);
         self.rest = &[];
@@ -108,7 +111,16 @@ impl<'a> FileSource for MemoryFiles<'a> {
         }
     }
 
-    fn read(&mut self, buffer: &mut [u8]) -> Result<usize, SourceFault> {
+    fn read(&mut self, buffer: &mut [u8]) -> Result<usize, SourceFault>
+        ensures within { IfOk result (λ count. count ≤ length buffer.new) }
+        ensures bytes { ReadsNext (Some self.old.rest.now) (Some self.new.rest.now) result buffer.new }
+        ensures files { self.new.files ≡ self.old.files }
+        ensures failures { CountsFailures result self.old.failures self.new.failures }
+        ensures piece { IfOk result (λ count. count ≤ self.old.piece) }
+        ensures calls { self.new.calls ≡ min (self.old.calls + 1) (2 ^ 64 - 1) }
+        ensures fails { IfErr result (λ _. self.new.calls ≡ self.old.fail_at) }
+        ensures goes { OnOk result (self.new.calls ≢ self.old.fail_at) }
+    {
         self.count_call()?;
         let count = buffer.len().min(self.rest.len()).min(self.piece);
         let (front, rest) = self.rest.split_at(count);

@@ -1,5 +1,5 @@
 -- Going over places one after another.
-use Rattle.std.specs.Prelude.{◌≡◌, ◌<◌, ℕ, Bool, true, false, List, [], ◌∷◌, ◌++◌, Some}
+use Rattle.std.specs.Prelude.{◌≡◌, ◌<◌, ℕ, Bool, true, false, List, [], ◌∷◌, ◌++◌, ⊤, Some, Result, Ok, Err}
 use Rattle.release_files.specs.Lines.{line_text}
 use Rattle.release_files.specs.Source.{IsRaised}
 use Rattle.rf2_rows.specs.declared.kind.FileKind.{FileKind}
@@ -35,6 +35,16 @@ abbrev pub is_device : LoadFault → Bool
 is_device (Device file) = true
 is_device other = false
 
+-- the count of failures rises only where a failure of the device is answered
+abbrev pub RaisesOnlyAtDevice : {T : Type 0} → Result T LoadFault → ℕ → ℕ → Type 0
+RaisesOnlyAtDevice (Ok done) old new = new ≡ old
+RaisesOnlyAtDevice (Err fault) old new = is_device fault ≡ false → new ≡ old
+
 -- the device failed at one of so many files, and this was counted
 abbrev pub FailsBelow : ℕ → ℕ → ℕ → LoadFault → Type 0
 FailsBelow count old new fault = (file : ℕ) × (file < count) × (fault ≡ Device (Some file)) × IsRaised old new
+
+-- a file that has failed is one that is read
+abbrev pub FailsAtRead : (ℕ → Bool) → LoadFault → Type 0
+FailsAtRead reads (Device (Some file)) = reads file ≡ true
+FailsAtRead reads other = ⊤

@@ -10,7 +10,7 @@ ghost use Rattle.snapshot.specs.ListsInside.{listed_in};
 ghost use Rattle.snapshot.specs.Noted.{Covers};
 ghost use Rattle.snapshot.specs.RowsKept.{kept_in};
 ghost use Rattle.snapshot.specs.Seen.{AreSeen, IsSeen, first_conflict};
-ghost use Rattle.snapshot.specs.Taking.{FailsBelow, is_device as is_device_of};
+ghost use Rattle.snapshot.specs.Taking.{RaisesOnlyAtDevice, FailsAtRead, FailsBelow, is_device as is_device_of};
 ghost use Rattle.snapshot.specs.declared.limits.Limits.{Limits};
 
 use crate::comparing::Comparing;
@@ -70,6 +70,10 @@ pub fn read_rows<P: PlaceSource>(
     ensures err { IfSome (P.places files.old) (λ known. IfErr result (λ fault. fault ≢ LoadFault.Memory → is_device_of fault ≡ false → first_fault limits [] known ≡ Some fault)) }
     ensures device { IfErr result (λ fault. is_device_of fault ≡ true → FailsBelow (P.file_count files.old) (P.failure_count files.old) (P.failure_count files.new) fault) }
     ensures failures { P.failure_count files.old ≤ P.failure_count files.new }
+    ensures calm { RaisesOnlyAtDevice result (P.failure_count files.old) (P.failure_count files.new) }
+    ensures kind { IfErr result (λ fault. FailsAtRead (P.is_read files.old) fault) }
+    ensures read { P.is_read files.new ≡ P.is_read files.old }
+    ensures told { P.told files.new ≡ P.told files.old }
     ensures reference { P.reference files.new ≡ P.reference files.old }
 {
     let mut rows = Rows::new(alloc, limits);
@@ -93,6 +97,10 @@ fn first_of_faults<P: PlaceSource>(
     ensures stays { is_device_of fault ≡ true → (result ≡ fault) × (P.failure_count files.new ≡ P.failure_count files.old) }
     ensures device { is_device_of fault ≡ false → is_device_of result ≡ true → FailsBelow (P.file_count files.old) (P.failure_count files.old) (P.failure_count files.new) result }
     ensures failures { P.failure_count files.old ≤ P.failure_count files.new }
+    ensures calm { is_device_of result ≡ false → P.failure_count files.new ≡ P.failure_count files.old }
+    ensures kind { is_device_of fault ≡ false → FailsAtRead (P.is_read files.old) result }
+    ensures read { P.is_read files.new ≡ P.is_read files.old }
+    ensures told { P.told files.new ≡ P.told files.old }
     ensures reference { P.reference files.new ≡ P.reference files.old }
 {
     if is_memory(&fault) || is_device(&fault) {
@@ -120,6 +128,10 @@ fn choose_rows<P: PlaceSource>(
         → first_fault limits [] known ≡ Some fault)) }
     ensures device { IfErr result (λ fault. is_device_of fault ≡ true → FailsBelow (P.file_count files.old) (P.failure_count files.old) (P.failure_count files.new) fault) }
     ensures failures { P.failure_count files.old ≤ P.failure_count files.new }
+    ensures calm { RaisesOnlyAtDevice result (P.failure_count files.old) (P.failure_count files.new) }
+    ensures kind { IfErr result (λ fault. FailsAtRead (P.is_read files.old) fault) }
+    ensures read { P.is_read files.new ≡ P.is_read files.old }
+    ensures told { P.told files.new ≡ P.told files.old }
     ensures reference { P.reference files.new ≡ P.reference files.old }
 {
     let Rows {
@@ -156,6 +168,10 @@ fn check_conflicts<P: PlaceSource>(
         → first_conflict [] seen ≡ Some fault)) }
     ensures device { IfErr result (λ fault. is_device_of fault ≡ true → FailsBelow (P.file_count files.old) (P.failure_count files.old) (P.failure_count files.new) fault) }
     ensures failures { P.failure_count files.old ≤ P.failure_count files.new }
+    ensures calm { RaisesOnlyAtDevice result (P.failure_count files.old) (P.failure_count files.new) }
+    ensures kind { IfErr result (λ fault. FailsAtRead (P.is_read files.old) fault) }
+    ensures read { P.is_read files.new ≡ P.is_read files.old }
+    ensures told { P.told files.new ≡ P.told files.old }
     ensures reference { P.reference files.new ≡ P.reference files.old }
 {
     let repeated = repeated_keys(alloc, keys.keys())?;
@@ -186,6 +202,10 @@ fn compare<P: PlaceSource>(
         → first_conflict [] seen ≡ Some fault)) }
     ensures device { IfErr result (λ fault. is_device_of fault ≡ true → FailsBelow (P.file_count files.old) (P.failure_count files.old) (P.failure_count files.new) fault) }
     ensures failures { P.failure_count files.old ≤ P.failure_count files.new }
+    ensures calm { RaisesOnlyAtDevice result (P.failure_count files.old) (P.failure_count files.new) }
+    ensures kind { IfErr result (λ fault. FailsAtRead (P.is_read files.old) fault) }
+    ensures read { P.is_read files.new ≡ P.is_read files.old }
+    ensures told { P.told files.new ≡ P.told files.old }
     ensures reference { P.reference files.new ≡ P.reference files.old }
 {
     let versions = Versions::new(alloc, repeated);

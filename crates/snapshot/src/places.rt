@@ -42,9 +42,10 @@ pub trait PlaceTaker {
 
 /// The files of a release as places, which can be gone over more than once.
 pub trait PlaceSource {
-    ghost use Rattle.std.specs.Prelude.{◌≡◌, ◌≢◌, ◌≤◌, ℕ, List, Option, false, true, IfErr, IfSome, OnOk};
+    ghost use Rattle.std.specs.Prelude.{◌≡◌, ◌≢◌, ◌≤◌, ℕ, Bool, List, Option, false, true, IfErr, IfSome, OnOk};
+    ghost use Rattle.release_files.specs.Source.{FileText};
     ghost use Rattle.snapshot.specs.Files.{Place};
-    ghost use Rattle.snapshot.specs.Taking.{FailsBelow, StopsAt, TakesAll, is_device};
+    ghost use Rattle.snapshot.specs.Taking.{RaisesOnlyAtDevice, FailsAtRead, FailsBelow, StopsAt, TakesAll, is_device};
     ghost use Rattle.snapshot.specs.declared.fault.LoadFault.{LoadFault};
 
     /// The places in turn; `None` where nothing is claimed of them.
@@ -59,6 +60,12 @@ pub trait PlaceSource {
     /// What the files are read through, which stays the same.
     ghost reference: { Self → ℕ };
 
+    /// Whether the file at a place is read.
+    ghost is_read: { Self → ℕ → Bool };
+
+    /// What the source that is read through tells of its files, which stay the same.
+    ghost told: { Self → Option (List FileText) };
+
     /// Goes over the places in turn, from the first one on.
     fn take_places<T: PlaceTaker>(&mut self, taker: &mut T) -> Result<(), LoadFault>
         ensures ok { IfSome (places self.old) (λ known. OnOk result (TakesAll T.takes taker.old known taker.new)) }
@@ -68,6 +75,10 @@ pub trait PlaceSource {
         ensures places { places self.new ≡ places self.old }
         ensures files { file_count self.new ≡ file_count self.old }
         ensures failures { failure_count self.old ≤ failure_count self.new }
+        ensures calm { RaisesOnlyAtDevice result (failure_count self.old) (failure_count self.new) }
+        ensures kind { IfErr result (λ fault. FailsAtRead (is_read self.old) fault) }
+        ensures read { is_read self.new ≡ is_read self.old }
+        ensures told { told self.new ≡ told self.old }
         ensures reference { reference self.new ≡ reference self.old };
 }
 
@@ -78,7 +89,7 @@ pub struct MemoryPlaces<'a> {
 }
 
 impl<'a> PlaceSource for MemoryPlaces<'a> {
-    ghost use Rattle.std.specs.Prelude.{Some, length, map};
+    ghost use Rattle.std.specs.Prelude.{None, Some, true, length, map};
     ghost use Rattle.release_files.specs.Source.{file_text};
     ghost use Rattle.snapshot.specs.Files.{places_from};
 
@@ -89,6 +100,10 @@ impl<'a> PlaceSource for MemoryPlaces<'a> {
     ghost failure_count = { λ _. 0 };
 
     ghost reference = { λ _. 0 };
+
+    ghost told = { λ _. None };
+
+    ghost is_read = { λ _ _. true };
 
     fn take_places<T: PlaceTaker>(&mut self, taker: &mut T) -> Result<(), LoadFault> {
         take_files(self.files, taker)
