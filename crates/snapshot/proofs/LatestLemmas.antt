@@ -71,7 +71,7 @@ module _ (of : RowAt) where
     is_own = grind (arith, common_steps);
     unbeaten =
         let rest = any-none (λ other. own other && is_later (time_of other) (time_of latest.row)) (λ other. own other && is_later (time_of other) (time_of first)) rows
-            (λ other not. grind (arith, common_steps, (later_trans (time_of other) (time_of first) (time_of latest.row)))) latest.unbeaten in
+        (λ other not. grind (arith, common_steps, (later_trans (time_of other) (time_of first) (time_of latest.row)))) latest.unbeaten in
         grind (arith, common_steps, (is_later-itself (time_of first)));
   }
   with_first first rows latest false is = record {
@@ -133,7 +133,7 @@ module _ (of : RowAt) where
   one_stands rows some =
       let latest = has_latest rows some in
       let standing : is_superseded rows latest.row ≡ false =
-          any_same _ _ rows (λ other. grind (arith, common_steps, (component_as latest.row of other), latest.is_own)) ∙ latest.unbeaten in
+      any_same _ _ rows (λ other. grind (arith, common_steps, (component_as latest.row of other), latest.is_own)) ∙ latest.unbeaten in
       true_from_ne_false _ (λ none. absurd (true≢false (sym (grind (arith, common_steps, latest.is_own)) ∙ latest.among (stands rows) none)))
 
 -- of the component of each row one row is chosen

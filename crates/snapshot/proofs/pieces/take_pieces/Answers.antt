@@ -30,7 +30,7 @@ returns-in-Err-clause-err g c = if_told _ (g.S.FileSource.files c.args.source.no
     let here = places_of_file c.loop-file.file (cut_file c.args.byte_limit (text_named known c.as_str.result.now)) in
     let left = places_from (c.loop-file.file + 1) (map (cut_file c.args.byte_limit) (listed known (map string_bytes (drop (c.loop-file.file + 1) c.args.names.now)))) in
     let ahead : Leads g.T.PlaceTaker.takes g.T.PlaceTaker.refuses c.args.taker.now all c.loop-file.taker (here ++ left) =
-      rw (← places_from-listed c.args.byte_limit known string_bytes c.loop-file.file c.args.names.now c.index-names-file.result c.as_str.result.now c.loop-file-test.true (c.as_str.ensures.value ∙ ap string_bytes c.index-names-file.is)) (c.loop-file.invariant.told known told) in
+    rw (← places_from-listed c.args.byte_limit known string_bytes c.loop-file.file c.args.names.now c.index-names-file.result c.as_str.result.now c.loop-file-test.true (c.as_str.ensures.value ∙ ap string_bytes c.index-names-file.is)) (c.loop-file.invariant.told known told) in
     let stopped = stops_name g.T.PlaceTaker.takes g.T.PlaceTaker.refuses (FailsAt c.loop-file.file (g.S.FileSource.failure_count c.loop-file.source) (g.S.FileSource.failure_count c.take_name.new.source)) c.args.taker.now c.loop-file.taker c.take_name.new.taker all here left c.take_name.result c.in-Err.fault
-      ahead (c.take_name.ensures.goes known (c.loop-file.invariant.files ∙ told)) c.in-Err.is other in
+    ahead (c.take_name.ensures.goes known (c.loop-file.invariant.files ∙ told)) c.in-Err.is other in
     fails_at_file c.loop-file.file _ _ _ c.in-Err.fault c.loop-file.invariant.failures stopped)
