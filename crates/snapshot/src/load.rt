@@ -1,5 +1,5 @@
 //! Loading a release: its files are read, its concepts numbered, and the rows between them kept.
-ghost use Rattle.std.specs.Prelude.{◌≡◌, ◌<◌, ◌≤◌, ◌^◌, ◌⊎◌, ℕ, Err, None, Some, Ok, false, true, IfOk, IfErr, IfSome, OnOk, is_some, map, length, string_bytes, count_by};
+ghost use Rattle.std.specs.Prelude.{◌≡◌, ◌≢◌, ◌↔◌, ◌<◌, ◌≤◌, ◌^◌, ◌⊎◌, ℕ, Err, None, Some, Ok, false, true, IfOk, IfErr, IfSome, OnOk, is_some, map, length, string_bytes, count_by};
 ghost use Rattle.std.specs.List.{filter_map, list_any};
 ghost use Rattle.std.specs.Cmp.Lexicographic.{slice_cmp};
 ghost use Rattle.std.specs.List.Sorted.{IsSorted, IsStrictlyIncreasing};
@@ -8,7 +8,7 @@ ghost use Rattle.snapshot.specs.Contents.{IsFaultOf, first_cyclic, load_of, load
 ghost use Rattle.release_files.specs.Source.{file_text};
 ghost use Rattle.snapshot.specs.Files.{has_kind as has_kind_of, is_concept_file as is_concept_file_of, is_concept_kind, name_concepts};
 ghost use Rattle.snapshot.specs.Pieces.{AreInOrder, FailsToList, IsUnlisted, ListsNames, has_kind_at, listed, listing_fault};
-ghost use Rattle.snapshot.specs.Taking.{RaisesOnlyAtDevice, FailsAtRead, FailsBelow, is_device};
+ghost use Rattle.snapshot.specs.Taking.{FailsAtRead, FailsBelow, FileIs, RaisesOnlyAtDevice, is_device};
 ghost use Rattle.rf2_rows.specs.Files.{file_kind_of};
 ghost use Rattle.snapshot.specs.InForce.{rising as rising_of, rows_among};
 ghost use Rattle.snapshot.specs.Kept.{AreFew, attributes_among, names_among, IsCycle, finished};
@@ -56,7 +56,8 @@ impl Snapshot {
     ) -> Result<Snapshot, LoadFault>
         ensures ok { IfOk result (λ snapshot. load_of limits lang.now (map file_text files.now) ≡ Ok snapshot) }
         ensures err { IfErr result (λ fault. IsFaultOf fault (load_of limits lang.now (map file_text files.now))) }
-        ensures unnamed { list_any (λ file. is_concept_file_of (file_text file)) files.now ≡ false → result ≡ Err LoadFault.NoConceptFile }
+        ensures unnamed { (result ≡ Err LoadFault.NoConceptFile) ↔ (list_any (λ file. is_concept_file_of (file_text file)) files.now ≡ false) }
+        ensures named { IfErr result (FileIs (λ file. file < length files.now)) }
     {
         if !has_concept_file(files) {
             return Err(LoadFault::NoConceptFile);
@@ -98,6 +99,8 @@ impl Snapshot {
         ensures rising { IsSorted (slice_cmp nat_cmp) (map string_bytes names.new.items) }
         ensures unnamed { name_concepts string_bytes names.new.items ≡ false
             → (result ≡ Err LoadFault.NoConceptFile) ⊎ IsUnlisted result (map string_bytes names.new.items) }
+        ensures found { result ≡ Err LoadFault.NoConceptFile → name_concepts string_bytes names.new.items ≡ false }
+        ensures named { IfErr result (FileIs (λ file. file < length names.new.items)) }
     {
         match list_names(source, names) {
             Ok(()) => Snapshot::load_named(alloc, source, names.as_slice(), lang, limits),
@@ -121,7 +124,8 @@ impl Snapshot {
         ensures calm { RaisesOnlyAtDevice result (S.failure_count source.old) (S.failure_count source.new) }
         ensures kind { IfErr result (λ fault. FailsAtRead (has_kind_at (map string_bytes names.now)) fault) }
         ensures files { S.files source.new ≡ S.files source.old }
-        ensures unnamed { name_concepts string_bytes names.now ≡ false → result ≡ Err LoadFault.NoConceptFile }
+        ensures unnamed { (result ≡ Err LoadFault.NoConceptFile) ↔ (name_concepts string_bytes names.now ≡ false) }
+        ensures named { IfErr result (FileIs (λ file. file < length names.now)) }
     {
         if !name_concept_file(names) {
             return Err(LoadFault::NoConceptFile);
@@ -173,13 +177,16 @@ fn load_places<P: PlaceSource>(
     limits: Limits,
     kinds: u64,
 ) -> Result<Snapshot, LoadFault>
-    requires { row_total limits ≤ 68000000 }
+    requires total { row_total limits ≤ 68000000 }
+    requires some { 0 < P.file_count files.old }
     ensures ok { IfSome (P.places files.old) (λ known. IfOk result (λ snapshot. loaded_from limits lang.now kinds known ≡ Ok snapshot)) }
     ensures err { IfSome (P.places files.old) (λ known. IfErr result (λ fault. is_device fault ≡ false → IsFaultOf fault (loaded_from limits lang.now kinds known))) }
     ensures device { IfErr result (λ fault. is_device fault ≡ true → FailsBelow (P.file_count files.old) (P.failure_count files.old) (P.failure_count files.new) fault) }
     ensures failures { P.failure_count files.old ≤ P.failure_count files.new }
     ensures calm { RaisesOnlyAtDevice result (P.failure_count files.old) (P.failure_count files.new) }
     ensures kind { IfErr result (λ fault. FailsAtRead (P.is_read files.old) fault) }
+    ensures named { IfErr result (FileIs (λ file. file < P.file_count files.old)) }
+    ensures found { IfErr result (λ fault. fault ≢ LoadFault.NoConceptFile) }
     ensures read { P.is_read files.new ≡ P.is_read files.old }
     ensures told { P.told files.new ≡ P.told files.old }
     ensures reference { P.reference files.new ≡ P.reference files.old }

@@ -7,7 +7,7 @@ ghost use Rattle.release_files.specs.PieceLines.{lines_to_come};
 ghost use Rattle.release_files.specs.Source.{FileText};
 ghost use Rattle.snapshot.specs.Files.{later_line, places_from, places_of_file, places_of_lines};
 ghost use Rattle.snapshot.specs.Pieces.{cut_file, has_kind_at, FailsAt, FailsAtFile, GoesOver, fault_of, listed, text_named};
-ghost use Rattle.snapshot.specs.Taking.{RaisesOnlyAtDevice, FailsAtRead, FailsBelow, StopsAt, TakesAll, is_device};
+ghost use Rattle.snapshot.specs.Taking.{FailsAtRead, FailsBelow, FileIs, RaisesOnlyAtDevice, StopsAt, TakesAll, is_device};
 
 use crate::fault::LoadFault;
 use crate::places::{Met, PlaceSource, PlaceTaker};
@@ -42,6 +42,10 @@ impl<'a, S: FileSource> PlaceSource for PiecePlaces<'a, S> {
 
     ghost is_read = { λ held. has_kind_at (map string_bytes held.names.now) };
 
+    fn last_file(&self) -> usize {
+        self.names.len().saturating_sub(1)
+    }
+
     fn take_places<T: PlaceTaker>(&mut self, taker: &mut T) -> Result<(), LoadFault> {
         take_pieces(self.alloc, self.source, self.names, self.byte_limit, taker)
     }
@@ -68,6 +72,8 @@ fn take_pieces<S: FileSource, T: PlaceTaker>(
         ⊎ StopsAt T.takes T.refuses taker.old (places_from 0 (map (cut_file byte_limit) (listed known (map string_bytes names.now)))) taker.new fault)) }
     ensures device { IfErr result (λ fault. is_device fault ≡ true → FailsBelow (length names.now) (S.failure_count source.old) (S.failure_count source.new) fault) }
     ensures kind { IfErr result (λ fault. FailsAtRead (has_kind_at (map string_bytes names.now)) fault) }
+    ensures named { IfErr result (FileIs (λ file. file < length names.now)) }
+    ensures found { IfErr result (λ fault. fault ≢ LoadFault.NoConceptFile) }
     ensures files { S.files source.new ≡ S.files source.old }
     ensures failures { S.failure_count source.old ≤ S.failure_count source.new }
     ensures calm { RaisesOnlyAtDevice result (S.failure_count source.old) (S.failure_count source.new) }
@@ -95,6 +101,8 @@ fn take_name<S: FileSource, T: PlaceTaker>(
         taker.old (places_of_file file (cut_file byte_limit (text_named known name.now))) result taker.new }
     ensures device { IfErr result (λ fault. is_device fault ≡ true → FailsAt file (S.failure_count source.old) (S.failure_count source.new) fault) }
     ensures kind { IfErr result (λ fault. is_device fault ≡ true → is_some (file_kind_of name.now) ≡ true) }
+    ensures named { IfErr result (FileIs (λ at. at ≡ file)) }
+    ensures found { IfErr result (λ fault. fault ≢ LoadFault.NoConceptFile) }
     ensures files { S.files source.new ≡ S.files source.old }
     ensures failures { S.failure_count source.old ≤ S.failure_count source.new }
     ensures calm { RaisesOnlyAtDevice result (S.failure_count source.old) (S.failure_count source.new) }
@@ -121,6 +129,8 @@ fn take_opened<S: FileSource, T: PlaceTaker>(
         → GoesOver T.takes T.refuses (FailsAt file (S.failure_count source.old) (S.failure_count source.new))
         taker.old (places_of_lines file kind (lines_of (take (byte_limit + 1) bytes))) result taker.new }
     ensures device { IfErr result (λ fault. is_device fault ≡ true → FailsAt file (S.failure_count source.old) (S.failure_count source.new) fault) }
+    ensures named { IfErr result (FileIs (λ at. at ≡ file)) }
+    ensures found { IfErr result (λ fault. fault ≢ LoadFault.NoConceptFile) }
     ensures files { S.files source.new ≡ S.files source.old }
     ensures failures { S.failure_count source.old ≤ S.failure_count source.new }
     ensures calm { RaisesOnlyAtDevice result (S.failure_count source.old) (S.failure_count source.new) }
@@ -153,6 +163,8 @@ fn take_later<S: FileSource, T: PlaceTaker>(
         → GoesOver T.takes T.refuses (FailsAt file (S.failure_count source.old) (S.failure_count source.new))
         taker.old (map (later_line file kind) (lines_to_come lines rest)) result taker.new }
     ensures device { IfErr result (λ fault. is_device fault ≡ true → FailsAt file (S.failure_count source.old) (S.failure_count source.new) fault) }
+    ensures named { IfErr result (FileIs (λ at. at ≡ file)) }
+    ensures found { IfErr result (λ fault. fault ≢ LoadFault.NoConceptFile) }
     ensures files { S.files source.new ≡ S.files source.old }
     ensures failures { S.failure_count source.old ≤ S.failure_count source.new }
     ensures calm { RaisesOnlyAtDevice result (S.failure_count source.old) (S.failure_count source.new) }
