@@ -3,7 +3,7 @@
 -- For every accepted release and every list of query lines, whatever plans were chosen, what is written is, line by line, a
 -- count and then, in rising order and once each, exactly the active concepts that the constraint denotes over the release's
 -- active inferred rows, with their names; or, for a text outside the grammar, its one refusal line and no concept.
-use Rattle.std.specs.Prelude.{ℕ, ◌≡◌, ◌⊎◌, ◌↔◌, ◌++◌, IsTrue, List, Contains, Option, Some, Ok}
+use Rattle.std.specs.Prelude.{ℕ, ◌≡◌, ◌⊎◌, ◌↔◌, ◌++◌, IsTrue, List, Contains, Some, Ok}
 use Rattle.std.specs.List.Sorted.{IsStrictlyIncreasing}
 use Rattle.ecl_lexer.specs.declared.fault.QueryFault.{QueryFault}
 use Rattle.constraint_tree.specs.Denotation.{denotes}
@@ -43,10 +43,10 @@ Answers contents line text =
     ⊎ ((fault : QueryFault) × IsRefusalOf line fault × (text ≡ refusal_text fault))
 
 -- where a query request over told files and a told input ends with status 0, this was written behind what was there
-abbrev pub KeepsThePromise : Type 1
-KeepsThePromise =
-    {R W E : Type 0} (r : Input R) (w : Output W) (e : Output E) (before after : Streams R W E) (files : List FileText) (language bytes there : List ℕ)
-    (old new : ℕ) (task : Task) → IsTask (Some files) old new language Query task → EndsWith r w e task Done before after
+abbrev pub KeepsThePromise : {R W E : Type 0} → Input R → Output W → Output E → Type 0
+KeepsThePromise {R} {W} {E} r w e =
+    (before after : Streams R W E) (files : List FileText) (language bytes there : List ℕ) (old new : ℕ) (task : Task)
+    → IsTask (Some files) old new language Query task → EndsWith r w e task Done before after
     → r.remaining before.input ≡ Some bytes → w.written before.output ≡ Some there
     → (contents : Contents) × IsReleaseOf files language contents
     × (text : List ℕ) × AreAnswers (Answers contents) (query_lines bytes) text × (w.written after.output ≡ Some (there ++ text))

@@ -1,5 +1,5 @@
 -- What a request ends with: a status, and what it says of what was read, written and told.
-use Rattle.std.specs.Prelude.{ℕ, ⊤, ◌≡◌, ◌≢◌, ◌⊎◌, ◌<◌, false, true, List, [], codes, length, take, IfErr, IfSome, Option, Result, Ok, Err}
+use Rattle.std.specs.Prelude.{ℕ, ◌≡◌, ◌≢◌, ◌⊎◌, ◌<◌, false, true, List, [], codes, length, take, IfErr, IfSome, Option, Result, Ok, Err}
 use Rattle.std.specs.Io.KnownBytes.{Appends, IsAtEnd}
 use Rattle.snapshot.specs.Contents.{Contents, load_of}
 use Rattle.release_files.specs.Source.{FileText}

@@ -4,6 +4,7 @@ ghost use Rattle.query_tool.specs.Promise.{KeepsThePromise};
 
 use ecl_parser::one_reading;
 use snapshot::rising_keeps_the_members;
+use streams::{AnswerOutput, QueryInput};
 
 /// No query line has two answers.
 pub fn one_answer()
@@ -13,8 +14,8 @@ pub fn one_answer()
 }
 
 /// What `serve` says of a query request that ends with status 0 is the promise of the engine.
-pub fn promise_is_kept()
-    ensures { KeepsThePromise }
+pub fn promise_is_kept<R: QueryInput, W: AnswerOutput, E: AnswerOutput>()
+    ensures { KeepsThePromise R.QueryInput W.AnswerOutput E.AnswerOutput }
 {
     rising_keeps_the_members();
 }

@@ -35,11 +35,14 @@ returns g c =
     let names : List (List ℕ) = map string_bytes c.report.new.names.items in
     let task : Task = record { mode = Check; loaded = Err c.in-Err.fault; names = names } in (
       task,
-      record { mode_is = refl; loaded = record {
-        loaded = c.in-Err.ensures.err;
-        named = c.in-Err.ensures.named;
-        device = record { failed = counts_device string_bytes c.report.new.names.items _ _ c.in-Err.fault c.in-Err.ensures.device; calm = c.in-Err.ensures.calm };
-      } },
+      record {
+        mode_is = refl;
+        loaded = record {
+          loaded = c.in-Err.ensures.err;
+          named = c.in-Err.ensures.named;
+          device = record { failed = counts_device string_bytes c.report.new.names.items _ _ c.in-Err.fault c.in-Err.ensures.device; calm = c.in-Err.ensures.calm };
+        };
+      },
       refuses_with g.R.QueryInput g.W.AnswerOutput g.E.AnswerOutput task c.in-Err.fault c.refuse.result _ _ _ _ refl
           (subst (λ (texts : List (String Global)). TellsLoadFault g.E.AnswerOutput (map string_bytes texts) c.in-Err.fault c.refuse.result c.args.errors.now c.refuse.new.errors) c.as_slice-in-Err.ensures.value c.refuse.ensures),
     )
