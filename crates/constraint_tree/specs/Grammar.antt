@@ -2,6 +2,9 @@
 -- the tree of a list of tokens. A form is a way to derive tokens by the rules of the grammar, with one constructor for
 -- each alternative of a rule: it has the tokens that it derives, and a tree, in which brackets and terms leave no trace.
 -- The tokens of a form are written in front of those that follow it.
+-- Of the brief syntax these forms have no tree here: filters and history supplements, fields of reference sets, alternate
+-- identifiers, and texts and truth values as values, which are refused as they are cut into tokens; and `R` in front of an
+-- attribute inside braces, which the standard has, and which is refused as no constraint.
 use Rattle.std.specs.Prelude.{◌≡◌, ℕ, ℤ, Bool, true, false, List, [], ◌∷◌, map, drop, Option, None, Some, IsTrue}
 use Rattle.ecl_lexer.specs.Tokens.{Spelled}
 use Rattle.ecl_lexer.specs.declared.token.TokenKind.{TokenKind}

@@ -1,8 +1,8 @@
 //! From a text to the tree of its constraint.
-ghost use Rattle.std.specs.Prelude.{◌≡◌, ◌⊎◌, ℕ, ◌<◌, ◌≤◌, false, List, [], length, map, Err, IfErr, IfOk, MatchResult};
-ghost use Rattle.ecl_lexer.specs.Tokens.{most_bytes, spelled};
+ghost use Rattle.std.specs.Prelude.{◌≡◌, ◌⊎◌, ◌↔◌, ℕ, ◌<◌, ◌≤◌, false, List, [], length, map, Err, IfErr, IfOk, MatchResult};
+ghost use Rattle.ecl_lexer.specs.Tokens.{BeginsWithToken, IsFaultOf, most_bytes, spelled};
 ghost use Rattle.ecl_lexer.specs.declared.fault.QueryFault.{QueryFault};
-ghost use Rattle.ecl_lexer.specs.declared.fault.QueryFault.TheVariants.{Long, Memory, Syntax};
+ghost use Rattle.ecl_lexer.specs.declared.fault.QueryFault.TheVariants.{Long, Memory, Syntax, Utf8};
 ghost use Rattle.constraint_tree.specs.Grammar.{IsTreeOf};
 ghost use Rattle.constraint_tree.specs.Refusal.{IsConstraint, IsRefusalOf, is_deep as is_deep_at};
 ghost use Rattle.constraint_tree.specs.Text.{constraint_text};
@@ -30,6 +30,11 @@ pub fn parse(alloc: Global, text: &[u8]) -> Result<Constraint, QueryFault>
     ensures whole { (tree : Tree) → IsConstraint text.now tree → MatchResult result (λ found. tree_of found ≡ tree) (λ fault. fault ≡ Memory) }
     ensures only { (fault : QueryFault) → IsRefusalOf text.now fault → (result ≡ Err fault) ⊎ (result ≡ Err Memory) }
     ensures empty { text.now ≡ [] → result ≡ Err Syntax }
+
+    // Memory is taken for tokens alone.
+    ensures long { (result ≡ Err Long) ↔ IsFaultOf text.now Long }
+    ensures utf8 { (result ≡ Err Utf8) ↔ IsFaultOf text.now Utf8 }
+    ensures memory { result ≡ Err Memory → BeginsWithToken text.now }
 {
     let tokens = match lex(alloc, text) {
         Ok(tokens) => tokens,

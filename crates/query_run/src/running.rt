@@ -55,7 +55,7 @@ const LINE_FEED: u8 = b'\n';
 ///
 /// A fault says how many answers were written whole: `Read` where the input fails, `Write` where
 /// the output fails, `Memory` where memory is refused, and `Turns` where the input has not ended
-/// after 2^40 reads.
+/// after 2^40 reads, which is how often it is read at the most.
 pub fn run<A: AnswerLine, R: QueryInput, W: AnswerOutput>(
     alloc: Global,
     answerer: &A,
@@ -71,6 +71,7 @@ pub fn run<A: AnswerLine, R: QueryInput, W: AnswerOutput>(
     ensures fault { IfErr result (λ fault. EndsAt fault (A.answers answerer.now) (R.remaining input.old) (R.remaining input.new) (W.written output.old) (W.written output.new)) }
     ensures failed { IfErr result (λ fault. HaveFailed fault (R.has_failed input.new) (W.has_failed output.new)) }
     ensures turns { IfErr result (λ fault. CountsTurns fault (R.read_count input.old) (R.read_count input.new)) }
+    ensures reads { R.read_count input.new ≤ R.read_count input.old + 2 ^ 40 }
 {
     let mut buffer = match zeros(alloc, PIECE_LENGTH) {
         Ok(buffer) => buffer,

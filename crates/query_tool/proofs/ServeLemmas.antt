@@ -16,7 +16,7 @@ use Rattle.answer_printer.specs.ReportText.{report_text}
 use Rattle.query_run.specs.Fault.{CountsTurns, HaveFailed}
 use Rattle.query_tool.specs.Report.{report_of}
 use Rattle.sample_release.specs.SampleContents.{sample_contents}
-use Rattle.query_tool.specs.Serve.{CountsDevice, EndsWith, IsCut, IsLoadOf, IsServed, IsTask, ServesWith, Task, TellsLoadFault, fault_text, refusal_status_of, sample_task, status_of}
+use Rattle.query_tool.specs.Serve.{EndsWith, IsCut, IsLoadOf, IsServed, IsTask, ServesWith, Task, TellsLoadFault, fault_text, refusal_status_of, sample_task, status_of}
 use Rattle.query_tool.specs.Streams.{IsTold, Streams, streams}
 use Rattle.query_run.specs.declared.running.RunFault.{RunFault}
 use Rattle.query_run.specs.declared.running.RunFault.TheVariants.{Read, Write, Memory, Turns}
@@ -117,7 +117,7 @@ loaded_not (Some known) limits language names fault same said (inr (none, inr me
 -- a failure of the device at one of some names was counted
 pub counts_device : {X : Type 0} (text : X → List ℕ) (items : List X) (old new : ℕ) (fault : LoadFault)
     → (is_device fault ≡ true → FailsToList old new (map text items) fault ⊎ FailsBelow (length items) old new fault)
-    → CountsDevice old new (map text items) (Err fault)
+    → is_device fault ≡ true → FailsToList old new (map text items) fault ⊎ FailsBelow (length (map text items)) old new fault
 counts_device text items old new fault said =
     subst (λ (count : ℕ). is_device fault ≡ true → FailsToList old new (map text items) fault ⊎ FailsBelow count old new fault) (sym (length-map items text)) said
 

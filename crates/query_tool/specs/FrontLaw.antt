@@ -1,5 +1,5 @@
 -- Lines that begin alike are answered alike: with this an engine answers the lines of a run, which keeps no more of a line.
-use Rattle.std.proofs.Common.{◌≡◌, ℕ, ◌<◌, ◌≤◌, List, length, inl, inr, sym, ap, ◌∙◌, subst, min, arith}
+use Rattle.std.proofs.Common.{◌≡◌, ℕ, ◌<◌, List, length, inl, inr, sym, ap, ◌∙◌, subst, min, arith}
 use Rattle.std.proofs.lemmas.Bool.{cases_lt}
 use Rattle.std.proofs.lemmas.List.{length-take, take_all}
 use Rattle.ecl_lexer.specs.Tokens.{most_bytes}

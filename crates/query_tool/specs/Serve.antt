@@ -1,11 +1,11 @@
 -- What a request ends with: a status, and what it says of what was read, written and told.
-use Rattle.std.specs.Prelude.{ℕ, ⊤, ◌≡◌, ◌≢◌, ◌⊎◌, ◌<◌, false, true, List, [], codes, length, take, IfSome, Option, Result, Ok, Err}
+use Rattle.std.specs.Prelude.{ℕ, ◌≡◌, ◌≢◌, ◌⊎◌, ◌<◌, false, true, List, [], codes, length, take, IfErr, IfSome, Option, Result, Ok, Err}
 use Rattle.std.specs.Io.KnownBytes.{Appends, IsAtEnd}
 use Rattle.snapshot.specs.Contents.{Contents, load_of}
 use Rattle.release_files.specs.Source.{FileText}
 use Rattle.snapshot.specs.Limits.{standard_limits}
-use Rattle.snapshot.specs.Pieces.{AreInOrder, FailsToList, listed}
-use Rattle.snapshot.specs.Taking.{FailsBelow, is_device}
+use Rattle.snapshot.specs.Pieces.{AreInOrder, FailsToList, IsUnlisted, listed}
+use Rattle.snapshot.specs.Taking.{FailsBelow, RaisesOnlyAtDevice, is_device}
 use Rattle.snapshot.specs.declared.fault.LoadFault.{LoadFault}
 use Rattle.snapshot.specs.declared.fault.LoadFault.TheVariants as load
 use Rattle.answer_printer.specs.LoadRefusal.{load_refusal}
@@ -70,14 +70,16 @@ IsLoadOf known language names (Ok contents) = AreInOrder known names × (load_of
 IsLoadOf known language names (Err fault) =
     fault ≢ load.Memory → is_device fault ≡ false → AreInOrder known names × (load_of standard_limits language (listed known names) ≡ Err fault)
 
--- where the device failed this was counted: it was to list the files, or to read one of these
-abbrev pub CountsDevice : ℕ → ℕ → List (List ℕ) → Result Contents LoadFault → Type 0
-CountsDevice old new names (Ok contents) = ⊤
-CountsDevice old new names (Err fault) = is_device fault ≡ true → FailsToList old new names fault ⊎ FailsBelow (length names) old new fault
+-- where the device failed this was counted: it was to list the files, or to read one of these. Else no failure was counted
+pub record CountsDevice (old new : ℕ) (names : List (List ℕ)) (loaded : Result Contents LoadFault) : Type 0 where
+  pub failed : IfErr loaded (λ fault. is_device fault ≡ true → FailsToList old new names fault ⊎ FailsBelow (length names) old new fault)
+  pub calm : RaisesOnlyAtDevice loaded old new
 
--- the files of a source were loaded, which had failed so often before and behind
+-- the files of a source were loaded, which had failed so often before and behind: their names were listed in byte order, or
+-- none were
 pub record IsLoadedFrom (told : Option (List FileText)) (old new : ℕ) (language : List ℕ) (task : Task) : Type 0 where
   pub loaded : IfSome told (λ known. IsLoadOf known language task.names task.loaded)
+  pub named : IfSome told (λ known. AreInOrder known task.names ⊎ IsUnlisted task.loaded task.names)
   pub device : CountsDevice old new task.names task.loaded
 
 -- the release that a mode asks for: the one that is built in, or that of the files of a source with the names of

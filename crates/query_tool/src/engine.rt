@@ -1,12 +1,15 @@
 //! The engine: a release that answers queries.
-ghost use Rattle.std.specs.Prelude.{ℕ, ◌≡◌, ◌⊎◌, ◌++◌, List, IfErr, IfOk, IfSome, Ok, OnErr, OnOk, false, length, map, string_bytes, true};
-ghost use Rattle.std.specs.List.Sorted.{IsStrictlyIncreasing};
+ghost use Rattle.std.specs.Prelude.{ℕ, ◌≡◌, ◌<◌, ◌⊎◌, ◌++◌, List, Err, IfErr, IfOk, IfSome, Ok, OnErr, OnOk, false, length, map, string_bytes, true};
+ghost use Rattle.std.specs.Cmp.Lexicographic.{slice_cmp};
+ghost use Rattle.std.specs.List.Sorted.{IsSorted, IsStrictlyIncreasing};
+ghost use Rattle.std.specs.Ordering.{nat_cmp};
 ghost use Rattle.constraint_tree.specs.Denotation.{denotation};
 ghost use Rattle.constraint_tree.specs.Tree.{Tree, tree_of};
 ghost use Rattle.postings.specs.Indexed.{IsIndexOf};
 ghost use Rattle.snapshot.specs.Contents.{IsFaultOf, load_of};
-ghost use Rattle.snapshot.specs.Pieces.{AreInOrder, FailsToList, IsUnlisted, listed};
-ghost use Rattle.snapshot.specs.Taking.{FailsBelow, is_device};
+ghost use Rattle.snapshot.specs.Files.{name_concepts};
+ghost use Rattle.snapshot.specs.Pieces.{AreInOrder, FailsToList, IsUnlisted, has_kind_at, listed};
+ghost use Rattle.snapshot.specs.Taking.{FailsAtRead, FailsBelow, FileIs, RaisesOnlyAtDevice, is_device};
 ghost use Rattle.release_files.specs.Source.{file_text};
 ghost use Rattle.query_tool.specs.Answer.{constraint_answer, IsAnswer};
 ghost use Rattle.query_tool.specs.FrontLaw.{same_front};
@@ -55,6 +58,7 @@ impl Engine {
     ) -> Result<Engine, LoadFault>
         ensures ok { IfOk result (λ engine. load_of limits lang.now (map file_text files.now) ≡ Ok engine) }
         ensures err { IfErr result (λ fault. IsFaultOf fault (load_of limits lang.now (map file_text files.now))) }
+        ensures named { IfErr result (FileIs (λ file. file < length files.now)) }
     {
         match Snapshot::load(alloc, files, lang, limits) {
             Ok(snapshot) => with_indexes(alloc, snapshot),
@@ -77,6 +81,14 @@ impl Engine {
         ensures device { IfErr result (λ fault. is_device fault ≡ true
             → FailsToList (S.failure_count source.old) (S.failure_count source.new) (map string_bytes names.new.items) fault
             ⊎ FailsBelow (length names.new.items) (S.failure_count source.old) (S.failure_count source.new) fault) }
+        ensures calm { RaisesOnlyAtDevice result (S.failure_count source.old) (S.failure_count source.new) }
+        ensures kind { IfErr result (λ fault. FailsAtRead (has_kind_at (map string_bytes names.new.items)) fault) }
+        ensures files { S.files source.new ≡ S.files source.old }
+        ensures rising { IsSorted (slice_cmp nat_cmp) (map string_bytes names.new.items) }
+        ensures unnamed { name_concepts string_bytes names.new.items ≡ false
+            → (result ≡ Err LoadFault.NoConceptFile) ⊎ IsUnlisted result (map string_bytes names.new.items) }
+        ensures found { result ≡ Err LoadFault.NoConceptFile → name_concepts string_bytes names.new.items ≡ false }
+        ensures named { IfErr result (FileIs (λ file. file < length names.new.items)) }
     {
         match Snapshot::load_from(alloc, source, names, lang, limits) {
             Ok(snapshot) => with_indexes(alloc, snapshot),

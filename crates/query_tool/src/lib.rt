@@ -8,7 +8,7 @@ mod program;
 mod service;
 
 pub use crate::engine::Engine;
-pub use crate::laws::one_answer;
+pub use crate::laws::{one_answer, promise_is_kept};
 pub use crate::program::start;
 pub use crate::service::{Status, refuse_words, serve};
 pub use command_line::{Mode, Request, WordFault, read_words};

@@ -1,12 +1,14 @@
 //! What the program does with a request, its files and its streams.
-ghost use Rattle.std.specs.Prelude.{◌≡◌, false, Err, IfErr, IfOk, IfSome, Ok, map, string_bytes};
+ghost use Rattle.std.specs.Prelude.{◌≡◌, ◌⊎◌, false, true, Err, IfErr, IfOk, IfSome, Ok, length, map, string_bytes};
 ghost use Rattle.rf2_rows.specs.Parts.{texts_of};
 ghost use Rattle.snapshot.specs.Contents.{Contents, IsFaultOf};
+ghost use Rattle.snapshot.specs.Pieces.{AreInOrder, FailsToList, IsUnlisted};
+ghost use Rattle.snapshot.specs.Taking.{FailsBelow, RaisesOnlyAtDevice, is_device};
 ghost use Rattle.sample_release.specs.SampleContents.{sample_contents};
 ghost use Rattle.answer_printer.specs.LoadRefusal.{load_refusal};
 ghost use Rattle.answer_printer.specs.ReportText.{report_text};
 ghost use Rattle.query_tool.specs.Report.{report_of};
-ghost use Rattle.query_tool.specs.Serve.{CountsDevice, EndsWith, IsLoadOf, IsTask, ServesWith, Task, TellsLoadFault, fault_text, memory_text, refusal_status_of, sample_task, status_code, status_of};
+ghost use Rattle.query_tool.specs.Serve.{EndsWith, IsLoadOf, IsTask, ServesWith, Task, TellsLoadFault, fault_text, memory_text, refusal_status_of, sample_task, status_code, status_of};
 ghost use Rattle.query_tool.specs.Streams.{IsTold, outputs, streams};
 ghost use Rattle.query_tool.specs.WordRefusal.{TellsWordFault};
 
@@ -65,9 +67,10 @@ pub fn serve<S: FileSource, R: QueryInput, W: AnswerOutput, E: AnswerOutput>(
     requires input { R.has_failed input.old ≡ false }
     requires output { W.has_failed output.old ≡ false }
     requires errors { E.AnswerOutput.has_failed errors.old ≡ false }
-    ensures { (task : Task)
+    ensures served { (task : Task)
         × IsTask (S.files source.old) (S.failure_count source.old) (S.failure_count source.new) (string_bytes request.now.lang) request.now.mode task
         × EndsWith R.QueryInput W.AnswerOutput E.AnswerOutput task result (streams input.old output.old errors.old) (streams input.new output.new errors.new) }
+    ensures untouched { request.now.mode ≡ Mode.Sample → source.new ≡ source.old }
 {
     let lang = request.lang.as_str();
     match request.mode {
@@ -202,7 +205,11 @@ fn report<S: FileSource>(
     ensures ok { IfOk result (λ text. (contents : Contents) × (text.items ≡ report_text (report_of contents))
         × IfSome (S.files source.old) (λ known. IsLoadOf known lang.now (map string_bytes names.new.items) (Ok contents))) }
     ensures err { IfErr result (λ fault. IfSome (S.files source.old) (λ known. IsLoadOf known lang.now (map string_bytes names.new.items) (Err fault))) }
-    ensures device { IfErr result (λ fault. CountsDevice (S.failure_count source.old) (S.failure_count source.new) (map string_bytes names.new.items) (Err fault)) }
+    ensures named { IfSome (S.files source.old) (λ known. AreInOrder known (map string_bytes names.new.items) ⊎ IsUnlisted result (map string_bytes names.new.items)) }
+    ensures device { IfErr result (λ fault. is_device fault ≡ true
+        → FailsToList (S.failure_count source.old) (S.failure_count source.new) (map string_bytes names.new.items) fault
+        ⊎ FailsBelow (length names.new.items) (S.failure_count source.old) (S.failure_count source.new) fault) }
+    ensures calm { RaisesOnlyAtDevice result (S.failure_count source.old) (S.failure_count source.new) }
 {
     match Snapshot::load_from(alloc, source, names, lang, Limits::standard()) {
         Ok(snapshot) => Ok(printed(alloc, snapshot)?),

@@ -1,5 +1,5 @@
 -- What is held of a file that is read in pieces.
-use Rattle.std.specs.Prelude.{◌≡◌, ℕ, ◌<◌, List, [], ◌∷◌, ◌++◌, length, take, drop, ⊤, Option, None, Some, option_map}
+use Rattle.std.specs.Prelude.{◌≡◌, ℕ, ◌<◌, ◌≤◌, ◌+◌, List, [], ◌∷◌, ◌++◌, length, take, drop, ⊤, Option, None, Some, option_map}
 use Rattle.std.specs.Io.KnownBytes.{Consumes, IsAtEnd}
 use Rattle.release_files.specs.Lines.{parts}
 
@@ -37,3 +37,9 @@ BeginsWithPart None held count = ⊤
 BeginsWithPart (Some rest) held count =
     (count ≡ 0 → parts (held ++ rest) ≡ [])
     × (0 < count → parts (held ++ rest) ≡ take count held ∷ parts (drop count held ++ rest))
+
+-- no more may be read than before, and of a file whose bytes are told no more was taken than this number fell by
+abbrev pub TakesWithin : Option (List ℕ) → Option (List ℕ) → ℕ → ℕ → Type 0
+TakesWithin None after old new = new ≤ old
+TakesWithin (Some before) None old new = ⊥
+TakesWithin (Some before) (Some after) old new = (new ≤ old) × (length before + new ≤ length after + old)

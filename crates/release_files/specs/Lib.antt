@@ -1,4 +1,6 @@
 pub mod Held
 pub mod Lines
 pub mod PieceLines
+pub mod MemoryFilesInside
+pub mod MemorySource
 pub mod Source

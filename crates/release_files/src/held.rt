@@ -1,7 +1,7 @@
 //! The bytes of a file that were read in pieces and not yet cut into lines.
 ghost use Rattle.std.specs.Prelude.{◌≡◌, ◌+◌, ◌-◌, ◌^◌, ◌<◌, ◌≤◌, ◌⊎◌, IfOk, MatchOption, MatchResult, OnOk, [], length, drop, slice_range, take, vec_len};
 ghost use Rattle.std.specs.Io.KnownBytes.{Consumes, IsAtEnd};
-ghost use Rattle.release_files.specs.Held.{BeginsWithPart, GrowsBy, IsEndedPart, KeepsBytes, reachable};
+ghost use Rattle.release_files.specs.Held.{BeginsWithPart, GrowsBy, IsEndedPart, KeepsBytes, TakesWithin, reachable};
 ghost use Rattle.release_files.specs.Lines.{HasNoFeed};
 ghost use Rattle.release_files.specs.Source.{CountsFailures};
 
@@ -90,6 +90,7 @@ impl Held {
         ensures piece { IfOk result (λ count. GrowsBy (reachable self.old.left (S.rest source.old)) (reachable self.new.left (S.rest source.new)) self.old.bytes self.new.bytes count) }
         ensures counted { IfOk result (λ count. self.new.left + count ≡ self.old.left) }
         ensures room { length self.new.bytes < 2 ^ 64 }
+        ensures bounded { OnOk result (TakesWithin (S.rest source.old) (S.rest source.new) self.old.left self.new.left) }
         ensures files { S.files source.new ≡ S.files source.old }
         ensures failures { CountsFailures result (S.failure_count source.old) (S.failure_count source.new) }
     {
@@ -116,6 +117,7 @@ impl Held {
     ) -> Result<(), SourceFault>
         ensures kept { OnOk result (KeepsBytes (reachable self.old.left (S.rest source.old)) (reachable self.new.left (S.rest source.new)) self.old.bytes self.new.bytes) }
         ensures enough { OnOk result ((count ≤ length self.new.bytes) ⊎ IsAtEnd (reachable self.new.left (S.rest source.new))) }
+        ensures bounded { OnOk result (TakesWithin (S.rest source.old) (S.rest source.new) self.old.left self.new.left) }
         ensures files { S.files source.new ≡ S.files source.old }
         ensures failures { CountsFailures result (S.failure_count source.old) (S.failure_count source.new) }
     {
@@ -133,6 +135,7 @@ impl Held {
         ensures within { IfOk result (λ count. count ≤ length self.new.bytes) }
         ensures kept { OnOk result (KeepsBytes (reachable self.old.left (S.rest source.old)) (reachable self.new.left (S.rest source.new)) self.old.bytes self.new.bytes) }
         ensures part { IfOk result (λ count. BeginsWithPart (reachable self.new.left (S.rest source.new)) self.new.bytes count) }
+        ensures bounded { OnOk result (TakesWithin (S.rest source.old) (S.rest source.new) self.old.left self.new.left) }
         ensures files { S.files source.new ≡ S.files source.old }
         ensures failures { CountsFailures result (S.failure_count source.old) (S.failure_count source.new) }
     {

@@ -1,26 +1,42 @@
 //! Files in memory as a source.
-ghost use Rattle.std.specs.Prelude.{◌≡◌, ◌≢◌, ◌+◌, ◌-◌, ◌^◌, ◌<◌, ◌≤◌, IfErr, IfOk, IfSome, MatchOption, OnOk, None, Some, [], length, map, min, string_bytes};
-ghost use Rattle.release_files.specs.Source.{IsRaised, bytes_of, file_text};
+ghost use Rattle.std.specs.Prelude.{◌≡◌, ◌≢◌, ◌⊎◌, ◌<◌, ◌≤◌, ◌^◌, Err, IfErr, IfOk, IfSome, MatchOption, MatchResult, OnErr, OnOk, None, Some, [], length, map, string_bytes};
+ghost use Rattle.release_files.specs.MemorySource.{IsCall, IsCounted};
+ghost use Rattle.release_files.specs.Source.{CountsFailures, IsRaised, Opens, ReadsNext, bytes_of, file_text};
 
 use crate::NamedBytes;
 use crate::source::{FileSource, SourceFault};
 use std::alloc::{AllocError, Global};
+use std::marker::Model;
 
 /// Files in memory as a source. It borrows the files, and takes memory for the names that it lists
-/// alone.
+/// alone. Contracts see the files, what is left of the open one, and what is counted.
 #[derive(Debug, Drop)]
 pub struct MemoryFiles<'a> {
     alloc: Global,
     files: &'a [NamedBytes<'a>],
+    // what is left of the open file
     rest: &'a [u8],
     piece: usize,
     fail_at: u64,
     calls: u64,
     failures: u64,
-    ghost some: { 1 ≤ piece },
+}
+
+impl<'a> Model for MemoryFiles<'a> {
+    ghost use Rattle.release_files.specs.MemorySource.{MemorySource};
+
+    ghost Value = { MemorySource };
+
+    ghost use Rattle.release_files.specs.MemoryFilesInside.{HasPieces, source_in};
+
+    ghost view = { source_in };
+
+    ghost invariant = { HasPieces };
 }
 
 impl<'a> MemoryFiles<'a> {
+    ghost use Rattle.release_files.specs.MemorySource.{asked_source};
+
     /// A source of these files with none open. It reads at most `piece` bytes at once. Of its calls
     /// of `list`, `open` and `read`, counted from 1 up to `u64::MAX`, the one with the number
     /// `fail_at` fails; at 0 none fails.
@@ -31,6 +47,7 @@ impl<'a> MemoryFiles<'a> {
         fail_at: u64,
     ) -> MemoryFiles<'a>
         requires { 1 ≤ piece }
+        ensures asked { result ≡ asked_source (map file_text files.now) piece fail_at }
         ensures files { ⟦<MemoryFiles<'a> as FileSource>⟧.files result ≡ Some (map file_text files.now) }
         ensures closed { ⟦<MemoryFiles<'a> as FileSource>⟧.rest result ≡ Some [] }
         ensures failures { ⟦<MemoryFiles<'a> as FileSource>⟧.failure_count result ≡ 0 }
@@ -48,11 +65,10 @@ impl<'a> MemoryFiles<'a> {
 
     // Counts a call, and fails it if it is the one to fail.
     fn count_call(&mut self) -> Result<(), SourceFault>
-        ensures calls { self.new.calls ≡ min (self.old.calls + 1) (2 ^ 64 - 1) }
-        ensures ok { OnOk result ((self.new.calls ≢ self.old.fail_at) × (self.new.rest ≡ self.old.rest) × (self.new.failures ≡ self.old.failures)) }
-        ensures fault { IfErr result (λ fault. (self.new.calls ≡ self.old.fail_at) × (fault ≡ SourceFault.Device)
-            × (self.new.rest.now ≡ []) × IsRaised self.old.failures self.new.failures) }
-        ensures files { self.new.files ≡ self.old.files }
+        ensures call { IsCall self.old self.new }
+        ensures ok { OnOk result ((self.new.calls ≢ self.new.fail_at) × (self.new.rest ≡ self.old.rest) × (self.new.failures ≡ self.old.failures)) }
+        ensures fault { IfErr result (λ fault. (self.new.calls ≡ self.new.fail_at) × (fault ≡ SourceFault.Device)
+            × (self.new.rest ≡ []) × IsRaised self.old.failures self.new.failures) }
     {
         self.calls = self.calls.saturating_add(1);
         if self.calls == self.fail_at {
@@ -64,10 +80,9 @@ impl<'a> MemoryFiles<'a> {
     // Counts a failure, and closes the file.
     fn fail(&mut self) -> SourceFault
         ensures fault { result ≡ SourceFault.Device }
-        ensures closed { self.new.rest.now ≡ [] }
+        ensures closed { self.new.rest ≡ [] }
         ensures raised { IsRaised self.old.failures self.new.failures }
-        ensures calls { self.new.calls ≡ self.old.calls }
-        ensures files { self.new.files ≡ self.old.files }
+        ensures same { IsCounted self.old.calls self.old self.new }
     {
         self.failures = self.failures.saturating_add(1);
         self.rest = &[];
@@ -76,9 +91,9 @@ impl<'a> MemoryFiles<'a> {
 }
 
 impl<'a> FileSource for MemoryFiles<'a> {
-    ghost files = { λ source. Some (map file_text source.files.now) };
+    ghost files = { λ source. Some source.files };
 
-    ghost rest = { λ source. Some source.rest.now };
+    ghost rest = { λ source. Some source.rest };
 
     ghost failure_count = { λ source. source.failures };
 
@@ -86,7 +101,15 @@ impl<'a> FileSource for MemoryFiles<'a> {
         self.failures
     }
 
-    fn list(&mut self) -> Result<Vec<String>, SourceFault> {
+    fn list(&mut self) -> Result<Vec<String>, SourceFault>
+        ensures names { IfOk result (λ names. map string_bytes names.items ≡ map (λ file. file.name) self.old.files) }
+        ensures rest { MatchResult result (λ _. self.new.rest ≡ self.old.rest) (λ _. self.new.rest ≡ []) }
+        ensures files { self.new.files ≡ self.old.files }
+        ensures failures { CountsFailures result self.old.failures self.new.failures }
+        ensures call { IsCall self.old self.new }
+        ensures fails { IfErr result (λ fault. fault ≡ SourceFault.Device → self.new.calls ≡ self.new.fail_at) }
+        ensures goes { OnOk result (self.new.calls ≢ self.new.fail_at) }
+    {
         self.count_call()?;
         match names_of(self.alloc, self.files) {
             Ok(names) => Ok(names),
@@ -97,7 +120,17 @@ impl<'a> FileSource for MemoryFiles<'a> {
         }
     }
 
-    fn open(&mut self, name: &str) -> Result<(), SourceFault> {
+    fn open(&mut self, name: &str) -> Result<(), SourceFault>
+        ensures opened { OnOk result (Opens (Some self.old.files) name.now (Some self.new.rest)) }
+        ensures closed { OnErr result (self.new.rest ≡ []) }
+        ensures missing { bytes_of name.now self.old.files ≡ None → result ≡ Err SourceFault.Device }
+        ensures files { self.new.files ≡ self.old.files }
+        ensures failures { CountsFailures result self.old.failures self.new.failures }
+        ensures call { IsCall self.old self.new }
+        ensures fails { IfErr result (λ fault. (fault ≡ SourceFault.Device)
+            × ((self.new.calls ≡ self.new.fail_at) ⊎ (bytes_of name.now self.old.files ≡ None))) }
+        ensures goes { OnOk result (self.new.calls ≢ self.new.fail_at) }
+    {
         self.count_call()?;
         match file_named(self.files, name) {
             Some(bytes) => {
@@ -108,7 +141,16 @@ impl<'a> FileSource for MemoryFiles<'a> {
         }
     }
 
-    fn read(&mut self, buffer: &mut [u8]) -> Result<usize, SourceFault> {
+    fn read(&mut self, buffer: &mut [u8]) -> Result<usize, SourceFault>
+        ensures within { IfOk result (λ count. count ≤ length buffer.new) }
+        ensures bytes { ReadsNext (Some self.old.rest) (Some self.new.rest) result buffer.new }
+        ensures files { self.new.files ≡ self.old.files }
+        ensures failures { CountsFailures result self.old.failures self.new.failures }
+        ensures piece { IfOk result (λ count. count ≤ self.old.piece) }
+        ensures call { IsCall self.old self.new }
+        ensures fails { IfErr result (λ _. self.new.calls ≡ self.new.fail_at) }
+        ensures goes { OnOk result (self.new.calls ≢ self.new.fail_at) }
+    {
         self.count_call()?;
         let count = buffer.len().min(self.rest.len()).min(self.piece);
         let (front, rest) = self.rest.split_at(count);

@@ -2,7 +2,7 @@
 ghost use Rattle.std.specs.Prelude.{◌≡◌, ◌⊎◌, ◌+◌, ◌^◌, ◌<◌, ◌≤◌, if◌then◌else◌, IfOk, List, MatchResult, None, OnOk, Some, drop, length, option_map, take, ℕ};
 ghost use Rattle.std.specs.Borrow.{sem};
 ghost use Rattle.std.specs.Io.BufRead.{Rests};
-ghost use Rattle.release_files.specs.Held.{BeginsWithPart, reachable};
+ghost use Rattle.release_files.specs.Held.{BeginsWithPart, TakesWithin, reachable};
 ghost use Rattle.release_files.specs.Lines.{line_text, lines_of, mark_length};
 ghost use Rattle.release_files.specs.PieceLines.{GivesNext, HasEnded, KeepsLines, counted, current_line, lines_to_come};
 ghost use Rattle.release_files.specs.Source.{CountsFailures};
@@ -68,7 +68,8 @@ impl PieceLines {
         source: &mut S,
     ) -> Result<Option<Line<'_>>, SourceFault>
         ensures* lines { sem 𝓛 (Rests the_row self.entry (λ new. MatchResult result
-            (λ line. GivesNext (option_map line_text line) self.old new (reachable self.old.held.left (S.rest source.old)) (reachable new.held.left (S.rest source.new)))
+            (λ line. GivesNext (option_map line_text line) self.old new (reachable self.old.held.left (S.rest source.old)) (reachable new.held.left (S.rest source.new))
+            × TakesWithin (S.rest source.old) (S.rest source.new) self.old.held.left new.held.left)
             (λ _. HasEnded new))) }
         ensures files { S.files source.new ≡ S.files source.old }
         ensures failures { CountsFailures result (S.failure_count source.old) (S.failure_count source.new) }
@@ -85,6 +86,7 @@ impl PieceLines {
         ensures lines { MatchResult result
             (λ more. GivesNext (if more then Some (current_line self.new) else None) self.old self.new (reachable self.old.held.left (S.rest source.old)) (reachable self.new.held.left (S.rest source.new)))
             (λ _. HasEnded self.new) }
+        ensures bounded { OnOk result (TakesWithin (S.rest source.old) (S.rest source.new) self.old.held.left self.new.held.left) }
         ensures files { S.files source.new ≡ S.files source.old }
         ensures failures { CountsFailures result (S.failure_count source.old) (S.failure_count source.new) }
     {
@@ -112,6 +114,7 @@ impl PieceLines {
         ensures kept { OnOk result (KeepsLines self.old self.new (reachable self.old.held.left (S.rest source.old)) (reachable self.new.held.left (S.rest source.new))) }
         ensures part { IfOk result (λ count. ((count ≡ 0) × (self.new.stage ≡ Stage.Ended))
             ⊎ ((self.new.stage ≡ Stage.Begun) × BeginsWithPart (reachable self.new.held.left (S.rest source.new)) self.new.held.bytes count)) }
+        ensures bounded { OnOk result (TakesWithin (S.rest source.old) (S.rest source.new) self.old.held.left self.new.held.left) }
         ensures files { S.files source.new ≡ S.files source.old }
         ensures failures { CountsFailures result (S.failure_count source.old) (S.failure_count source.new) }
     {
@@ -129,6 +132,7 @@ impl PieceLines {
         requires { self.old.stage ≡ Stage.Fresh }
         ensures begun { OnOk result (self.new.stage ≡ Stage.Begun) }
         ensures kept { OnOk result (KeepsLines self.old self.new (reachable self.old.held.left (S.rest source.old)) (reachable self.new.held.left (S.rest source.new))) }
+        ensures bounded { OnOk result (TakesWithin (S.rest source.old) (S.rest source.new) self.old.held.left self.new.held.left) }
         ensures files { S.files source.new ≡ S.files source.old }
         ensures failures { CountsFailures result (S.failure_count source.old) (S.failure_count source.new) }
     {

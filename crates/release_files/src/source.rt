@@ -1,7 +1,7 @@
 //! Where the files of a release are read from.
-ghost use Rattle.std.specs.Prelude.{◌≡◌, ℕ, ◌≤◌, IfOk, IfSome, List, MatchResult, OnErr, OnOk, Option, length, map, string_bytes};
+ghost use Rattle.std.specs.Prelude.{◌≡◌, ℕ, ◌≤◌, Err, None, IfOk, IfSome, List, MatchResult, OnErr, OnOk, Option, length, map, string_bytes};
 ghost use Rattle.std.specs.Io.KnownBytes.{IsAtEnd, Keeps};
-ghost use Rattle.release_files.specs.Source.{CountsFailures, FileText, Opens, ReadsNext, source_fault_number};
+ghost use Rattle.release_files.specs.Source.{CountsFailures, FileText, Opens, ReadsNext, bytes_of, source_fault_number};
 
 /// Why a source of files gave no answer.
 #[derive(Clone, Copy, Debug, PartialEq, Eq)]
@@ -58,6 +58,7 @@ pub trait FileSource {
     fn open(&mut self, name: &str) -> Result<(), SourceFault>
         ensures opened { OnOk result (Opens (files self.old) name.now (rest self.new)) }
         ensures closed { OnErr result (IsAtEnd (rest self.new)) }
+        ensures missing { IfSome (files self.old) (λ known. bytes_of name.now known ≡ None → result ≡ Err SourceFault.Device) }
         ensures files { files self.new ≡ files self.old }
         ensures failures { CountsFailures result (failure_count self.old) (failure_count self.new) };
 

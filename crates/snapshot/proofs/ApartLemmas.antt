@@ -18,21 +18,21 @@ use Rattle.snapshot.proofs.ChosenItemLemmas.{length-marked}
 use Rattle.snapshot.proofs.SingleLemmas.{any-at}
 
 -- ---- a row is among others: what holds of none of them does not hold of it
-abbrev IsAmong : List RowAt → RowAt → Type 0
+abbrev pub IsAmong : List RowAt → RowAt → Type 0
 IsAmong rows row = (test : RowAt → Bool) → list_any test rows ≡ false → test row ≡ false
 
-among-append : (front rows : List RowAt) (row : RowAt) → IsAmong front row → IsAmong (front ++ rows) row
+pub among-append : (front rows : List RowAt) (row : RowAt) → IsAmong front row → IsAmong (front ++ rows) row
 among-append front rows row among test none = grind (arith, common_steps, nat_tests, list_any-append)
 
-among-here : (front rows : List RowAt) (row : RowAt) → IsAmong (front ++ row ∷ rows) row
+pub among-here : (front rows : List RowAt) (row : RowAt) → IsAmong (front ++ row ∷ rows) row
 among-here front rows row test none = any-at test front rows row none
 
 -- some rows are all among others
-abbrev AreAmong : List RowAt → List RowAt → Type 0
+abbrev pub AreAmong : List RowAt → List RowAt → Type 0
 AreAmong all [] = ⊤
 AreAmong all (row ∷ rows) = IsAmong all row × AreAmong all rows
 
-are_among : (front rows : List RowAt) → AreAmong (front ++ rows) rows
+pub are_among : (front rows : List RowAt) → AreAmong (front ++ rows) rows
 are_among front [] = tt
 are_among front (row ∷ rows) = grind (arith, common_steps, nat_tests, among-here, append_assoc, (are_among (front ++ row ∷ []) rows))
 

@@ -30,3 +30,4 @@ mod CompareLemmas
 mod ReadFromLemmas
 mod LimitLemmas
 mod PiecesLemmas
+pub mod LatestLemmas

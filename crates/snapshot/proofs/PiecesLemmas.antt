@@ -1,5 +1,5 @@
 -- Going over files that are read from a source in pieces.
-use Rattle.std.proofs.Common.{rules, Global, String, unwrap_or, take, ◌≡◌, ◌≢◌, inl, inr, ℕ, ◌+◌, ◌-◌, ◌^◌, ◌<◌, ◌≤◌, List, [], ◌∷◌, ◌++◌, length, map, drop, drop-cons, get_or, ap, subst, arith, Option, None, Some, Result, Ok, Err, MatchResult, length-drop, length-take, min, Bool, IfErr, IsPermutation, OnOk, option_map, string_bytes, is_lt, nat_cmp, take_all}
+use Rattle.std.proofs.Common.{rules, ◌⊎◌, append_assoc, ◌∙◌, sym, Global, String, unwrap_or, take, ◌≡◌, ◌≢◌, inl, inr, ℕ, ◌+◌, ◌-◌, ◌^◌, ◌<◌, ◌≤◌, List, [], ◌∷◌, ◌++◌, length, map, drop, drop-cons, get_or, ap, subst, arith, Option, None, Some, Result, Ok, Err, MatchResult, length-drop, length-take, min, Bool, IfErr, IsPermutation, OnOk, option_map, string_bytes, is_lt, nat_cmp, take_all}
 use Rattle.std.proofs.lemmas.Bool.Decides.{nat_tests}
 use Rattle.std.proofs.lemmas.Grind.{common_steps}
 use Rattle.std.specs.Cmp.Lexicographic.{slice_cmp}
@@ -18,10 +18,11 @@ use Rattle.rf2_rows.specs.declared.kind.FileKind.{FileKind}
 use Rattle.snapshot.specs.Files.{Place, first_line, later_line, no_line, places_from, places_of_file, places_of_kind, places_of_lines}
 use Rattle.rf2_rows.specs.Files.{file_kind_of}
 use Rattle.std.proofs.lemmas.Bool.{cases_lt}
-use Rattle.release_files.specs.Held.{reachable}
+use Rattle.release_files.specs.Held.{TakesWithin, reachable}
 use Rattle.release_files.proofs.HeldLemmas.{reachable_told}
-use Rattle.snapshot.specs.Pieces.{AreInOrder, cut_file, FailsAt, GoesOver, listed, text_named}
-use Rattle.snapshot.specs.Taking.{StopsAt, TakesAll, taken}
+use Rattle.std.specs.Prelude.{is_some, true, zero, suc}
+use Rattle.snapshot.specs.Pieces.{has_kind_at, AreInOrder, cut_file, FailsAt, FailsAtFile, GoesOver, listed, text_named}
+use Rattle.snapshot.specs.Taking.{FailsAtRead, is_device, StopsAt, TakesAll, taken}
 use Rattle.snapshot.specs.declared.fault.LoadFault.{LoadFault}
 use Rattle.snapshot.specs.declared.fault.LoadFault.TheVariants.{Memory}
 use Rattle.snapshot.proofs.TakingLemmas.{Leads, Leads-end, Leads-next, Leads-on, Leads-stop, stops_lines, stops_none, takes_lines, takes_none}
@@ -29,6 +30,12 @@ use Rattle.snapshot.proofs.TakingLemmas.{Leads, Leads-end, Leads-next, Leads-on,
 -- what a call for the next line says
 abbrev pub Gives : Result (Option Line) SourceFault → PieceLines → PieceLines → Option (List ℕ) → Option (List ℕ) → Type 0
 Gives result old new before after = MatchResult result (λ line. GivesNext (option_map line_text line) old new before after) (λ _. HasEnded new)
+
+-- and, beside what it takes of the file
+pub gives_next : (result : Result (Option Line) SourceFault) (old new : PieceLines) (before after ahead behind : Option (List ℕ))
+    → MatchResult result (λ line. GivesNext (option_map line_text line) old new before after × TakesWithin ahead behind old.held.left new.held.left) (λ _. HasEnded new) → Gives result old new before after
+gives_next (Ok line) old new before after ahead behind both = both.0
+gives_next (Err fault) old new before after ahead behind ended = ended
 
 -- a line was the first of those to come, and some bytes are left behind it
 pub record GaveLine (line : LineText) (old new : PieceLines) (after : Option (List ℕ)) (rest : List ℕ) : Type 0 where
@@ -127,15 +134,55 @@ module _ {Held : Type 0} (takes : Held → Place → Held → Type 0) (refuses :
       → Leads takes refuses old all held (here ++ left) → GoesOver takes refuses fails held here result new → result ≡ Ok done → Leads takes refuses old all new left
   leads_name fails old held new all here left result done leads went is = grind (arith, common_steps, nat_tests, Leads-on)
 
+  stops_front : (held new : Held) (here left : List Place) (fault : LoadFault) → StopsAt takes refuses held here new fault → StopsAt takes refuses held (here ++ left) new fault
+  stops_front held new here left fault stop = record {
+    before = stop.before;
+    place = stop.place;
+    later = stop.later ++ left;
+    middle = stop.middle;
+    cut = ap (λ (all : List Place). all ++ left) stop.cut ∙ append_assoc stop.before (stop.place ∷ stop.later) left;
+    taken_before = stop.taken_before;
+    refused = stop.refused;
+  }
+
+  went_wrong : (fails : LoadFault → Type 0) (old held new : Held) (all here left : List Place) (fault : LoadFault)
+      → Leads takes refuses old all held (here ++ left) → fails fault ⊎ StopsAt takes refuses held here new fault → fails fault ⊎ StopsAt takes refuses old all new fault
+  went_wrong fails old held new all here left fault leads (inl failed) = inl failed
+  went_wrong fails old held new all here left fault leads (inr stops) = inr (leads.stops new fault (stops_front held new here left fault stops))
+
+  -- the places of a name more were gone over up to a fault
+  pub stops_name : (fails : LoadFault → Type 0) (old held new : Held) (all here left : List Place) (result : Result (Unit {0}) LoadFault) (fault : LoadFault)
+      → Leads takes refuses old all held (here ++ left) → GoesOver takes refuses fails held here result new → result ≡ Err fault → fault ≢ Memory → fails fault ⊎ StopsAt takes refuses old all new fault
+  stops_name fails old held new all here left result fault leads went is other =
+      went_wrong fails old held new all here left fault leads (subst (λ (answer : Result (Unit {0}) LoadFault). GoesOver takes refuses fails held here answer new) is went other)
+
 -- texts that rise have bytes that rise
 sorted_map : {X Y : Type 0} (f : X → Y) (lt : Y → Y → Bool) (xs : List X) → IsSortedBy (λ one other. lt (f one) (f other)) xs → IsSortedBy lt (map f xs)
 sorted_map f lt [] sorted k default low high = absurd (omega arith)
 sorted_map f lt (x ∷ xs) sorted k default low high = grind (arith, (get_or-map f (x ∷ xs) (k + 1) x default), (get_or-map f (x ∷ xs) k x default), (length-map (x ∷ xs) f), (sorted k x low))
 
 -- names of files that were sorted are in order
+pub in_byte_order : (sorted : List (String Global)) → IsSorted string_cmp sorted → IsSorted (slice_cmp nat_cmp) (map string_bytes sorted)
+in_byte_order sorted rising = sorted_map string_bytes (λ one other. is_lt (slice_cmp nat_cmp one other)) sorted rising
+
 pub in_order : (known : List FileText) (listed sorted : List (String Global)) → map string_bytes listed ≡ map (λ (file : FileText). file.name) known
     → IsPermutation listed sorted → IsSorted string_cmp sorted → AreInOrder known (map string_bytes sorted)
 in_order known listed sorted named moved rising = record {
   same = subst (λ (names : List (List ℕ)). IsPermutation names (map string_bytes sorted)) named (IsPermutation-map string_bytes listed sorted moved);
   rising = sorted_map string_bytes (λ one other. is_lt (slice_cmp nat_cmp one other)) sorted rising;
 }
+
+-- the name at a place is that of a file of some kind where its own name is
+pub kind_at : {A : Type 0} (name_of : A → List ℕ) (names : List A) (i : ℕ) (d : A) (name : List ℕ) → i < length names → name ≡ name_of (get_or names i d)
+    → has_kind_at (map name_of names) i ≡ is_some (file_kind_of name)
+kind_at name_of [] i d name within is = grind arith
+kind_at name_of (x ∷ xs) zero d name within is = ap (λ one. is_some (file_kind_of one)) (sym is)
+kind_at name_of (x ∷ xs) (suc i) d name within is = kind_at name_of xs i d name (omega arith) is
+
+pub fails_at_read : (reads : ℕ → Bool) (file old new : ℕ) (fault : LoadFault) → (is_device fault ≡ true → FailsAt file old new fault) → (is_device fault ≡ true → reads file ≡ true)
+    → FailsAtRead reads fault
+fails_at_read reads file old new fault failed kind = grind (arith, common_steps, nat_tests)
+
+pub fails_at_file : {X : Type 0} (file old middle new : ℕ) (fault : LoadFault) → middle ≡ old → FailsAt file middle new fault ⊎ X → FailsAtFile old new fault ⊎ X
+fails_at_file file old middle new fault same (inl failed) = inl (file, subst (λ count. FailsAt file count new fault) same failed)
+fails_at_file file old middle new fault same (inr stops) = inr stops

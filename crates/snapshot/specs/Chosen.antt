@@ -1,7 +1,7 @@
 -- Which rows of components that have several are chosen (Release File Specification, "effectiveTime"; an edition and the
 -- extensions on top of it are one list of files): of each component the one with the latest effective time, and of
 -- equal ones the first.
-use Rattle.std.specs.Prelude.{ℕ, Bool, true, false, not, nat_lt, ◌==◌, ◌&&◌, ◌||◌, if◌then◌else◌, List, [], ◌∷◌, ◌++◌, Option, None, Some}
+use Rattle.std.specs.Prelude.{◌≡◌, ℕ, Bool, true, false, not, nat_lt, ◌==◌, ◌&&◌, ◌||◌, if◌then◌else◌, List, [], ◌∷◌, ◌++◌, Contains, filter, length, Option, None, Some}
 use Rattle.std.specs.List.{list_any}
 use Rattle.rf2_rows.specs.Versions.{id_on, same_row, same_time, time_on}
 use Rattle.rf2_rows.specs.declared.kind.FileKind.{FileKind}
@@ -70,3 +70,11 @@ marked _ _ = []
 -- the chosen rows
 abbrev pub chosen : List RowAt → List RowAt
 chosen rows = marked (choices rows [] rows) rows
+
+-- no row that is chosen has a later one of its component among the rows
+abbrev pub ChoosesTheLatest : Type 0
+ChoosesTheLatest = (rows : List RowAt) (row : RowAt) → Contains (chosen rows) row → is_superseded rows row ≡ false
+
+-- of the component of each row exactly one row is chosen
+abbrev pub ChoosesOne : Type 0
+ChoosesOne = (rows : List RowAt) (row : RowAt) → Contains rows row → length (filter (λ other. same_component other row) (chosen rows)) ≡ 1

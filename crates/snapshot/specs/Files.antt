@@ -1,6 +1,6 @@
 -- The files of a release as one list of places, in the order of the files and their lines.
 use Rattle.std.specs.Prelude.{ℕ, ◌+◌, List, [], ◌∷◌, ◌++◌, map, Option, None, Some, Bool, true, false, is_some}
-use Rattle.std.specs.List.{filter_map}
+use Rattle.std.specs.List.{filter_map, list_any}
 use Rattle.rf2_rows.specs.Files.{file_kind_of}
 use Rattle.rf2_rows.specs.declared.kind.FileKind.{FileKind}
 use Rattle.rf2_rows.specs.declared.kind.FileKind.TheVariants.{Concept}
@@ -39,6 +39,10 @@ is_concept_kind other = false
 -- the file has the name of a Concept file
 abbrev pub is_concept_file : FileText → Bool
 is_concept_file text = is_concept_kind (file_kind_of text.name)
+
+-- one of some items has, by its text, the name of a Concept file
+abbrev pub name_concepts : {X : Type 0} → (X → List ℕ) → List X → Bool
+name_concepts text items = list_any (λ item. is_concept_kind (file_kind_of (text item))) items
 
 -- the file has the name of a file of some kind
 abbrev pub has_kind : FileText → Bool

@@ -1,5 +1,7 @@
 -- Going over files that are read from a source in pieces.
-use Rattle.std.specs.Prelude.{◌≡◌, ◌≢◌, ◌⊎◌, ℕ, ◌+◌, List, [], map, take, IsPermutation, None, Some, unwrap_or, Result, Ok, Err}
+use Rattle.std.specs.List.{slice_get}
+use Rattle.rf2_rows.specs.Files.{file_kind_of}
+use Rattle.std.specs.Prelude.{Bool, is_some, option_and_then, ◌≡◌, ◌≢◌, ◌⊎◌, ℕ, ◌+◌, IfSome, List, [], map, take, IsPermutation, Option, None, Some, unwrap_or, Result, Ok, Err}
 use Rattle.std.specs.Cmp.Lexicographic.{slice_cmp}
 use Rattle.std.specs.Ordering.{nat_cmp}
 use Rattle.std.specs.List.Sorted.{IsSorted}
@@ -39,6 +41,12 @@ pub record FailsToList (old new : ℕ) (names : List (List ℕ)) (fault : LoadFa
   pub no_names : names ≡ []
   pub raised : IsRaised old new
 
+-- names were listed: those of the files, in byte order, if these are told; or none, since the device failed, and this was
+-- counted, or memory was refused
+abbrev pub ListsNames : {T : Type 0} → Option (List FileText) → Result T LoadFault → List (List ℕ) → ℕ → ℕ → Type 0
+ListsNames told (Ok done) names old new = IfSome told (λ known. AreInOrder known names) × (new ≡ old)
+ListsNames told (Err fault) names old new = FailsToList old new names fault ⊎ (fault ≡ Memory) × (names ≡ []) × (new ≡ old)
+
 -- what a fault of a source that was to list its files is to a load
 abbrev pub listing_fault : SourceFault → LoadFault
 listing_fault source.Device = Device None
@@ -62,3 +70,7 @@ abbrev pub GoesOver : {Held : Type 0} (takes : Held → Place → Held → Type 
     → Held → List Place → Result (Unit {0}) LoadFault → Held → Type 0
 GoesOver takes refuses fails old places (Ok done) new = TakesAll takes old places new
 GoesOver takes refuses fails old places (Err fault) new = fault ≢ Memory → fails fault ⊎ StopsAt takes refuses old places new fault
+
+-- the name at a place, if there is one, is that of a file of some kind
+abbrev pub has_kind_at : List (List ℕ) → ℕ → Bool
+has_kind_at names file = is_some (option_and_then file_kind_of (slice_get names file))

@@ -1,5 +1,5 @@
 //! Reading the rows of a release, and choosing among those of components that have several.
-ghost use Rattle.std.specs.Prelude.{◌≡◌, ◌≢◌, ◌≤◌, ◌<◌, ◌^◌, [], ℕ, IfErr, IfOk, IfSome, OnOk, List, None, Some, false, true, length};
+ghost use Rattle.std.specs.Prelude.{◌≡◌, ◌≢◌, ◌≤◌, ◌<◌, ◌+◌, ◌-◌, ◌^◌, [], ℕ, IfErr, IfOk, IfSome, OnOk, List, None, Some, false, true, length, min};
 ghost use Rattle.std.specs.List.Sorted.{IsStrictlyIncreasing};
 ghost use Rattle.snapshot.specs.Chosen.{choices};
 ghost use Rattle.snapshot.specs.Faults.{first_fault};
@@ -10,7 +10,7 @@ ghost use Rattle.snapshot.specs.ListsInside.{listed_in};
 ghost use Rattle.snapshot.specs.Noted.{Covers};
 ghost use Rattle.snapshot.specs.RowsKept.{kept_in};
 ghost use Rattle.snapshot.specs.Seen.{AreSeen, IsSeen, first_conflict};
-ghost use Rattle.snapshot.specs.Taking.{FailsBelow, is_device as is_device_of};
+ghost use Rattle.snapshot.specs.Taking.{FailsAtRead, FailsBelow, FileIs, RaisesOnlyAtDevice, is_device as is_device_of};
 ghost use Rattle.snapshot.specs.declared.limits.Limits.{Limits};
 
 use crate::comparing::Comparing;
@@ -65,11 +65,18 @@ pub fn read_rows<P: PlaceSource>(
     files: &mut P,
     limits: Limits,
 ) -> Result<ReadRows, LoadFault>
-    requires { row_total limits ≤ 68000000 }
+    requires total { row_total limits ≤ 68000000 }
+    requires some { 0 < P.file_count files.old }
     ensures ok { IfSome (P.places files.old) (λ known. IfOk result (λ read. IsReadFrom limits known read.count (listed_in read.lists))) }
     ensures err { IfSome (P.places files.old) (λ known. IfErr result (λ fault. fault ≢ LoadFault.Memory → is_device_of fault ≡ false → first_fault limits [] known ≡ Some fault)) }
     ensures device { IfErr result (λ fault. is_device_of fault ≡ true → FailsBelow (P.file_count files.old) (P.failure_count files.old) (P.failure_count files.new) fault) }
     ensures failures { P.failure_count files.old ≤ P.failure_count files.new }
+    ensures calm { RaisesOnlyAtDevice result (P.failure_count files.old) (P.failure_count files.new) }
+    ensures kind { IfErr result (λ fault. FailsAtRead (P.is_read files.old) fault) }
+    ensures named { IfErr result (FileIs (λ file. file < P.file_count files.old)) }
+    ensures found { IfErr result (λ fault. fault ≢ LoadFault.NoConceptFile) }
+    ensures read { P.is_read files.new ≡ P.is_read files.old }
+    ensures told { P.told files.new ≡ P.told files.old }
     ensures reference { P.reference files.new ≡ P.reference files.old }
 {
     let mut rows = Rows::new(alloc, limits);
@@ -87,12 +94,19 @@ fn first_of_faults<P: PlaceSource>(
     keys: &RowKeys,
     fault: LoadFault,
 ) -> LoadFault
+    requires some { 0 < P.file_count files.old }
     ensures first { result ≢ LoadFault.Memory → is_device_of result ≡ false → IfSome (P.places files.old) (λ known. (limits : Limits) (kept : Kept) → row_total limits ≤ 68000000 → kept.keyed ≡ keys.now
         → (fault ≢ LoadFault.Memory → is_device_of fault ≡ false → IsSeen limits known kept (Some fault))
         → first_fault limits [] known ≡ Some result) }
     ensures stays { is_device_of fault ≡ true → (result ≡ fault) × (P.failure_count files.new ≡ P.failure_count files.old) }
     ensures device { is_device_of fault ≡ false → is_device_of result ≡ true → FailsBelow (P.file_count files.old) (P.failure_count files.old) (P.failure_count files.new) result }
     ensures failures { P.failure_count files.old ≤ P.failure_count files.new }
+    ensures calm { is_device_of result ≡ false → P.failure_count files.new ≡ P.failure_count files.old }
+    ensures kind { is_device_of fault ≡ false → FailsAtRead (P.is_read files.old) result }
+    ensures named { FileIs (λ file. file < P.file_count files.old) fault → FileIs (λ file. file < P.file_count files.old) result }
+    ensures found { fault ≢ LoadFault.NoConceptFile → result ≢ LoadFault.NoConceptFile }
+    ensures read { P.is_read files.new ≡ P.is_read files.old }
+    ensures told { P.told files.new ≡ P.told files.old }
     ensures reference { P.reference files.new ≡ P.reference files.old }
 {
     if is_memory(&fault) || is_device(&fault) {
@@ -113,6 +127,7 @@ fn choose_rows<P: PlaceSource>(
     files: &mut P,
     rows: Rows,
 ) -> Result<ReadRows, LoadFault>
+    requires some { 0 < P.file_count files.old }
     ensures ok { IfSome (P.places files.old) (λ known. IfOk result (λ read. (limits : Limits) → IsSeen limits known (kept_in rows) None
         → IsReadFrom limits known read.count (listed_in read.lists))) }
     ensures err { IfSome (P.places files.old) (λ known. IfErr result (λ fault. fault ≢ LoadFault.Memory → is_device_of fault ≡ false
@@ -120,6 +135,12 @@ fn choose_rows<P: PlaceSource>(
         → first_fault limits [] known ≡ Some fault)) }
     ensures device { IfErr result (λ fault. is_device_of fault ≡ true → FailsBelow (P.file_count files.old) (P.failure_count files.old) (P.failure_count files.new) fault) }
     ensures failures { P.failure_count files.old ≤ P.failure_count files.new }
+    ensures calm { RaisesOnlyAtDevice result (P.failure_count files.old) (P.failure_count files.new) }
+    ensures kind { IfErr result (λ fault. FailsAtRead (P.is_read files.old) fault) }
+    ensures named { IfErr result (FileIs (λ file. file < P.file_count files.old)) }
+    ensures found { IfErr result (λ fault. fault ≢ LoadFault.NoConceptFile) }
+    ensures read { P.is_read files.new ≡ P.is_read files.old }
+    ensures told { P.told files.new ≡ P.told files.old }
     ensures reference { P.reference files.new ≡ P.reference files.old }
 {
     let Rows {
@@ -150,12 +171,19 @@ fn check_conflicts<P: PlaceSource>(
     files: &mut P,
     keys: &RowKeys,
 ) -> Result<(), LoadFault>
-    requires { length keys.now.keys < 2 ^ 32 }
+    requires few { length keys.now.keys < 2 ^ 32 }
+    requires some { 0 < P.file_count files.old }
     ensures ok { IfSome (P.places files.old) (λ known. OnOk result ((seen beyond : List RowAt) → AreSeen keys.now known seen beyond → first_conflict [] seen ≡ None)) }
     ensures err { IfSome (P.places files.old) (λ known. IfErr result (λ fault. fault ≢ LoadFault.Memory → is_device_of fault ≡ false → (seen beyond : List RowAt) → AreSeen keys.now known seen beyond
         → first_conflict [] seen ≡ Some fault)) }
     ensures device { IfErr result (λ fault. is_device_of fault ≡ true → FailsBelow (P.file_count files.old) (P.failure_count files.old) (P.failure_count files.new) fault) }
     ensures failures { P.failure_count files.old ≤ P.failure_count files.new }
+    ensures calm { RaisesOnlyAtDevice result (P.failure_count files.old) (P.failure_count files.new) }
+    ensures kind { IfErr result (λ fault. FailsAtRead (P.is_read files.old) fault) }
+    ensures named { IfErr result (FileIs (λ file. file < P.file_count files.old)) }
+    ensures found { IfErr result (λ fault. fault ≢ LoadFault.NoConceptFile) }
+    ensures read { P.is_read files.new ≡ P.is_read files.old }
+    ensures told { P.told files.new ≡ P.told files.old }
     ensures reference { P.reference files.new ≡ P.reference files.old }
 {
     let repeated = repeated_keys(alloc, keys.keys())?;
@@ -180,12 +208,19 @@ fn compare<P: PlaceSource>(
     requires rising { IsStrictlyIncreasing repeated.items }
     requires few { length repeated.items < 2 ^ 32 }
     requires covers { Covers repeated.items keys.now.keys }
+    requires some { 0 < P.file_count files.old }
     ensures ok { IfSome (P.places files.old) (λ known. IfOk result (λ chosen. (seen beyond : List RowAt) → AreSeen keys.now known seen beyond
         → (first_conflict [] seen ≡ None) × (chosen.items ≡ choices seen [] seen))) }
     ensures err { IfSome (P.places files.old) (λ known. IfErr result (λ fault. fault ≢ LoadFault.Memory → is_device_of fault ≡ false → (seen beyond : List RowAt) → AreSeen keys.now known seen beyond
         → first_conflict [] seen ≡ Some fault)) }
     ensures device { IfErr result (λ fault. is_device_of fault ≡ true → FailsBelow (P.file_count files.old) (P.failure_count files.old) (P.failure_count files.new) fault) }
     ensures failures { P.failure_count files.old ≤ P.failure_count files.new }
+    ensures calm { RaisesOnlyAtDevice result (P.failure_count files.old) (P.failure_count files.new) }
+    ensures kind { IfErr result (λ fault. FailsAtRead (P.is_read files.old) fault) }
+    ensures named { IfErr result (FileIs (λ file. file < P.file_count files.old)) }
+    ensures found { IfErr result (λ fault. fault ≢ LoadFault.NoConceptFile) }
+    ensures read { P.is_read files.new ≡ P.is_read files.old }
+    ensures told { P.told files.new ≡ P.told files.old }
     ensures reference { P.reference files.new ≡ P.reference files.old }
 {
     let versions = Versions::new(alloc, repeated);
@@ -193,7 +228,7 @@ fn compare<P: PlaceSource>(
     match files.take_places(&mut comparing) {
         Ok(()) => {
             if !comparing.left.is_empty() {
-                return Err(behind(comparing.last));
+                return Err(behind(comparing.last, files.last_file()));
             }
             Ok(comparing.versions.chosen())
         }
@@ -201,13 +236,14 @@ fn compare<P: PlaceSource>(
     }
 }
 
-// The fault of a file that has fewer rows than it had before: at the line behind its last one.
-fn behind(last: (usize, u64)) -> LoadFault
-    ensures { is_device_of result ≡ false }
+// The fault of files that have fewer rows than before: a conflict at the line behind the last row, in a
+// file that is no later than the last one.
+fn behind(last: (usize, u64), last_file: usize) -> LoadFault
+    ensures { result ≡ LoadFault.Conflict (min last.0 last_file) (min (last.1 + 1) (2 ^ 64 - 1)) }
 {
     let (file, line) = last;
     LoadFault::Conflict {
-        file,
+        file: file.min(last_file),
         line: line.saturating_add(1),
     }
 }

@@ -4,7 +4,7 @@ ghost use Rattle.release_files.specs.Lines.{line_text};
 ghost use Rattle.rf2_rows.specs.Rows.{IsRow, row_fault};
 ghost use Rattle.snapshot.specs.Compared.{IsCompared, IsDenied, IsRefused, IsTaken, compared_in};
 ghost use Rattle.snapshot.specs.Files.{later_line};
-ghost use Rattle.snapshot.specs.Taking.{is_device};
+ghost use Rattle.snapshot.specs.Taking.{FileIs, is_device};
 
 use crate::fault::LoadFault;
 use crate::keys::RowKeys;
@@ -51,6 +51,8 @@ impl<'a> Comparing<'a> {
         ensures ok { OnOk result (IsCompared (compared_in self.old) (later_line file kind (line_text line.entry)) (compared_in self.new)) }
         ensures err { IfErr result (λ fault. fault ≢ LoadFault.Memory → IsDenied (compared_in self.old) (later_line file kind (line_text line.entry)) fault) }
         ensures own { IfErr result (λ fault. is_device fault ≡ false) }
+        ensures named { IfErr result (FileIs (λ at. at ≡ file)) }
+        ensures found { IfErr result (λ fault. fault ≢ LoadFault.NoConceptFile) }
     {
         if line.bytes.is_empty() {
             return Ok(());
@@ -90,6 +92,8 @@ impl<'a> Comparing<'a> {
         ensures ok { OnOk result (IsTaken (compared_in self.old) key kind line.entry.bytes.now (compared_in self.new)) }
         ensures err { IfErr result (λ fault. fault ≢ LoadFault.Memory → IsRefused (compared_in self.old) file line.entry.number key kind line.entry.bytes.now fault) }
         ensures own { IfErr result (λ fault. is_device fault ≡ false) }
+        ensures named { IfErr result (FileIs (λ at. at ≡ file)) }
+        ensures found { IfErr result (λ fault. fault ≢ LoadFault.NoConceptFile) }
     {
         let conflict = LoadFault::Conflict {
             file,

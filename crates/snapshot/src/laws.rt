@@ -1,5 +1,6 @@
 //! Laws about the definitions of this crate, in the words of a reader: functions that do nothing, each
 //! with the law as its contract.
+ghost use Rattle.snapshot.specs.Chosen.{ChoosesOne, ChoosesTheLatest};
 ghost use Rattle.snapshot.specs.Contents.{NamesLeastCyclic};
 ghost use Rattle.snapshot.specs.Faults.{NamesFirstFault};
 ghost use Rattle.snapshot.specs.InForce.{KeepsRising};
@@ -31,4 +32,11 @@ pub fn rising_keeps_the_members()
 #[tactic(auto, using(crate::proofs::NameLawLemmas::names_first_row))]
 pub fn naming_row_comes_first()
     ensures { NamesFirstRow }
+{}
+
+/// Of the component of each row exactly one row is chosen, and none of the rows of this component is later.
+#[tactic(auto, using(crate::proofs::LatestLemmas::chosen_latest, crate::proofs::LatestLemmas::chosen_once))]
+pub fn latest_rows_are_chosen()
+    ensures latest { ChoosesTheLatest }
+    ensures one { ChoosesOne }
 {}

@@ -29,9 +29,10 @@ mod versions;
 pub use crate::fault::LoadFault;
 pub use crate::held_release::Snapshot;
 pub use crate::laws::{
-    cyclic_concept_is_the_least, first_fault_is_the_first, naming_row_comes_first,
-    rising_keeps_the_members, rows_are_listed_or_passed,
+    cyclic_concept_is_the_least, first_fault_is_the_first, latest_rows_are_chosen,
+    naming_row_comes_first, rising_keeps_the_members, rows_are_listed_or_passed,
 };
 pub use crate::limits::Limits;
+pub use crate::load::list_names;
 pub use crate::report::Report;
 pub use crate::sorted_attributes::AttributeRow;

@@ -1,12 +1,14 @@
 //! Loading a release: its files are read, its concepts numbered, and the rows between them kept.
-ghost use Rattle.std.specs.Prelude.{◌≡◌, ◌<◌, ◌≤◌, ◌^◌, ◌⊎◌, ℕ, Err, None, Some, Ok, false, true, IfOk, IfErr, IfSome, OnOk, is_some, map, length, string_bytes, count_by};
+ghost use Rattle.std.specs.Prelude.{◌≡◌, ◌≢◌, ◌↔◌, ◌<◌, ◌≤◌, ◌^◌, ◌⊎◌, ℕ, Err, None, Some, Ok, false, true, IfOk, IfErr, IfSome, OnOk, is_some, map, length, string_bytes, count_by};
 ghost use Rattle.std.specs.List.{filter_map, list_any};
-ghost use Rattle.std.specs.List.Sorted.{IsStrictlyIncreasing};
+ghost use Rattle.std.specs.Cmp.Lexicographic.{slice_cmp};
+ghost use Rattle.std.specs.List.Sorted.{IsSorted, IsStrictlyIncreasing};
+ghost use Rattle.std.specs.Ordering.{nat_cmp};
 ghost use Rattle.snapshot.specs.Contents.{IsFaultOf, first_cyclic, load_of, loaded_from};
 ghost use Rattle.release_files.specs.Source.{file_text};
-ghost use Rattle.snapshot.specs.Files.{has_kind as has_kind_of, is_concept_file as is_concept_file_of, is_concept_kind};
-ghost use Rattle.snapshot.specs.Pieces.{AreInOrder, FailsToList, IsUnlisted, listed, listing_fault};
-ghost use Rattle.snapshot.specs.Taking.{FailsBelow, is_device};
+ghost use Rattle.snapshot.specs.Files.{has_kind as has_kind_of, is_concept_file as is_concept_file_of, is_concept_kind, name_concepts};
+ghost use Rattle.snapshot.specs.Pieces.{AreInOrder, FailsToList, IsUnlisted, ListsNames, has_kind_at, listed, listing_fault};
+ghost use Rattle.snapshot.specs.Taking.{FailsAtRead, FailsBelow, FileIs, RaisesOnlyAtDevice, is_device};
 ghost use Rattle.rf2_rows.specs.Files.{file_kind_of};
 ghost use Rattle.snapshot.specs.InForce.{rising as rising_of, rows_among};
 ghost use Rattle.snapshot.specs.Kept.{AreFew, attributes_among, names_among, IsCycle, finished};
@@ -54,7 +56,8 @@ impl Snapshot {
     ) -> Result<Snapshot, LoadFault>
         ensures ok { IfOk result (λ snapshot. load_of limits lang.now (map file_text files.now) ≡ Ok snapshot) }
         ensures err { IfErr result (λ fault. IsFaultOf fault (load_of limits lang.now (map file_text files.now))) }
-        ensures unnamed { list_any (λ file. is_concept_file_of (file_text file)) files.now ≡ false → result ≡ Err LoadFault.NoConceptFile }
+        ensures unnamed { (result ≡ Err LoadFault.NoConceptFile) ↔ (list_any (λ file. is_concept_file_of (file_text file)) files.now ≡ false) }
+        ensures named { IfErr result (FileIs (λ file. file < length files.now)) }
     {
         if !has_concept_file(files) {
             return Err(LoadFault::NoConceptFile);
@@ -74,7 +77,8 @@ impl Snapshot {
     /// that order, by which a fault names a file: with none where the source doesn't list them.
     ///
     /// Where the source fails, that is answered as `Device`, and nothing is left behind. A source
-    /// that lists a name twice has the first file of that name twice.
+    /// that lists a name twice has the first file of that name twice. It is `list_names` and then
+    /// `load_named`, for a caller who doesn't need to know in which of the two it failed.
     pub fn load_from<S: FileSource>(
         alloc: Global,
         source: &mut S,
@@ -89,42 +93,70 @@ impl Snapshot {
             → FailsToList (S.failure_count source.old) (S.failure_count source.new) (map string_bytes names.new.items) fault
             ⊎ FailsBelow (length names.new.items) (S.failure_count source.old) (S.failure_count source.new) fault) }
         ensures failures { S.failure_count source.old ≤ S.failure_count source.new }
+        ensures calm { RaisesOnlyAtDevice result (S.failure_count source.old) (S.failure_count source.new) }
+        ensures kind { IfErr result (λ fault. FailsAtRead (has_kind_at (map string_bytes names.new.items)) fault) }
+        ensures files { S.files source.new ≡ S.files source.old }
+        ensures rising { IsSorted (slice_cmp nat_cmp) (map string_bytes names.new.items) }
+        ensures unnamed { name_concepts string_bytes names.new.items ≡ false
+            → (result ≡ Err LoadFault.NoConceptFile) ⊎ IsUnlisted result (map string_bytes names.new.items) }
+        ensures found { result ≡ Err LoadFault.NoConceptFile → name_concepts string_bytes names.new.items ≡ false }
+        ensures named { IfErr result (FileIs (λ file. file < length names.new.items)) }
     {
-        names.clear();
-        match source.list() {
-            Ok(listed) => *names = listed,
-            Err(fault) => return Err(listing_fault(fault)),
+        match list_names(source, names) {
+            Ok(()) => Snapshot::load_named(alloc, source, names.as_slice(), lang, limits),
+            Err(fault) => Err(fault),
         }
-        names.sort_unstable();
-        load_named(alloc, source, names.as_slice(), lang, limits)
+    }
+
+    /// Loads the files of these names, in this order, as `load` does, each of which a source reads in
+    /// pieces. A fault names a file by its place among the names: so does `Device`, always.
+    pub fn load_named<S: FileSource>(
+        alloc: Global,
+        source: &mut S,
+        names: &[String],
+        lang: &str,
+        limits: Limits,
+    ) -> Result<Snapshot, LoadFault>
+        ensures ok { IfSome (S.files source.old) (λ known. IfOk result (λ snapshot. load_of limits lang.now (listed known (map string_bytes names.now)) ≡ Ok snapshot)) }
+        ensures err { IfSome (S.files source.old) (λ known. IfErr result (λ fault. is_device fault ≡ false → IsFaultOf fault (load_of limits lang.now (listed known (map string_bytes names.now))))) }
+        ensures device { IfErr result (λ fault. is_device fault ≡ true → FailsBelow (length names.now) (S.failure_count source.old) (S.failure_count source.new) fault) }
+        ensures failures { S.failure_count source.old ≤ S.failure_count source.new }
+        ensures calm { RaisesOnlyAtDevice result (S.failure_count source.old) (S.failure_count source.new) }
+        ensures kind { IfErr result (λ fault. FailsAtRead (has_kind_at (map string_bytes names.now)) fault) }
+        ensures files { S.files source.new ≡ S.files source.old }
+        ensures unnamed { (result ≡ Err LoadFault.NoConceptFile) ↔ (name_concepts string_bytes names.now ≡ false) }
+        ensures named { IfErr result (FileIs (λ file. file < length names.now)) }
+    {
+        if !name_concept_file(names) {
+            return Err(LoadFault::NoConceptFile);
+        }
+        let kinds = named_kind_count(names);
+        let limits = limits.in_force();
+        let mut places = PiecePlaces {
+            alloc,
+            source,
+            names,
+            byte_limit: limits.bytes,
+        };
+        load_places(alloc, &mut places, lang, limits, kinds)
     }
 }
 
-// Loads the files of these names, each of which a source reads in pieces.
-fn load_named<S: FileSource>(
-    alloc: Global,
-    source: &mut S,
-    names: &[String],
-    lang: &str,
-    limits: Limits,
-) -> Result<Snapshot, LoadFault>
-    ensures ok { IfSome (S.files source.old) (λ known. IfOk result (λ snapshot. load_of limits lang.now (listed known (map string_bytes names.now)) ≡ Ok snapshot)) }
-    ensures err { IfSome (S.files source.old) (λ known. IfErr result (λ fault. is_device fault ≡ false → IsFaultOf fault (load_of limits lang.now (listed known (map string_bytes names.now))))) }
-    ensures device { IfErr result (λ fault. is_device fault ≡ true → FailsBelow (length names.now) (S.failure_count source.old) (S.failure_count source.new) fault) }
-    ensures failures { S.failure_count source.old ≤ S.failure_count source.new }
+/// Leaves in `names` the names of the files that a source lists, in their byte order: the order in
+/// which `Snapshot::load_named` is to read them. Where the source fails, or memory is refused, there
+/// are none.
+pub fn list_names<S: FileSource>(source: &mut S, names: &mut Vec<String>) -> Result<(), LoadFault>
+    ensures listed { ListsNames (S.files source.old) result (map string_bytes names.new.items) (S.failure_count source.old) (S.failure_count source.new) }
+    ensures rising { IsSorted (slice_cmp nat_cmp) (map string_bytes names.new.items) }
+    ensures files { S.files source.new ≡ S.files source.old }
 {
-    if !name_concept_file(names) {
-        return Err(LoadFault::NoConceptFile);
+    names.clear();
+    match source.list() {
+        Ok(listed) => *names = listed,
+        Err(fault) => return Err(listing_fault(fault)),
     }
-    let kinds = named_kind_count(names);
-    let limits = limits.in_force();
-    let mut places = PiecePlaces {
-        alloc,
-        source,
-        names,
-        byte_limit: limits.bytes,
-    };
-    load_places(alloc, &mut places, lang, limits, kinds)
+    names.sort_unstable();
+    Ok(())
 }
 
 // What a fault of a source that was to list its files is to a load.
@@ -145,11 +177,18 @@ fn load_places<P: PlaceSource>(
     limits: Limits,
     kinds: u64,
 ) -> Result<Snapshot, LoadFault>
-    requires { row_total limits ≤ 68000000 }
+    requires total { row_total limits ≤ 68000000 }
+    requires some { 0 < P.file_count files.old }
     ensures ok { IfSome (P.places files.old) (λ known. IfOk result (λ snapshot. loaded_from limits lang.now kinds known ≡ Ok snapshot)) }
     ensures err { IfSome (P.places files.old) (λ known. IfErr result (λ fault. is_device fault ≡ false → IsFaultOf fault (loaded_from limits lang.now kinds known))) }
     ensures device { IfErr result (λ fault. is_device fault ≡ true → FailsBelow (P.file_count files.old) (P.failure_count files.old) (P.failure_count files.new) fault) }
     ensures failures { P.failure_count files.old ≤ P.failure_count files.new }
+    ensures calm { RaisesOnlyAtDevice result (P.failure_count files.old) (P.failure_count files.new) }
+    ensures kind { IfErr result (λ fault. FailsAtRead (P.is_read files.old) fault) }
+    ensures named { IfErr result (FileIs (λ file. file < P.file_count files.old)) }
+    ensures found { IfErr result (λ fault. fault ≢ LoadFault.NoConceptFile) }
+    ensures read { P.is_read files.new ≡ P.is_read files.old }
+    ensures told { P.told files.new ≡ P.told files.old }
     ensures reference { P.reference files.new ≡ P.reference files.old }
 {
     match read_rows(alloc, files, limits) {
@@ -192,7 +231,7 @@ fn has_kind(file: &NamedBytes<'_>) -> bool
 
 // Whether one of the names is that of a Concept file.
 fn name_concept_file(names: &[String]) -> bool
-    ensures { result ≡ list_any (λ name. is_concept_kind (file_kind_of (string_bytes name))) names.now }
+    ensures { result ≡ name_concepts string_bytes names.now }
 {
     names.iter().any(names_concept_file)
 }

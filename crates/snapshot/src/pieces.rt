@@ -1,12 +1,13 @@
 //! Going over the files of a release that a source reads in pieces, place by place.
-ghost use Rattle.std.specs.Prelude.{◌≡◌, ◌≢◌, ◌⊎◌, ◌+◌, ◌^◌, ◌<◌, ◌≤◌, ℕ, true, IfErr, IfSome, List, OnOk, Some, length, map, string_bytes, take};
+ghost use Rattle.rf2_rows.specs.Files.{file_kind_of};
+ghost use Rattle.std.specs.Prelude.{is_some, ◌≡◌, ◌≢◌, ◌⊎◌, ◌+◌, ◌^◌, ◌<◌, ◌≤◌, ℕ, true, IfErr, IfSome, List, OnOk, Some, length, map, string_bytes, take};
 ghost use Rattle.release_files.specs.Held.{reachable};
 ghost use Rattle.release_files.specs.Lines.{lines_of};
 ghost use Rattle.release_files.specs.PieceLines.{lines_to_come};
 ghost use Rattle.release_files.specs.Source.{FileText};
 ghost use Rattle.snapshot.specs.Files.{later_line, places_from, places_of_file, places_of_lines};
-ghost use Rattle.snapshot.specs.Pieces.{cut_file, FailsAt, FailsAtFile, GoesOver, fault_of, listed, text_named};
-ghost use Rattle.snapshot.specs.Taking.{FailsBelow, StopsAt, TakesAll, is_device};
+ghost use Rattle.snapshot.specs.Pieces.{cut_file, has_kind_at, FailsAt, FailsAtFile, GoesOver, fault_of, listed, text_named};
+ghost use Rattle.snapshot.specs.Taking.{FailsAtRead, FailsBelow, FileIs, RaisesOnlyAtDevice, StopsAt, TakesAll, is_device};
 
 use crate::fault::LoadFault;
 use crate::places::{Met, PlaceSource, PlaceTaker};
@@ -27,7 +28,7 @@ pub struct PiecePlaces<'a, S: FileSource> {
 impl<'a, S: FileSource> PlaceSource for PiecePlaces<'a, S> {
     ghost use Rattle.std.specs.Prelude.{length, map, option_map, string_bytes};
     ghost use Rattle.snapshot.specs.Files.{places_from};
-    ghost use Rattle.snapshot.specs.Pieces.{cut_file, listed};
+    ghost use Rattle.snapshot.specs.Pieces.{cut_file, has_kind_at, listed};
 
     ghost places = { λ held. option_map (λ known. places_from 0 (map (cut_file held.byte_limit) (listed known (map string_bytes held.names.now)))) (S.files held.source.now) };
 
@@ -36,6 +37,14 @@ impl<'a, S: FileSource> PlaceSource for PiecePlaces<'a, S> {
     ghost failure_count = { λ held. S.failure_count held.source.now };
 
     ghost reference = { λ held. held.source.ghost_name };
+
+    ghost told = { λ held. S.files held.source.now };
+
+    ghost is_read = { λ held. has_kind_at (map string_bytes held.names.now) };
+
+    fn last_file(&self) -> usize {
+        self.names.len().saturating_sub(1)
+    }
 
     fn take_places<T: PlaceTaker>(&mut self, taker: &mut T) -> Result<(), LoadFault> {
         take_pieces(self.alloc, self.source, self.names, self.byte_limit, taker)
@@ -62,8 +71,12 @@ fn take_pieces<S: FileSource, T: PlaceTaker>(
         → FailsAtFile (S.failure_count source.old) (S.failure_count source.new) fault
         ⊎ StopsAt T.takes T.refuses taker.old (places_from 0 (map (cut_file byte_limit) (listed known (map string_bytes names.now)))) taker.new fault)) }
     ensures device { IfErr result (λ fault. is_device fault ≡ true → FailsBelow (length names.now) (S.failure_count source.old) (S.failure_count source.new) fault) }
+    ensures kind { IfErr result (λ fault. FailsAtRead (has_kind_at (map string_bytes names.now)) fault) }
+    ensures named { IfErr result (FileIs (λ file. file < length names.now)) }
+    ensures found { IfErr result (λ fault. fault ≢ LoadFault.NoConceptFile) }
     ensures files { S.files source.new ≡ S.files source.old }
     ensures failures { S.failure_count source.old ≤ S.failure_count source.new }
+    ensures calm { RaisesOnlyAtDevice result (S.failure_count source.old) (S.failure_count source.new) }
 {
     for (file, name) in names.iter().enumerate() {
         match take_name(alloc, file, name.as_str(), source, byte_limit, taker) {
@@ -87,8 +100,12 @@ fn take_name<S: FileSource, T: PlaceTaker>(
         → GoesOver T.takes T.refuses (FailsAt file (S.failure_count source.old) (S.failure_count source.new))
         taker.old (places_of_file file (cut_file byte_limit (text_named known name.now))) result taker.new }
     ensures device { IfErr result (λ fault. is_device fault ≡ true → FailsAt file (S.failure_count source.old) (S.failure_count source.new) fault) }
+    ensures kind { IfErr result (λ fault. is_device fault ≡ true → is_some (file_kind_of name.now) ≡ true) }
+    ensures named { IfErr result (FileIs (λ at. at ≡ file)) }
+    ensures found { IfErr result (λ fault. fault ≢ LoadFault.NoConceptFile) }
     ensures files { S.files source.new ≡ S.files source.old }
     ensures failures { S.failure_count source.old ≤ S.failure_count source.new }
+    ensures calm { RaisesOnlyAtDevice result (S.failure_count source.old) (S.failure_count source.new) }
 {
     match file_kind(name) {
         Some(kind) => match source.open(name) {
@@ -112,8 +129,11 @@ fn take_opened<S: FileSource, T: PlaceTaker>(
         → GoesOver T.takes T.refuses (FailsAt file (S.failure_count source.old) (S.failure_count source.new))
         taker.old (places_of_lines file kind (lines_of (take (byte_limit + 1) bytes))) result taker.new }
     ensures device { IfErr result (λ fault. is_device fault ≡ true → FailsAt file (S.failure_count source.old) (S.failure_count source.new) fault) }
+    ensures named { IfErr result (FileIs (λ at. at ≡ file)) }
+    ensures found { IfErr result (λ fault. fault ≢ LoadFault.NoConceptFile) }
     ensures files { S.files source.new ≡ S.files source.old }
     ensures failures { S.failure_count source.old ≤ S.failure_count source.new }
+    ensures calm { RaisesOnlyAtDevice result (S.failure_count source.old) (S.failure_count source.new) }
 {
     let limit = byte_limit.saturating_add(1);
     let mut lines = PieceLines::within(alloc, limit);
@@ -143,8 +163,11 @@ fn take_later<S: FileSource, T: PlaceTaker>(
         → GoesOver T.takes T.refuses (FailsAt file (S.failure_count source.old) (S.failure_count source.new))
         taker.old (map (later_line file kind) (lines_to_come lines rest)) result taker.new }
     ensures device { IfErr result (λ fault. is_device fault ≡ true → FailsAt file (S.failure_count source.old) (S.failure_count source.new) fault) }
+    ensures named { IfErr result (FileIs (λ at. at ≡ file)) }
+    ensures found { IfErr result (λ fault. fault ≢ LoadFault.NoConceptFile) }
     ensures files { S.files source.new ≡ S.files source.old }
     ensures failures { S.failure_count source.old ≤ S.failure_count source.new }
+    ensures calm { RaisesOnlyAtDevice result (S.failure_count source.old) (S.failure_count source.new) }
 {
     for turn in 0..turns {
         match lines.next_line(source) {

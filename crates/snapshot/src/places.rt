@@ -1,9 +1,9 @@
 //! Going over the files of a release, place by place.
-ghost use Rattle.std.specs.Prelude.{◌≡◌, ◌≢◌, false, IfErr, OnOk, map};
+ghost use Rattle.std.specs.Prelude.{◌≡◌, ◌≢◌, ◌<◌, false, IfErr, OnOk, length, map};
 ghost use Rattle.release_files.specs.Lines.{lines_of};
 ghost use Rattle.release_files.specs.Source.{file_text};
 ghost use Rattle.snapshot.specs.Files.{later_line, places_from, places_of_file, places_of_lines};
-ghost use Rattle.snapshot.specs.Taking.{StopsAt, TakesAll, is_device, place_of};
+ghost use Rattle.snapshot.specs.Taking.{FileIs, StopsAt, TakesAll, is_device, place_of};
 
 use crate::fault::LoadFault;
 use release_files::{Line, Lines, NamedBytes};
@@ -24,7 +24,7 @@ pub enum Met<'a> {
 pub trait PlaceTaker {
     ghost use Rattle.std.specs.Prelude.{◌≡◌, ◌≢◌, false, IfErr, OnOk};
     ghost use Rattle.snapshot.specs.Files.{Place};
-    ghost use Rattle.snapshot.specs.Taking.{is_device, place_of};
+    ghost use Rattle.snapshot.specs.Taking.{FileIs, is_device, place_of};
     ghost use Rattle.snapshot.specs.declared.fault.LoadFault.{LoadFault};
 
     /// A place was taken: what is held before and behind it.
@@ -37,14 +37,17 @@ pub trait PlaceTaker {
     fn take(&mut self, file: usize, kind: FileKind, met: Met<'_>) -> Result<(), LoadFault>
         ensures ok { OnOk result (takes self.old (place_of file kind met.entry) self.new) }
         ensures err { IfErr result (λ fault. fault ≢ LoadFault.Memory → refuses self.old (place_of file kind met.entry) self.new fault) }
-        ensures own { IfErr result (λ fault. is_device fault ≡ false) };
+        ensures own { IfErr result (λ fault. is_device fault ≡ false) }
+        ensures named { IfErr result (FileIs (λ at. at ≡ file)) }
+        ensures found { IfErr result (λ fault. fault ≢ LoadFault.NoConceptFile) };
 }
 
 /// The files of a release as places, which can be gone over more than once.
 pub trait PlaceSource {
-    ghost use Rattle.std.specs.Prelude.{◌≡◌, ◌≢◌, ◌≤◌, ℕ, List, Option, false, true, IfErr, IfSome, OnOk};
+    ghost use Rattle.std.specs.Prelude.{◌≡◌, ◌≢◌, ◌<◌, ◌≤◌, ℕ, Bool, List, Option, false, true, IfErr, IfSome, OnOk};
+    ghost use Rattle.release_files.specs.Source.{FileText};
     ghost use Rattle.snapshot.specs.Files.{Place};
-    ghost use Rattle.snapshot.specs.Taking.{FailsBelow, StopsAt, TakesAll, is_device};
+    ghost use Rattle.snapshot.specs.Taking.{FailsAtRead, FailsBelow, FileIs, RaisesOnlyAtDevice, StopsAt, TakesAll, is_device};
     ghost use Rattle.snapshot.specs.declared.fault.LoadFault.{LoadFault};
 
     /// The places in turn; `None` where nothing is claimed of them.
@@ -59,6 +62,16 @@ pub trait PlaceSource {
     /// What the files are read through, which stays the same.
     ghost reference: { Self → ℕ };
 
+    /// Whether the file at a place is read.
+    ghost is_read: { Self → ℕ → Bool };
+
+    /// What the source that is read through tells of its files, which stay the same.
+    ghost told: { Self → Option (List FileText) };
+
+    /// The place of the last file, or 0 where there is none.
+    fn last_file(&self) -> usize
+        ensures { 0 < file_count self.now → result < file_count self.now };
+
     /// Goes over the places in turn, from the first one on.
     fn take_places<T: PlaceTaker>(&mut self, taker: &mut T) -> Result<(), LoadFault>
         ensures ok { IfSome (places self.old) (λ known. OnOk result (TakesAll T.takes taker.old known taker.new)) }
@@ -68,6 +81,12 @@ pub trait PlaceSource {
         ensures places { places self.new ≡ places self.old }
         ensures files { file_count self.new ≡ file_count self.old }
         ensures failures { failure_count self.old ≤ failure_count self.new }
+        ensures calm { RaisesOnlyAtDevice result (failure_count self.old) (failure_count self.new) }
+        ensures kind { IfErr result (λ fault. FailsAtRead (is_read self.old) fault) }
+        ensures named { IfErr result (FileIs (λ file. file < file_count self.old)) }
+        ensures found { IfErr result (λ fault. fault ≢ LoadFault.NoConceptFile) }
+        ensures read { is_read self.new ≡ is_read self.old }
+        ensures told { told self.new ≡ told self.old }
         ensures reference { reference self.new ≡ reference self.old };
 }
 
@@ -78,7 +97,7 @@ pub struct MemoryPlaces<'a> {
 }
 
 impl<'a> PlaceSource for MemoryPlaces<'a> {
-    ghost use Rattle.std.specs.Prelude.{Some, length, map};
+    ghost use Rattle.std.specs.Prelude.{None, Some, true, length, map};
     ghost use Rattle.release_files.specs.Source.{file_text};
     ghost use Rattle.snapshot.specs.Files.{places_from};
 
@@ -90,6 +109,14 @@ impl<'a> PlaceSource for MemoryPlaces<'a> {
 
     ghost reference = { λ _. 0 };
 
+    ghost told = { λ _. None };
+
+    ghost is_read = { λ _ _. true };
+
+    fn last_file(&self) -> usize {
+        self.files.len().saturating_sub(1)
+    }
+
     fn take_places<T: PlaceTaker>(&mut self, taker: &mut T) -> Result<(), LoadFault> {
         take_files(self.files, taker)
     }
@@ -100,6 +127,8 @@ fn take_files<T: PlaceTaker>(files: &[NamedBytes<'_>], taker: &mut T) -> Result<
     ensures ok { OnOk result (TakesAll T.takes taker.old (places_from 0 (map file_text files.now)) taker.new) }
     ensures err { IfErr result (λ fault. fault ≢ LoadFault.Memory → StopsAt T.takes T.refuses taker.old (places_from 0 (map file_text files.now)) taker.new fault) }
     ensures own { IfErr result (λ fault. is_device fault ≡ false) }
+    ensures named { IfErr result (FileIs (λ file. file < length files.now)) }
+    ensures found { IfErr result (λ fault. fault ≢ LoadFault.NoConceptFile) }
 {
     for (file, named) in files.iter().enumerate() {
         match take_named(file, named, taker) {
@@ -119,6 +148,8 @@ fn take_named<T: PlaceTaker>(
     ensures ok { OnOk result (TakesAll T.takes taker.old (places_of_file file (file_text named.now)) taker.new) }
     ensures err { IfErr result (λ fault. fault ≢ LoadFault.Memory → StopsAt T.takes T.refuses taker.old (places_of_file file (file_text named.now)) taker.new fault) }
     ensures own { IfErr result (λ fault. is_device fault ≡ false) }
+    ensures named { IfErr result (FileIs (λ at. at ≡ file)) }
+    ensures found { IfErr result (λ fault. fault ≢ LoadFault.NoConceptFile) }
 {
     match file_kind(named.name) {
         Some(kind) => take_file(file, kind, named.bytes, taker),
@@ -136,6 +167,8 @@ fn take_file<T: PlaceTaker>(
     ensures ok { OnOk result (TakesAll T.takes taker.old (places_of_lines file kind (lines_of bytes.now)) taker.new) }
     ensures err { IfErr result (λ fault. fault ≢ LoadFault.Memory → StopsAt T.takes T.refuses taker.old (places_of_lines file kind (lines_of bytes.now)) taker.new fault) }
     ensures own { IfErr result (λ fault. is_device fault ≡ false) }
+    ensures named { IfErr result (FileIs (λ at. at ≡ file)) }
+    ensures found { IfErr result (λ fault. fault ≢ LoadFault.NoConceptFile) }
 {
     let mut lines = Lines::new(bytes);
     match lines.next() {
@@ -160,6 +193,8 @@ fn take_lines<T: PlaceTaker>(
     ensures ok { OnOk result (TakesAll T.takes taker.old (map (later_line file kind) lines.entry) taker.new) }
     ensures err { IfErr result (λ fault. fault ≢ LoadFault.Memory → StopsAt T.takes T.refuses taker.old (map (later_line file kind) lines.entry) taker.new fault) }
     ensures own { IfErr result (λ fault. is_device fault ≡ false) }
+    ensures named { IfErr result (FileIs (λ at. at ≡ file)) }
+    ensures found { IfErr result (λ fault. fault ≢ LoadFault.NoConceptFile) }
 {
     for line in lines {
         match taker.take(file, kind, Met::Later(line)) {

@@ -6,7 +6,7 @@ ghost use Rattle.snapshot.specs.Faults.{fault_of_first};
 ghost use Rattle.snapshot.specs.Files.{later_line};
 ghost use Rattle.snapshot.specs.Kept.{IsAdded, IsCrowded, IsRead, IsStopped, nothing_kept};
 ghost use Rattle.snapshot.specs.RowsKept.{kept_in};
-ghost use Rattle.snapshot.specs.Taking.{is_device};
+ghost use Rattle.snapshot.specs.Taking.{FileIs, is_device};
 
 use crate::fault::LoadFault;
 use crate::keys::RowKeys;
@@ -48,6 +48,8 @@ impl Rows {
         ensures ok { OnOk result (IsRead (kept_in self.old) (later_line file kind (line_text line.entry)) (kept_in self.new)) }
         ensures err { IfErr result (λ fault. fault ≢ LoadFault.Memory → IsStopped (kept_in self.old) (later_line file kind (line_text line.entry)) (kept_in self.new) fault) }
         ensures own { IfErr result (λ fault. is_device fault ≡ false) }
+        ensures named { IfErr result (FileIs (λ at. at ≡ file)) }
+        ensures found { IfErr result (λ fault. fault ≢ LoadFault.NoConceptFile) }
     {
         let number = line.number;
         if line.end > self.left.bytes {
@@ -78,6 +80,8 @@ impl Rows {
         ensures ok { OnOk result (IsAdded (kept_in self.old) kind (text_in row.now) (kept_in self.new)) }
         ensures err { IfErr result (λ fault. fault ≢ LoadFault.Memory → IsCrowded file line (kept_in self.old) kind (text_in row.now) (kept_in self.new) fault) }
         ensures own { IfErr result (λ fault. is_device fault ≡ false) }
+        ensures named { IfErr result (FileIs (λ at. at ≡ file)) }
+        ensures found { IfErr result (λ fault. fault ≢ LoadFault.NoConceptFile) }
     {
         self.keys.add(row)?;
         self.lists.add(row)?;
@@ -115,6 +119,8 @@ fn check_header(
     ensures clean { OnOk result (fault_of_first limits.now file kind (line_text line.entry) ≡ None) }
     ensures err { IfErr result (λ fault. fault_of_first limits.now file kind (line_text line.entry) ≡ Some fault) }
     ensures own { IfErr result (λ fault. is_device fault ≡ false) }
+    ensures named { IfErr result (FileIs (λ at. at ≡ file)) }
+    ensures found { IfErr result (λ fault. fault ≢ LoadFault.NoConceptFile) }
 {
     if line.end > limits.bytes {
         return Err(LoadFault::TooMany {

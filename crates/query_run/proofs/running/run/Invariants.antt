@@ -10,6 +10,7 @@ invariant-loop-turn g l = record {
   input_sound : g.R.QueryInput.has_failed l.input ≡ false;
   output_sound : g.W.AnswerOutput.has_failed l.output ≡ false;
   turns : (g.R.QueryInput.read_count l.input ≡ g.R.QueryInput.read_count l.fn.input + l._turn) ⊎ (g.R.QueryInput.read_count l.input ≡ 2 ^ 64 - 1);
+  reads : g.R.QueryInput.read_count l.input ≤ g.R.QueryInput.read_count l.fn.input + l._turn;
   room : length l.piece ≡ 65536;
   few : l.progress.answered ≤ l._turn * 65536;
   lines : (read : List ℕ) × (lines : List (List ℕ))

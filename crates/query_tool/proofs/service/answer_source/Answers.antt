@@ -14,7 +14,8 @@ returns-in-Ok g c =
         mode_is = refl;
         loaded = record {
           loaded = loaded_whole _ c.standard.result c.args.lang.now names c.in-Ok.engine c.standard.ensures c.in-Ok.ensures.ok c.in-Ok.ensures.names;
-          device = tt;
+          named = c.in-Ok.ensures.names;
+          device = record { failed = tt; calm = c.in-Ok.ensures.calm };
         };
       },
       inl (record { contents = c.in-Ok.engine; loaded = refl; ended = c.answer_and_drop.ensures }),
@@ -30,7 +31,11 @@ returns g c =
         mode_is = refl;
         loaded = record {
           loaded = loaded_not _ c.standard.result c.args.lang.now names c.in-Err.fault c.standard.ensures c.in-Err.ensures.err c.in-Err.ensures.names;
-          device = counts_device string_bytes c.load_from.new.names.items _ _ c.in-Err.fault c.in-Err.ensures.device;
+          named = c.in-Err.ensures.names;
+          device = record {
+            failed = counts_device string_bytes c.load_from.new.names.items _ _ c.in-Err.fault c.in-Err.ensures.device;
+            calm = c.in-Err.ensures.calm;
+          };
         };
       },
       refuses_with g.R.QueryInput g.W.AnswerOutput g.E.AnswerOutput task c.in-Err.fault c.refuse.result _ _ _ _ refl

@@ -6,7 +6,7 @@ use Rattle.snapshot.proofs.load.load_places.Goals as goal
 use Rattle.std.proofs.Common.{arith}
 
 pub returns-then-not-are_few-clause-err : goal.returns-then-not-are_few-clause-err
-returns-then-not-are_few-clause-err g c = if_told _ (g.P.PlaceSource.places c.args.files.now) (λ places told own other. grind (arith, c.if-not-are_few.true, c.are_few.ensures.told, (AreFew-read c.args.limits places c.in-Ok.read.count (listed_in c.in-Ok.read.lists) c.requires (at_told _ _ places told c.in-Ok.ensures.ok))))
+returns-then-not-are_few-clause-err g c = if_told _ (g.P.PlaceSource.places c.args.files.now) (λ places told own other. grind (arith, c.if-not-are_few.true, c.are_few.ensures.told, (AreFew-read c.args.limits places c.in-Ok.read.count (listed_in c.in-Ok.read.lists) c.requires.total (at_told _ _ places told c.in-Ok.ensures.ok))))
 
 pub returns-in_ok-language-in-Ok-clause-ok : goal.returns-in_ok-language-in-Ok-clause-ok
 returns-in_ok-language-in-Ok-clause-ok g c = if_told _ (g.P.PlaceSource.places c.args.files.now) (λ places told.

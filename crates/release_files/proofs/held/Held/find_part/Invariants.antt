@@ -1,5 +1,5 @@
 use Rattle.std.proofs.Common.{◌≡◌, ◌-◌, ◌^◌, ◌≤◌, length, take}
-use Rattle.release_files.specs.Held.{KeepsBytes, reachable}
+use Rattle.release_files.specs.Held.{KeepsBytes, TakesWithin, reachable}
 use Rattle.release_files.specs.Lines.{HasNoFeed}
 use Rattle.release_files.proofs.held.Held.find_part.Given as goal
 
@@ -9,6 +9,7 @@ invariant-loop-count g l = record {
   within : l.searched ≤ length l.self.bytes;
   clear : HasNoFeed (take l.searched l.self.bytes);
   kept : KeepsBytes (reachable l.fn.self.left (g.S.FileSource.rest l.fn.source)) (reachable l.self.left (g.S.FileSource.rest l.source)) l.fn.self.bytes l.self.bytes;
+  bounded : TakesWithin (g.S.FileSource.rest l.fn.source) (g.S.FileSource.rest l.source) l.fn.self.left l.self.left;
   files : g.S.FileSource.files l.source ≡ g.S.FileSource.files l.fn.source;
   failures : g.S.FileSource.failure_count l.source ≡ g.S.FileSource.failure_count l.fn.source;
 }

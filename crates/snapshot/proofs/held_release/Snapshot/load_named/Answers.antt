@@ -3,7 +3,7 @@ use Rattle.std.proofs.lemmas.Bool.Decides.{nat_tests}
 use Rattle.std.proofs.lemmas.Grind.{common_steps}
 use Rattle.snapshot.proofs.LoadLemmas.{load_named-is, load_of-none, names_concepts-listed}
 use Rattle.snapshot.proofs.TakingLemmas.{at_told, if_told}
-use Rattle.snapshot.proofs.load.load_named.Goals as goal
+use Rattle.snapshot.proofs.held_release.Snapshot.load_named.Goals as goal
 
 pub returns-then-not-name_concept_file-clause-err : goal.returns-then-not-name_concept_file-clause-err
 returns-then-not-name_concept_file-clause-err g c = grind (arith, common_steps, nat_tests, if_told, load_of-none, names_concepts-listed, string_bytes)

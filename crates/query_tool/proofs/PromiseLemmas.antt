@@ -1,0 +1,118 @@
+-- What was written over accepted files, in the words of the promise.
+use Rattle.std.proofs.Common.{arith, ℕ, ◌≡◌, ◌∙◌, ◌↔◌, ◌++◌, ◌∷◌, [], ◌&&◌, inl, inr, Bool, true, cond, refl, List, length, map, Option, None, Some, Result, Ok, Err, ap, sym, subst}
+use Rattle.std.specs.List.{list_any}
+use Rattle.std.specs.Prelude.{IfSome, IsTrue, Contains, filter}
+use Rattle.std.proofs.lemmas.Bool.Decides.{nat_tests}
+use Rattle.std.proofs.lemmas.Grind.{common_steps}
+use Rattle.std.proofs.lemmas.List.Kept.{IsStrictlyIncreasing-filter}
+use Rattle.std.specs.Io.KnownBytes.{Appends}
+use Rattle.std.specs.List.Sorted.{IsStrictlyIncreasing}
+use Rattle.idset.specs.Sets.{has_item}
+use Rattle.ancestor_index.proofs.ClosureLemmas.{item_there, there_item}
+use Rattle.constraint_tree.specs.Denotation.{denotation, denotes}
+use Rattle.release_files.specs.Source.{FileText}
+use Rattle.snapshot.specs.Contents.{Contents, contents_of, text_of_row, load_of, loaded_from, unless_faulty}
+use Rattle.snapshot.specs.Faults.{first_fault}
+use Rattle.snapshot.specs.Files.{has_kind, is_concept_file, places_from, rows_of}
+use Rattle.rf2_rows.specs.declared.row.ConceptRow.{ConceptRow}
+use Rattle.snapshot.specs.Chosen.{chosen}
+use Rattle.snapshot.specs.InForce.{KeepsRising, concept_rows}
+use Rattle.snapshot.specs.Limits.{limits_in_force, standard_limits}
+use Rattle.snapshot.specs.Pieces.{listed}
+use Rattle.snapshot.specs.declared.fault.LoadFault.{LoadFault}
+use Rattle.snapshot.specs.declared.fault.LoadFault.TheVariants.{NoConceptFile}
+use Rattle.command_line.specs.declared.words.Mode.{Mode}
+use Rattle.command_line.specs.declared.words.Mode.TheVariants.{Query}
+use Rattle.query_run.specs.Lines.{AreAnswers, AreWritten, query_lines}
+use Rattle.query_tool.specs.Answer.{IsAnswer}
+use Rattle.query_tool.specs.Promise.{Answers, IsReleaseOf}
+use Rattle.query_tool.specs.Serve.{EndsWith, IsAnswered, IsLoadOf, IsServed, IsTask, Task}
+use Rattle.query_tool.specs.Streams.{Streams}
+use Rattle.query_tool.specs.declared.service.Status.TheVariants.{Done}
+use Rattle.streams.specs.declared.output.AnswerOutput.{Ghosts as Output}
+use Rattle.streams.specs.declared.input.QueryInput.{Ghosts as Input}
+
+-- where files have no fault, what is loaded is what they contain
+loaded_whole : (contents own : Contents) (fault : Option LoadFault) → unless_faulty contents fault ≡ Ok own → own ≡ contents
+loaded_whole contents own fault loads = grind (arith, common_steps, nat_tests)
+
+unless_unnamed : (named : Bool) (loaded : Result Contents LoadFault) (own : Contents) → cond named loaded (Err NoConceptFile) ≡ Ok own → loaded ≡ Ok own
+unless_unnamed named loaded own loads = grind (arith, common_steps, nat_tests)
+
+-- the concepts of a release that was loaded rise
+concepts_rise : KeepsRising → (language : List ℕ) (files : List FileText) (contents : Contents) → load_of standard_limits language files ≡ Ok contents
+    → IsStrictlyIncreasing contents.release.concepts
+concepts_rise rises language files contents loads =
+    let places = places_from 0 files in
+    let loaded = unless_unnamed (list_any is_concept_file files) (loaded_from (limits_in_force standard_limits) language (length (filter has_kind files)) places) contents loads in
+    let whole = loaded_whole (contents_of language (length (filter has_kind files)) places) contents (first_fault (limits_in_force standard_limits) [] places) loaded in
+    subst (λ (own : Contents). IsStrictlyIncreasing own.release.concepts) (sym whole)
+    (rises (map (λ (row : ConceptRow). row.id) (filter (λ (row : ConceptRow). row.active) (concept_rows (map text_of_row (chosen (rows_of places))))))).0
+
+has_kept : (test : ℕ → Bool) (numbers : List ℕ) (number : ℕ) → has_item (filter test numbers) number ≡ (has_item numbers number && test number)
+has_kept test [] number = refl
+has_kept test (first ∷ numbers) number = grind (arith, common_steps, nat_tests, (has_kept test numbers number))
+
+both_true : (one other : Bool) → (one && other) ≡ true → (one ≡ true) × (other ≡ true)
+both_true one other is = grind arith
+
+true_both : (one other : Bool) → one ≡ true → other ≡ true → (one && other) ≡ true
+true_both one other is is_other = grind arith
+
+-- a concept is in what a test keeps exactly where it is there and passes
+kept : (test : ℕ → Bool) (numbers : List ℕ) (number : ℕ) → Contains (filter test numbers) number ↔ (Contains numbers number × IsTrue (test number))
+kept test numbers number = (
+  λ there.
+      let both = both_true (has_item numbers number) (test number) (sym (has_kept test numbers number) ∙ there_item (filter test numbers) number there) in
+      (item_there numbers number both.0, both.1),
+  λ both. item_there (filter test numbers) number (has_kept test numbers number ∙ true_both (has_item numbers number) (test number) (there_item numbers number both.0) both.1),
+)
+
+-- the answer to a line, in the words of the promise
+answer_said : (contents : Contents) → IsStrictlyIncreasing contents.release.concepts → (line text : List ℕ) → IsAnswer contents line text → Answers contents line text
+answer_said contents rise line text (inl (tree, is, same)) = inl (
+  tree,
+  is,
+  record {
+    concepts = denotation contents.release tree;
+    rising = IsStrictlyIncreasing-filter (denotes contents.release tree) contents.release.concepts rise;
+    exactly = kept (denotes contents.release tree) contents.release.concepts;
+    written = same;
+  },
+)
+answer_said contents rise line text (inr refused) = inr refused
+
+-- those to all lines
+answers_said : (contents : Contents) → IsStrictlyIncreasing contents.release.concepts → (lines : List (List ℕ)) (text : List ℕ)
+    → AreAnswers (IsAnswer contents) lines text → AreAnswers (Answers contents) lines text
+answers_said contents rise [] text none = none
+answers_said contents rise (line ∷ lines) text (first, rest, answer, answers, same) =
+    (first, rest, answer_said contents rise line first answer, answers_said contents rise lines rest answers, same)
+
+-- what was written behind known bytes is known
+appended : (there : List ℕ) (after : Option (List ℕ)) (text : List ℕ) → Appends (Some there) after text → after ≡ Some (there ++ text)
+appended there None text none = absurd none
+appended there (Some bytes) text same = ap Some same
+
+-- a query request that ends with status 0 keeps the promise
+pub promise_kept : {R W E : Type 0} → KeepsRising → (r : Input R) (w : Output W) (e : Output E) (before after : Streams R W E)
+    (files : List FileText) (language bytes there : List ℕ) (old new : ℕ) (task : Task) → IsTask (Some files) old new language Query task
+    → EndsWith r w e task Done before after → r.remaining before.input ≡ Some bytes → w.written before.output ≡ Some there
+    → (contents : Contents) × IsReleaseOf files language contents
+    × (text : List ℕ) × AreAnswers (Answers contents) (query_lines bytes) text × (w.written after.output ≡ Some (there ++ text))
+promise_kept rises r w e before after files language bytes there old new task asked (inl served) reads wrote =
+    let contents = served.contents in
+    let answers_from = λ (earlier : Option (List ℕ)) (known : List ℕ). AreWritten (IsAnswer contents) (query_lines known) earlier (w.written after.output) in
+    let loads : IsLoadOf files language task.names (Ok contents) = subst (IsLoadOf files language task.names) served.loaded asked.loaded.loaded in
+    let answered : IsAnswered r w contents before after =
+    subst (λ (mode : Mode). IsServed r w mode contents before after) asked.mode_is served.ended.served in
+    let read : AreWritten (IsAnswer contents) (query_lines bytes) (w.written before.output) (w.written after.output) =
+    subst (λ (input : Option (List ℕ)). IfSome input (answers_from (w.written before.output))) reads answered.written in
+    let (text, answers, behind) = subst (λ (earlier : Option (List ℕ)). answers_from earlier bytes) wrote read in (
+      contents,
+      record { names = task.names; in_order = loads.0; accepted = loads.1 },
+      text,
+      answers_said contents (concepts_rise rises language (listed files task.names) contents loads.1) (query_lines bytes) text answers,
+      appended there (w.written after.output) text behind,
+    )
+promise_kept rises r w e before after files language bytes there old new task asked (inr none) reads wrote = absurd none
