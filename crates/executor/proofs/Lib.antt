@@ -10,6 +10,7 @@ pub mod NodeLemmas
 pub mod Normal
 pub mod OwnedLemmas
 pub mod PassingLemmas
+pub mod ReachedLemmas
 pub mod StepLemmas
 pub mod TimesLemmas
 pub mod UnitLemmas

@@ -15,6 +15,7 @@ mod leaves;
 mod nodes;
 mod passing;
 mod plans;
+mod reached;
 mod reference_sets;
 mod types;
 mod units;

@@ -78,7 +78,7 @@ fn execute_within<S: ConceptSet>(
         }
         ConceptPlan::Walk(operator, operand) => {
             let from: S = execute_within(alloc, operand, &Candidates::All, snapshot, indexes)?;
-            let led = walk(alloc, indexes.hierarchy(), *operator, &from)?;
+            let led = walk(alloc, snapshot, indexes.hierarchy(), *operator, &from)?;
             let found = restricted(alloc, led, candidates)?;
             Ok(found)
         }
