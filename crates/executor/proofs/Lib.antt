@@ -13,6 +13,7 @@ pub mod PassingLemmas
 pub mod ReachedLemmas
 pub mod StepLemmas
 pub mod TimesLemmas
+pub mod TypeLemmas
 pub mod UnitLemmas
 pub mod ValueStepLemmas
 pub mod WithinLemmas

@@ -45,7 +45,7 @@ pub fn with_pairs_within<S: ConceptSet>(
         → S.items_of found ≡ numbers_within snapshot.now.release (may_be S.items_of candidates.now) (λ concept. has_pairs count (is_one_of indexes.now.concepts (S.items_of types.now)) passes (pairs_of snapshot.now.release back concept))) }
     ensures bound { IfOk result (λ found. S.bound_of found ≡ length snapshot.now.release.concepts) }
 {
-    let types = types_in(alloc, indexes, types)?;
+    let types = types_in(alloc, snapshot, indexes, types)?;
     if !back {
         if let Candidates::Within(wanted, extent) = candidates {
             if extent.is_read_before(rows_of_types(indexes, types.ids.as_slice())) {
@@ -79,7 +79,7 @@ pub fn groups_with_pairs_within<S: ConceptSet>(
         → S.items_of found ≡ groups_within snapshot.now.release (may_be S.items_of candidates.now) (has_pairs count (is_one_of indexes.now.concepts (S.items_of types.now)) passes)) }
     ensures bound { IfOk result (λ found. S.bound_of found ≡ length (all_groups snapshot.now.release)) }
 {
-    let types = types_in(alloc, indexes, types)?;
+    let types = types_in(alloc, snapshot, indexes, types)?;
     if let Candidates::Within(wanted, extent) = candidates {
         if extent.is_read_before(rows_of_types(indexes, types.ids.as_slice())) {
             let found = groups_with_pairs_among(
@@ -109,7 +109,7 @@ pub fn values_of<S: ConceptSet>(
     ensures bound { IfOk result (λ found. S.bound_of found ≡ length snapshot.now.release.concepts) }
 {
     let passing = within(alloc, indexes, sources)?;
-    let types = types_in(alloc, indexes, types)?;
+    let types = types_in(alloc, snapshot, indexes, types)?;
     let some = Cardinality { min: 1, max: None };
     with_pairs_back(alloc, snapshot, indexes, some, &types, &passing)
 }
