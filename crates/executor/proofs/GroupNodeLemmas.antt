@@ -1,21 +1,19 @@
 -- What each kind of plan of groups means, from what its parts mean.
-use Rattle.std.proofs.Common.{ℕ, ◌≡◌, ◌<◌, ◌+◌, ◌∙◌, ◌∷◌, [], Bool, true, false, not, ◌&&◌, ◌||◌, List, Option, None, Some, length, get_or, take, refl, sym, ap}
+use Rattle.std.proofs.Common.{ℕ, ◌≡◌, ◌<◌, ◌∙◌, ◌∷◌, [], Bool, true, ◌&&◌, ◌||◌, List, Option, None, Some, length, refl, sym, ap}
 use Rattle.std.specs.Prelude.{slice_get}
 use Rattle.std.specs.List.{list_all, list_any, range_with_len}
 use Rattle.rf2_rows.specs.Pairs.{Pair}
 use Rattle.rf2_rows.specs.Release.{Release}
 use Rattle.constraint_tree.specs.declared.operator.Cardinality.{Cardinality}
-use Rattle.idset.specs.Sets.{all_items, common_items, other_items}
-use Rattle.idset.proofs.Normal.{numbers_where-agree, numbers_where-all, numbers_where-none, other_items-numbers_where}
+use Rattle.idset.proofs.Normal.{numbers_where-agree, numbers_where-all}
 use Rattle.postings.specs.Groups.{ConceptGroup, all_groups}
 use Rattle.set_algebra.specs.declared.plan.UnitPlan.{UnitPlan}
 use Rattle.set_algebra.specs.Meaning.{all_group_mean, group_means, has_pairs, means, some_group_means, value_passes}
-use Rattle.set_algebra.specs.Plan.{GroupPlan, Plan, TestPlan, and_group, every_group, group_plan_of, group_plans_of, minus_group, nothing_group, or_group, pairs_group}
+use Rattle.set_algebra.specs.Plan.{GroupPlan, Plan, TestPlan, and_group, every_group, group_plan_of, group_plans_of, or_group, pairs_group}
 use Rattle.executor.specs.Groups.{groups_where, some_group_in}
 use Rattle.executor.specs.Numbers.{numbers_in}
 use Rattle.executor.specs.Tested.{is_one_of}
 use Rattle.executor.proofs.LeafLemmas.{none_within}
-use Rattle.executor.proofs.ListLemmas.{all_more, some_more}
 use Rattle.executor.proofs.NodeLemmas.{one_meant}
 
 module _ (release : Release) where
@@ -26,29 +24,7 @@ module _ (release : Release) where
   abbrev pub by_number : (List Pair → Bool) → ℕ → Bool
   by_number set n = some_group_in release set (slice_get all n)
 
-  some_and : (p q : List Pair → Bool) (at : Option ConceptGroup)
-      → (some_group_in release p at && some_group_in release q at) ≡ some_group_in release (λ pairs. p pairs && q pairs) at
-  some_and p q None = refl
-  some_and p q (Some group) = refl
-
-  some_or : (p q : List Pair → Bool) (at : Option ConceptGroup)
-      → (some_group_in release p at || some_group_in release q at) ≡ some_group_in release (λ pairs. p pairs || q pairs) at
-  some_or p q None = refl
-  some_or p q (Some group) = refl
-
-  some_minus : (p q : List Pair → Bool) (at : Option ConceptGroup)
-      → (some_group_in release p at && not (some_group_in release q at)) ≡ some_group_in release (λ pairs. p pairs && not (q pairs)) at
-  some_minus p q None = refl
-  some_minus p q (Some group) = refl
-
-  -- no group, and each
-  pub none_where : [] ≡ groups_where release (λ pairs. false)
-  none_where = sym (numbers_where-none (length all)) ∙ numbers_where-agree (length all) (λ n. false) (by_number (λ pairs. false)) (λ n within. at (slice_get all n))
-    where
-      at : (found : Option ConceptGroup) → false ≡ some_group_in release (λ pairs. false) found
-      at None = refl
-      at (Some group) = refl
-
+  -- each group
   pub each_where : range_with_len 0 (length all) ≡ groups_where release (λ pairs. true)
   each_where = sym (numbers_where-all (length all)) ∙ numbers_where-agree (length all) (λ n. true) (by_number (λ pairs. true)) (λ n within. at n within (slice_get all n) refl)
     where
@@ -60,9 +36,6 @@ module _ (release : Release) where
   meant plan other is = ap (λ (p : GroupPlan). groups_where release (group_means release p)) (sym is)
 
   module _ (plan : GroupPlan) (found : List ℕ) where
-    pub nothing_node : plan ≡ nothing_group → found ≡ [] → found ≡ groups_where release (group_means release plan)
-    nothing_node is found_is = found_is ∙ none_where ∙ meant plan nothing_group is
-
     pub every_node : plan ≡ every_group → found ≡ range_with_len 0 (length all) → found ≡ groups_where release (group_means release plan)
     every_node is found_is = found_is ∙ each_where ∙ meant plan every_group is
 
@@ -88,17 +61,6 @@ module _ (release : Release) where
         some_listed [] pairs = refl
         some_listed (part ∷ some) pairs = ap (λ (b : Bool). group_means release (group_plan_of part) pairs || b) (some_listed some pairs)
 
-    pub minus_node : (first second : GroupPlan) (left right : List ℕ) → plan ≡ minus_group first second
-        → left ≡ groups_where release (group_means release first) → right ≡ groups_where release (group_means release second)
-        → found ≡ other_items left right → found ≡ groups_where release (group_means release plan)
-    minus_node first second left right is left_is right_is found_is =
-        found_is ∙ (λ i. other_items (left_is i) (right_is i))
-        ∙ other_items-numbers_where (length all) (by_number (group_means release first)) (by_number (group_means release second))
-        ∙ numbers_where-agree (length all) (λ n. by_number (group_means release first) n && not (by_number (group_means release second) n))
-        (by_number (λ pairs. group_means release first pairs && not (group_means release second pairs)))
-        (λ n within. some_minus (group_means release first) (group_means release second) (slice_get all n))
-        ∙ meant plan (minus_group first second) is
-
     pub pairs_node : (count : Cardinality) (types : Plan) (test : TestPlan) (concepts items : List ℕ) → plan ≡ pairs_group count types test
         → concepts ≡ release.concepts → items ≡ numbers_in release (means release types)
         → found ≡ groups_where release (has_pairs count (is_one_of concepts items) (value_passes release test))
@@ -107,22 +69,3 @@ module _ (release : Release) where
         found_is
         ∙ ap (λ (set : ℕ → Bool). groups_where release (has_pairs count set (value_passes release test))) (one_meant release types concepts items are items_are)
         ∙ meant plan (pairs_group count types test) is
-
-  -- one more part of those that all, or some of which, are joined
-  pub all_step : (parts : List UnitPlan) (k : ℕ) (part : UnitPlan) → k < length parts → part ≡ get_or parts k part → (found next joined : List ℕ)
-      → next ≡ groups_where release (group_means release (group_plan_of part)) → joined ≡ common_items found next → (set : List Pair → Bool)
-      → found ≡ groups_where release (λ pairs. set pairs && list_all (λ p. group_means release (group_plan_of p) pairs) (take k parts))
-      → joined ≡ groups_where release (λ pairs. set pairs && list_all (λ p. group_means release (group_plan_of p) pairs) (take (k + 1) parts))
-  all_step parts k part within is found next joined next_is joined_is set found_is =
-      joined_is ∙ all_more (length all) by_number (λ p q n _. some_and p q (slice_get all n)) (λ p q n _. some_or p q (slice_get all n))
-      (λ (p : UnitPlan). group_means release (group_plan_of p)) parts k part within found next
-      (next_is ∙ ap (λ (p : UnitPlan). groups_where release (group_means release (group_plan_of p))) is) set found_is
-
-  pub some_step : (parts : List UnitPlan) (k : ℕ) (part : UnitPlan) → k < length parts → part ≡ get_or parts k part → (bound : ℕ) (found next joined : List ℕ)
-      → bound ≡ length all → next ≡ groups_where release (group_means release (group_plan_of part)) → joined ≡ all_items bound found next
-      → found ≡ groups_where release (λ pairs. list_any (λ p. group_means release (group_plan_of p) pairs) (take k parts))
-      → joined ≡ groups_where release (λ pairs. list_any (λ p. group_means release (group_plan_of p) pairs) (take (k + 1) parts))
-  some_step parts k part within is bound found next joined counted next_is joined_is found_is =
-      joined_is ∙ some_more (length all) by_number (λ p q n _. some_and p q (slice_get all n)) (λ p q n _. some_or p q (slice_get all n))
-      (λ (p : UnitPlan). group_means release (group_plan_of p)) parts k part within found next
-      (next_is ∙ ap (λ (p : UnitPlan). groups_where release (group_means release (group_plan_of p))) is) bound counted found_is

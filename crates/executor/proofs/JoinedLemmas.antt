@@ -24,7 +24,7 @@ use Rattle.executor.specs.declared.family.Family.TheVariants as family
 
 -- ---- the lists of a hierarchy
 -- how the concepts of a list stand to its concept
-abbrev stands : Release → Family → ℕ → ℕ → Bool
+abbrev pub stands : Release → Family → ℕ → ℕ → Bool
 stands release family.Ancestors a b = reaches release.isa (get_or release.concepts a 0) (get_or release.concepts b 0)
 stands release family.Descendants a b = reaches release.isa (get_or release.concepts b 0) (get_or release.concepts a 0)
 stands release family.Parents a b = is_child release.isa (get_or release.concepts a 0) (get_or release.concepts b 0)
@@ -55,13 +55,13 @@ over_rising count hierarchy over f concept below =
     subst (λ (xs : List ℕ). IsRisingBelow count xs) (sym (over_list count hierarchy over f concept below)) (numbers_where-rising count (stands over.release f concept))
 
 -- what it has is so, and the other way round
-listed_stands : (count : ℕ) (hierarchy : Hierarchy) (over : IsOver count hierarchy) (f : Family) (concept n : ℕ) → concept < count
+pub listed_stands : (count : ℕ) (hierarchy : Hierarchy) (over : IsOver count hierarchy) (f : Family) (concept n : ℕ) → concept < count
     → has_item (list_of (lists_of hierarchy f) concept) n ≡ true → (n < count) × (stands over.release f concept n ≡ true)
 listed_stands count hierarchy over f concept n below told =
     there_where count (stands over.release f concept) n
     (item_there (numbers_where count (stands over.release f concept)) n (ap (λ (xs : List ℕ). has_item xs n) (sym (over_list count hierarchy over f concept below)) ∙ told))
 
-stands_listed : (count : ℕ) (hierarchy : Hierarchy) (over : IsOver count hierarchy) (f : Family) (concept n : ℕ) → concept < count → n < count
+pub stands_listed : (count : ℕ) (hierarchy : Hierarchy) (over : IsOver count hierarchy) (f : Family) (concept n : ℕ) → concept < count → n < count
     → stands over.release f concept n ≡ true → has_item (list_of (lists_of hierarchy f) concept) n ≡ true
 stands_listed count hierarchy over f concept n below within holds =
     ap (λ (xs : List ℕ). has_item xs n) (over_list count hierarchy over f concept below)
@@ -78,7 +78,7 @@ stands_on release family.Descendants whole a b c one other =
 stands_on release family.Parents whole a b c one other = absurd (false≢true whole)
 stands_on release family.Children whole a b c one other = absurd (false≢true whole)
 
-over_whole : (count : ℕ) (hierarchy : Hierarchy) → IsOver count hierarchy → (f : Family) → is_whole f ≡ true → (a b n : ℕ) → a < count → b < count
+pub over_whole : (count : ℕ) (hierarchy : Hierarchy) → IsOver count hierarchy → (f : Family) → is_whole f ≡ true → (a b n : ℕ) → a < count → b < count
     → has_item (list_of (lists_of hierarchy f) a) b ≡ true → has_item (list_of (lists_of hierarchy f) b) n ≡ true → has_item (list_of (lists_of hierarchy f) a) n ≡ true
 over_whole count hierarchy over f whole a b n a_below b_below one other =
     let first = listed_stands count hierarchy over f a b a_below one in
@@ -86,7 +86,7 @@ over_whole count hierarchy over f whole a b n a_below b_below one other =
     stands_listed count hierarchy over f a n a_below second.0 (stands_on over.release f whole a b n first.1 second.1)
 
 -- what is one is-a row away is reached
-near_stands : (release : Release) (f : Family) (a b : ℕ) → stands release (near_of f) a b ≡ true → stands release f a b ≡ true
+pub near_stands : (release : Release) (f : Family) (a b : ℕ) → stands release (near_of f) a b ≡ true → stands release f a b ≡ true
 near_stands release family.Ancestors a b near =
     test_from_chain release.isa (one_row (row_there release.isa (get_or release.concepts a 0) (get_or release.concepts b 0) near))
 near_stands release family.Descendants a b near =
@@ -123,23 +123,24 @@ any_more lists before concept n =
     any_append (λ c. has_item (list_of lists c) n) before (concept ∷ [])
     ∙ ap (λ (b : Bool). list_any (λ c. has_item (list_of lists c) n) before || b) (or_nothing (has_item (list_of lists concept) n))
 
+-- what has a list added to it has what it had and what the list has
+pub has_all : (count : ℕ) (numbers list next : List ℕ) → IsRisingBelow count numbers → IsRisingBelow count list → next ≡ all_items count numbers list
+    → (n : ℕ) → has_item next n ≡ (has_item numbers n || has_item list n)
+has_all count numbers list next rises list_rises next_is n =
+    ap (λ (xs : List ℕ). has_item xs n) next_is
+    ∙ has_item-numbers_where_any count (λ m. has_item numbers m || has_item list m) n
+    ∙ ⊎_elim
+    (λ (within : n < count) i. lt-ltb n count within i && (has_item numbers n || has_item list n))
+    (λ (past : count ≤ n).
+    let one : has_item numbers n ≡ false = has_item-past_bound 0 count numbers n rises past in
+    let other : has_item list n ≡ false = has_item-past_bound 0 count list n list_rises past in
+    (λ i. le-ltb n count past i && (has_item numbers n || has_item list n)) ∙ (λ i. sym one i || sym other i))
+    (cases_lt n count)
+
 pub join_list : (lists : List (List ℕ)) (before numbers list next : List ℕ) (count concept : ℕ) → IsRisingBelow count numbers → IsRisingBelow count list
     → list ≡ list_of lists concept → next ≡ all_items count numbers list → AreJoined lists before numbers → AreJoined lists (before ++ concept ∷ []) next
 join_list lists before numbers list next count concept rises list_rises is next_is joined n =
-    ap (λ (xs : List ℕ). has_item xs n) next_is
-    ∙ has_item-numbers_where_any count (λ m. has_item numbers m || has_item list m) n
-    ∙ below
-    ∙ (λ i. joined n i || has_item (is i) n)
-    ∙ sym (any_more lists before concept n)
-  where
-    below : (ltb n count && (has_item numbers n || has_item list n)) ≡ (has_item numbers n || has_item list n)
-    below = ⊎_elim
-        (λ (within : n < count) i. lt-ltb n count within i && (has_item numbers n || has_item list n))
-        (λ (past : count ≤ n).
-        let one : has_item numbers n ≡ false = has_item-past_bound 0 count numbers n rises past in
-        let other : has_item list n ≡ false = has_item-past_bound 0 count list n list_rises past in
-        (λ i. le-ltb n count past i && (has_item numbers n || has_item list n)) ∙ (λ i. sym one i || sym other i))
-        (cases_lt n count)
+    has_all count numbers list next rises list_rises next_is n ∙ (λ i. joined n i || has_item (is i) n) ∙ sym (any_more lists before concept n)
 
 -- the list of a concept that is there already brings nothing
 pub join_skipped : (count : ℕ) (hierarchy : Hierarchy) → IsOver count hierarchy → (f : Family) → is_whole f ≡ true → (before numbers : List ℕ) (concept : ℕ) → concept < count
@@ -208,11 +209,14 @@ any_split {X = X} test long (x ∷ xs) =
         right true false c = refl
         right false b c = refl
 
-pub all_joined : (count : ℕ) (lists : List (List ℕ)) (concepts numbers : List ℕ) → IsRisingBelow count numbers
-    → AreJoined lists (with_length lists true concepts ++ with_length lists false concepts) numbers → numbers ≡ joined count lists concepts
+pub both_joined : (lists : List (List ℕ)) (concepts numbers : List ℕ)
+    → AreJoined lists (with_length lists true concepts ++ with_length lists false concepts) numbers → AreJoined lists concepts numbers
+both_joined lists concepts numbers joined n = joined n ∙ any_split (λ concept. has_item (list_of lists concept) n) (λ concept. is_long (list_of lists concept)) concepts
+
+pub all_joined : (count : ℕ) (lists : List (List ℕ)) (concepts numbers : List ℕ) → IsRisingBelow count numbers → AreJoined lists concepts numbers
+    → numbers ≡ joined count lists concepts
 all_joined count lists concepts numbers rises joined =
-    rising_is_where count numbers (λ n. list_any (λ concept. has_item (list_of lists concept) n) concepts) rises
-    (λ n within. joined n ∙ any_split (λ concept. has_item (list_of lists concept) n) (λ concept. is_long (list_of lists concept)) concepts)
+    rising_is_where count numbers (λ n. list_any (λ concept. has_item (list_of lists concept) n) concepts) rises (λ n within. joined n)
 
 -- ---- one list alone
 one_joined : (count : ℕ) (lists : List (List ℕ)) (concept : ℕ) → numbers_where count (has_item (list_of lists concept)) ≡ joined count lists (concept ∷ [])

@@ -149,6 +149,10 @@ module _ {X : Type 0} (key : X → ℕ) (kept : ℕ → Bool) (test : X → Bool
             | inr other ↦ sym (λ i. ((ne_eqb k (key x) (λ same. other (sym same)) i || has_item keys (key x)) && kept (key x)) && test x)
           ]
 
+-- the types of rows stand once each
+pub types_apart : (rows : List Attribute) → IsDistinct nat_eq (types_of rows)
+types_apart rows = (keeps_each_number_once (map (λ (row : Attribute). row.type_id) rows)).0
+
 -- ---- the rows of some types that count for something are its pairs with one of these types that pass
 pub count_map : {X Y : Type 0} (test : Y → Bool) (f : X → Y) (xs : List X) → count_by test (map f xs) ≡ count_by (λ x. test (f x)) xs
 count_map test f [] = refl
@@ -188,7 +192,7 @@ module _ (rows : List Attribute) (one : ℕ → Bool) where
       ≡ count_by (λ entry. belongs entry && (first entry && (one entry.row.type_id && passes entry))) (entries_of rows)
   types_counted belongs first passes =
       count_by_keys (λ (entry : Entry). entry.row.type_id) one (λ entry. belongs entry && (first entry && passes entry)) (entries_of rows) (types_of rows)
-      (keeps_each_number_once (map (λ (row : Attribute). row.type_id) rows)).0
+      (types_apart rows)
       ∙ count_agree
       (λ (entry : Entry). (has_item (types_of rows) entry.row.type_id && one entry.row.type_id) && (belongs entry && (first entry && passes entry)))
       (λ (entry : Entry). belongs entry && (first entry && (one entry.row.type_id && passes entry))) (entries_of rows)

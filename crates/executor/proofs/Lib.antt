@@ -1,3 +1,4 @@
+pub mod AmongLemmas
 pub mod ChoiceLemmas
 pub mod GroupNodeLemmas
 pub mod HitLemmas
@@ -7,8 +8,13 @@ pub mod ListLemmas
 pub mod MemberLemmas
 pub mod NodeLemmas
 pub mod Normal
+pub mod OwnedLemmas
 pub mod PassingLemmas
+pub mod ReachedLemmas
 pub mod StepLemmas
 pub mod TimesLemmas
+pub mod TypeLemmas
 pub mod UnitLemmas
 pub mod ValueStepLemmas
+pub mod WithinLemmas
+pub mod WithinNodes

@@ -8,11 +8,10 @@ use Rattle.constraint_tree.specs.Denotation.{is_value}
 use Rattle.constraint_tree.specs.Passing.{is_outside, is_within}
 use Rattle.constraint_tree.specs.Walks.{has_concept, walks}
 use Rattle.constraint_tree.specs.declared.operator.Cardinality.{Cardinality}
-use Rattle.idset.specs.Sets.{all_items, common_items, other_items}
 use Rattle.ancestor_index.specs.HierarchyLists.{Hierarchy, hierarchy_of}
 use Rattle.set_algebra.specs.declared.plan.ConceptPlan.{ConceptPlan}
 use Rattle.set_algebra.specs.Meaning.{all_mean, group_means, has_groups, has_pairs, leads, means, pairs_of, some_means, value_passes}
-use Rattle.set_algebra.specs.Plan.{GroupPlan, Plan, Plans, TestPlan, all_plan, and_plan, empty_plan, members_plan, minus_plan, no_plans, one_plan, or_plan, outside_plan, pairs_plan, plan_of, plan_then, plans_of, units_plan, values_plan, walk_plan, within_plan}
+use Rattle.set_algebra.specs.Plan.{GroupPlan, Plan, Plans, TestPlan, all_plan, and_plan, members_plan, no_plans, one_plan, or_plan, outside_plan, pairs_plan, plan_of, plan_then, plans_of, units_plan, values_plan, walk_plan, within_plan}
 use Rattle.set_algebra.proofs.MeaningLemmas.{in_force_if_meant}
 use Rattle.postings.specs.Indexed.{Indexed, value_at, values_of}
 use Rattle.executor.specs.Hits.{TellsPassing}
@@ -20,18 +19,14 @@ use Rattle.executor.specs.Members.{components_of}
 use Rattle.executor.specs.Numbers.{numbers_in}
 use Rattle.executor.specs.Steps.{led_to}
 use Rattle.executor.specs.Tested.{is_one_of}
-use Rattle.executor.proofs.ListLemmas.{all_more, some_more}
 use Rattle.executor.proofs.MemberLemmas.{components_in, one_of_set}
-use Rattle.executor.proofs.Normal.{each_in_force, in_force_kept, none_in, numbers_in-agree, without_in}
+use Rattle.executor.proofs.Normal.{each_in_force, in_force_kept, numbers_in-agree}
 use Rattle.executor.proofs.StepLemmas.{led_is}
 
 meant : (release : Release) (plan other : Plan) → plan ≡ other → numbers_in release (means release other) ≡ numbers_in release (means release plan)
 meant release plan other is = ap (λ (p : Plan). numbers_in release (means release p)) (sym is)
 
 module _ (release : Release) (plan : Plan) (found : List ℕ) where
-  pub empty_node : plan ≡ empty_plan → found ≡ [] → found ≡ numbers_in release (means release plan)
-  empty_node is found_is = found_is ∙ none_in release ∙ meant release plan empty_plan is
-
   pub all_node : plan ≡ all_plan → found ≡ range_with_len 0 (length release.concepts) → found ≡ numbers_in release (means release plan)
   all_node is found_is = found_is ∙ each_in_force release ∙ meant release plan all_plan is
 
@@ -75,11 +70,6 @@ module _ (release : Release) (plan : Plan) (found : List ℕ) where
       some_listed : (some : List ConceptPlan) (concept : ℕ) → list_any (λ part. means release (plan_of part) concept) some ≡ some_means release (plans_of some) concept
       some_listed [] concept = refl
       some_listed (part ∷ some) concept = ap (λ (b : Bool). means release (plan_of part) concept || b) (some_listed some concept)
-
-  pub minus_node : (first second : Plan) (left right : List ℕ) → plan ≡ minus_plan first second → left ≡ numbers_in release (means release first) → right ≡ numbers_in release (means release second)
-      → found ≡ other_items left right → found ≡ numbers_in release (means release plan)
-  minus_node first second left right is left_is right_is found_is =
-      found_is ∙ without_in release left right (means release first) (means release second) left_is right_is ∙ meant release plan (minus_plan first second) is
 
 -- whether a concept is one of those that a plan means
 pub one_meant : (release : Release) (plan : Plan) (concepts items : List ℕ) → concepts ≡ release.concepts → items ≡ numbers_in release (means release plan)
@@ -164,22 +154,3 @@ outside_told indexed release plan items words test is are items_are tells number
     tells number
     ∙ ap (λ (set : ℕ → Bool). is_outside set (value_at (values_of indexed) number)) (one_meant release plan indexed.concepts items are items_are)
     ∙ ap (λ (t : TestPlan). value_passes release t (value_at (values_of indexed) number)) (sym is)
-
--- one more part of those that all, or some of which, are joined
-pub all_step : (release : Release) (parts : List ConceptPlan) (k : ℕ) (part : ConceptPlan) → k < length parts → part ≡ get_or parts k part → (found next joined : List ℕ)
-    → next ≡ numbers_in release (means release (plan_of part)) → joined ≡ common_items found next → (set : ℕ → Bool)
-    → found ≡ numbers_in release (λ concept. set concept && list_all (λ p. means release (plan_of p) concept) (take k parts))
-    → joined ≡ numbers_in release (λ concept. set concept && list_all (λ p. means release (plan_of p) concept) (take (k + 1) parts))
-all_step release parts k part within is found next joined next_is joined_is set found_is =
-    joined_is ∙ all_more (length release.concepts) (λ set n. set (get_or release.concepts n 0)) (λ p q n _. refl) (λ p q n _. refl)
-    (λ (p : ConceptPlan). means release (plan_of p)) parts k part within found next
-    (next_is ∙ ap (λ (p : ConceptPlan). numbers_in release (means release (plan_of p))) is) set found_is
-
-pub some_step : (release : Release) (parts : List ConceptPlan) (k : ℕ) (part : ConceptPlan) → k < length parts → part ≡ get_or parts k part → (bound : ℕ) (found next joined : List ℕ)
-    → bound ≡ length release.concepts → next ≡ numbers_in release (means release (plan_of part)) → joined ≡ all_items bound found next
-    → found ≡ numbers_in release (λ concept. list_any (λ p. means release (plan_of p) concept) (take k parts))
-    → joined ≡ numbers_in release (λ concept. list_any (λ p. means release (plan_of p) concept) (take (k + 1) parts))
-some_step release parts k part within is bound found next joined counted next_is joined_is found_is =
-    joined_is ∙ some_more (length release.concepts) (λ set n. set (get_or release.concepts n 0)) (λ p q n _. refl) (λ p q n _. refl)
-    (λ (p : ConceptPlan). means release (plan_of p)) parts k part within found next
-    (next_is ∙ ap (λ (p : ConceptPlan). numbers_in release (means release (plan_of p))) is) bound counted found_is

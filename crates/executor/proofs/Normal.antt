@@ -11,10 +11,10 @@ use Rattle.std.proofs.lemmas.List.Sums.{prefix_len_passes}
 use Rattle.rf2_rows.specs.Release.{Release}
 use Rattle.constraint_tree.specs.Walks.{has_concept}
 use Rattle.constraint_tree.proofs.WalkLemmas.{tells_in_force}
-use Rattle.idset.specs.Sets.{all_items, common_items, has_item, other_items}
+use Rattle.idset.specs.Sets.{all_items, has_item}
 use Rattle.idset.specs.Sets.{IsRisingBelow}
 use Rattle.idset.proofs.Rising.{rises_from_on, rising_is_where}
-use Rattle.idset.proofs.Normal.{all_items-numbers_where, common_items-numbers_where, has_item-numbers_where_any, numbers_where-agree, numbers_where-all, numbers_where-none, other_items-numbers_where}
+use Rattle.idset.proofs.Normal.{all_items-numbers_where, has_item-numbers_where_any, numbers_where-agree, numbers_where-all, numbers_where-none}
 use Rattle.snapshot.specs.Numbering.{concept_number}
 use Rattle.snapshot.proofs.NumberingLemmas.{place_of}
 use Rattle.snapshot.proofs.RisingLemmas.{earlier_below}
@@ -62,14 +62,8 @@ module _ (release : Release) (one other : List ℕ) (p q : ℕ → Bool) (one_is
   abbrev by_number : (ℕ → Bool) → ℕ → Bool
   by_number set n = set (get_or release.concepts n 0)
 
-  pub common_in : common_items one other ≡ numbers_in release (λ concept. p concept && q concept)
-  common_in = (λ i. common_items (one_is i) (other_is i)) ∙ common_items-numbers_where (length release.concepts) (by_number p) (by_number q)
-
   pub either_in : (bound : ℕ) → bound ≡ length release.concepts → all_items bound one other ≡ numbers_in release (λ concept. p concept || q concept)
   either_in bound is = (λ i. all_items (is i) (one_is i) (other_is i)) ∙ all_items-numbers_where (length release.concepts) (by_number p) (by_number q)
-
-  pub without_in : other_items one other ≡ numbers_in release (λ concept. p concept && not (q concept))
-  without_in = (λ i. other_items (one_is i) (other_is i)) ∙ other_items-numbers_where (length release.concepts) (by_number p) (by_number q)
 
 -- ---- the number of a concept
 -- a number stands at one place of a rising list

@@ -7,7 +7,7 @@ use Rattle.std.specs.List.Sorted.{IsStrictlyIncreasing}
 use Rattle.std.proofs.lemmas.Bool.{cases_eq, eq-eqb, false≢true, ne_eqb}
 use Rattle.std.proofs.lemmas.List.{get_or-map, length-map}
 use Rattle.std.proofs.lemmas.List.Elements.{All-contains, Contains-get_or}
-use Rattle.std.proofs.lemmas.List.FromFn.{fill_by_all}
+use Rattle.std.proofs.lemmas.List.FromFn.{fill_by_all, get_or-range_with_len, length-range_with_len}
 use Rattle.std.proofs.lemmas.Option.{get_or_from_slice_get}
 use Rattle.rf2_rows.specs.Groups.{groups_of}
 use Rattle.rf2_rows.specs.Pairs.{Pair}
@@ -23,6 +23,12 @@ use Rattle.postings.proofs.KeyLemmas.{group_with, groups_at}
 use Rattle.executor.specs.Counted.{times}
 use Rattle.executor.specs.Groups.{concept_in, groups_where, some_group_in}
 use Rattle.executor.specs.Numbers.{numbers_in}
+use Rattle.executor.specs.Owned.{HaveGroupsOf, groups_owned}
+use Rattle.executor.specs.Within.{groups_within, numbers_within}
+use Rattle.executor.proofs.WithinLemmas.{restricted_to}
+use Rattle.idset.specs.Sets.{has_item}
+use Rattle.std.specs.Prelude.{filter}
+use Rattle.std.proofs.lemmas.Bool.{eqb-true}
 use Rattle.executor.proofs.HitLemmas.{count-append, count-cons}
 use Rattle.executor.proofs.LeafLemmas.{concepts_apart, count_agree, count_kept, count_map, none_within}
 use Rattle.executor.proofs.Normal.{same_by_number}
@@ -125,28 +131,80 @@ module _ (release : Release) (rising : IsStrictlyIncreasing release.concepts) (s
       turned false true = refl
       turned false false = refl
 
-  -- so the numbers that stand among the concepts of the groups in the set as often as is asked are the concepts with so many groups in it
-  pub units_found : (count : Cardinality) (bound : ℕ) → bound ≡ length release.concepts → (items concepts found : List ℕ)
-      → items ≡ groups_where release set → All (λ concept. concept < length release.concepts) concepts
-      → map (λ concept. get_or release.concepts concept 0) concepts ≡ map (λ k. concept_in (slice_get all k)) items
+-- ---- the concepts with so many of some groups
+module _ (release : Release) (rising : IsStrictlyIncreasing release.concepts) where
+  -- the numbers that stand among the concepts of some groups as often as is asked
+  pub owners_found : (count : Cardinality) (bound : ℕ) → bound ≡ length release.concepts → (items concepts found : List ℕ)
+      → All (λ concept. concept < length release.concepts) concepts
+      → map (λ concept. get_or release.concepts concept 0) concepts ≡ map (λ k. concept_in (slice_get (all_groups release) k)) items
       → found ≡ numbers_where bound (λ n. lies_in count (times n concepts))
-      → found ≡ numbers_in release (has_groups release count set)
-  units_found count bound counted items concepts found items_are below are found_is =
-      found_is ∙ numbers_where-agree bound (λ n. lies_in count (times n concepts))
-      (λ n. has_groups release count set (get_or release.concepts n 0))
+      → found ≡ numbers_where (length release.concepts) (λ n. lies_in count (groups_owned release items n))
+  owners_found count bound counted items concepts found below are found_is =
+      found_is ∙ numbers_where-agree bound (λ n. lies_in count (times n concepts)) (λ n. lies_in count (groups_owned release items n))
       (λ n within. ap (lies_in count) (often n (omega (arith, within, counted))))
-      ∙ ap (λ m. numbers_where m (λ n. has_groups release count set (get_or release.concepts n 0))) counted
+      ∙ ap (λ m. numbers_where m (λ n. lies_in count (groups_owned release items n))) counted
     where
-      often : (n : ℕ) → n < length release.concepts → times n concepts ≡ count_by set (groups_of release (get_or release.concepts n 0))
+      often : (n : ℕ) → n < length release.concepts → times n concepts ≡ groups_owned release items n
       often n within =
           count_agree (λ concept. concept == n) (λ concept. get_or release.concepts concept 0 == get_or release.concepts n 0) concepts
           (λ concept there. sym (same_by_number release.concepts rising concept n
           (All-contains (λ c. c < length release.concepts) concepts concept below there) within))
           ∙ sym (count_map (λ id. id == get_or release.concepts n 0) (λ concept. get_or release.concepts concept 0) concepts)
           ∙ ap (count_by (λ id. id == get_or release.concepts n 0)) are
-          ∙ count_map (λ id. id == get_or release.concepts n 0) (λ k. concept_in (slice_get all k)) items
-          ∙ ap (count_by (λ k. concept_in (slice_get all k) == get_or release.concepts n 0)) items_are
-          ∙ set_counted n within
+          ∙ count_map (λ id. id == get_or release.concepts n 0) (λ k. concept_in (slice_get (all_groups release) k)) items
+
+  -- of groups that are in a set and candidates, where all groups of a concept are candidates, as many are of it as of its groups are in the set
+  owned_counted : (set : List Pair → Bool) (may : ℕ → Bool) (n : ℕ) → n < length release.concepts
+      → ((k : ℕ) → k < length (all_groups release) → concept_in (slice_get (all_groups release) k) ≡ get_or release.concepts n 0 → may k ≡ true)
+      → groups_owned release (groups_within release may set) n ≡ count_by set (groups_of release (get_or release.concepts n 0))
+  owned_counted set may n within own =
+      let concept = get_or release.concepts n 0 in
+      let there : ℕ → Bool = λ k. some_group_in release set (slice_get (all_groups release) k) in
+      let its : ℕ → Bool = λ k. concept_in (slice_get (all_groups release) k) == concept in
+      count_kept (λ k. may k && there k) its (range_with_len 0 (length (all_groups release)))
+      ∙ count_agree (λ k. (may k && there k) && its k) (λ k. there k && its k) (range_with_len 0 (length (all_groups release)))
+      (λ k inside. dropped (may k) (there k) (its k)
+      (λ same. own k (in_range k inside) (eqb-true (concept_in (slice_get (all_groups release) k)) concept same)))
+      ∙ sym (count_kept there its (range_with_len 0 (length (all_groups release))))
+      ∙ set_counted release rising set n within
+    where
+      dropped : (a b c : Bool) → (c ≡ true → a ≡ true) → ((a && b) && c) ≡ (b && c)
+      dropped true b c had = refl
+      dropped false true true had = absurd (false≢true (had refl))
+      dropped false true false had = refl
+      dropped false false c had = refl
+
+      in_range : (k : ℕ) → Contains (range_with_len 0 (length (all_groups release))) k → k < length (all_groups release)
+      in_range k (at, below, is) =
+          let long : at < length (all_groups release) = omega (arith, below, length-range_with_len 0 (length (all_groups release))) in
+          omega (arith, long, sym is ∙ get_or-range_with_len 0 (length (all_groups release)) at k long)
+
+  -- so without candidates they are the concepts with so many groups in the set
+  pub units_found : (count : Cardinality) (set : List Pair → Bool) (items found : List ℕ) → items ≡ groups_where release set
+      → found ≡ numbers_where (length release.concepts) (λ n. lies_in count (groups_owned release items n))
+      → found ≡ numbers_in release (has_groups release count set)
+  units_found count set items found items_are found_is =
+      found_is
+      ∙ (λ i. numbers_where (length release.concepts) (λ n. lies_in count (groups_owned release (items_are i) n)))
+      ∙ numbers_where-agree (length release.concepts) (λ n. lies_in count (groups_owned release (groups_where release set) n)) (λ n. has_groups release count set (get_or release.concepts n 0))
+      (λ n within. ap (lies_in count) (set_counted release rising set n within))
+
+  -- and of candidates those of them with so many
+  pub units_within : (count : Cardinality) (set : List Pair → Bool) (wanted own items some found : List ℕ) → HaveGroupsOf release wanted own
+      → items ≡ groups_within release (has_item own) set
+      → some ≡ numbers_where (length release.concepts) (λ n. lies_in count (groups_owned release items n))
+      → found ≡ filter (has_item wanted) some
+      → found ≡ numbers_within release (has_item wanted) (has_groups release count set)
+  units_within count set wanted own items some found have items_are some_is found_is =
+      restricted_to (length release.concepts) (has_item wanted) (λ n. lies_in count (groups_owned release items n)) some found some_is found_is
+      ∙ numbers_where-agree (length release.concepts) (λ n. has_item wanted n && lies_in count (groups_owned release items n)) (λ n. has_item wanted n && has_groups release count set (get_or release.concepts n 0))
+      (λ n within. of_wanted (has_item wanted n) _ _
+      (λ is_wanted. ap (lies_in count) (ap (λ (groups : List ℕ). groups_owned release groups n) items_are
+      ∙ owned_counted set (has_item own) n within (λ k inside same. have n k is_wanted within inside same))))
+    where
+      of_wanted : (a b c : Bool) → (a ≡ true → b ≡ c) → (a && b) ≡ (a && c)
+      of_wanted true b c same = same refl
+      of_wanted false b c same = refl
 
 -- the concept of a group that is there
 pub concept_told : (groups : List ConceptGroup) (k id : ℕ) → k < length groups

@@ -73,6 +73,12 @@ pub record AreTypesIn (rows : List Attribute) (one : ℕ → Bool) (types : Type
   pub ids : types.ids.items ≡ filter one (types_of rows)
   pub places : TellsTypes rows one types.places.items
 
+-- some places are those of the types of rows that are one of some concepts, by the numbers of these
+pub record ArePlacesOf (indexed : Indexed) (concepts places : List ℕ) : Type 0 where
+  pub within : All (λ place. place < length (types_of indexed.rows)) places
+  pub told : (place : ℕ) → place < length (types_of indexed.rows)
+      → has_item places place ≡ is_one_of indexed.concepts concepts (slice_index (types_of indexed.rows) place)
+
 -- the concepts with these numbers, which rise, are the values that pass: no other concept, no number and no other text does
 pub record AreAllThatPass (indexed : Indexed) (words : List ℕ) (numbers : List ℕ) : Type 0 where
   pub rising : IsRisingBelow (length indexed.concepts) numbers

@@ -1,5 +1,5 @@
 -- How the lists of some concepts are joined: the long ones first, and none that is there already.
-use Rattle.std.specs.Prelude.{ℕ, ◌≡◌, Bool, true, false, List, filter, length, nat_le}
+use Rattle.std.specs.Prelude.{ℕ, ◌≡◌, ◌+◌, ◌-◌, Bool, true, false, List, filter, length, nat_le}
 use Rattle.std.specs.Bool.{beq}
 use Rattle.std.specs.List.{list_any}
 use Rattle.idset.specs.Sets.{has_item}
@@ -20,6 +20,14 @@ near_of family.Ancestors = family.Parents
 near_of family.Descendants = family.Children
 near_of family.Parents = family.Parents
 near_of family.Children = family.Children
+
+-- the place in an order, parents before their children, of the concept of a turn: each has its turn before those that are in
+-- the near family's list of it
+abbrev pub turn_of : Family → ℕ → ℕ → ℕ
+turn_of family.Ancestors turns turn = turns - (turn + 1)
+turn_of family.Descendants turns turn = turn
+turn_of family.Parents turns turn = turns - (turn + 1)
+turn_of family.Children turns turn = turn
 
 -- a list that is joined before the short ones
 abbrev pub is_long : List ℕ → Bool

@@ -1,8 +1,11 @@
+pub mod Among
 pub mod Counted
 pub mod Groups
 pub mod Hits
 pub mod Joined
 pub mod Members
 pub mod Numbers
+pub mod Owned
 pub mod Steps
 pub mod Tested
+pub mod Within

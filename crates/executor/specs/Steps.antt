@@ -48,6 +48,11 @@ led_to hierarchy count ParentsOrSelf concepts = all_items count concepts (joined
 led_to hierarchy count Top concepts = apart hierarchy.ancestors concepts
 led_to hierarchy count Bottom concepts = apart hierarchy.descendants concepts
 
+-- a hierarchy is that of a release, which has so many concepts
+pub record IsOf (release : Release) (count : ℕ) (hierarchy : Hierarchy) : Type 0 where
+  pub hierarchy_is : hierarchy ≡ hierarchy_of release
+  pub count_is : count ≡ length release.concepts
+
 -- a hierarchy is that of a release with so many concepts
 pub record IsOver (count : ℕ) (hierarchy : Hierarchy) : Type 0 where
   pub release : Release

@@ -3,7 +3,7 @@ ghost use Rattle.std.specs.Prelude.{◌≡◌, ◌↔◌, ◌<◌, IfSome, IsSom
 ghost use Rattle.idset.specs.Sets.{has_item};
 ghost use Rattle.idset.specs.Words.{MarkedBelow};
 ghost use Rattle.hierarchy.specs.KeyedLists.{list_of};
-ghost use Rattle.executor.specs.Joined.{is_whole as is_whole_of, near_of};
+ghost use Rattle.executor.specs.Joined.{is_whole as is_whole_of, near_of, turn_of};
 ghost use Rattle.executor.specs.Steps.{HasWords, lists_of};
 
 use ancestor_index::AncestorIndex;
@@ -39,6 +39,18 @@ impl Family {
         match self {
             Family::Ancestors | Family::Parents => Family::Parents,
             Family::Descendants | Family::Children => Family::Children,
+        }
+    }
+
+    /// The place in an order, parents before their children, of the concept of a turn. There are so many turns, and
+    /// each concept has its own before those of the near family's list of it.
+    pub fn place_of_turn(self, turn: usize, turns: usize) -> usize
+        requires { turn < turns }
+        ensures { result ≡ turn_of self turns turn }
+    {
+        match self {
+            Family::Ancestors | Family::Parents => turns - 1 - turn,
+            Family::Descendants | Family::Children => turn,
         }
     }
 

@@ -4,14 +4,18 @@
 //! function for each kind of node, over the sets of the node's parts and the lists of the index.
 #![tactic(auto)]
 
+mod among;
+mod candidates;
 mod choice;
 mod counts;
 mod family;
+mod guesses;
 mod hits;
 mod leaves;
 mod nodes;
 mod passing;
 mod plans;
+mod reached;
 mod reference_sets;
 mod types;
 mod units;

@@ -5,7 +5,6 @@ ghost use Rattle.postings.specs.Places.{places_from};
 ghost use Rattle.executor.specs.Hits.{TellsPassing};
 ghost use Rattle.executor.specs.Tested.{is_one_of};
 
-use crate::reference_sets::marks_in;
 use constraint_tree::Compare;
 use idset::{ConceptSet, marks_of};
 use postings::Indexes;
@@ -23,7 +22,7 @@ pub fn within<S: ConceptSet>(
 {
     // the concepts rise, so that none has two numbers
     indexes.concept_count();
-    marks_in(alloc, set)
+    set.marks(alloc)
 }
 
 /// The concepts that are not in a set pass.
@@ -38,7 +37,7 @@ pub fn outside<S: ConceptSet>(
     // the concepts rise, so that none has two numbers
     indexes.concept_count();
     let others = set.others(alloc)?;
-    marks_in(alloc, &others)
+    others.marks(alloc)
 }
 
 /// The numbers that compare so with a number pass.

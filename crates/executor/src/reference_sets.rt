@@ -1,13 +1,11 @@
 //! The components of reference sets.
-ghost use Rattle.std.specs.Prelude.{ℕ, ◌≡◌, ◌<◌, All, IfOk, length};
+ghost use Rattle.std.specs.Prelude.{◌≡◌, ◌<◌, All, IfOk, length};
 ghost use Rattle.std.specs.List.{flat_map};
-ghost use Rattle.idset.specs.Sets.{has_item};
-ghost use Rattle.idset.specs.Words.{is_set};
 ghost use Rattle.hierarchy.specs.KeyedLists.{list_of};
 ghost use Rattle.postings.specs.Indexed.{IsIndexOf};
 ghost use Rattle.executor.specs.Members.{components_of};
 
-use idset::{ConceptSet, marks_of};
+use idset::ConceptSet;
 use postings::Indexes;
 use snapshot::Snapshot;
 use std::alloc::{AllocError, Global};
@@ -28,14 +26,6 @@ pub fn members<S: ConceptSet>(
     let numbers = refsets.items(alloc)?;
     let found = components(alloc, indexes, numbers.as_slice())?;
     S::from_numbers(alloc, found.as_slice(), snapshot.concept_count())
-}
-
-/// A bit for each number, which is set where the set has the number.
-pub fn marks_in<S: ConceptSet>(alloc: Global, set: &S) -> Result<Vec<u64>, AllocError>
-    ensures { IfOk result (λ marks. (number : ℕ) → is_set marks.items number ≡ has_item (S.items_of set.now) number) }
-{
-    let items = set.items(alloc)?;
-    marks_of(alloc, items.as_slice(), set.bound())
 }
 
 // The components of some reference sets, one set behind the other.

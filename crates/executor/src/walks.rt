@@ -1,16 +1,18 @@
 //! Where an operator leads from a set.
-ghost use Rattle.std.specs.Prelude.{ℕ, ◌≡◌, ◌<◌, ◌++◌, ◌∷◌, [], not, List, All, IfOk, OnOk, filter};
+ghost use Rattle.std.specs.Prelude.{ℕ, ◌≡◌, ◌<◌, ◌++◌, ◌∷◌, [], false, not, true, List, All, IfOk, OnOk, filter};
 ghost use Rattle.std.specs.List.{list_any};
 ghost use Rattle.idset.specs.Sets.{all_items, has_item};
 ghost use Rattle.hierarchy.specs.KeyedLists.{list_of};
-ghost use Rattle.executor.specs.Joined.{AreJoined, is_long as is_long_of, with_length};
-ghost use Rattle.executor.specs.Steps.{apart as apart_of, IsOver, joined, led_to, lists_of};
+ghost use Rattle.executor.specs.Joined.{AreJoined, is_long as is_long_of, is_whole as is_whole_of, with_length};
+ghost use Rattle.executor.specs.Steps.{apart as apart_of, IsOf, IsOver, joined, led_to, lists_of};
 
 use crate::family::Family;
 use crate::nodes::either;
+use crate::reached::reached;
 use ancestor_index::AncestorIndex;
 use constraint_tree::Operator;
 use idset::{ConceptSet, WordSet};
+use snapshot::Snapshot;
 use std::alloc::{AllocError, Global};
 
 // A list of so many items is joined before the shorter ones: what it has need not be looked at again.
@@ -20,23 +22,42 @@ const LONG: usize = 64;
 /// Expression Constraints").
 pub fn walk<S: ConceptSet>(
     alloc: Global,
+    snapshot: &Snapshot,
     index: &AncestorIndex,
     operator: Operator,
     operand: &S,
 ) -> Result<S, AllocError>
-    requires over { IsOver (S.bound_of operand.now) index.now }
+    requires over { IsOf snapshot.now.release (S.bound_of operand.now) index.now }
     ensures items { IfOk result (λ found. S.items_of found ≡ led_to index.now (S.bound_of operand.now) operator (S.items_of operand.now)) }
     ensures bound { IfOk result (λ found. S.bound_of found ≡ S.bound_of operand.now) }
 {
     match operator {
-        Operator::Descendants => listed(alloc, index, Family::Descendants, operand),
-        Operator::DescendantsOrSelf => listed_or_self(alloc, index, Family::Descendants, operand),
-        Operator::Children => listed(alloc, index, Family::Children, operand),
-        Operator::ChildrenOrSelf => listed_or_self(alloc, index, Family::Children, operand),
-        Operator::Ancestors => listed(alloc, index, Family::Ancestors, operand),
-        Operator::AncestorsOrSelf => listed_or_self(alloc, index, Family::Ancestors, operand),
-        Operator::Parents => listed(alloc, index, Family::Parents, operand),
-        Operator::ParentsOrSelf => listed_or_self(alloc, index, Family::Parents, operand),
+        Operator::Descendants => listed(alloc, snapshot, index, Family::Descendants, operand),
+        Operator::DescendantsOrSelf => listed_or_self(
+            alloc,
+            snapshot,
+            index,
+            Family::Descendants,
+            operand,
+        ),
+        Operator::Children => listed(alloc, snapshot, index, Family::Children, operand),
+        Operator::ChildrenOrSelf => listed_or_self(
+            alloc,
+            snapshot,
+            index,
+            Family::Children,
+            operand,
+        ),
+        Operator::Ancestors => listed(alloc, snapshot, index, Family::Ancestors, operand),
+        Operator::AncestorsOrSelf => listed_or_self(
+            alloc,
+            snapshot,
+            index,
+            Family::Ancestors,
+            operand,
+        ),
+        Operator::Parents => listed(alloc, snapshot, index, Family::Parents, operand),
+        Operator::ParentsOrSelf => listed_or_self(alloc, snapshot, index, Family::Parents, operand),
         Operator::Top => apart(alloc, index, Family::Ancestors, operand),
         Operator::Bottom => apart(alloc, index, Family::Descendants, operand),
     }
@@ -45,33 +66,35 @@ pub fn walk<S: ConceptSet>(
 // The concepts in the list of one of a set.
 fn listed<S: ConceptSet>(
     alloc: Global,
+    snapshot: &Snapshot,
     index: &AncestorIndex,
     family: Family,
     operand: &S,
 ) -> Result<S, AllocError>
-    requires over { IsOver (S.bound_of operand.now) index.now }
+    requires over { IsOf snapshot.now.release (S.bound_of operand.now) index.now }
     ensures items { IfOk result (λ found. S.items_of found ≡ joined (S.bound_of operand.now) (lists_of index.now family) (S.items_of operand.now)) }
     ensures bound { IfOk result (λ found. S.bound_of found ≡ S.bound_of operand.now) }
 {
     let concepts = operand.items(alloc)?;
     match concepts.as_slice() {
         [concept] => list_of_one(alloc, index, family, *concept, operand.bound()),
-        concepts => union(alloc, index, family, concepts, operand.bound()),
+        concepts => union(alloc, snapshot, index, family, concepts, operand),
     }
 }
 
 // The same, and the concepts of the set.
 fn listed_or_self<S: ConceptSet>(
     alloc: Global,
+    snapshot: &Snapshot,
     index: &AncestorIndex,
     family: Family,
     operand: &S,
 ) -> Result<S, AllocError>
-    requires over { IsOver (S.bound_of operand.now) index.now }
+    requires over { IsOf snapshot.now.release (S.bound_of operand.now) index.now }
     ensures items { IfOk result (λ found. S.items_of found ≡ all_items (S.bound_of operand.now) (S.items_of operand.now) (joined (S.bound_of operand.now) (lists_of index.now family) (S.items_of operand.now))) }
     ensures bound { IfOk result (λ found. S.bound_of found ≡ S.bound_of operand.now) }
 {
-    let others: S = listed(alloc, index, family, operand)?;
+    let others: S = listed(alloc, snapshot, index, family, operand)?;
     either(alloc, operand, &others)
 }
 
@@ -94,46 +117,93 @@ fn list_of_one<S: ConceptSet>(
     }
 }
 
-// The concepts in the lists of some.
+// The concepts in the lists of those of a set.
 fn union<S: ConceptSet>(
     alloc: Global,
+    snapshot: &Snapshot,
     index: &AncestorIndex,
     family: Family,
     concepts: &[u32],
-    count: u32,
+    operand: &S,
 ) -> Result<S, AllocError>
-    requires over { IsOver count index.now }
-    requires below { All (λ concept. concept < count) concepts.now }
-    ensures items { IfOk result (λ found. S.items_of found ≡ joined count (lists_of index.now family) concepts.now) }
-    ensures bound { IfOk result (λ found. S.bound_of found ≡ count) }
+    requires over { IsOf snapshot.now.release (S.bound_of operand.now) index.now }
+    requires concepts { concepts.now ≡ S.items_of operand.now }
+    ensures items { IfOk result (λ found. S.items_of found ≡ joined (S.bound_of operand.now) (lists_of index.now family) (S.items_of operand.now)) }
+    ensures bound { IfOk result (λ found. S.bound_of found ≡ S.bound_of operand.now) }
 {
-    let mut found = WordSet::from_items(alloc, &[], count)?;
-    add_lists(alloc, index, family, concepts, true, &mut found)?;
-    add_lists(alloc, index, family, concepts, false, &mut found)?;
-    S::from_words(alloc, found.words(), count)
+    let found = all_listed(alloc, snapshot, index, family, concepts, operand)?;
+    S::from_words(alloc, found.words(), operand.bound())
 }
 
-// Adds to a set the lists of those concepts whose lists are long, or are not.
+// The same as words. Where the lists have more items than there are is-a rows, one pass over the rows is the shorter way.
+fn all_listed<S: ConceptSet>(
+    alloc: Global,
+    snapshot: &Snapshot,
+    index: &AncestorIndex,
+    family: Family,
+    concepts: &[u32],
+    operand: &S,
+) -> Result<WordSet, AllocError>
+    requires over { IsOf snapshot.now.release (S.bound_of operand.now) index.now }
+    requires concepts { concepts.now ≡ S.items_of operand.now }
+    ensures joined { IfOk result (λ found. AreJoined (lists_of index.now family) (S.items_of operand.now) (⟦<WordSet as ConceptSet>⟧.items_of found)) }
+    ensures bound { IfOk result (λ found. ⟦<WordSet as ConceptSet>⟧.bound_of found ≡ S.bound_of operand.now) }
+{
+    let mut left = index.link_count() as u64;
+    let mut found = WordSet::from_items(alloc, &[], operand.bound())?;
+    let long = add_lists(alloc, index, family, concepts, true, &mut left, &mut found)?;
+    if !long {
+        return reached(alloc, snapshot, index, family, operand);
+    }
+    let short = add_lists(alloc, index, family, concepts, false, &mut left, &mut found)?;
+    if !short {
+        return reached(alloc, snapshot, index, family, operand);
+    }
+    Ok(found)
+}
+
+// Adds to a set the lists of those concepts whose lists are long, or are not. Tells whether it has added all: of lists that
+// hold those of their own concepts no more items are read than are left of some.
 fn add_lists<S: ConceptSet>(
     alloc: Global,
     index: &AncestorIndex,
     family: Family,
     concepts: &[u32],
     long: bool,
+    left: &mut u64,
     found: &mut S,
-) -> Result<(), AllocError>
+) -> Result<bool, AllocError>
     requires over { IsOver (S.bound_of found.old) index.now }
     requires below { All (λ concept. concept < S.bound_of found.old) concepts.now }
-    ensures joined { OnOk result ((before : List ℕ) → AreJoined (lists_of index.now family) before (S.items_of found.old)
+    ensures joined { IfOk result (λ all. all ≡ true → (before : List ℕ) → AreJoined (lists_of index.now family) before (S.items_of found.old)
         → AreJoined (lists_of index.now family) (before ++ with_length (lists_of index.now family) long concepts.now) (S.items_of found.new)) }
+    ensures whole { IfOk result (λ all. all ≡ false → is_whole_of family ≡ true) }
     ensures bound { S.bound_of found.new ≡ S.bound_of found.old }
 {
     for concept in concepts {
-        if is_long(family.list(index, *concept)) == long {
+        let list = family.list(index, *concept);
+        if is_long(list) == long {
+            let is_there = found.has(*concept);
+            if !may_be_read(family, list.len() as u64, is_there, left) {
+                return Ok(false);
+            }
             add_list(alloc, index, family, *concept, found)?;
         }
     }
-    Ok(())
+    Ok(true)
+}
+
+// Whether a list of so many items may still be read, which are taken from what is left. All lists may that hold no lists of
+// their own concepts, since these have no more items together than there are is-a rows, and those that are there already.
+fn may_be_read(family: Family, items: u64, is_there: bool, left: &mut u64) -> bool
+    ensures { result ≡ false → is_whole_of family ≡ true }
+{
+    if is_there || !family.is_whole() {
+        return true;
+    }
+    let is_left = items <= *left;
+    *left = left.saturating_sub(items);
+    is_left
 }
 
 // Adds the list of a concept to a set, unless the set has the concept, and with it its list.

@@ -2,7 +2,7 @@
 ghost use Rattle.std.specs.Prelude.{◌≡◌, ◌<◌, ◌^◌, ℕ, List, All, IfOk, length, OnErr, OnOk};
 ghost use Rattle.std.specs.List.{range_with_len};
 ghost use Rattle.idset.specs.Sets.{all_items, common_items, has_item, IsRisingBelow, listed_numbers, missing_numbers, numbers_where, other_items};
-ghost use Rattle.idset.specs.Words.{AreWordsBelow, is_set};
+ghost use Rattle.idset.specs.Words.{AreWordsBelow, is_set, MarkedBelow};
 
 use std::alloc::{AllocError, Global};
 
@@ -79,6 +79,11 @@ pub trait ConceptSet: Drop {
     /// The items in rising order, as a list of their own.
     fn items(&self, alloc: Global) -> Result<Vec<u32>, AllocError>
         ensures { IfOk result (λ items. items.items ≡ items_of self.now) };
+
+    /// The items as words of 64 bits, as `from_words` takes them: for tests of many numbers. What is kept as words
+    /// is copied as it is.
+    fn marks(&self, alloc: Global) -> Result<Vec<u64>, AllocError>
+        ensures { IfOk result (λ words. MarkedBelow (bound_of self.now) words.items (has_item (items_of self.now))) };
 
     /// A set of the same items.
     fn copy(&self, alloc: Global) -> Result<Self, AllocError>

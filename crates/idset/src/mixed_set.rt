@@ -121,6 +121,13 @@ impl ConceptSet for MixedSet {
         }
     }
 
+    fn marks(&self, alloc: Global) -> Result<Vec<u64>, AllocError> {
+        match &self.form {
+            Form::Few(own) => own.marks(alloc),
+            Form::Many(own) => own.marks(alloc),
+        }
+    }
+
     fn copy(&self, alloc: Global) -> Result<MixedSet, AllocError> {
         match &self.form {
             Form::Few(own) => {

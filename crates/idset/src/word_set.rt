@@ -84,6 +84,10 @@ impl ConceptSet for WordSet {
         numbers_of(alloc, &self.words, self.bound)
     }
 
+    fn marks(&self, alloc: Global) -> Result<Vec<u64>, AllocError> {
+        Vec::from_slice(alloc, &self.words)
+    }
+
     #[tactic(auto, using(crate::proofs::Rising::rules_of_rising))]
     fn copy(&self, alloc: Global) -> Result<WordSet, AllocError> {
         let bound = self.bound;

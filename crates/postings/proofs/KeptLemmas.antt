@@ -13,10 +13,10 @@ use Rattle.snapshot.specs.AttributesBySource.{attributes_by_source}
 use Rattle.hierarchy.proofs.CutLemmas.{same_maps}
 use Rattle.postings.specs.Coded.{AreCoded, AreCodedRows, AreRowMarks, has_same_pair, of_source, row_coded, source_marks}
 use Rattle.postings.specs.Cells.{AreRowLists}
-use Rattle.postings.specs.Columns.{AreGroups, Mark}
+use Rattle.postings.specs.Columns.{AreGroups, AreSources, Mark}
 use Rattle.postings.specs.Entries.{entries_of}
 use Rattle.postings.specs.Groups.{ConceptGroup, GroupKey, all_groups, group_of, key_of, numbered, rows_alone, ungrouped}
-use Rattle.postings.specs.KeptRows.{AreNumbersOf, HaveOneNumber, IsKept, groups_kept, mark_at, row_kept, rows_kept, unit_kept}
+use Rattle.postings.specs.KeptRows.{AreNumbersOf, HaveOneNumber, IsKept, groups_kept, mark_at, row_kept, rows_kept, sources_kept, unit_kept}
 use Rattle.postings.specs.Places.{places_by}
 use Rattle.postings.specs.ValueTables.{values_in}
 use Rattle.postings.specs.declared.groups.RowMarks.{RowMarks}
@@ -30,7 +30,7 @@ use Rattle.postings.proofs.CellLemmas.{long_cells}
 use Rattle.postings.proofs.EntryLemmas.{numbers_of_marks}
 use Rattle.postings.proofs.IndexLemmas.{group_at}
 use Rattle.postings.proofs.InverseLemmas.{cell_back, column_back, place_within}
-use Rattle.postings.proofs.RowIndexLemmas.{groups_are, is_sorted, length-codes, length-group_marks, length-source_marks, starts_last}
+use Rattle.postings.proofs.RowIndexLemmas.{groups_are, is_sorted, length-codes, length-group_marks, length-source_marks, sources_are, starts_last}
 
 -- ---- the numbers of groups, row by row
 abbrev pub AreNumbered : List Mark → List CodedRow → ℕ → List ℕ → Type 0
@@ -242,6 +242,15 @@ module _ (release : Release) (rises : IsStrictlyIncreasing release.concepts) (co
 
     pub units_are : AreGroups groups (entries_of rows) (groups_kept indexes)
     units_are = subst (AreGroups groups (entries_of rows)) (sym marks_are) groups_told
+
+    -- and those of the sources
+    sources_marks_are : sources_kept indexes ≡ marks.sources.items
+    unfolding a_mark
+    sources_marks_are = column_back flat indexes.places.items (length codes) places_len found marks.sources.items indexes.by_type.sources.items
+        many_sources (follows marks.sources.items indexes.by_type.sources.items by_type.sources) a_mark
+
+    pub marked_are : AreSources release.concepts (entries_of rows) (sources_kept indexes)
+    marked_are = subst (AreSources release.concepts (entries_of rows)) (sym (sources_marks_are ∙ marked.sources)) (sources_are release rises coded are)
 
     -- so the kept rows and their tables are those of the attribute rows
     pub coded_kept : indexes.types ≡ coded.types → indexes.values ≡ coded.values

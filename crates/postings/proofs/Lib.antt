@@ -2,6 +2,7 @@ pub mod AgainLemmas
 pub mod BlockLemmas
 pub mod BuildLemmas
 pub mod CellLemmas
+pub mod CellsToldLemmas
 pub mod CodeLemmas
 pub mod ColumnLemmas
 pub mod CountLemmas

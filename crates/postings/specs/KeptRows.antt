@@ -31,6 +31,10 @@ rows_kept indexes = map (row_kept indexes) (range_with_len 0 (length indexes.typ
 abbrev pub groups_kept : RowIndexes → List Mark
 groups_kept indexes = map (mark_at indexes.by_type.groups.items) indexes.places.items
 
+-- the marks of the sources of all rows
+abbrev pub sources_kept : RowIndexes → List Mark
+sources_kept indexes = map (mark_at indexes.by_type.sources.items) indexes.places.items
+
 -- how many rows the groups before that with a number have, and the rows between those of the groups before a concept and before
 -- the next
 abbrev pub rows_ahead : RowIndexes → ℕ → ℕ

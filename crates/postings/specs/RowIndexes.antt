@@ -10,7 +10,7 @@ use Rattle.postings.specs.Columns.{AreGroups, AreSources, AreTypes, AreValues}
 use Rattle.postings.specs.Entries.{Entry, entries_of, entries_where}
 use Rattle.postings.specs.Groups.{all_groups, groups_among, is_in_group, rows_alone}
 use Rattle.postings.specs.Indexed.{types_of}
-use Rattle.postings.specs.KeptRows.{IsKept, groups_kept, rows_ahead, rows_kept}
+use Rattle.postings.specs.KeptRows.{IsKept, groups_kept, rows_ahead, rows_kept, sources_kept}
 use Rattle.postings.specs.Places.{places_where}
 use Rattle.postings.specs.ValueTables.{values_in}
 use Rattle.postings.specs.declared.columns.RowLists.{RowLists}
@@ -64,6 +64,7 @@ pub record AreRowIndexes (concepts : List ℕ) (rows : List Attribute) (indexes 
   pub coded : AreCoded concepts rows indexes.types indexes.values (rows_kept indexes)
   pub kept : (n : ℕ) → n < length rows → IsKept indexes n
   pub units : AreGroups (all_groups (rows_alone concepts rows)) (entries_of rows) (groups_kept indexes)
+  pub marked : AreSources concepts (entries_of rows) (sources_kept indexes)
   pub row_numbers : indexes.row_numbers.items ≡ concat (rows_by_sources concepts rows)
   pub ahead : (concept : ℕ) → concept ≤ length concepts
       → rows_ahead indexes (slice_index indexes.groups.starts.items concept) ≡ length (concat (take concept (rows_by_sources concepts rows)))

@@ -1,5 +1,5 @@
 //! The indexes of a release, and their look-ups.
-ghost use Rattle.std.specs.Prelude.{◌≡◌, ◌<◌, ◌+◌, ◌^◌, IfOk, IfSome, Some, length, slice_get, slice_index};
+ghost use Rattle.std.specs.Prelude.{◌≡◌, ◌<◌, ◌+◌, ◌^◌, IfOk, IfSome, Some, length, nat_eq, position, slice_get, slice_index};
 ghost use Rattle.std.specs.List.Sorted.{IsSorted, IsStrictlyIncreasing};
 ghost use Rattle.std.specs.Ordering.{int_cmp};
 ghost use Rattle.rf2_rows.specs.Release.{Release};
@@ -7,9 +7,10 @@ ghost use Rattle.rf2_rows.specs.Rows.{value_lent};
 ghost use Rattle.snapshot.specs.AttributesBySource.{attribute_of, with_source};
 ghost use Rattle.hierarchy.specs.KeyedLists.{list_of};
 ghost use Rattle.snapshot.specs.Numbering.{concept_number};
+ghost use Rattle.postings.specs.Entries.{entries_of};
 ghost use Rattle.postings.specs.Groups.{group_of, groups_before, groups_in, rows_of_group};
 ghost use Rattle.postings.specs.Indexed.{HasListsFor, IsIndexOf, rows_by_source, rows_by_type, rows_by_value, types_of, value_at, values_of};
-ghost use Rattle.postings.specs.RowColumns.{AreTypeColumns, AreValueColumns};
+ghost use Rattle.postings.specs.RowColumns.{AreRowCells, AreTypeColumns, AreValueColumns};
 ghost use Rattle.postings.specs.Stats.{stats_in, stats_of};
 
 use crate::columns::{TypeColumns, ValueColumns};
@@ -23,6 +24,19 @@ use snapshot::{AttributeRow, Snapshot};
 use std::alloc::{AllocError, Global};
 use std::marker::Model;
 use std::ops::Range;
+
+/// What a query tests of a row.
+#[derive(Clone, Copy, Debug)]
+pub struct RowCells {
+    /// The place of its type among the types of all rows.
+    pub type_place: u32,
+    /// The number of its value.
+    pub value: u32,
+    /// Whether it is the first with its pair in its concept.
+    pub is_first: bool,
+    /// Whether it is the first with its pair in its group.
+    pub is_first_in_group: bool,
+}
 
 /// The indexes of a release: its hierarchy, its attribute rows by what queries ask of them, and its reference
 /// sets. Concepts go by their numbers, which rise with their identifiers. Attribute rows are numbered by source,
@@ -147,6 +161,21 @@ impl Indexes {
         }
     }
 
+    /// What a query tests of a row, whose number is below `row_count`.
+    pub fn cells(&self, n: u32) -> RowCells
+        requires { n < length self.now.rows }
+        ensures { IfSome (slice_get (entries_of self.now.rows) n) (AreRowCells self.now result) }
+    {
+        let row = self.rows.row(n);
+        let (is_first, is_first_in_group) = self.rows.firsts(n);
+        RowCells {
+            type_place: row.type_place,
+            value: row.value,
+            is_first,
+            is_first_in_group,
+        }
+    }
+
     /// The numbers of the rows of a type, rising. Any number may be asked for.
     pub fn by_type(&self, id: u64) -> &[u32]
         ensures { result.now ≡ rows_by_type self.now id }
@@ -206,6 +235,16 @@ impl Indexes {
         ensures { result.now ≡ rows_by_source self.now concept }
     {
         self.rows.of_source(concept)
+    }
+
+    /// The place of a type among the types of all rows, or `None` where no row has it. Any number may be asked for.
+    pub fn type_place(&self, id: u64) -> Option<u32>
+        ensures { result ≡ position (nat_eq id) (types_of self.now.rows) }
+    {
+        match self.rows.types.numbers.get_index_of(&id) {
+            Some(type_place) => Some(type_place as u32),
+            None => None,
+        }
     }
 
     /// The types of all rows, each once, in the order of their first rows.

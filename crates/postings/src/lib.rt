@@ -17,7 +17,7 @@ mod stats;
 mod values;
 
 pub use crate::columns::{TypeColumns, ValueColumns};
-pub use crate::index::Indexes;
+pub use crate::index::{Indexes, RowCells};
 pub use crate::laws::{first_rows_tell_the_pairs, groups_are_counted};
 pub use crate::mark::Mark;
 pub use crate::stats::Stats;

@@ -5,7 +5,7 @@ ghost use Rattle.std.specs.List.{concat};
 ghost use Rattle.snapshot.specs.AttributesBySource.{attributes_by_source};
 ghost use Rattle.postings.specs.Coded.{AreRowMarks, IsBySource};
 ghost use Rattle.postings.specs.Columns.{Mark as Marked};
-ghost use Rattle.postings.specs.KeptRows.{AreNumbersOf, HaveOneNumber, IsKept, row_kept, rows_between};
+ghost use Rattle.postings.specs.KeptRows.{AreNumbersOf, HaveOneNumber, IsKept, mark_at, row_kept, rows_between};
 ghost use Rattle.postings.specs.Places.{places_by};
 ghost use Rattle.postings.specs.RowIndexes.{AreRowIndexes};
 
@@ -64,6 +64,19 @@ impl RowIndexes {
             group: self.groups.numbers[unit as usize],
             value: self.by_type.others[place],
         }
+    }
+
+    /// Whether a row is the first with its pair in its concept, and in its group.
+    #[inline]
+    pub fn firsts(&self, n: u32) -> (bool, bool)
+        requires { IsKept self.now n }
+        ensures source { result.0 ≡ (mark_at self.now.by_type.sources.items (slice_index self.now.places.items n)).is_first }
+        ensures group { result.1 ≡ (mark_at self.now.by_type.groups.items (slice_index self.now.places.items n)).is_first }
+    {
+        let place = self.places[n as usize] as usize;
+        let source = self.by_type.sources[place].is_first();
+        let unit = self.by_type.groups[place].is_first();
+        (source, unit)
     }
 
     /// The rows of a source. Groups stand source by source as rows do, so they begin behind the rows of the groups

@@ -13,6 +13,6 @@ returns-clause-items g c =
     let types = is_one_of concepts (g.S.ConceptSet.items_of c.args.types.now) in
     IfOk-weaker c.with_pairs_back.result _ _
     (λ found found_is.
-    found_is (is_within sources) (λ n. ap (λ (words : List ℕ). is_set words n) c.deref.ensures.value ∙ c.in_ok-passing.ensures n)
+    found_is types (is_within sources) c.in_ok-types.ensures (λ n. ap (λ (words : List ℕ). is_set words n) c.deref.ensures.value ∙ c.in_ok-passing.ensures n)
     ∙ some_pair_is_value c.args.snapshot.now.release sources types)
     c.with_pairs_back.ensures.items

@@ -1,7 +1,6 @@
-use Rattle.std.proofs.Common.{ℕ, List, Bool, ◌∙◌, length, ap, arith}
+use Rattle.std.proofs.Common.{ℕ, List, ◌∙◌, length, ap, arith}
 use Rattle.std.proofs.lemmas.Result.{IfOk-weaker}
 use Rattle.executor.specs.Counted.{times}
-use Rattle.executor.specs.Tested.{is_one_of}
 use Rattle.executor.proofs.LeafLemmas.{sources_found}
 use Rattle.executor.proofs.leaves.with_pairs.Goals as goal
 
@@ -9,14 +8,13 @@ pub returns-clause-items : goal.returns-clause-items
 returns-clause-items g c =
     let release = c.args.snapshot.now.release in
     let indexed = c.args.indexes.now in
-    let one : ℕ → Bool = is_one_of indexed.concepts (g.S.ConceptSet.items_of c.args.types.now) in
     IfOk-weaker c.as_often.result _ _
-    (λ found found_is passes tells.
+    (λ found found_is one passes are tells.
     sources_found indexed release c.requires.index c.concept_count.ensures.rising one passes
     c.args.count c.concept_count.result c.concept_count.ensures.count
     c.as_slice.result.now (g.S.ConceptSet.items_of found)
     (λ n within.
     ap (times n) c.as_slice.ensures.value
-    ∙ (c.in_ok-hits.ensures.hits one passes c.in_ok-types.ensures tells).times n (omega (arith, within, c.concept_count.ensures.count, ap (λ (ids : List ℕ). length ids) c.requires.index.concepts)))
+    ∙ (c.in_ok-hits.ensures.hits one passes are tells).times n (omega (arith, within, c.concept_count.ensures.count, ap (λ (ids : List ℕ). length ids) c.requires.index.concepts)))
     found_is)
     c.as_often.ensures.items

@@ -10,5 +10,5 @@ returns g c =
     let items = g.S.ConceptSet.items_of c.args.set.now in
     let below = subst (λ (count : ℕ). All (λ item. item < count) items) c.requires.bound
     (all_below (g.S.ConceptSet.bound_of c.args.set.now) items (g.met.S.ConceptSet.rising c.args.set.now)) in
-    IfOk-weaker c.marks_in.result _ _
-    (λ words marked n. marked n ∙ within_told c.args.indexes.now c.concept_count.ensures.rising items below n) c.marks_in.ensures
+    IfOk-weaker c.marks.result _ _
+    (λ words marked n. marked.marked n ∙ within_told c.args.indexes.now c.concept_count.ensures.rising items below n) c.marks.ensures

@@ -4,7 +4,7 @@ use Rattle.postings.specs.Groups.{ConceptGroup, groups_in}
 use Rattle.executor.specs.Groups.{concept_in}
 use Rattle.executor.proofs.JoinedLemmas.{all_below}
 use Rattle.executor.proofs.LeafLemmas.{groups_are}
-use Rattle.executor.proofs.UnitLemmas.{units_found}
+use Rattle.executor.proofs.UnitLemmas.{owners_found}
 use Rattle.executor.proofs.units.with_groups.Goals as goal
 
 pub concepts_of-requires : goal.concepts_of-requires
@@ -31,13 +31,11 @@ returns-clause-items g c =
     subst (λ (ids : List ℕ). All (λ concept. concept < length ids) concepts) c.requires.index.concepts
     (subst (All (λ concept. concept < length indexed.concepts)) (sym c.as_slice-2.ensures.value) c.in_ok-concepts.ensures.within) in
     IfOk-weaker c.as_often.result _ _
-    (λ found often set items_are.
-    units_found release rising set c.args.count c.concept_count-concept_count.result c.concept_count-concept_count.ensures.count
-    c.as_slice.result.now concepts (g.S.ConceptSet.items_of found)
-    (c.as_slice.ensures.value ∙ c.in_ok-numbers.ensures ∙ items_are) below
+    (λ found often.
+    owners_found release rising c.args.count c.concept_count-concept_count.result c.concept_count-concept_count.ensures.count
+    (g.S.ConceptSet.items_of c.args.groups.now) concepts (g.S.ConceptSet.items_of found) below
     ((λ i. map (λ concept. get_or (sym c.requires.index.concepts i) concept 0) (c.as_slice-2.ensures.value i))
     ∙ c.in_ok-concepts.ensures.concepts
-    ∙ ap (λ (groups : List ConceptGroup). map (λ k. concept_in (slice_get groups k)) c.as_slice.result.now)
-    (groups_are indexed release c.requires.index rising))
+    ∙ (λ i. map (λ k. concept_in (slice_get (groups_are indexed release c.requires.index rising i) k)) ((c.as_slice.ensures.value ∙ c.in_ok-numbers.ensures) i)))
     often)
     c.as_often.ensures.items

@@ -6,7 +6,7 @@ use Rattle.executor.specs.Joined.{AreJoined, is_long, with_length}
 use Rattle.executor.specs.Steps.{IsOver, lists_of}
 use Rattle.executor.proofs.JoinedLemmas.{over_length, with_length_more, with_length_same}
 use Rattle.executor.proofs.walks.add_lists.Goals as goal
-use Rattle.executor.proofs.walks.add_lists.Goals.{then-is_long-long+in_ok-add_list, else-is_long-long}
+use Rattle.executor.proofs.walks.add_lists.Goals.{then-is_long-long+else-not-may_be_read+in_ok-add_list, else-is_long-long}
 
 pub loop-concept-init : goal.loop-concept-init
 loop-concept-init g c = record {
@@ -14,8 +14,8 @@ loop-concept-init g c = record {
   bound = refl;
 }
 
-pub list-requires : goal.list-requires
-list-requires g c =
+pub list-list-requires : goal.list-list-requires
+list-list-requires g c =
     let below : get_or c.args.concepts.now c.loop-concept.concept-index 0 < g.S.ConceptSet.bound_of c.args.found.now = c.requires.below c.loop-concept.concept-index 0 c.loop-concept-test.true in
     omega (arith, below, over_length (g.S.ConceptSet.bound_of c.args.found.now) c.args.index.now c.requires.over c.args.family)
 
@@ -35,9 +35,9 @@ loop-concept-preserved g c =
     let lists = lists_of c.args.index.now c.args.family in
     let k = c.loop-concept.concept-index in
     let concepts = c.args.concepts.now in
-    let tested : beq (is_long (list_of lists (get_or concepts k 0))) c.args.long ≡ beq c.is_long.result c.args.long = (λ i. beq (is_long (sym c.list.ensures i)) c.args.long) ∙ (λ i. beq (sym c.is_long.ensures i) c.args.long) in
+    let tested : beq (is_long (list_of lists (get_or concepts k 0))) c.args.long ≡ beq c.is_long.result c.args.long = (λ i. beq (is_long (sym c.list-list.ensures i)) c.args.long) ∙ (λ i. beq (sym c.is_long.ensures i) c.args.long) in
     elim c.if-is_long-long.branch [
-      | then-is_long-long+in_ok-add_list w ↦ record {
+      | then-is_long-long+else-not-may_be_read+in_ok-add_list w ↦ record {
         joined = λ before joined.
             subst (λ (some : List ℕ). AreJoined lists some (g.S.ConceptSet.items_of c.if-is_long-long.found))
             (sym (with_length_more lists c.args.long concepts before k c.loop-concept-test.true (tested ∙ w.if-is_long-long.true)))
@@ -56,7 +56,7 @@ loop-concept-preserved g c =
     ]
 
 pub returns-clause-joined : goal.returns-clause-joined
-returns-clause-joined g c = λ before joined.
+returns-clause-joined g c = λ _ before joined.
     subst (λ (some : List ℕ). AreJoined (lists_of c.args.index.now c.args.family) (before ++ with_length (lists_of c.args.index.now c.args.family) c.args.long some) (g.S.ConceptSet.items_of c.loop-concept.found))
     (take_all c.loop-concept.concept-index c.args.concepts.now (omega arith)) (c.loop-concept.invariant.joined before joined)
 

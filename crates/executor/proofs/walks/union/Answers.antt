@@ -1,27 +1,25 @@
-use Rattle.std.proofs.Common.{ℕ, List, true, false, ◌≡◌, ◌∙◌, ◌++◌, [], sym, ap, subst}
+use Rattle.std.proofs.Common.{ℕ, List, ◌≡◌, ◌∙◌, sym, ap, subst}
 use Rattle.std.proofs.lemmas.Result.{IfOk-weaker}
-use Rattle.idset.specs.Sets.{has_item, IsRisingBelow, numbers_where}
-use Rattle.idset.specs.Words.{is_set}
-use Rattle.executor.specs.Joined.{AreJoined, with_length}
+use Rattle.idset.specs.Sets.{IsRisingBelow, numbers_where}
+use Rattle.idset.specs.Words.{AreWordsBelow, is_set}
 use Rattle.executor.specs.Steps.{lists_of}
 use Rattle.executor.proofs.JoinedLemmas.{all_joined}
 use Rattle.executor.proofs.walks.union.Goals as goal
 
+pub from_words-requires : goal.from_words-requires
+from_words-requires g c =
+    subst (λ (count : ℕ). AreWordsBelow count c.words.result.now) (c.in_ok-found.ensures.bound ∙ sym c.bound.ensures) c.words.ensures.below
+
 pub returns-clause-items : goal.returns-clause-items
 returns-clause-items g c =
-    let lists = lists_of c.args.index.now c.args.family in
-    let concepts = c.args.concepts.now in
-    let found = c.add_lists-2.new.found in
+    let count = g.S.ConceptSet.bound_of c.args.operand.now in
+    let found = c.in_ok-found.found in
     let items : List ℕ = numbers_where found.bound (is_set found.words.items) in
-    let bound : found.bound ≡ c.args.count = c.add_lists-2.ensures.bound ∙ c.add_lists.ensures.bound ∙ c.in_ok-found.ensures.bound in
-    let first = c.in_ok-found.found in
-    let none : AreJoined lists [] (numbers_where first.bound (is_set first.words.items)) = λ n. ap (λ (xs : List ℕ). has_item xs n) c.in_ok-found.ensures.items in
-    let joined : AreJoined lists (with_length lists true concepts ++ with_length lists false concepts) items =
-    c.in_ok-add_lists-2.ensures.joined (with_length lists true concepts) (c.in_ok-add_lists.ensures.joined [] none) in
     IfOk-weaker c.from_words.result _ _
     (λ set same.
     same
-    ∙ (λ i. numbers_where (sym bound i) (is_set c.words.result.now))
+    ∙ (λ i. numbers_where ((c.bound.ensures ∙ sym c.in_ok-found.ensures.bound) i) (is_set c.words.result.now))
     ∙ sym c.words.ensures.items
-    ∙ all_joined c.args.count lists concepts items (subst (λ (n : ℕ). IsRisingBelow n items) bound found.rising) joined)
+    ∙ all_joined count (lists_of c.args.index.now c.args.family) (g.S.ConceptSet.items_of c.args.operand.now) items
+    (subst (λ (n : ℕ). IsRisingBelow n items) c.in_ok-found.ensures.bound found.rising) c.in_ok-found.ensures.joined)
     c.from_words.ensures.items

@@ -15,7 +15,7 @@ use Rattle.postings.specs.declared.rows.CodedRow.{CodedRow}
 use Rattle.postings.specs.declared.rows.Types.{Types}
 use Rattle.postings.specs.declared.values.Values.{Values}
 use Rattle.postings.proofs.IndexLemmas.{few_types}
-use Rattle.postings.proofs.KeptLemmas.{coded_kept, each_kept, many_groups, one_number, units_are, units_below}
+use Rattle.postings.proofs.KeptLemmas.{coded_kept, each_kept, many_groups, marked_are, one_number, units_are, units_below}
 use Rattle.postings.proofs.RowIndexLemmas.{by_source_are, is_sorted, starts_last}
 use Rattle.postings.proofs.RowListLemmas.{by_type_told, by_value_told, group_lists_told, of_one_length, type_places_below}
 use Rattle.postings.proofs.SourceRowLemmas.{ahead_told, start_within}
@@ -144,6 +144,7 @@ returns c =
           c.into_tables-types.ensures.types c.into_tables-types.ensures.values;
       kept = each_kept release rises coded are marks marks_are indexes count keys_are by_type places_len found numbers_len numbers;
       units = units_are release rises coded are marks marks_are indexes count keys_are by_type places_len found numbers_len numbers;
+      marked = marked_are release rises coded are marks marks_are indexes count keys_are by_type places_len found numbers_len numbers;
       row_numbers = c.in_ok-marks.ensures.rows
           ∙ (λ i. concat (places_by (c.concept_count-count.ensures.count i)
           (map (λ (row : CodedRow). row.source) (c.as_slice.ensures.value i))))

@@ -1,0 +1,243 @@
+-- What one pass over the is-a rows finds, in which each concept has its turn before those that are one row away.
+use Rattle.std.proofs.Common.{ℕ, ◌≡◌, ◌<◌, ◌≤◌, ◌+◌, ◌-◌, ◌∙◌, Bool, true, false, ◌||◌, List, length, get_or, map, take, inl, inr, refl, sym, ap, subst, arith, []}
+use Rattle.std.specs.Prelude.{All, Contains, nat_eq}
+use Rattle.std.specs.List.{list_any}
+use Rattle.std.specs.List.Sorted.{IsStrictlyIncreasing}
+use Rattle.std.proofs.lemmas.Bool.{cases_eq, eqb-false, false≢true, or_cases, or_left, or_right}
+use Rattle.std.proofs.lemmas.List.{get_or-take, get_or_default, length-take}
+use Rattle.std.proofs.lemmas.List.Elements.{Contains-get_or}
+use Rattle.std.proofs.lemmas.Map.Keys.{apart_from_distinct}
+use Rattle.rf2_rows.specs.Release.{Release}
+use Rattle.hierarchy.specs.Hierarchy.{IsWithin, Reaches, more_rows, one_row, reaches}
+use Rattle.hierarchy.specs.ParentsFirst.{IsParentsFirst}
+use Rattle.hierarchy.specs.KeyedLists.{list_of}
+use Rattle.hierarchy.proofs.HierarchyLemmas.{chain_from_test}
+use Rattle.snapshot.specs.Numbering.{row_of_numbers}
+use Rattle.constraint_tree.proofs.WalkLemmas.{passing_item, some_item_passes}
+use Rattle.idset.specs.Sets.{IsRisingBelow, all_items, has_item}
+use Rattle.ancestor_index.specs.HierarchyLists.{Hierarchy, hierarchy_of, is_child}
+use Rattle.ancestor_index.proofs.BuildLemmas.{order_count, same_child, same_reach}
+use Rattle.ancestor_index.proofs.ClosureLemmas.{both_ways, item_there, row_there, there_item, there_row}
+use Rattle.executor.specs.Joined.{AreJoined, is_whole, near_of, turn_of}
+use Rattle.executor.specs.Steps.{IsOver, lists_of}
+use Rattle.executor.specs.declared.family.Family.{Family}
+use Rattle.executor.specs.declared.family.Family.TheVariants as family
+use Rattle.executor.proofs.JoinedLemmas.{all_below, has_all, listed_stands, near_stands, over_length, over_rising, over_whole, stands, stands_listed}
+
+-- what has been found before a turn: nothing but what items lead to, and of each concept that had its turn, if it is an item or
+-- was found, all that is one row away
+pub record IsPassed (lists near : List (List ℕ)) (at : ℕ → ℕ) (turn : ℕ) (items found : List ℕ) : Type 0 where
+  pub sound : (n : ℕ) → has_item found n ≡ true → list_any (λ concept. has_item (list_of lists concept) n) items ≡ true
+  pub full : (j : ℕ) → j < turn → (has_item items (at j) || has_item found (at j)) ≡ true
+      → (n : ℕ) → has_item (list_of near (at j)) n ≡ true → has_item found n ≡ true
+
+module _ (release : Release) (rows : List (ℕ × ℕ)) (order : List ℕ) (rising : IsStrictlyIncreasing release.concepts)
+    (within : IsWithin (length release.concepts) rows) (are : map (row_of_numbers release.concepts) rows ≡ release.isa)
+    (first : IsParentsFirst (length release.concepts) rows order) where
+  abbrev count : ℕ
+  count = length release.concepts
+
+  abbrev turns : ℕ
+  turns = length order
+
+  -- the concept of a turn
+  abbrev pub at : Family → ℕ → ℕ
+  at f turn = get_or order (turn_of f turns turn) 0
+
+  turn_within : (f : Family) (turn : ℕ) → turn < turns → turn_of f turns turn < turns
+  turn_within family.Ancestors turn inside = omega arith
+  turn_within family.Descendants turn inside = inside
+  turn_within family.Parents turn inside = omega arith
+  turn_within family.Children turn inside = inside
+
+  pub at_below : (f : Family) (turn : ℕ) → turn < turns → at f turn < count
+  at_below f turn inside =
+      (first.members (at f turn)).0 (Contains-get_or order (turn_of f turns turn) 0 (turn_within f turn inside))
+
+  -- each concept has its turn
+  has_turn : (f : Family) → is_whole f ≡ true → (concept : ℕ) → concept < count → (turn : ℕ) × (turn < turns) × (at f turn ≡ concept)
+  has_turn f whole concept below = by_family f whole ((first.members concept).1 below)
+    where
+      by_family : (f : Family) → is_whole f ≡ true → Contains order concept → (turn : ℕ) × (turn < turns) × (at f turn ≡ concept)
+      by_family family.Ancestors whole there =
+          let place = there.0 in
+          let inside : place < turns = there.1 in
+          let back : turns - ((turns - (place + 1)) + 1) ≡ place = omega (arith, inside) in
+          (turns - (place + 1), omega (arith, inside), ap (λ (n : ℕ). get_or order n 0) back ∙ get_or_default order place 0 concept there.1 ∙ there.2)
+      by_family family.Descendants whole there = (there.0, there.1, get_or_default order there.0 0 concept there.1 ∙ there.2)
+      by_family family.Parents whole there = absurd (false≢true whole)
+      by_family family.Children whole there = absurd (false≢true whole)
+
+  -- none of those up to a place stands behind it
+  not_ahead : (p q : ℕ) → p ≤ q → q < turns → Contains (take p order) (get_or order q 0) → ⊥
+  not_ahead p q before inside there =
+      let i = there.0 in
+      let less : i < p = omega (arith, there.1, length-take p order) in
+      let same : get_or order i 0 ≡ get_or order q 0 =
+      sym (get_or-take p order i 0 less) ∙ get_or_default (take p order) i 0 (get_or order q 0) there.1 ∙ there.2 in
+      eqb-false (get_or order i 0) (get_or order q 0) (apart_from_distinct nat_eq order i q 0 first.once (omega (arith, less, before)) inside) same
+
+  -- what is one row away from the concept of a turn had no turn before
+  no_turn_before : (f : Family) → is_whole f ≡ true → (j k : ℕ) → j < k → k < turns → stands release (near_of f) (at f k) (at f j) ≡ true → ⊥
+  no_turn_before family.Ancestors whole j k before inside near =
+      let row = row_there rows (at family.Ancestors k) (at family.Ancestors j)
+      (same_child release.concepts rows release.isa rising within are (at family.Ancestors k) (at family.Ancestors j)
+      (at_below family.Ancestors k inside) (at_below family.Ancestors j (omega (arith, before, inside))) ∙ near) in
+      not_ahead (turns - (k + 1)) (turns - (j + 1)) (omega (arith, before, inside)) (omega (arith, before, inside))
+      (first.first (turns - (k + 1)) (at family.Ancestors j) (omega (arith, inside)) row)
+  no_turn_before family.Descendants whole j k before inside near =
+      let row = row_there rows (at family.Descendants j) (at family.Descendants k)
+      (same_child release.concepts rows release.isa rising within are (at family.Descendants j) (at family.Descendants k)
+      (at_below family.Descendants j (omega (arith, before, inside))) (at_below family.Descendants k inside) ∙ near) in
+      not_ahead j k (omega (arith, before)) inside (first.first j (at family.Descendants k) (omega (arith, before, inside)) row)
+  no_turn_before family.Parents whole j k before inside near = absurd (false≢true whole)
+  no_turn_before family.Children whole j k before inside near = absurd (false≢true whole)
+
+  module _ (bound : ℕ) (hierarchy : Hierarchy) (is : hierarchy ≡ hierarchy_of release) (counted : bound ≡ count)
+      (f : Family) (whole : is_whole f ≡ true) (items : List ℕ) (items_rise : IsRisingBelow bound items) where
+    abbrev over : IsOver bound hierarchy
+    over = record { release = release; hierarchy_is = is; count_is = counted }
+
+    abbrev lists : List (List ℕ)
+    lists = lists_of hierarchy f
+
+    abbrev near : List (List ℕ)
+    near = lists_of hierarchy (near_of f)
+
+    abbrev pub Passed : ℕ → List ℕ → Type 0
+    Passed turn found = IsPassed lists near (at f) turn items found
+
+    below : (turn : ℕ) → turn < turns → at f turn < bound
+    below turn inside = omega (arith, at_below f turn inside, counted)
+
+    near_listed : (concept n : ℕ) → concept < bound → has_item (list_of near concept) n ≡ true → has_item (list_of lists concept) n ≡ true
+    near_listed concept n inside told =
+        let stood = listed_stands bound hierarchy over (near_of f) concept n inside told in
+        stands_listed bound hierarchy over f concept n inside stood.0 (near_stands release f concept n stood.1)
+
+    -- the list of what is one row away from the concept of a turn is there, and rises
+    pub near_there : (turn : ℕ) → turn < turns → at f turn < length near
+    near_there turn inside = omega (arith, below turn inside, over_length bound hierarchy over (near_of f))
+
+    pub near_rises : (turn : ℕ) → turn < turns → IsRisingBelow bound (list_of near (at f turn))
+    near_rises turn inside = over_rising bound hierarchy over (near_of f) (at f turn) (below turn inside)
+
+    -- what is one row away from a concept that is led to is led to
+    led_on : (found : List ℕ) → ((n : ℕ) → has_item found n ≡ true → list_any (λ concept. has_item (list_of lists concept) n) items ≡ true)
+        → (concept n : ℕ) → concept < bound → (has_item items concept || has_item found concept) ≡ true → has_item (list_of near concept) n ≡ true
+        → list_any (λ concept. has_item (list_of lists concept) n) items ≡ true
+    led_on found sound concept n inside told near_told = elim (or_cases (has_item items concept) (has_item found concept) told) [
+      | inl own ↦
+          some_item_passes (λ c. has_item (list_of lists c) n) items concept (item_there items concept own) (near_listed concept n inside near_told)
+      | inr was ↦
+          let from = passing_item (λ c. has_item (list_of lists c) concept) items (sound concept was) in
+          let from_below : from.0 < bound = subst (λ (m : ℕ). m < bound) (from.1.2) (all_below bound items items_rise from.1.0 from.0 from.1.1) in
+          some_item_passes (λ c. has_item (list_of lists c) n) items from.0 from.1
+          (over_whole bound hierarchy over f whole from.0 concept n from_below inside from.2 (near_listed concept n inside near_told))
+    ]
+
+    -- the turn of a concept that is an item or was found
+    pub passed_on : (turn : ℕ) (found list next : List ℕ) → turn < turns → IsRisingBelow bound found → list ≡ list_of near (at f turn)
+        → next ≡ all_items bound found list → (has_item items (at f turn) || has_item found (at f turn)) ≡ true
+        → Passed turn found → Passed (turn + 1) next
+    passed_on turn found list next inside rises list_is next_is chosen passed = record {
+      sound = λ n told. elim (or_cases (has_item found n) (has_item (list_of near (at f turn)) n) (sym (grown n) ∙ told)) [
+        | inl before ↦ passed.sound n before
+        | inr now ↦ led_on found passed.sound (at f turn) n (below turn inside) chosen now
+      ];
+      full = λ j less told n away. elim (cases_eq j turn) [
+        | inl same ↦
+            grown n ∙ or_right (has_item found n) (has_item (list_of near (at f turn)) n)
+            (subst (λ (m : ℕ). has_item (list_of near (at f m)) n ≡ true) same away)
+        | inr other ↦
+            let before : j < turn = omega (arith, less, other) in
+            grown n ∙ or_left (has_item found n) (has_item (list_of near (at f turn)) n) (passed.full j before (still j before told) n away)
+      ];
+    }
+      where
+        grown : (n : ℕ) → has_item next n ≡ (has_item found n || has_item (list_of near (at f turn)) n)
+        grown n =
+            has_all bound found list next rises
+            (subst (λ (xs : List ℕ). IsRisingBelow bound xs) (sym list_is) (near_rises turn inside)) next_is n
+            ∙ ap (λ (xs : List ℕ). has_item found n || has_item xs n) list_is
+
+        -- what had its turn before is not found now
+        still : (j : ℕ) → j < turn → (has_item items (at f j) || has_item next (at f j)) ≡ true → (has_item items (at f j) || has_item found (at f j)) ≡ true
+        still j before told = elim (or_cases (has_item items (at f j)) (has_item next (at f j)) told) [
+          | inl own ↦ or_left (has_item items (at f j)) (has_item found (at f j)) own
+          | inr was ↦ elim (or_cases (has_item found (at f j)) (has_item (list_of near (at f turn)) (at f j)) (sym (grown (at f j)) ∙ was)) [
+            | inl then ↦ or_right (has_item items (at f j)) (has_item found (at f j)) then
+            | inr now ↦ absurd (no_turn_before f whole j turn before inside
+                (listed_stands bound hierarchy over (near_of f) (at f turn) (at f j) (below turn inside) now).1)
+          ]
+        ]
+
+    -- and of one that is neither
+    pub passed_over : (turn : ℕ) (found : List ℕ) → (has_item items (at f turn) || has_item found (at f turn)) ≡ false
+        → Passed turn found → Passed (turn + 1) found
+    passed_over turn found not_chosen passed = record {
+      sound = passed.sound;
+      full = λ j less told n away. elim (cases_eq j turn) [
+        | inl same ↦ absurd (false≢true (sym not_chosen ∙ subst (λ (m : ℕ). (has_item items (at f m) || has_item found (at f m)) ≡ true) same told))
+        | inr other ↦ passed.full j (omega (arith, less, other)) told n away
+      ];
+    }
+
+    -- before the first turn nothing is found
+    pub passed_none : (found : List ℕ) → found ≡ [] → Passed 0 found
+    passed_none found is = record {
+      sound = λ n told. absurd (false≢true (ap (λ (xs : List ℕ). has_item xs n) (sym is) ∙ told));
+      full = λ j less. absurd (omega (arith, less));
+    }
+
+    -- behind the last one all is found that items lead to
+    pub passed_all : (turn : ℕ) (found : List ℕ) → turns ≤ turn → Passed turn found → AreJoined lists items found
+    passed_all turn found end passed n = both_ways (has_item found n) (list_any (λ concept. has_item (list_of lists concept) n) items) (passed.sound n) back
+      where
+        -- one row on
+        one_on : (concept m : ℕ) → concept < count → m < count → (has_item items concept || has_item found concept) ≡ true
+            → stands release (near_of f) concept m ≡ true → has_item found m ≡ true
+        one_on concept m inside m_inside told away =
+            let its = has_turn f whole concept inside in
+            passed.full its.0 (omega (arith, its.1, end))
+            (subst (λ (c : ℕ). (has_item items c || has_item found c) ≡ true) (sym its.2) told) m
+            (ap (λ (c : ℕ). has_item (list_of near c) m) its.2
+            ∙ stands_listed bound hierarchy over (near_of f) concept m (omega (arith, inside, counted)) (omega (arith, m_inside, counted)) away)
+
+        ends : {a b : ℕ} → Contains rows (a, b) → (a < count) × (b < count)
+        ends {a} {b} there = subst (λ (row : ℕ × ℕ). (row.0 < count) × (row.1 < count)) there.2 (within there.0 (a, b) there.1)
+
+        child : (a b : ℕ) → Contains rows (a, b) → is_child release.isa (get_or release.concepts a 0) (get_or release.concepts b 0) ≡ true
+        child a b there =
+            sym (same_child release.concepts rows release.isa rising within are a b (ends there).0 (ends there).1) ∙ there_row rows a b there
+
+        up : f ≡ family.Ancestors → {a b : ℕ} → Reaches rows a b → (has_item items a || has_item found a) ≡ true → has_item found b ≡ true
+        up above {a} {b} (one_row there) told =
+            one_on a b (ends there).0 (ends there).1 told (ap (λ (g : Family). stands release (near_of g) a b) above ∙ child a b there)
+        up above {a} {b} (more_rows {parent = p} there chain) told =
+            up above chain (or_right (has_item items p) (has_item found p)
+            (one_on a p (ends there).0 (ends there).1 told (ap (λ (g : Family). stands release (near_of g) a p) above ∙ child a p there)))
+
+        down : f ≡ family.Descendants → {a b : ℕ} → Reaches rows a b → (has_item items b || has_item found b) ≡ true → has_item found a ≡ true
+        down beneath {a} {b} (one_row there) told =
+            one_on b a (ends there).1 (ends there).0 told (ap (λ (g : Family). stands release (near_of g) b a) beneath ∙ child a b there)
+        down beneath {a} {b} (more_rows {parent = p} there chain) told =
+            one_on p a (ends there).1 (ends there).0 (or_right (has_item items p) (has_item found p) (down beneath chain told))
+            (ap (λ (g : Family). stands release (near_of g) p a) beneath ∙ child a p there)
+
+        led : (g : Family) → f ≡ g → (concept : ℕ) → concept < count → n < count → has_item items concept ≡ true → stands release g concept n ≡ true → has_item found n ≡ true
+        led family.Ancestors same concept inside n_inside own stood =
+            up same (chain_from_test rows concept n (same_reach release.concepts rows release.isa rising within are concept n inside n_inside ∙ stood))
+            (or_left (has_item items concept) (has_item found concept) own)
+        led family.Descendants same concept inside n_inside own stood =
+            down same (chain_from_test rows n concept (same_reach release.concepts rows release.isa rising within are n concept n_inside inside ∙ stood))
+            (or_left (has_item items concept) (has_item found concept) own)
+        led family.Parents same concept inside n_inside own stood = absurd (false≢true (ap is_whole (sym same) ∙ whole))
+        led family.Children same concept inside n_inside own stood = absurd (false≢true (ap is_whole (sym same) ∙ whole))
+
+        back : list_any (λ concept. has_item (list_of lists concept) n) items ≡ true → has_item found n ≡ true
+        back told =
+            let from = passing_item (λ c. has_item (list_of lists c) n) items told in
+            let from_below : from.0 < bound = subst (λ (m : ℕ). m < bound) (from.1.2) (all_below bound items items_rise from.1.0 from.0 from.1.1) in
+            let stood = listed_stands bound hierarchy over f from.0 n from_below from.2 in
+            led f refl from.0 (omega (arith, from_below, counted)) (omega (arith, stood.0, counted)) (there_item items from.0 from.1) stood.1

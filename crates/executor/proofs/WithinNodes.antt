@@ -1,0 +1,201 @@
+-- What plans mean, of candidates alone, from what they mean.
+use Rattle.std.proofs.Common.{ℕ, zero, suc, ◌≡◌, ◌<◌, ◌≤◌, ◌∙◌, ◌∷◌, [], Bool, true, false, not, ◌&&◌, List, Option, None, Some, length, get_or, take, refl, sym, ap, arith, inl, inr, ◌+◌}
+use Rattle.std.specs.Prelude.{filter, slice_get}
+use Rattle.std.specs.List.{list_all, list_any, range_with_len}
+use Rattle.std.proofs.lemmas.Bool.{and_parts}
+use Rattle.std.proofs.lemmas.Option.{slice_get_cases, slice_get_past}
+use Rattle.rf2_rows.specs.Pairs.{Pair}
+use Rattle.rf2_rows.specs.Release.{Release}
+use Rattle.idset.specs.Sets.{has_item, numbers_where, other_items}
+use Rattle.idset.proofs.Normal.{numbers_where-agree, numbers_where-all}
+use Rattle.postings.specs.Groups.{ConceptGroup, all_groups}
+use Rattle.set_algebra.specs.declared.plan.ConceptPlan.{ConceptPlan}
+use Rattle.set_algebra.specs.declared.plan.UnitPlan.{UnitPlan}
+use Rattle.set_algebra.specs.Meaning.{group_means, means}
+use Rattle.set_algebra.specs.Plan.{GroupPlan, Plan, group_plan_of, minus_group, minus_plan, nothing_group, empty_plan, plan_of}
+use Rattle.executor.specs.Groups.{groups_where, some_group_in}
+use Rattle.executor.specs.Numbers.{numbers_in}
+use Rattle.executor.specs.Within.{groups_within, leads_off, leads_off_groups, numbers_within}
+use Rattle.executor.proofs.LeafLemmas as leaf
+use Rattle.executor.proofs.WithinLemmas.{all_again, all_done, minus_within, restricted_to, some_of_none}
+
+-- what all of a list pass, one of them passes
+pub passed_by : {X : Type 0} (test : X → Bool) (xs : List X) (k : ℕ) (x : X) → list_all test xs ≡ true → slice_get xs k ≡ Some x → test x ≡ true
+passed_by test [] k x all at = absurd cc
+passed_by test (y ∷ ys) zero x all at = let same : y ≡ x = cc in let here : test y ≡ true = (and_parts (test y) (list_all test ys) all).0 in ap test (sym same) ∙ here
+passed_by test (y ∷ ys) (suc k) x all at = passed_by test ys k x (and_parts (test y) (list_all test ys) all).1 at
+
+module _ (release : Release) (may : ℕ → Bool) where
+  abbrev by_number : (ℕ → Bool) → ℕ → Bool
+  by_number set n = set (get_or release.concepts n 0)
+
+  -- sets that are the same are so of candidates
+  pub within_same : (p q : ℕ → Bool) → numbers_in release p ≡ numbers_in release q → numbers_within release may p ≡ numbers_within release may q
+  within_same p q same =
+      sym (restricted_to (length release.concepts) may (by_number p) (numbers_in release p) (filter may (numbers_in release p)) refl refl)
+      ∙ ap (filter may) same
+      ∙ restricted_to (length release.concepts) may (by_number q) (numbers_in release q) (filter may (numbers_in release q)) refl refl
+
+  pub kept_set : (set : ℕ → Bool) (some found : List ℕ) → some ≡ numbers_in release set → found ≡ filter may some → found ≡ numbers_within release may set
+  kept_set set some found some_is found_is = restricted_to (length release.concepts) may (by_number set) some found some_is found_is
+
+  pub kept_node : (plan : Plan) (some found : List ℕ) → some ≡ numbers_in release (means release plan) → found ≡ filter may some → found ≡ numbers_within release may (means release plan)
+  kept_node plan some found some_is found_is = restricted_to (length release.concepts) may (by_number (means release plan)) some found some_is found_is
+
+  pub meant_within : (plan other : Plan) → plan ≡ other → numbers_within release may (means release other) ≡ numbers_within release may (means release plan)
+  meant_within plan other is = ap (λ (p : Plan). numbers_within release may (means release p)) (sym is)
+
+  pub empty_within : (plan : Plan) (found : List ℕ) → plan ≡ empty_plan → found ≡ [] → found ≡ numbers_within release may (means release plan)
+  empty_within plan found is found_is = some_of_none (length release.concepts) may found found_is ∙ meant_within plan empty_plan is
+
+  pub minus_node : (plan first second : Plan) (left right found : List ℕ) → plan ≡ minus_plan first second
+      → left ≡ numbers_within release may (means release first)
+      → right ≡ numbers_within release (has_item left) (means release second)
+      → found ≡ other_items left right → found ≡ numbers_within release may (means release plan)
+  minus_node plan first second left right found is left_is right_is found_is =
+      minus_within (length release.concepts) may (by_number (means release first)) (by_number (means release second)) left right found left_is right_is found_is
+      ∙ meant_within plan (minus_plan first second) is
+
+  -- all parts, where that at a place was executed first
+  pub led_all : (parts : List ConceptPlan) (lead : ℕ) (found : List ℕ)
+      → found ≡ numbers_where (length release.concepts) (λ n. (may n && leads_off release (slice_get parts lead) (get_or release.concepts n 0)) && list_all (λ part. means release (plan_of part) (get_or release.concepts n 0)) parts)
+      → found ≡ numbers_within release may (λ concept. list_all (λ part. means release (plan_of part) concept) parts)
+  led_all parts lead found found_is =
+      all_done (length release.concepts) may (λ n. leads_off release (slice_get parts lead) (get_or release.concepts n 0)) (λ n. list_all (λ part. means release (plan_of part) (get_or release.concepts n 0)) parts)
+      found (λ n within all. had (get_or release.concepts n 0) (slice_get parts lead) refl all) found_is
+    where
+      had : (concept : ℕ) (at : Option ConceptPlan) → slice_get parts lead ≡ at → list_all (λ part. means release (plan_of part) concept) parts ≡ true → leads_off release at concept ≡ true
+      had concept None is all = refl
+      had concept (Some part) is all = passed_by (λ p. means release (plan_of p) concept) parts lead part all is
+
+  -- where no part is executed first
+  pub led_none : (parts : List ConceptPlan) (lead : ℕ) (every found : List ℕ) → length parts ≤ lead → every ≡ range_with_len 0 (length release.concepts) → found ≡ filter may every
+      → found ≡ numbers_within release may (leads_off release (slice_get parts lead))
+  led_none parts lead every found past every_is found_is =
+      restricted_to (length release.concepts) may (λ n. true) every found (every_is ∙ each) found_is
+      ∙ ap (λ (at : Option ConceptPlan). numbers_within release may (leads_off release at)) (sym (slice_get_past parts lead past))
+    where
+      each : range_with_len 0 (length release.concepts) ≡ numbers_where (length release.concepts) (λ n. true)
+      each = sym (numbers_where-all (length release.concepts))
+
+  -- the part that was executed first is passed over
+  pub led_again : (parts : List ConceptPlan) (lead k : ℕ) → k ≡ lead → k < length parts → (found : List ℕ)
+      → found ≡ numbers_where (length release.concepts) (λ n. (may n && leads_off release (slice_get parts lead) (get_or release.concepts n 0)) && list_all (λ part. means release (plan_of part) (get_or release.concepts n 0)) (take k parts))
+      → found ≡ numbers_where (length release.concepts) (λ n. (may n && leads_off release (slice_get parts lead) (get_or release.concepts n 0)) && list_all (λ part. means release (plan_of part) (get_or release.concepts n 0)) (take (k + 1) parts))
+  led_again parts lead k here within found found_is = elim (slice_get_cases parts k).1 [
+    | inl (x, inside, at, is) ↦
+        all_again (length release.concepts) (λ (part : ConceptPlan) n. means release (plan_of part) (get_or release.concepts n 0)) parts k x within
+        (λ n. may n && leads_off release (slice_get parts lead) (get_or release.concepts n 0)) found
+        (λ n below holds.
+        ap (λ (part : ConceptPlan). means release (plan_of part) (get_or release.concepts n 0)) is
+        ∙ ap (λ (found : Option ConceptPlan). leads_off release found (get_or release.concepts n 0)) (sym at ∙ ap (slice_get parts) here)
+        ∙ (and_parts (may n) _ holds).1)
+        found_is
+    | inr (past, at) ↦ absurd (omega (arith, past, within))
+  ]
+
+-- ---- the same of groups
+module _ (release : Release) (may : ℕ → Bool) where
+  abbrev all : List ConceptGroup
+  all = all_groups release
+
+  abbrev group_by_number : (List Pair → Bool) → ℕ → Bool
+  group_by_number set n = some_group_in release set (slice_get all n)
+
+  pub groups_same : (p q : List Pair → Bool) → groups_where release p ≡ groups_where release q → groups_within release may p ≡ groups_within release may q
+  groups_same p q same =
+      sym (restricted_to (length all) may (group_by_number p) (groups_where release p) (filter may (groups_where release p)) refl refl)
+      ∙ ap (filter may) same
+      ∙ restricted_to (length all) may (group_by_number q) (groups_where release q) (filter may (groups_where release q)) refl refl
+
+  pub kept_groups : (set : List Pair → Bool) (some found : List ℕ) → some ≡ groups_where release set → found ≡ filter may some → found ≡ groups_within release may set
+  kept_groups set some found some_is found_is = restricted_to (length all) may (group_by_number set) some found some_is found_is
+
+  pub groups_meant : (plan other : GroupPlan) → plan ≡ other → groups_within release may (group_means release other) ≡ groups_within release may (group_means release plan)
+  groups_meant plan other is = ap (λ (p : GroupPlan). groups_within release may (group_means release p)) (sym is)
+
+  nothing_in : (at : Option ConceptGroup) → false ≡ some_group_in release (λ pairs. false) at
+  nothing_in None = refl
+  nothing_in (Some group) = refl
+
+  pub nothing_within : (plan : GroupPlan) (found : List ℕ) → plan ≡ nothing_group → found ≡ [] → found ≡ groups_within release may (group_means release plan)
+  nothing_within plan found is found_is =
+      some_of_none (length all) may found found_is
+      ∙ (λ i. numbers_where (length all) (λ n. may n && nothing_in (slice_get all n) i))
+      ∙ groups_meant plan nothing_group is
+
+  minus_in : (p q : List Pair → Bool) (at : Option ConceptGroup)
+      → (some_group_in release p at && not (some_group_in release q at)) ≡ some_group_in release (λ pairs. p pairs && not (q pairs)) at
+  minus_in p q None = refl
+  minus_in p q (Some group) = refl
+
+  pub minus_groups : (plan first second : GroupPlan) (left right found : List ℕ) → plan ≡ minus_group first second
+      → left ≡ groups_within release may (group_means release first)
+      → right ≡ groups_within release (has_item left) (group_means release second)
+      → found ≡ other_items left right → found ≡ groups_within release may (group_means release plan)
+  minus_groups plan first second left right found is left_is right_is found_is =
+      minus_within (length all) may (group_by_number (group_means release first)) (group_by_number (group_means release second)) left right found left_is right_is found_is
+      ∙ (λ i. numbers_where (length all) (λ n. may n && minus_in (group_means release first) (group_means release second) (slice_get all n) i))
+      ∙ groups_meant plan (minus_group first second) is
+
+  -- each group that there is has its pairs
+  there : (n : ℕ) → n < length all → (at : Option ConceptGroup) → slice_get all n ≡ at → (set : List Pair → Bool) → ((pairs : List Pair) → set pairs ≡ true) → some_group_in release set at ≡ true
+  there n within None is set each = absurd (leaf.none_within all n within is)
+  there n within (Some group) is set each = each _
+
+  all_in : (parts : List UnitPlan) (n : ℕ) → n < length all → (at : Option ConceptGroup) → slice_get all n ≡ at
+      → list_all (λ part. some_group_in release (group_means release (group_plan_of part)) at) parts
+      ≡ some_group_in release (λ pairs. list_all (λ part. group_means release (group_plan_of part) pairs) parts) at
+  all_in parts n within None is = absurd (leaf.none_within all n within is)
+  all_in parts n within (Some group) is = refl
+
+  any_in : (parts : List UnitPlan) (at : Option ConceptGroup)
+      → list_any (λ part. some_group_in release (group_means release (group_plan_of part)) at) parts
+      ≡ some_group_in release (λ pairs. list_any (λ part. group_means release (group_plan_of part) pairs) parts) at
+  any_in [] None = refl
+  any_in (part ∷ parts) None = any_in parts None
+  any_in parts (Some group) = refl
+
+  pub groups_led_all : (parts : List UnitPlan) (lead : ℕ) (found : List ℕ)
+      → found ≡ numbers_where (length all) (λ n. (may n && some_group_in release (leads_off_groups release (slice_get parts lead)) (slice_get all n))
+      && list_all (λ part. some_group_in release (group_means release (group_plan_of part)) (slice_get all n)) parts)
+      → found ≡ groups_within release may (λ pairs. list_all (λ part. group_means release (group_plan_of part) pairs) parts)
+  groups_led_all parts lead found found_is =
+      all_done (length all) may (λ n. some_group_in release (leads_off_groups release (slice_get parts lead)) (slice_get all n))
+      (λ n. list_all (λ part. some_group_in release (group_means release (group_plan_of part)) (slice_get all n)) parts)
+      found (λ n within each. had n within (slice_get parts lead) refl each) found_is
+      ∙ numbers_where-agree (length all) (λ n. may n && list_all (λ part. some_group_in release (group_means release (group_plan_of part)) (slice_get all n)) parts)
+      (λ n. may n && some_group_in release (λ pairs. list_all (λ part. group_means release (group_plan_of part) pairs) parts) (slice_get all n))
+      (λ n within. ap (λ (b : Bool). may n && b) (all_in parts n within (slice_get all n) refl))
+    where
+      had : (n : ℕ) → n < length all → (at : Option UnitPlan) → slice_get parts lead ≡ at
+          → list_all (λ part. some_group_in release (group_means release (group_plan_of part)) (slice_get all n)) parts ≡ true
+          → some_group_in release (leads_off_groups release at) (slice_get all n) ≡ true
+      had n within None is each = there n within (slice_get all n) refl (λ pairs. true) (λ pairs. refl)
+      had n within (Some part) is each = passed_by (λ p. some_group_in release (group_means release (group_plan_of p)) (slice_get all n)) parts lead part each is
+
+  pub groups_led_again : (parts : List UnitPlan) (lead k : ℕ) → k ≡ lead → k < length parts → (found : List ℕ)
+      → found ≡ numbers_where (length all) (λ n. (may n && some_group_in release (leads_off_groups release (slice_get parts lead)) (slice_get all n)) && list_all (λ part. some_group_in release (group_means release (group_plan_of part)) (slice_get all n)) (take k parts))
+      → found ≡ numbers_where (length all) (λ n. (may n && some_group_in release (leads_off_groups release (slice_get parts lead)) (slice_get all n)) && list_all (λ part. some_group_in release (group_means release (group_plan_of part)) (slice_get all n)) (take (k + 1) parts))
+  groups_led_again parts lead k here within found found_is = elim (slice_get_cases parts k).1 [
+    | inl (x, inside, at, is) ↦
+        all_again (length all) (λ (part : UnitPlan) n. some_group_in release (group_means release (group_plan_of part)) (slice_get all n)) parts k x within
+        (λ n. may n && some_group_in release (leads_off_groups release (slice_get parts lead)) (slice_get all n)) found
+        (λ n below holds.
+        ap (λ (part : UnitPlan). some_group_in release (group_means release (group_plan_of part)) (slice_get all n)) is
+        ∙ ap (λ (found : Option UnitPlan). some_group_in release (leads_off_groups release found) (slice_get all n)) (sym at ∙ ap (slice_get parts) here)
+        ∙ (and_parts (may n) _ holds).1)
+        found_is
+    | inr (past, at) ↦ absurd (omega (arith, past, within))
+  ]
+
+  pub groups_led_none : (parts : List UnitPlan) (lead : ℕ) (every found : List ℕ) → length parts ≤ lead → every ≡ groups_where release (λ pairs. true) → found ≡ filter may every
+      → found ≡ groups_within release may (leads_off_groups release (slice_get parts lead))
+  groups_led_none parts lead every found past every_is found_is =
+      kept_groups (λ pairs. true) every found every_is found_is
+      ∙ ap (λ (at : Option UnitPlan). groups_within release may (leads_off_groups release at)) (sym (slice_get_past parts lead past))
+
+  pub any_done : (parts : List UnitPlan) (found : List ℕ)
+      → found ≡ numbers_where (length all) (λ n. may n && list_any (λ part. some_group_in release (group_means release (group_plan_of part)) (slice_get all n)) parts)
+      → found ≡ groups_within release may (λ pairs. list_any (λ part. group_means release (group_plan_of part) pairs) parts)
+  any_done parts found found_is = found_is ∙ (λ i. numbers_where (length all) (λ n. may n && any_in parts (slice_get all n) i))
