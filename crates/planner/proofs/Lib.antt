@@ -1,7 +1,9 @@
 pub mod AskedLemmas
 pub mod ChoosingLemmas
 pub mod ConceptLemmas
+pub mod FewLemmas
 pub mod FloorLemmas
+pub mod FoundLemmas
 pub mod FrontLemmas
 pub mod LeadLemmas
 pub mod LeastLemmas
@@ -10,4 +12,5 @@ pub mod LoopLemmas
 pub mod OfferedLemmas
 pub mod PartLemmas
 pub mod Rules
+pub mod SizeLemmas
 pub mod TallyLemmas

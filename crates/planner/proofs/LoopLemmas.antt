@@ -1,9 +1,10 @@
--- What loops over the parts of a node keep: what is left of the parts, with what was taken, is what all of them are.
-use Rattle.std.proofs.Common.{ℕ, ◌+◌, ◌++◌, ◌≡◌, ◌≤◌, ◌<◌, ◌∙◌, List, drop, length, get_or, refl, sym, ap, arith, append_assoc}
+-- What loops over the parts of a node keep, of either sort: what is left of the parts, with what was taken, is what all of them are.
+use Rattle.std.proofs.Common.{ℕ, ◌+◌, ◌-◌, ◌++◌, ◌∷◌, [], ◌≡◌, ◌≤◌, ◌<◌, ◌^◌, ◌∙◌, List, drop, length, get_or, refl, sym, ap, arith, add-one, append-nil, append_assoc}
+use Rattle.std.proofs.Math.Seq.{drop-cons}
 use Rattle.std.proofs.lemmas.List.{drop_all}
 use Rattle.set_algebra.specs.declared.plan.ConceptPlan.{ConceptPlan}
 use Rattle.set_algebra.specs.declared.plan.UnitPlan.{UnitPlan}
-use Rattle.set_algebra.specs.Plan.{Plans, GroupPlans, no_plans, plan_of, plans_of, no_groups, group_plan_of, group_plans_of}
+use Rattle.set_algebra.specs.Plan.{plan_of, plans_of, group_plan_of, group_plans_of}
 use Rattle.postings.specs.Indexed.{Indexed}
 use Rattle.planner.specs.declared.choice.Choice.{Choice}
 use Rattle.planner.specs.declared.tally.Tally.{Tally}
@@ -11,150 +12,219 @@ use Rattle.planner.specs.Bounds.{capped}
 use Rattle.planner.specs.Leaves.{group_leaves, groups_leaves, leaves, plans_leaves}
 use Rattle.planner.specs.Nodes.{NodeList, NodeNumber, group_list, group_sum, groups_list, groups_sum, node_list, node_sum, plans_list, plans_sum}
 use Rattle.planner.specs.Sizes.{group_size, group_sizes, size, sizes}
-use Rattle.planner.specs.Tallies.{tally_of, tally_on, tally_with}
+use Rattle.planner.specs.Tallies.{IsTallyOf, tally_of, tally_on, tally_with}
 use Rattle.planner.proofs.ListLemmas.{drop_further}
-use Rattle.planner.proofs.PartLemmas.{groups_left, plans_left}
+use Rattle.planner.proofs.TallyLemmas.{is_tally_of}
 
--- the choices behind the parts
-pub rest_turn : (place : ℕ) (rest behind whole : List Choice) (items : List ConceptPlan) (item : ConceptPlan)
-    → place < length items → item ≡ get_or items place item → behind ≡ drop (leaves (plan_of item)) rest
-    → drop (plans_leaves (plans_of (drop place items))) rest ≡ whole
-    → drop (plans_leaves (plans_of (drop (place + 1) items))) behind ≡ whole
-rest_turn place rest behind whole items item within is behind_is so_far =
-    let more = plans_leaves (plans_of (drop (place + 1) items)) in
-    ap (drop more) behind_is
-    ∙ drop_further more (leaves (plan_of item)) rest
-    ∙ sym (ap (λ (left : Plans). drop (plans_leaves left) rest) (plans_left items place item within is))
-    ∙ so_far
+-- ---- the two sorts of parts, each with the choices from its own first leaf on
+-- how many leaves a part has, and some parts together
+pub record Sort (Part : Type 0) : Type 0 where
+  pub leaves_of : Part → ℕ
+  pub leaves_in : List Part → ℕ
+  pub none : leaves_in [] ≡ 0
+  pub more : (part : Part) (parts : List Part) → leaves_in (part ∷ parts) ≡ leaves_of part + leaves_in parts
 
-pub group_rest_turn : (place : ℕ) (rest behind whole : List Choice) (items : List UnitPlan) (item : UnitPlan)
-    → place < length items → item ≡ get_or items place item → behind ≡ drop (group_leaves (group_plan_of item)) rest
-    → drop (groups_leaves (group_plans_of (drop place items))) rest ≡ whole
-    → drop (groups_leaves (group_plans_of (drop (place + 1) items))) behind ≡ whole
-group_rest_turn place rest behind whole items item within is behind_is so_far =
-    let more = groups_leaves (group_plans_of (drop (place + 1) items)) in
-    ap (drop more) behind_is
-    ∙ drop_further more (group_leaves (group_plan_of item)) rest
-    ∙ sym (ap (λ (left : GroupPlans). drop (groups_leaves left) rest) (groups_left items place item within is))
-    ∙ so_far
+-- what a part gives by its choices, and what is joined of what some parts give
+pub record Joined (Part : Type 0) (sort : Sort Part) (X Y : Type 0) (nothing : Y) (join : X → Y → Y) : Type 0 where
+  pub of_part : List Choice → Part → X
+  pub of_parts : List Choice → List Part → Y
+  pub none : (choices : List Choice) → of_parts choices [] ≡ nothing
+  pub more : (choices : List Choice) (part : Part) (parts : List Part)
+      → of_parts choices (part ∷ parts) ≡ join (of_part choices part) (of_parts (drop (sort.leaves_of part) choices) parts)
 
--- the sizes
-pub record SizesLeft (indexed : Indexed) (all place : ℕ) (tally : Tally) (choices rest : List Choice) (parts left : Plans) : Type 0 where
-  pub sizes_left : tally_on place tally (sizes indexed rest left) ≡ tally_of all (sizes indexed choices parts)
-  pub choices_left : drop (plans_leaves left) rest ≡ drop (plans_leaves parts) choices
+abbrev pub Numbers : (Part : Type 0) → Sort Part → Type 0
+Numbers Part sort = Joined Part sort ℕ (List ℕ) [] (λ number numbers. number ∷ numbers)
 
-pub record GroupSizesLeft (indexed : Indexed) (all place : ℕ) (tally : Tally) (choices rest : List Choice) (parts left : GroupPlans) : Type 0 where
-  pub sizes_left : tally_on place tally (group_sizes indexed rest left) ≡ tally_of all (group_sizes indexed choices parts)
-  pub choices_left : drop (groups_leaves left) rest ≡ drop (groups_leaves parts) choices
+abbrev pub Sum : (Part : Type 0) → Sort Part → Type 0
+Sum Part sort = Joined Part sort ℕ ℕ 0 ◌+◌
 
--- at the start all are left
-pub sizes_start : (indexed : Indexed) (all : ℕ) (tally : Tally) (choices : List Choice) (parts : Plans) → tally_on 0 tally (sizes indexed choices parts) ≡ tally_of all (sizes indexed choices parts)
-    → SizesLeft indexed all 0 tally choices choices parts parts
-sizes_start indexed all tally choices parts is = record { sizes_left = is; choices_left = refl }
+abbrev pub Lists : (Part : Type 0) → Sort Part → Type 0
+Lists Part sort = Joined Part sort (List ℕ) (List ℕ) [] ◌++◌
 
--- a turn
-pub sizes_turn : (indexed : Indexed) (all place : ℕ) (tally next : Tally) (choices rest behind : List Choice) (parts : Plans) (items : List ConceptPlan)
-    (item : ConceptPlan) (found : ℕ) → place < length items → item ≡ get_or items place item
-    → found ≡ size indexed rest (plan_of item) → behind ≡ drop (leaves (plan_of item)) rest → next ≡ tally_with place tally found
-    → SizesLeft indexed all place tally choices rest parts (plans_of (drop place items))
-    → SizesLeft indexed all (place + 1) next choices behind parts (plans_of (drop (place + 1) items))
-sizes_turn indexed all place tally next choices rest behind parts items item found within is found_is behind_is next_is so_far =
-    let step = plans_left items place item within is in
-    let more = plans_of (drop (place + 1) items) in record {
-      sizes_left =
-          (λ i. tally_on (place + 1) ((next_is ∙ ap (tally_with place tally) found_is) i) (sizes indexed (behind_is i) more))
-          ∙ sym (ap (λ (left : Plans). tally_on place tally (sizes indexed rest left)) step)
-          ∙ so_far.sizes_left;
-      choices_left = rest_turn place rest behind _ items item within is behind_is so_far.choices_left;
-    }
+-- plans of concepts
+abbrev pub of_concepts : Sort ConceptPlan
+of_concepts = record {
+  leaves_of = λ part. leaves (plan_of part);
+  leaves_in = λ parts. plans_leaves (plans_of parts);
+  none = refl;
+  more = λ part parts. refl;
+}
 
-pub group_sizes_turn : (indexed : Indexed) (all place : ℕ) (tally next : Tally) (choices rest behind : List Choice) (parts : GroupPlans)
-    (items : List UnitPlan) (item : UnitPlan) (found : ℕ) → place < length items → item ≡ get_or items place item
-    → found ≡ group_size indexed rest (group_plan_of item) → behind ≡ drop (group_leaves (group_plan_of item)) rest
-    → next ≡ tally_with place tally found
-    → GroupSizesLeft indexed all place tally choices rest parts (group_plans_of (drop place items))
-    → GroupSizesLeft indexed all (place + 1) next choices behind parts (group_plans_of (drop (place + 1) items))
-group_sizes_turn indexed all place tally next choices rest behind parts items item found within is found_is behind_is next_is so_far =
-    let step = groups_left items place item within is in
-    let more = group_plans_of (drop (place + 1) items) in record {
-      sizes_left =
-          (λ i. tally_on (place + 1) ((next_is ∙ ap (tally_with place tally) found_is) i) (group_sizes indexed (behind_is i) more))
-          ∙ sym (ap (λ (left : GroupPlans). tally_on place tally (group_sizes indexed rest left)) step)
-          ∙ so_far.sizes_left;
-      choices_left = group_rest_turn place rest behind _ items item within is behind_is so_far.choices_left;
-    }
+abbrev pub concept_sizes : Indexed → Numbers ConceptPlan of_concepts
+concept_sizes indexed = record {
+  of_part = λ choices part. size indexed choices (plan_of part);
+  of_parts = λ choices parts. sizes indexed choices (plans_of parts);
+  none = λ choices. refl;
+  more = λ choices part parts. refl;
+}
 
--- at the end none is left
-pub sizes_end : (indexed : Indexed) (all place : ℕ) (tally : Tally) (choices rest : List Choice) (parts : Plans) (items : List ConceptPlan)
-    → length items ≤ place → SizesLeft indexed all place tally choices rest parts (plans_of (drop place items))
-    → (tally ≡ tally_of all (sizes indexed choices parts)) × (rest ≡ drop (plans_leaves parts) choices)
-sizes_end indexed all place tally choices rest parts items past so_far =
-    let none = ap plans_of (drop_all place items past) in (
-      sym (ap (λ (left : Plans). tally_on place tally (sizes indexed rest left)) none) ∙ so_far.sizes_left,
-      sym (ap (λ (left : Plans). drop (plans_leaves left) rest) none) ∙ so_far.choices_left,
-    )
+abbrev pub concept_sum : NodeNumber → Sum ConceptPlan of_concepts
+concept_sum node = record {
+  of_part = λ choices part. node_sum node choices (plan_of part);
+  of_parts = λ choices parts. plans_sum node choices (plans_of parts);
+  none = λ choices. refl;
+  more = λ choices part parts. refl;
+}
 
-pub group_sizes_end : (indexed : Indexed) (all place : ℕ) (tally : Tally) (choices rest : List Choice) (parts : GroupPlans) (items : List UnitPlan)
-    → length items ≤ place → GroupSizesLeft indexed all place tally choices rest parts (group_plans_of (drop place items))
-    → (tally ≡ tally_of all (group_sizes indexed choices parts)) × (rest ≡ drop (groups_leaves parts) choices)
-group_sizes_end indexed all place tally choices rest parts items past so_far =
-    let none = ap group_plans_of (drop_all place items past) in (
-      sym (ap (λ (left : GroupPlans). tally_on place tally (group_sizes indexed rest left)) none) ∙ so_far.sizes_left,
-      sym (ap (λ (left : GroupPlans). drop (groups_leaves left) rest) none) ∙ so_far.choices_left,
-    )
+abbrev pub concept_list : NodeList → Lists ConceptPlan of_concepts
+concept_list node = record {
+  of_part = λ choices part. node_list node choices (plan_of part);
+  of_parts = λ choices parts. plans_list node choices (plans_of parts);
+  none = λ choices. refl;
+  more = λ choices part parts. refl;
+}
 
--- what nodes have, in sum
-pub sum_turn : (node : NodeNumber) (place bound next found whole : ℕ) (rest behind : List Choice) (items : List ConceptPlan) (item : ConceptPlan)
-    → place < length items → item ≡ get_or items place item
-    → found ≡ capped (node_sum node rest (plan_of item)) → behind ≡ drop (leaves (plan_of item)) rest → next ≡ capped (bound + found)
-    → capped (bound + plans_sum node rest (plans_of (drop place items))) ≡ whole
-    → capped (next + plans_sum node behind (plans_of (drop (place + 1) items))) ≡ whole
-sum_turn node place bound next found whole rest behind items item within is found_is behind_is next_is so_far =
-    let more = plans_of (drop (place + 1) items) in
-    let step = ap (λ (left : Plans). plans_sum node rest left) (plans_left items place item within is) in
-    let last = ap (λ (choices : List Choice). plans_sum node choices more) behind_is in
-    omega (arith, step, last)
+-- and plans of groups
+abbrev pub of_groups : Sort UnitPlan
+of_groups = record {
+  leaves_of = λ part. group_leaves (group_plan_of part);
+  leaves_in = λ parts. groups_leaves (group_plans_of parts);
+  none = refl;
+  more = λ part parts. refl;
+}
 
-pub group_sum_turn : (node : NodeNumber) (place bound next found whole : ℕ) (rest behind : List Choice) (items : List UnitPlan) (item : UnitPlan)
-    → place < length items → item ≡ get_or items place item
-    → found ≡ capped (group_sum node rest (group_plan_of item)) → behind ≡ drop (group_leaves (group_plan_of item)) rest
-    → next ≡ capped (bound + found)
-    → capped (bound + groups_sum node rest (group_plans_of (drop place items))) ≡ whole
-    → capped (next + groups_sum node behind (group_plans_of (drop (place + 1) items))) ≡ whole
-group_sum_turn node place bound next found whole rest behind items item within is found_is behind_is next_is so_far =
-    let more = group_plans_of (drop (place + 1) items) in
-    let step = ap (λ (left : GroupPlans). groups_sum node rest left) (groups_left items place item within is) in
-    let last = ap (λ (choices : List Choice). groups_sum node choices more) behind_is in
-    omega (arith, step, last)
+abbrev pub unit_sizes : Indexed → Numbers UnitPlan of_groups
+unit_sizes indexed = record {
+  of_part = λ choices part. group_size indexed choices (group_plan_of part);
+  of_parts = λ choices parts. group_sizes indexed choices (group_plans_of parts);
+  none = λ choices. refl;
+  more = λ choices part parts. refl;
+}
 
--- what nodes give, in a list
-pub list_turn : (node : NodeList) (place : ℕ) (given next whole : List ℕ) (rest behind : List Choice) (items : List ConceptPlan) (item : ConceptPlan)
-    → place < length items → item ≡ get_or items place item
-    → next ≡ given ++ node_list node rest (plan_of item) → behind ≡ drop (leaves (plan_of item)) rest
-    → given ++ plans_list node rest (plans_of (drop place items)) ≡ whole
-    → next ++ plans_list node behind (plans_of (drop (place + 1) items)) ≡ whole
-list_turn node place given next whole rest behind items item within is next_is behind_is so_far =
-    let more = plans_of (drop (place + 1) items) in
-    (λ i. next_is i ++ plans_list node (behind_is i) more)
-    ∙ append_assoc given (node_list node rest (plan_of item)) (plans_list node (drop (leaves (plan_of item)) rest) more)
-    ∙ sym (ap (λ (left : Plans). given ++ plans_list node rest left) (plans_left items place item within is))
-    ∙ so_far
+abbrev pub unit_sum : NodeNumber → Sum UnitPlan of_groups
+unit_sum node = record {
+  of_part = λ choices part. group_sum node choices (group_plan_of part);
+  of_parts = λ choices parts. groups_sum node choices (group_plans_of parts);
+  none = λ choices. refl;
+  more = λ choices part parts. refl;
+}
 
-pub group_list_turn : (node : NodeList) (place : ℕ) (given next whole : List ℕ) (rest behind : List Choice) (items : List UnitPlan) (item : UnitPlan)
-    → place < length items → item ≡ get_or items place item
-    → next ≡ given ++ group_list node rest (group_plan_of item) → behind ≡ drop (group_leaves (group_plan_of item)) rest
-    → given ++ groups_list node rest (group_plans_of (drop place items)) ≡ whole
-    → next ++ groups_list node behind (group_plans_of (drop (place + 1) items)) ≡ whole
-group_list_turn node place given next whole rest behind items item within is next_is behind_is so_far =
-    let more = group_plans_of (drop (place + 1) items) in
-    (λ i. next_is i ++ groups_list node (behind_is i) more)
-    ∙ append_assoc given (group_list node rest (group_plan_of item)) (groups_list node (drop (group_leaves (group_plan_of item)) rest) more)
-    ∙ sym (ap (λ (left : GroupPlans). given ++ groups_list node rest left) (groups_left items place item within is))
-    ∙ so_far
+abbrev pub unit_list : NodeList → Lists UnitPlan of_groups
+unit_list node = record {
+  of_part = λ choices part. group_list node choices (group_plan_of part);
+  of_parts = λ choices parts. groups_list node choices (group_plans_of parts);
+  none = λ choices. refl;
+  more = λ choices part parts. refl;
+}
 
--- at the end of a loop over parts nothing is left to be added
-pub none_left : (place : ℕ) (items : List ConceptPlan) → length items ≤ place → plans_of (drop place items) ≡ no_plans
-none_left place items past = ap plans_of (drop_all place items past)
+-- ---- what is left from a place on
+-- the choices behind the parts are those behind what is left
+pub record RestLeft (Part : Type 0) (sort : Sort Part) (choices : List Choice) (parts : List Part) (place : ℕ) (rest : List Choice) : Type 0 where
+  pub behind : drop (sort.leaves_in (drop place parts)) rest ≡ drop (sort.leaves_in parts) choices
 
-pub no_group_left : (place : ℕ) (items : List UnitPlan) → length items ≤ place → group_plans_of (drop place items) ≡ no_groups
-no_group_left place items past = ap group_plans_of (drop_all place items past)
+-- the tally of all goes on from that so far
+pub record SizesLeft (Part : Type 0) (sort : Sort Part) (sizes : Numbers Part sort) (all : ℕ) (choices : List Choice) (parts : List Part) (place : ℕ)
+    (tally : Tally) (rest : List Choice) : Type 0 where
+  pub more : tally_on place tally (sizes.of_parts rest (drop place parts)) ≡ tally_of all (sizes.of_parts choices parts)
+
+-- with what was added, what is left adds up to the sum of all
+pub record SumLeft (Part : Type 0) (sort : Sort Part) (sum : Sum Part sort) (choices : List Choice) (parts : List Part) (place so_far : ℕ)
+    (rest : List Choice) : Type 0 where
+  pub fits : so_far ≤ 2 ^ 64 - 1
+  pub more : capped (so_far + sum.of_parts rest (drop place parts)) ≡ capped (sum.of_parts choices parts)
+
+-- behind what was listed, what is left gives the list of all
+pub record ListLeft (Part : Type 0) (sort : Sort Part) (lists : Lists Part sort) (given : List ℕ) (choices : List Choice) (parts : List Part)
+    (place : ℕ) (so_far : List ℕ) (rest : List Choice) : Type 0 where
+  pub more : so_far ++ lists.of_parts rest (drop place parts) ≡ given ++ lists.of_parts choices parts
+
+module _ {Part : Type 0} where
+  -- from a place on there is the part at it, and those behind it
+  pub parts_left : {Y : Type 0} (f : List Part → Y) (parts : List Part) (place : ℕ) (part : Part) → place < length parts
+      → part ≡ get_or parts place part → f (drop place parts) ≡ f (part ∷ drop (place + 1) parts)
+  parts_left f parts place part within is =
+      ap f (drop-cons parts place part within ∙ (λ i. sym is i ∷ drop (sym (add-one place) i) parts))
+
+  -- what is joined of what is left
+  pub joined_turn : {X Y : Type 0} {nothing : Y} {join : X → Y → Y} (sort : Sort Part) (joined : Joined Part sort X Y nothing join) (parts : List Part)
+      (place : ℕ) (part : Part) (rest : List Choice) → place < length parts → part ≡ get_or parts place part
+      → joined.of_parts rest (drop place parts)
+      ≡ join (joined.of_part rest part) (joined.of_parts (drop (sort.leaves_of part) rest) (drop (place + 1) parts))
+  joined_turn sort joined parts place part rest within is =
+      parts_left (joined.of_parts rest) parts place part within is ∙ joined.more rest part (drop (place + 1) parts)
+
+  pub joined_end : {X Y : Type 0} {nothing : Y} {join : X → Y → Y} (sort : Sort Part) (joined : Joined Part sort X Y nothing join) (parts : List Part)
+      (place : ℕ) (rest : List Choice) → length parts ≤ place → joined.of_parts rest (drop place parts) ≡ nothing
+  joined_end sort joined parts place rest past = ap (joined.of_parts rest) (drop_all place parts past) ∙ joined.none rest
+
+  -- ---- a turn, and the end
+  pub rest_turn : {sort : Sort Part} {choices : List Choice} {parts : List Part} {place : ℕ} {rest : List Choice}
+      → RestLeft Part sort choices parts place rest → {part : Part} {behind : List Choice} → place < length parts → part ≡ get_or parts place part
+      → behind ≡ drop (sort.leaves_of part) rest → RestLeft Part sort choices parts (place + 1) behind
+  rest_turn {sort} {choices} {parts} {place} {rest} left {part} {behind} within is behind_is =
+      let later = drop (place + 1) parts in
+      record {
+        behind =
+            ap (drop (sort.leaves_in later)) behind_is
+            ∙ drop_further (sort.leaves_in later) (sort.leaves_of part) rest
+            ∙ (λ i. drop (sym (parts_left sort.leaves_in parts place part within is ∙ sort.more part later) i) rest)
+            ∙ left.behind;
+      }
+
+  pub rest_end : {sort : Sort Part} {choices : List Choice} {parts : List Part} {place : ℕ} {rest : List Choice}
+      → RestLeft Part sort choices parts place rest → length parts ≤ place → rest ≡ drop (sort.leaves_in parts) choices
+  rest_end {sort} {choices} {parts} {place} {rest} left past =
+      (λ i. drop (sym (ap sort.leaves_in (drop_all place parts past) ∙ sort.none) i) rest) ∙ left.behind
+
+  pub sizes_turn : {sort : Sort Part} {sizes : Numbers Part sort} {all : ℕ} {choices : List Choice} {parts : List Part} {place : ℕ} {tally : Tally}
+      {rest : List Choice} → SizesLeft Part sort sizes all choices parts place tally rest
+      → {part : Part} {found : ℕ} {behind : List Choice} {next : Tally} → place < length parts → part ≡ get_or parts place part
+      → found ≡ sizes.of_part rest part → behind ≡ drop (sort.leaves_of part) rest → next ≡ tally_with place tally found
+      → SizesLeft Part sort sizes all choices parts (place + 1) next behind
+  sizes_turn {sort} {sizes} {all} {choices} {parts} {place} {tally} {rest} left {part} {found} {behind} {next} within is found_is behind_is next_is =
+      record {
+        more =
+            (λ i. tally_on (place + 1) ((next_is ∙ ap (tally_with place tally) found_is) i) (sizes.of_parts (behind_is i) (drop (place + 1) parts)))
+            ∙ ap (tally_on place tally) (sym (joined_turn sort sizes parts place part rest within is))
+            ∙ left.more;
+      }
+
+  pub sizes_end : {sort : Sort Part} {sizes : Numbers Part sort} {all : ℕ} {choices : List Choice} {parts : List Part} {place : ℕ} {tally : Tally}
+      {rest : List Choice} → SizesLeft Part sort sizes all choices parts place tally rest → length parts ≤ place
+      → IsTallyOf all (sizes.of_parts choices parts) tally
+  sizes_end {sort} {sizes} {all} {choices} {parts} {place} {tally} {rest} left past =
+      is_tally_of all (sizes.of_parts choices parts) tally
+      (ap (tally_on place tally) (sym (joined_end sort sizes parts place rest past)) ∙ left.more)
+
+  pub sum_turn : {sort : Sort Part} {sum : Sum Part sort} {choices : List Choice} {parts : List Part} {place so_far : ℕ} {rest : List Choice}
+      → SumLeft Part sort sum choices parts place so_far rest
+      → {part : Part} {found next : ℕ} {behind : List Choice} → place < length parts → part ≡ get_or parts place part
+      → found ≡ capped (sum.of_part rest part) → behind ≡ drop (sort.leaves_of part) rest → next ≡ capped (so_far + found)
+      → SumLeft Part sort sum choices parts (place + 1) next behind
+  sum_turn {sort} {sum} {choices} {parts} {place} {so_far} {rest} left {part} {found} {next} {behind} within is found_is behind_is next_is =
+      record {
+        fits = omega (arith, next_is);
+        more = omega (
+          arith,
+          left.more,
+          found_is,
+          next_is,
+          joined_turn sort sum parts place part rest within is,
+          ap (λ (choices : List Choice). sum.of_parts choices (drop (place + 1) parts)) behind_is,
+        );
+      }
+
+  pub sum_end : {sort : Sort Part} {sum : Sum Part sort} {choices : List Choice} {parts : List Part} {place so_far : ℕ} {rest : List Choice}
+      → SumLeft Part sort sum choices parts place so_far rest → length parts ≤ place → so_far ≡ capped (sum.of_parts choices parts)
+  sum_end {sort} {sum} {choices} {parts} {place} {so_far} {rest} left past =
+      omega (arith, left.fits, left.more, joined_end sort sum parts place rest past)
+
+  pub list_turn : {sort : Sort Part} {lists : Lists Part sort} {given : List ℕ} {choices : List Choice} {parts : List Part} {place : ℕ} {so_far : List ℕ}
+      {rest : List Choice} → ListLeft Part sort lists given choices parts place so_far rest
+      → {part : Part} {next : List ℕ} {behind : List Choice} → place < length parts → part ≡ get_or parts place part
+      → next ≡ so_far ++ lists.of_part rest part → behind ≡ drop (sort.leaves_of part) rest
+      → ListLeft Part sort lists given choices parts (place + 1) next behind
+  list_turn {sort} {lists} {given} {choices} {parts} {place} {so_far} {rest} left {part} {next} {behind} within is next_is behind_is =
+      record {
+        more =
+            (λ i. next_is i ++ lists.of_parts (behind_is i) (drop (place + 1) parts))
+            ∙ append_assoc so_far (lists.of_part rest part) (lists.of_parts (drop (sort.leaves_of part) rest) (drop (place + 1) parts))
+            ∙ ap (λ (more : List ℕ). so_far ++ more) (sym (joined_turn sort lists parts place part rest within is))
+            ∙ left.more;
+      }
+
+  pub list_end : {sort : Sort Part} {lists : Lists Part sort} {given : List ℕ} {choices : List Choice} {parts : List Part} {place : ℕ} {so_far : List ℕ}
+      {rest : List Choice} → ListLeft Part sort lists given choices parts place so_far rest → length parts ≤ place
+      → so_far ≡ given ++ lists.of_parts choices parts
+  list_end {sort} {lists} {given} {choices} {parts} {place} {so_far} {rest} left past =
+      sym (append-nil so_far) ∙ ap (λ (more : List ℕ). so_far ++ more) (sym (joined_end sort lists parts place rest past)) ∙ left.more

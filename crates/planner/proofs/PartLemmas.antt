@@ -1,23 +1,14 @@
--- The parts of a node from a place on, and how many they are.
-use Rattle.std.proofs.Common.{ℕ, suc, ◌+◌, ◌∷◌, [], ◌≡◌, ◌<◌, ◌∙◌, List, length, get_or, drop, refl, sym, ap, add-one}
-use Rattle.std.proofs.Math.Seq.{drop-cons}
+-- The parts of a node: how many they are; and the parts of the values along types.
+use Rattle.std.proofs.Common.{Box, Vec, suc, ◌∷◌, [], ◌≡◌, ◌∙◌, List, drop, length, refl, sym, ap}
+use Rattle.std.specs.declared.alloc.Global.{Global}
 use Rattle.set_algebra.specs.declared.plan.ConceptPlan.{ConceptPlan}
+use Rattle.set_algebra.specs.declared.plan.ConceptPlan.TheVariants as concept_plan
 use Rattle.set_algebra.specs.declared.plan.UnitPlan.{UnitPlan}
-use Rattle.set_algebra.specs.Plan.{plan_then, plan_of, plans_of, group_then, group_plan_of, group_plans_of}
-use Rattle.planner.specs.Leaves.{plan_count, group_count}
-
--- from a place on there is the part at it, and those behind it
-pub plans_left : (parts : List ConceptPlan) (place : ℕ) (part : ConceptPlan) → place < length parts → part ≡ get_or parts place part
-    → plans_of (drop place parts) ≡ plan_then (plan_of part) (plans_of (drop (place + 1) parts))
-plans_left parts place part within is =
-    ap plans_of (drop-cons parts place part within)
-    ∙ (λ i. plan_then (plan_of (sym is i)) (plans_of (drop (sym (add-one place) i) parts)))
-
-pub groups_left : (parts : List UnitPlan) (place : ℕ) (part : UnitPlan) → place < length parts → part ≡ get_or parts place part
-    → group_plans_of (drop place parts) ≡ group_then (group_plan_of part) (group_plans_of (drop (place + 1) parts))
-groups_left parts place part within is =
-    ap group_plans_of (drop-cons parts place part within)
-    ∙ (λ i. group_then (group_plan_of (sym is i)) (group_plans_of (drop (sym (add-one place) i) parts)))
+use Rattle.set_algebra.specs.Plan.{Plan, Plans, group_plans_of, plan_of, plans_of, values_plan}
+use Rattle.set_algebra.proofs.PlanLemmas.{plan_of-Values}
+use Rattle.planner.specs.declared.choice.Choice.{Choice}
+use Rattle.planner.specs.Leaves.{group_count, leaves, plan_count, plans_leaves}
+use Rattle.planner.proofs.ListLemmas.{drop_further}
 
 -- there are as many plans as parts
 pub plan_count-parts : (parts : List ConceptPlan) → plan_count (plans_of parts) ≡ length parts
@@ -27,3 +18,18 @@ plan_count-parts (part ∷ parts) = ap suc (plan_count-parts parts)
 pub group_count-parts : (parts : List UnitPlan) → group_count (group_plans_of parts) ≡ length parts
 group_count-parts [] = refl
 group_count-parts (part ∷ parts) = ap suc (group_count-parts parts)
+
+-- the plan of the values along types, by what its start and its types lend
+pub values_are : (start : Box ConceptPlan Global) (names : Vec ConceptPlan Global) {plan from : ConceptPlan} {along : List ConceptPlan}
+    → plan ≡ concept_plan.Values start names → from ≡ start.value → along ≡ names.items → plan_of plan ≡ values_plan (plan_of from) (plans_of along)
+values_are start names is from_is along_is =
+    ap plan_of is ∙ plan_of-Values start names ∙ (λ i. values_plan (plan_of (sym from_is i)) (plans_of (sym along_is i)))
+
+-- and the choices behind them, which are those behind their types
+pub values_behind : {plan : Plan} (start : Plan) (names : Plans) (choices : List Choice) {inner rest : List Choice} → plan ≡ values_plan start names
+    → inner ≡ drop (leaves start) choices → rest ≡ drop (plans_leaves names) inner → rest ≡ drop (leaves plan) choices
+values_behind start names choices is inner_is rest_is =
+    rest_is
+    ∙ ap (drop (plans_leaves names)) inner_is
+    ∙ drop_further (plans_leaves names) (leaves start) choices
+    ∙ sym (ap (λ (plan : Plan). drop (leaves plan) choices) is)

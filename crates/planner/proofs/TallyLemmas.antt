@@ -5,7 +5,7 @@ use Rattle.std.proofs.lemmas.Bool.{cases_Bool, ltb-true, ltb-false, ne_eqb}
 use Rattle.planner.specs.Bounds.{capped}
 use Rattle.planner.specs.Leads.{lead_from, lead_of}
 use Rattle.planner.specs.Sizes.{least_from, least_of, total}
-use Rattle.planner.specs.Tallies.{no_tally, tally_of, tally_on, tally_with}
+use Rattle.planner.specs.Tallies.{IsTallyOf, no_tally, tally_of, tally_on, tally_with}
 use Rattle.planner.specs.declared.tally.Tally.{Tally}
 
 -- with one more size, wherever it stands
@@ -25,7 +25,7 @@ sum_on place tally (size ∷ sizes) small =
     omega (arith, one, rest)
 
 -- the sum
-pub tally_sum : (other : ℕ) (sizes : List ℕ) → (tally_of other sizes).sum ≡ capped (total sizes)
+tally_sum : (other : ℕ) (sizes : List ℕ) → (tally_of other sizes).sum ≡ capped (total sizes)
 tally_sum other sizes =
     let all : (tally_of other sizes).sum ≡ capped (0 + total sizes) = sum_on 0 (no_tally other) sizes (omega arith) in
     omega (arith, all)
@@ -69,7 +69,7 @@ least_on place tally (size ∷ sizes) later =
     ∙ ap (λ (least : ℕ). least_from least sizes) (keeps place tally size later).least
 
 -- the least
-pub tally_least : (other : ℕ) (sizes : List ℕ) → (tally_of other sizes).least ≡ least_of other sizes
+tally_least : (other : ℕ) (sizes : List ℕ) → (tally_of other sizes).least ≡ least_of other sizes
 tally_least other [] = refl
 tally_least other (size ∷ sizes) = least_on 1 (tally_with 0 (no_tally other) size) sizes refl
 
@@ -82,6 +82,14 @@ lead_on place tally (size ∷ sizes) later =
     ∙ (λ i. lead_from (kept.lead i) (kept.least i) (place + 1) sizes)
 
 -- its place
-pub tally_lead : (other : ℕ) (sizes : List ℕ) → (tally_of other sizes).lead ≡ lead_of sizes
+tally_lead : (other : ℕ) (sizes : List ℕ) → (tally_of other sizes).lead ≡ lead_of sizes
 tally_lead other [] = refl
 tally_lead other (size ∷ sizes) = lead_on 1 (tally_with 0 (no_tally other) size) sizes refl
+
+-- all three
+pub is_tally_of : (other : ℕ) (sizes : List ℕ) (tally : Tally) → tally ≡ tally_of other sizes → IsTallyOf other sizes tally
+is_tally_of other sizes tally is = record {
+  sum = ap (λ (tally : Tally). tally.sum) is ∙ tally_sum other sizes;
+  least = ap (λ (tally : Tally). tally.least) is ∙ tally_least other sizes;
+  lead = ap (λ (tally : Tally). tally.lead) is ∙ tally_lead other sizes;
+}

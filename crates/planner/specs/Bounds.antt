@@ -1,17 +1,18 @@
 -- How many items a plan visits at most: each node by itself, and all nodes together. A visit is an item that is read from a list of
 -- the indexes or from what a sub-plan has found.
-use Rattle.std.specs.Prelude.{ℕ, ◌+◌, ◌*◌, ◌-◌, ◌==◌, ◌^◌, if◌then◌else◌, List, [], ◌∷◌, Option, None, Some, drop, false, length, min}
+use Rattle.std.specs.Prelude.{ℕ, Bool, ◌+◌, ◌*◌, ◌-◌, ◌==◌, ◌^◌, if◌then◌else◌, List, [], ◌∷◌, Option, None, Some, drop, false, length, min}
+use Rattle.constraint_tree.specs.declared.operator.Cardinality.{Cardinality}
 use Rattle.constraint_tree.specs.declared.operator.Operator.{Operator}
-use Rattle.set_algebra.specs.Plan.{Plan, empty_plan, all_plan, one_plan, walk_plan, members_plan, and_plan, or_plan, minus_plan, values_plan, pairs_plan, units_plan, GroupPlan, nothing_group, every_group, and_group, or_group, minus_group, pairs_group}
+use Rattle.set_algebra.specs.Plan.{Plan, empty_plan, all_plan, one_plan, walk_plan, members_plan, and_plan, or_plan, minus_plan, values_plan, pairs_plan, units_plan, GroupPlan, nothing_group, every_group, and_group, or_group, minus_group, pairs_group, TestPlan}
 use Rattle.postings.specs.Groups.{groups_in}
 use Rattle.postings.specs.Indexed.{Indexed}
 use Rattle.postings.specs.Stats.{stats_in}
 use Rattle.planner.specs.declared.choice.Choice.{Choice}
 use Rattle.planner.specs.Alternatives.{leaf_bound, passed_over}
-use Rattle.planner.specs.Counts.{leaf_of, list_length, lists_length, member_count, one_of}
-use Rattle.planner.specs.Leaves.{first_choice, group_count, group_leaves, leaves, plan_count, test_choices, type_choices}
+use Rattle.planner.specs.Counts.{list_length, lists_length, member_count, one_of}
+use Rattle.planner.specs.Leaves.{first_choice, group_count, group_leaves, leaves, plan_count}
 use Rattle.planner.specs.Nodes.{NodeList, NodeNumber, node_list, node_sum}
-use Rattle.planner.specs.Sizes.{group_size, group_sizes, size, sizes, test_size, total}
+use Rattle.planner.specs.Sizes.{group_size, group_sizes, leaf_at, size, sizes, total}
 
 -- a walk from one concept, and from any set of so many
 abbrev pub walk_bound : Indexed → Operator → Option ℕ → ℕ → ℕ
@@ -29,6 +30,11 @@ values_bound indexed types size =
     if types == 0 then 0
     else (size + length indexed.rows) + (types - 1) * (min (length indexed.concepts) (length indexed.rows) + length indexed.rows)
 
+-- a leaf among so many concepts or groups
+abbrev pub leaf_bound_at : Indexed → ℕ → Bool → Cardinality → Plan → TestPlan → List Choice → ℕ
+leaf_bound_at indexed all back count types test choices =
+    leaf_bound (leaf_at indexed all back count types test choices) (first_choice choices)
+
 abbrev pub own_bound : Indexed → List Choice → Plan → ℕ
 own_bound indexed choices empty_plan = 0
 own_bound indexed choices all_plan = 0
@@ -40,10 +46,7 @@ own_bound indexed choices (or_plan parts) = plan_count parts * total (sizes inde
 own_bound indexed choices (minus_plan first second) = size indexed choices first + size indexed (drop (leaves first) choices) second
 own_bound indexed choices (values_plan start names) = values_bound indexed (plan_count names) (size indexed choices start)
 own_bound indexed choices (pairs_plan back count types test) =
-    leaf_bound
-    (leaf_of indexed (length indexed.concepts) back count types test (size indexed (type_choices choices) types)
-    (test_size indexed (test_choices choices types) test))
-    (first_choice choices)
+    leaf_bound_at indexed (length indexed.concepts) back count types test choices
 own_bound indexed choices (units_plan count units) =
     group_size indexed choices units + passed_over (count.min == 0) (length indexed.concepts)
 
@@ -55,10 +58,7 @@ group_own_bound indexed choices (or_group parts) = group_count parts * total (gr
 group_own_bound indexed choices (minus_group first second) =
     group_size indexed choices first + group_size indexed (drop (group_leaves first) choices) second
 group_own_bound indexed choices (pairs_group count types test) =
-    leaf_bound
-    (leaf_of indexed (length (groups_in indexed)) false count types test (size indexed (type_choices choices) types)
-    (test_size indexed (test_choices choices types) test))
-    (first_choice choices)
+    leaf_bound_at indexed (length (groups_in indexed)) false count types test choices
 
 -- the bound of a plan is the sum over its nodes
 abbrev pub own_number : Indexed → NodeNumber

@@ -4,6 +4,7 @@ pub mod Bounds
 pub mod Chosen
 pub mod Counts
 pub mod Floors
+pub mod Found
 pub mod Leads
 pub mod Leaves
 pub mod Nodes

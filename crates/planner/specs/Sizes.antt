@@ -1,11 +1,13 @@
 -- How much a plan finds at most under some choices, in concepts or in groups.
-use Rattle.std.specs.Prelude.{ℕ, false, ◌+◌, ◌==◌, if◌then◌else◌, List, [], ◌∷◌, Option, None, Some, drop, length, min}
+use Rattle.std.specs.Prelude.{ℕ, Bool, false, ◌+◌, ◌==◌, if◌then◌else◌, List, [], ◌∷◌, Option, None, Some, drop, length, min}
+use Rattle.constraint_tree.specs.declared.operator.Cardinality.{Cardinality}
 use Rattle.constraint_tree.specs.declared.operator.Operator.{Operator}
 use Rattle.set_algebra.specs.Plan.{Plan, empty_plan, all_plan, one_plan, walk_plan, members_plan, and_plan, or_plan, minus_plan, values_plan, pairs_plan, units_plan, Plans, no_plans, plan_then, GroupPlan, nothing_group, every_group, and_group, or_group, minus_group, pairs_group, GroupPlans, no_groups, group_then, TestPlan, within_plan, outside_plan, number_plan}
 use Rattle.postings.specs.Groups.{groups_in}
 use Rattle.postings.specs.Indexed.{Indexed}
 use Rattle.postings.specs.Stats.{stats_in}
 use Rattle.planner.specs.declared.choice.Choice.{Choice}
+use Rattle.planner.specs.declared.leaf.Leaf.{Leaf}
 use Rattle.planner.specs.Alternatives.{found_by, leaf_size}
 use Rattle.planner.specs.Counts.{is_extreme, leads_to_self, leaf_of, list_length, member_count, one_of}
 use Rattle.planner.specs.Leaves.{first_choice, group_leaves, leaves, plan_count, test_choices, type_choices}
@@ -83,3 +85,9 @@ abbrev mutual
   test_size indexed choices (within_plan operand) = size indexed choices operand
   test_size indexed choices (outside_plan operand) = size indexed choices operand
   test_size indexed choices (number_plan compare number) = 0
+
+-- a leaf among so many concepts or groups, by the choices from it on
+abbrev pub leaf_at : Indexed → ℕ → Bool → Cardinality → Plan → TestPlan → List Choice → Leaf
+leaf_at indexed all back count types test choices =
+    leaf_of indexed all back count types test (size indexed (type_choices choices) types)
+    (test_size indexed (test_choices choices types) test)

@@ -1,7 +1,9 @@
 -- What is kept of the sizes of the parts of a node, which are taken one by one, each with its place among them: their sum, which
 -- stands still at the largest number of 64 bits, the least of them, or another number where there is none, and its place.
-use Rattle.std.specs.Prelude.{ℕ, ◌+◌, ◌==◌, ◌||◌, if◌then◌else◌, List, [], ◌∷◌, nat_lt}
+use Rattle.std.specs.Prelude.{ℕ, ◌+◌, ◌==◌, ◌≡◌, ◌||◌, if◌then◌else◌, List, [], ◌∷◌, nat_lt}
 use Rattle.planner.specs.Bounds.{capped}
+use Rattle.planner.specs.Leads.{lead_of}
+use Rattle.planner.specs.Sizes.{least_of, total}
 use Rattle.planner.specs.declared.tally.Tally.{Tally}
 
 abbrev pub no_tally : ℕ → Tally
@@ -18,3 +20,9 @@ tally_on place tally (size ∷ sizes) = tally_on (place + 1) (tally_with place t
 
 abbrev pub tally_of : ℕ → List ℕ → Tally
 tally_of other sizes = tally_on 0 (no_tally other) sizes
+
+-- it has their sum, the least of them, and the place of the first of that size
+pub record IsTallyOf (other : ℕ) (sizes : List ℕ) (tally : Tally) : Type 0 where
+  pub sum : tally.sum ≡ capped (total sizes)
+  pub least : tally.least ≡ least_of other sizes
+  pub lead : tally.lead ≡ lead_of sizes

@@ -1,11 +1,12 @@
 //! The own bounds of all nodes of a plan, a node before its children.
-ghost use Rattle.std.specs.Prelude.{◌≡◌, ◌<◌, ◌*◌, ◌++◌, ◌∷◌, [], IfOk, OnOk, drop, length};
+ghost use Rattle.std.specs.Prelude.{◌≡◌, ◌<◌, ◌++◌, ◌∷◌, [], IfOk, OnOk, drop, length};
 ghost use Rattle.std.specs.List.{slice_set};
 ghost use Rattle.set_algebra.specs.Plan.{group_plan_of, group_plans_of, plan_of, plans_of, test_plan_of};
-ghost use Rattle.planner.specs.Bounds.{capped, own_bounds, own_list};
+ghost use Rattle.planner.specs.Bounds.{own_bounds, own_list};
 ghost use Rattle.planner.specs.Leaves.{group_count, group_leaves, groups_leaves, leaves, plan_count, plans_leaves, test_leaves};
 ghost use Rattle.planner.specs.Nodes.{group_list, groups_list, node_list, plans_list, test_list};
-ghost use Rattle.planner.specs.Sizes.{group_size, group_sizes, least_of, size as size_of, sizes, test_size, total};
+ghost use Rattle.planner.specs.Sizes.{group_size, group_sizes, size as size_of, sizes, test_size};
+ghost use Rattle.planner.specs.Tallies.{IsTallyOf};
 
 use crate::choice::{Choice, after_first, first_choice};
 use crate::counts::{
@@ -26,13 +27,11 @@ pub struct Listed<'a> {
     pub rest: &'a [Choice],
 }
 
-// The same of some plans together.
+// The same of some plans together, and how many they are.
 #[derive(Clone, Copy)]
 struct ListedParts<'a> {
     tally: Tally,
-    // how many they are, and so many times the sum of their sizes
     count: u64,
-    product: u64,
     rest: &'a [Choice],
 }
 
@@ -49,10 +48,11 @@ pub fn list<'a>(
     ensures size { IfOk result (λ found. found.size ≡ size_of indexes.now choices.now (plan_of plan.now)) }
     ensures rest { IfOk result (λ found. found.rest.now ≡ drop (leaves (plan_of plan.now)) choices.now) }
 {
+    let all = concepts(indexes);
     let at = open(bounds)?;
     match plan {
         ConceptPlan::Empty => Ok(without_parts(0, choices)),
-        ConceptPlan::All => Ok(without_parts(concepts(indexes), choices)),
+        ConceptPlan::All => Ok(without_parts(all, choices)),
         ConceptPlan::One(_) => Ok(without_parts(1, choices)),
         ConceptPlan::Walk(operator, operand) => {
             let inner = list(operand, choices, indexes, bounds)?;
@@ -65,13 +65,12 @@ pub fn list<'a>(
             Ok(closed(bounds, at, own, inner.rest))
         }
         ConceptPlan::And(parts) => {
-            let inner = list_parts(parts, concepts(indexes), choices, indexes, bounds)?;
+            let inner = list_parts(parts, all, choices, indexes, bounds)?;
             Ok(closed(bounds, at, in_all(&inner.tally), inner.rest))
         }
         ConceptPlan::Or(parts) => {
-            let all = concepts(indexes);
             let inner = list_parts(parts, all, choices, indexes, bounds)?;
-            let own = in_some(all, inner.tally.sum, inner.product);
+            let own = in_some(all, &inner.tally, inner.count);
             Ok(closed(bounds, at, own, inner.rest))
         }
         ConceptPlan::Minus(first, second) => {
@@ -94,22 +93,14 @@ pub fn list<'a>(
         } => {
             let of_types = list(types, after_first(choices), indexes, bounds)?;
             let of_test = list_test(test, of_types.rest, indexes, bounds)?;
-            let leaf = leaf(
-                indexes,
-                concepts(indexes),
-                *back,
-                *count,
-                types,
-                test,
-                of_types.size,
-                of_test.size,
-            );
+            let sizes = (of_types.size, of_test.size);
+            let leaf = leaf(indexes, all, *back, *count, types, test, sizes);
             let own = leaf.cost(first_choice(choices));
             Ok(closed(bounds, at, own, of_test.rest))
         }
         ConceptPlan::Units { count, units } => {
             let inner = list_units(units, choices, indexes, bounds)?;
-            let own = units_of(*count, concepts(indexes), inner.size);
+            let own = units_of(*count, all, inner.size);
             Ok(closed(bounds, at, own, inner.rest))
         }
     }
@@ -128,18 +119,18 @@ fn list_units<'a>(
     ensures size { IfOk result (λ found. found.size ≡ group_size indexes.now choices.now (group_plan_of plan.now)) }
     ensures rest { IfOk result (λ found. found.rest.now ≡ drop (group_leaves (group_plan_of plan.now)) choices.now) }
 {
+    let all = groups(indexes);
     let at = open(bounds)?;
     match plan {
         UnitPlan::Nothing => Ok(without_parts(0, choices)),
-        UnitPlan::Every => Ok(without_parts(groups(indexes), choices)),
+        UnitPlan::Every => Ok(without_parts(all, choices)),
         UnitPlan::And(parts) => {
-            let inner = list_unit_parts(parts, groups(indexes), choices, indexes, bounds)?;
+            let inner = list_unit_parts(parts, all, choices, indexes, bounds)?;
             Ok(closed(bounds, at, in_all(&inner.tally), inner.rest))
         }
         UnitPlan::Or(parts) => {
-            let all = groups(indexes);
             let inner = list_unit_parts(parts, all, choices, indexes, bounds)?;
-            let own = in_some(all, inner.tally.sum, inner.product);
+            let own = in_some(all, &inner.tally, inner.count);
             Ok(closed(bounds, at, own, inner.rest))
         }
         UnitPlan::Minus(first, second) => {
@@ -151,16 +142,8 @@ fn list_units<'a>(
         UnitPlan::Pairs { count, types, test } => {
             let of_types = list(types, after_first(choices), indexes, bounds)?;
             let of_test = list_test(test, of_types.rest, indexes, bounds)?;
-            let leaf = leaf(
-                indexes,
-                groups(indexes),
-                false,
-                *count,
-                types,
-                test,
-                of_types.size,
-                of_test.size,
-            );
+            let sizes = (of_types.size, of_test.size);
+            let leaf = leaf(indexes, all, false, *count, types, test, sizes);
             let own = leaf.cost(first_choice(choices));
             Ok(closed(bounds, at, own, of_test.rest))
         }
@@ -199,9 +182,7 @@ fn list_parts<'a>(
 ) -> Result<ListedParts<'a>, AllocError>
     ensures bounds { OnOk result (bounds.new.items ≡ bounds.old.items ++ plans_list (own_list indexes.now) choices.now (plans_of parts.now)) }
     ensures count { IfOk result (λ found. found.count ≡ plan_count (plans_of parts.now)) }
-    ensures product { IfOk result (λ found. found.product ≡ capped (plan_count (plans_of parts.now) * total (sizes indexes.now choices.now (plans_of parts.now)))) }
-    ensures sum { IfOk result (λ found. found.tally.sum ≡ capped (total (sizes indexes.now choices.now (plans_of parts.now)))) }
-    ensures least { IfOk result (λ found. found.tally.least ≡ least_of all (sizes indexes.now choices.now (plans_of parts.now))) }
+    ensures tally { IfOk result (λ found. IsTallyOf all (sizes indexes.now choices.now (plans_of parts.now)) found.tally) }
     ensures rest { IfOk result (λ found. found.rest.now ≡ drop (plans_leaves (plans_of parts.now)) choices.now) }
 {
     let mut tally = Tally::none(all);
@@ -212,12 +193,7 @@ fn list_parts<'a>(
         rest = part.rest;
     }
     let count = parts.len() as u64;
-    Ok(ListedParts {
-        tally,
-        count,
-        product: tally.sum.saturating_mul(count),
-        rest,
-    })
+    Ok(ListedParts { tally, count, rest })
 }
 
 // Adds those of some plans of groups.
@@ -231,9 +207,7 @@ fn list_unit_parts<'a>(
 ) -> Result<ListedParts<'a>, AllocError>
     ensures bounds { OnOk result (bounds.new.items ≡ bounds.old.items ++ groups_list (own_list indexes.now) choices.now (group_plans_of parts.now)) }
     ensures count { IfOk result (λ found. found.count ≡ group_count (group_plans_of parts.now)) }
-    ensures product { IfOk result (λ found. found.product ≡ capped (group_count (group_plans_of parts.now) * total (group_sizes indexes.now choices.now (group_plans_of parts.now)))) }
-    ensures sum { IfOk result (λ found. found.tally.sum ≡ capped (total (group_sizes indexes.now choices.now (group_plans_of parts.now)))) }
-    ensures least { IfOk result (λ found. found.tally.least ≡ least_of all (group_sizes indexes.now choices.now (group_plans_of parts.now))) }
+    ensures tally { IfOk result (λ found. IsTallyOf all (group_sizes indexes.now choices.now (group_plans_of parts.now)) found.tally) }
     ensures rest { IfOk result (λ found. found.rest.now ≡ drop (groups_leaves (group_plans_of parts.now)) choices.now) }
 {
     let mut tally = Tally::none(all);
@@ -244,12 +218,7 @@ fn list_unit_parts<'a>(
         rest = part.rest;
     }
     let count = parts.len() as u64;
-    Ok(ListedParts {
-        tally,
-        count,
-        product: tally.sum.saturating_mul(count),
-        rest,
-    })
+    Ok(ListedParts { tally, count, rest })
 }
 
 // A place for the bound of a node, before those of its children.

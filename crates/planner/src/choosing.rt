@@ -2,12 +2,12 @@
 ghost use Rattle.std.specs.Prelude.{◌≡◌, ◌<◌, ◌++◌, ◌∷◌, [], IfOk, OnOk, drop, length};
 ghost use Rattle.std.specs.List.{slice_set};
 ghost use Rattle.set_algebra.specs.Plan.{group_plan_of, group_plans_of, plan_of, plans_of, test_plan_of};
-ghost use Rattle.planner.specs.Bounds.{capped};
 ghost use Rattle.planner.specs.Chosen.{chosen, group_chosen, groups_chosen, plans_chosen, test_chosen};
-ghost use Rattle.planner.specs.Leads.{lead_list, lead_of};
+ghost use Rattle.planner.specs.Leads.{lead_list};
 ghost use Rattle.planner.specs.Leaves.{group_count, group_leaves, groups_leaves, leaves, plan_count, plans_leaves, test_leaves};
 ghost use Rattle.planner.specs.Nodes.{group_list, groups_list, node_list, plans_list, test_list};
-ghost use Rattle.planner.specs.Sizes.{group_size, group_sizes, least_of, size as size_of, sizes, test_size, total};
+ghost use Rattle.planner.specs.Sizes.{group_size, group_sizes, size as size_of, sizes, test_size};
+ghost use Rattle.planner.specs.Tallies.{IsTallyOf};
 
 use crate::choice::{Choice, after_first, first};
 use crate::counts::{concepts, groups, leaf, members, units as units_of, values, walk};
@@ -73,73 +73,41 @@ pub fn settle<'a>(
     ensures asked { IfOk result (λ found. found.asked.now ≡ drop (leaves (plan_of plan.now)) asked.now) }
     ensures others { IfOk result (λ found. found.others.now ≡ drop (leaves (plan_of plan.now)) others.now) }
 {
+    let all = concepts(indexes);
     match plan {
-        ConceptPlan::Empty => Ok(Settled {
-            size: 0,
-            asked,
-            others,
-        }),
-        ConceptPlan::All => Ok(Settled {
-            size: concepts(indexes),
-            asked,
-            others,
-        }),
-        ConceptPlan::One(_) => Ok(Settled {
-            size: 1,
-            asked,
-            others,
-        }),
+        ConceptPlan::Empty => Ok(found_behind(0, asked, others)),
+        ConceptPlan::All => Ok(found_behind(all, asked, others)),
+        ConceptPlan::One(_) => Ok(found_behind(1, asked, others)),
         ConceptPlan::Walk(operator, operand) => {
             let inner = settle(operand, asked, others, indexes, choosing)?;
-            Ok(Settled {
-                size: walk(indexes, *operator, operand, inner.size).size,
-                asked: inner.asked,
-                others: inner.others,
-            })
+            let own = walk(indexes, *operator, operand, inner.size);
+            Ok(found_behind(own.size, inner.asked, inner.others))
         }
         ConceptPlan::Members(operand) => {
             let inner = settle(operand, asked, others, indexes, choosing)?;
-            Ok(Settled {
-                size: members(indexes, operand, inner.size).size,
-                asked: inner.asked,
-                others: inner.others,
-            })
+            let own = members(indexes, operand, inner.size);
+            Ok(found_behind(own.size, inner.asked, inner.others))
         }
         ConceptPlan::And(parts) => {
             let at = free_lead(choosing)?;
-            let inner = settle_parts(parts, concepts(indexes), asked, others, indexes, choosing)?;
+            let inner = settle_parts(parts, all, asked, others, indexes, choosing)?;
             put_lead(choosing, at, inner.tally.lead);
-            Ok(Settled {
-                size: inner.tally.least,
-                asked: inner.asked,
-                others: inner.others,
-            })
+            Ok(found_behind(inner.tally.least, inner.asked, inner.others))
         }
         ConceptPlan::Or(parts) => {
-            let inner = settle_parts(parts, concepts(indexes), asked, others, indexes, choosing)?;
-            Ok(Settled {
-                size: concepts(indexes).min(inner.tally.sum),
-                asked: inner.asked,
-                others: inner.others,
-            })
+            let inner = settle_parts(parts, all, asked, others, indexes, choosing)?;
+            Ok(found_behind(all.min(inner.tally.sum), inner.asked, inner.others))
         }
         ConceptPlan::Minus(first, second) => {
             let left = settle(first, asked, others, indexes, choosing)?;
             let right = settle(second, left.asked, left.others, indexes, choosing)?;
-            Ok(Settled {
-                size: left.size,
-                asked: right.asked,
-                others: right.others,
-            })
+            Ok(found_behind(left.size, right.asked, right.others))
         }
         ConceptPlan::Values(start, names) => {
             let from = settle(start, asked, others, indexes, choosing)?;
             let types = settle_parts(names, 0, from.asked, from.others, indexes, choosing)?;
-            Ok(Settled {
-                size: values(indexes, types.count, from.size).size,
-                asked: types.asked,
-                others: types.others,
-            })
+            let own = values(indexes, types.count, from.size);
+            Ok(found_behind(own.size, types.asked, types.others))
         }
         ConceptPlan::Pairs {
             back,
@@ -148,39 +116,19 @@ pub fn settle<'a>(
             test,
         } => {
             let at = free_choice(choosing)?;
-            let of_types = settle(
-                types,
-                after_first(asked),
-                after_first(others),
-                indexes,
-                choosing,
-            )?;
+            let inside = (after_first(asked), after_first(others));
+            let of_types = settle(types, inside.0, inside.1, indexes, choosing)?;
             let of_test = settle_test(test, of_types.asked, of_types.others, indexes, choosing)?;
-            let leaf = leaf(
-                indexes,
-                concepts(indexes),
-                *back,
-                *count,
-                types,
-                test,
-                of_types.size,
-                of_test.size,
-            );
+            let sizes = (of_types.size, of_test.size);
+            let leaf = leaf(indexes, all, *back, *count, types, test, sizes);
             let choice = leaf.choice(first(asked), first(others));
             put_choice(choosing, at, choice);
-            Ok(Settled {
-                size: leaf.size(choice),
-                asked: of_test.asked,
-                others: of_test.others,
-            })
+            Ok(found_behind(leaf.size(choice), of_test.asked, of_test.others))
         }
         ConceptPlan::Units { count, units } => {
             let inner = settle_units(units, asked, others, indexes, choosing)?;
-            Ok(Settled {
-                size: units_of(*count, concepts(indexes), inner.size).size,
-                asked: inner.asked,
-                others: inner.others,
-            })
+            let own = units_of(*count, all, inner.size);
+            Ok(found_behind(own.size, inner.asked, inner.others))
         }
     }
 }
@@ -201,85 +149,35 @@ fn settle_units<'a>(
     ensures asked { IfOk result (λ found. found.asked.now ≡ drop (group_leaves (group_plan_of plan.now)) asked.now) }
     ensures others { IfOk result (λ found. found.others.now ≡ drop (group_leaves (group_plan_of plan.now)) others.now) }
 {
+    let all = groups(indexes);
     match plan {
-        UnitPlan::Nothing => Ok(Settled {
-            size: 0,
-            asked,
-            others,
-        }),
-        UnitPlan::Every => Ok(Settled {
-            size: groups(indexes),
-            asked,
-            others,
-        }),
+        UnitPlan::Nothing => Ok(found_behind(0, asked, others)),
+        UnitPlan::Every => Ok(found_behind(all, asked, others)),
         UnitPlan::And(parts) => {
             let at = free_lead(choosing)?;
-            let inner = settle_unit_parts(
-                parts,
-                groups(indexes),
-                asked,
-                others,
-                indexes,
-                choosing,
-            )?;
+            let inner = settle_unit_parts(parts, all, asked, others, indexes, choosing)?;
             put_lead(choosing, at, inner.tally.lead);
-            Ok(Settled {
-                size: inner.tally.least,
-                asked: inner.asked,
-                others: inner.others,
-            })
+            Ok(found_behind(inner.tally.least, inner.asked, inner.others))
         }
         UnitPlan::Or(parts) => {
-            let inner = settle_unit_parts(
-                parts,
-                groups(indexes),
-                asked,
-                others,
-                indexes,
-                choosing,
-            )?;
-            Ok(Settled {
-                size: groups(indexes).min(inner.tally.sum),
-                asked: inner.asked,
-                others: inner.others,
-            })
+            let inner = settle_unit_parts(parts, all, asked, others, indexes, choosing)?;
+            Ok(found_behind(all.min(inner.tally.sum), inner.asked, inner.others))
         }
         UnitPlan::Minus(first, second) => {
             let left = settle_units(first, asked, others, indexes, choosing)?;
             let right = settle_units(second, left.asked, left.others, indexes, choosing)?;
-            Ok(Settled {
-                size: left.size,
-                asked: right.asked,
-                others: right.others,
-            })
+            Ok(found_behind(left.size, right.asked, right.others))
         }
         UnitPlan::Pairs { count, types, test } => {
             let at = free_choice(choosing)?;
-            let of_types = settle(
-                types,
-                after_first(asked),
-                after_first(others),
-                indexes,
-                choosing,
-            )?;
+            let inside = (after_first(asked), after_first(others));
+            let of_types = settle(types, inside.0, inside.1, indexes, choosing)?;
             let of_test = settle_test(test, of_types.asked, of_types.others, indexes, choosing)?;
-            let leaf = leaf(
-                indexes,
-                groups(indexes),
-                false,
-                *count,
-                types,
-                test,
-                of_types.size,
-                of_test.size,
-            );
+            let sizes = (of_types.size, of_test.size);
+            let leaf = leaf(indexes, all, false, *count, types, test, sizes);
             let choice = leaf.choice(first(asked), first(others));
             put_choice(choosing, at, choice);
-            Ok(Settled {
-                size: leaf.size(choice),
-                asked: of_test.asked,
-                others: of_test.others,
-            })
+            Ok(found_behind(leaf.size(choice), of_test.asked, of_test.others))
         }
     }
 }
@@ -304,11 +202,7 @@ fn settle_test<'a>(
             let found = settle(operand, asked, others, indexes, choosing)?;
             Ok(found)
         }
-        ValueTest::Number(_, _) => Ok(Settled {
-            size: 0,
-            asked,
-            others,
-        }),
+        ValueTest::Number(_, _) => Ok(found_behind(0, asked, others)),
     }
 }
 
@@ -325,9 +219,7 @@ fn settle_parts<'a>(
     ensures choices { OnOk result (choosing.new.choices.items ≡ choosing.old.choices.items ++ plans_chosen indexes.now asked.now others.now (plans_of parts.now)) }
     ensures leads { OnOk result (choosing.new.leads.items ≡ choosing.old.leads.items ++ plans_list (lead_list indexes.now) (plans_chosen indexes.now asked.now others.now (plans_of parts.now)) (plans_of parts.now)) }
     ensures count { IfOk result (λ found. found.count ≡ plan_count (plans_of parts.now)) }
-    ensures sum { IfOk result (λ found. found.tally.sum ≡ capped (total (sizes indexes.now (plans_chosen indexes.now asked.now others.now (plans_of parts.now)) (plans_of parts.now)))) }
-    ensures least { IfOk result (λ found. found.tally.least ≡ least_of all (sizes indexes.now (plans_chosen indexes.now asked.now others.now (plans_of parts.now)) (plans_of parts.now))) }
-    ensures lead { IfOk result (λ found. found.tally.lead ≡ lead_of (sizes indexes.now (plans_chosen indexes.now asked.now others.now (plans_of parts.now)) (plans_of parts.now))) }
+    ensures tally { IfOk result (λ found. IsTallyOf all (sizes indexes.now (plans_chosen indexes.now asked.now others.now (plans_of parts.now)) (plans_of parts.now)) found.tally) }
     ensures asked { IfOk result (λ found. found.asked.now ≡ drop (plans_leaves (plans_of parts.now)) asked.now) }
     ensures others { IfOk result (λ found. found.others.now ≡ drop (plans_leaves (plans_of parts.now)) others.now) }
 {
@@ -361,9 +253,7 @@ fn settle_unit_parts<'a>(
     ensures choices { OnOk result (choosing.new.choices.items ≡ choosing.old.choices.items ++ groups_chosen indexes.now asked.now others.now (group_plans_of parts.now)) }
     ensures leads { OnOk result (choosing.new.leads.items ≡ choosing.old.leads.items ++ groups_list (lead_list indexes.now) (groups_chosen indexes.now asked.now others.now (group_plans_of parts.now)) (group_plans_of parts.now)) }
     ensures count { IfOk result (λ found. found.count ≡ group_count (group_plans_of parts.now)) }
-    ensures sum { IfOk result (λ found. found.tally.sum ≡ capped (total (group_sizes indexes.now (groups_chosen indexes.now asked.now others.now (group_plans_of parts.now)) (group_plans_of parts.now)))) }
-    ensures least { IfOk result (λ found. found.tally.least ≡ least_of all (group_sizes indexes.now (groups_chosen indexes.now asked.now others.now (group_plans_of parts.now)) (group_plans_of parts.now))) }
-    ensures lead { IfOk result (λ found. found.tally.lead ≡ lead_of (group_sizes indexes.now (groups_chosen indexes.now asked.now others.now (group_plans_of parts.now)) (group_plans_of parts.now))) }
+    ensures tally { IfOk result (λ found. IsTallyOf all (group_sizes indexes.now (groups_chosen indexes.now asked.now others.now (group_plans_of parts.now)) (group_plans_of parts.now)) found.tally) }
     ensures asked { IfOk result (λ found. found.asked.now ≡ drop (groups_leaves (group_plans_of parts.now)) asked.now) }
     ensures others { IfOk result (λ found. found.others.now ≡ drop (groups_leaves (group_plans_of parts.now)) others.now) }
 {
@@ -382,6 +272,19 @@ fn settle_unit_parts<'a>(
         asked: asked_left,
         others: others_left,
     })
+}
+
+// How much a plan finds, and the choices behind its own.
+fn found_behind<'a>(size: u64, asked: &'a [Choice], others: &'a [Choice]) -> Settled<'a>
+    ensures size { result.size ≡ size }
+    ensures asked { result.asked.now ≡ asked.now }
+    ensures others { result.others.now ≡ others.now }
+{
+    Settled {
+        size,
+        asked,
+        others,
+    }
 }
 
 // A place for the choice of a leaf, before those of its sub-plans.

@@ -1,10 +1,11 @@
 //! The size and the bound of a plan, node by node, each from those of its children.
-ghost use Rattle.std.specs.Prelude.{◌≡◌, ◌+◌, ◌*◌, drop};
+ghost use Rattle.std.specs.Prelude.{◌≡◌, ◌+◌, drop};
 ghost use Rattle.set_algebra.specs.Plan.{group_plan_of, group_plans_of, plan_of, plans_of, test_plan_of};
 ghost use Rattle.planner.specs.Bounds.{bound as bound_of, capped, own_number};
 ghost use Rattle.planner.specs.Leaves.{group_count, group_leaves, groups_leaves, leaves, plan_count, plans_leaves, test_leaves};
-ghost use Rattle.planner.specs.Nodes.{group_sum, groups_sum, node_sum, plans_sum, test_sum};
-ghost use Rattle.planner.specs.Sizes.{group_size, group_sizes, least_of, size as size_of, sizes, test_size, total};
+ghost use Rattle.planner.specs.Nodes.{group_sum, groups_sum, plans_sum, test_sum};
+ghost use Rattle.planner.specs.Sizes.{group_size, group_sizes, size as size_of, sizes, test_size};
+ghost use Rattle.planner.specs.Tallies.{IsTallyOf};
 
 use crate::choice::{Choice, after_first, first_choice};
 use crate::counts::{
@@ -26,28 +27,27 @@ pub struct PlanCost<'a> {
     pub rest: &'a [Choice],
 }
 
-// The same of some plans together.
+// The same of some plans together, and how many they are.
 #[derive(Clone, Copy)]
 struct PartsCost<'a> {
     tally: Tally,
-    // how many they are, and so many times the sum of their sizes
     count: u64,
-    product: u64,
     bound: u64,
     rest: &'a [Choice],
 }
 
 /// Of a plan of concepts, whose choices are those at the front of a list. It takes no memory.
 #[cycle(cost)]
-#[tactic(auto, using(set_algebra::proofs::PlanLemmas::plans_of_items))]
+#[tactic(auto, using(crate::proofs::Rules::costing))]
 pub fn cost<'a>(plan: &ConceptPlan, choices: &'a [Choice], indexes: &Indexes) -> PlanCost<'a>
     ensures size { result.size ≡ size_of indexes.now choices.now (plan_of plan.now) }
     ensures bound { result.bound ≡ capped (bound_of indexes.now choices.now (plan_of plan.now)) }
     ensures rest { result.rest.now ≡ drop (leaves (plan_of plan.now)) choices.now }
 {
+    let all = concepts(indexes);
     match plan {
         ConceptPlan::Empty => without_parts(0, choices),
-        ConceptPlan::All => without_parts(concepts(indexes), choices),
+        ConceptPlan::All => without_parts(all, choices),
         ConceptPlan::One(_) => without_parts(1, choices),
         ConceptPlan::Walk(operator, operand) => {
             let inner = cost(operand, choices, indexes);
@@ -60,27 +60,24 @@ pub fn cost<'a>(plan: &ConceptPlan, choices: &'a [Choice], indexes: &Indexes) ->
             with_parts(own, inner.bound, inner.rest)
         }
         ConceptPlan::And(parts) => {
-            let inner = parts_cost(parts, concepts(indexes), choices, indexes);
+            let inner = parts_cost(parts, all, choices, indexes);
             with_parts(in_all(&inner.tally), inner.bound, inner.rest)
         }
         ConceptPlan::Or(parts) => {
-            let all = concepts(indexes);
             let inner = parts_cost(parts, all, choices, indexes);
-            let own = in_some(all, inner.tally.sum, inner.product);
+            let own = in_some(all, &inner.tally, inner.count);
             with_parts(own, inner.bound, inner.rest)
         }
         ConceptPlan::Minus(first, second) => {
             let left = cost(first, choices, indexes);
             let right = cost(second, left.rest, indexes);
-            let inner = left.bound.saturating_add(right.bound);
-            with_parts(in_first(left.size, right.size), inner, right.rest)
+            with_two(in_first(left.size, right.size), &left, &right)
         }
         ConceptPlan::Values(start, names) => {
             let from = cost(start, choices, indexes);
             let types = parts_cost(names, 0, from.rest, indexes);
             let own = values(indexes, types.count, from.size);
-            let inner = from.bound.saturating_add(types.bound);
-            with_parts(own, inner, types.rest)
+            with_parts(own, from.bound.saturating_add(types.bound), types.rest)
         }
         ConceptPlan::Pairs {
             back,
@@ -90,22 +87,13 @@ pub fn cost<'a>(plan: &ConceptPlan, choices: &'a [Choice], indexes: &Indexes) ->
         } => {
             let of_types = cost(types, after_first(choices), indexes);
             let of_test = test_cost(test, of_types.rest, indexes);
-            let leaf = leaf(
-                indexes,
-                concepts(indexes),
-                *back,
-                *count,
-                types,
-                test,
-                of_types.size,
-                of_test.size,
-            );
-            let inner = of_types.bound.saturating_add(of_test.bound);
-            with_parts(leaf.cost(first_choice(choices)), inner, of_test.rest)
+            let sizes = (of_types.size, of_test.size);
+            let leaf = leaf(indexes, all, *back, *count, types, test, sizes);
+            with_two(leaf.cost(first_choice(choices)), &of_types, &of_test)
         }
         ConceptPlan::Units { count, units } => {
             let inner = unit_cost(units, choices, indexes);
-            let own = units_of(*count, concepts(indexes), inner.size);
+            let own = units_of(*count, all, inner.size);
             with_parts(own, inner.bound, inner.rest)
         }
     }
@@ -113,46 +101,36 @@ pub fn cost<'a>(plan: &ConceptPlan, choices: &'a [Choice], indexes: &Indexes) ->
 
 // Of a plan of groups.
 #[cycle(cost)]
-#[tactic(auto, using(set_algebra::proofs::PlanLemmas::plans_of_items))]
+#[tactic(auto, using(crate::proofs::Rules::costing))]
 fn unit_cost<'a>(plan: &UnitPlan, choices: &'a [Choice], indexes: &Indexes) -> PlanCost<'a>
     ensures size { result.size ≡ group_size indexes.now choices.now (group_plan_of plan.now) }
     ensures bound { result.bound ≡ capped (group_sum (own_number indexes.now) choices.now (group_plan_of plan.now)) }
     ensures rest { result.rest.now ≡ drop (group_leaves (group_plan_of plan.now)) choices.now }
 {
+    let all = groups(indexes);
     match plan {
         UnitPlan::Nothing => without_parts(0, choices),
-        UnitPlan::Every => without_parts(groups(indexes), choices),
+        UnitPlan::Every => without_parts(all, choices),
         UnitPlan::And(parts) => {
-            let inner = unit_parts_cost(parts, groups(indexes), choices, indexes);
+            let inner = unit_parts_cost(parts, all, choices, indexes);
             with_parts(in_all(&inner.tally), inner.bound, inner.rest)
         }
         UnitPlan::Or(parts) => {
-            let all = groups(indexes);
             let inner = unit_parts_cost(parts, all, choices, indexes);
-            let own = in_some(all, inner.tally.sum, inner.product);
+            let own = in_some(all, &inner.tally, inner.count);
             with_parts(own, inner.bound, inner.rest)
         }
         UnitPlan::Minus(first, second) => {
             let left = unit_cost(first, choices, indexes);
             let right = unit_cost(second, left.rest, indexes);
-            let inner = left.bound.saturating_add(right.bound);
-            with_parts(in_first(left.size, right.size), inner, right.rest)
+            with_two(in_first(left.size, right.size), &left, &right)
         }
         UnitPlan::Pairs { count, types, test } => {
             let of_types = cost(types, after_first(choices), indexes);
             let of_test = test_cost(test, of_types.rest, indexes);
-            let leaf = leaf(
-                indexes,
-                groups(indexes),
-                false,
-                *count,
-                types,
-                test,
-                of_types.size,
-                of_test.size,
-            );
-            let inner = of_types.bound.saturating_add(of_test.bound);
-            with_parts(leaf.cost(first_choice(choices)), inner, of_test.rest)
+            let sizes = (of_types.size, of_test.size);
+            let leaf = leaf(indexes, all, false, *count, types, test, sizes);
+            with_two(leaf.cost(first_choice(choices)), &of_types, &of_test)
         }
     }
 }
@@ -186,9 +164,7 @@ fn parts_cost<'a>(
     indexes: &Indexes,
 ) -> PartsCost<'a>
     ensures count { result.count ≡ plan_count (plans_of parts.now) }
-    ensures product { result.product ≡ capped (plan_count (plans_of parts.now) * total (sizes indexes.now choices.now (plans_of parts.now))) }
-    ensures sum { result.tally.sum ≡ capped (total (sizes indexes.now choices.now (plans_of parts.now))) }
-    ensures least { result.tally.least ≡ least_of all (sizes indexes.now choices.now (plans_of parts.now)) }
+    ensures tally { IsTallyOf all (sizes indexes.now choices.now (plans_of parts.now)) result.tally }
     ensures bound { result.bound ≡ capped (plans_sum (own_number indexes.now) choices.now (plans_of parts.now)) }
     ensures rest { result.rest.now ≡ drop (plans_leaves (plans_of parts.now)) choices.now }
 {
@@ -205,7 +181,6 @@ fn parts_cost<'a>(
     PartsCost {
         tally,
         count,
-        product: tally.sum.saturating_mul(count),
         bound,
         rest,
     }
@@ -220,9 +195,7 @@ fn unit_parts_cost<'a>(
     indexes: &Indexes,
 ) -> PartsCost<'a>
     ensures count { result.count ≡ group_count (group_plans_of parts.now) }
-    ensures product { result.product ≡ capped (group_count (group_plans_of parts.now) * total (group_sizes indexes.now choices.now (group_plans_of parts.now))) }
-    ensures sum { result.tally.sum ≡ capped (total (group_sizes indexes.now choices.now (group_plans_of parts.now))) }
-    ensures least { result.tally.least ≡ least_of all (group_sizes indexes.now choices.now (group_plans_of parts.now)) }
+    ensures tally { IsTallyOf all (group_sizes indexes.now choices.now (group_plans_of parts.now)) result.tally }
     ensures bound { result.bound ≡ capped (groups_sum (own_number indexes.now) choices.now (group_plans_of parts.now)) }
     ensures rest { result.rest.now ≡ drop (groups_leaves (group_plans_of parts.now)) choices.now }
 {
@@ -239,7 +212,6 @@ fn unit_parts_cost<'a>(
     PartsCost {
         tally,
         count,
-        product: tally.sum.saturating_mul(count),
         bound,
         rest,
     }
@@ -269,4 +241,14 @@ fn with_parts(own: NodeCost, inner: u64, rest: &[Choice]) -> PlanCost<'_>
         bound: own.bound.saturating_add(inner),
         rest,
     }
+}
+
+// Of a node with two plans.
+fn with_two<'a>(own: NodeCost, first: &PlanCost<'a>, second: &PlanCost<'a>) -> PlanCost<'a>
+    ensures size { result.size ≡ own.size }
+    ensures bound { result.bound ≡ capped (own.bound + (first.now.bound + second.now.bound)) }
+    ensures rest { result.rest.now ≡ second.now.rest.now }
+{
+    let inner = first.bound.saturating_add(second.bound);
+    with_parts(own, inner, second.rest)
 }

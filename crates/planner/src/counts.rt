@@ -246,14 +246,14 @@ pub fn in_all(parts: &Tally) -> NodeCost
     }
 }
 
-/// Of what one of some parts finds, where their sum, and so many times their sum, are known.
-pub fn in_some(all: u64, sum: u64, product: u64) -> NodeCost
-    ensures size { result.size ≡ min all sum }
-    ensures bound { result.bound ≡ product }
+/// Of what one of so many parts finds: what is left is read before each.
+pub fn in_some(all: u64, parts: &Tally, count: u64) -> NodeCost
+    ensures size { result.size ≡ min all parts.now.sum }
+    ensures bound { result.bound ≡ capped (parts.now.sum * count) }
 {
     NodeCost {
-        size: all.min(sum),
-        bound: product,
+        size: all.min(parts.sum),
+        bound: parts.sum.saturating_mul(count),
     }
 }
 
@@ -276,10 +276,9 @@ pub fn leaf(
     count: Cardinality,
     types: &ConceptPlan,
     test: &ValueTest,
-    type_size: u64,
-    value_size: u64,
+    sizes: (u64, u64),
 ) -> Leaf
-    ensures { result ≡ leaf_of indexes.now all back count (plan_of types.now) (test_plan_of test.now) type_size value_size }
+    ensures { result ≡ leaf_of indexes.now all back count (plan_of types.now) (test_plan_of test.now) sizes.0 sizes.1 }
 {
     let is_within = match test {
         ValueTest::Within(_) => true,
@@ -291,8 +290,8 @@ pub fn leaf(
         rows: indexes.row_count() as u64,
         value_rows: value_rows(indexes, back, test),
         type_rows: type_rows(indexes, types),
-        value_size,
-        type_size,
+        value_size: sizes.1,
+        type_size: sizes.0,
         is_within,
     }
 }

@@ -1,5 +1,5 @@
 //! The floor of a plan, node by node.
-ghost use Rattle.std.specs.Prelude.{◌≡◌, drop, if◌then◌else◌};
+ghost use Rattle.std.specs.Prelude.{◌≡◌, ◌+◌, drop, if◌then◌else◌};
 ghost use Rattle.set_algebra.specs.Plan.{group_plan_of, group_plans_of, plan_of, plans_of, test_plan_of};
 ghost use Rattle.snapshot.specs.Numbering.{concept_number};
 ghost use Rattle.planner.specs.Bounds.{capped};
@@ -31,48 +31,27 @@ pub fn plan_floor<'a>(plan: &ConceptPlan, choices: &'a [Choice], indexes: &Index
     ensures rest { result.rest.now ≡ drop (leaves (plan_of plan.now)) choices.now }
 {
     match plan {
-        ConceptPlan::Empty | ConceptPlan::All | ConceptPlan::One(_) => PlanFloor {
-            floor: 0,
-            rest: choices,
-        },
+        ConceptPlan::Empty | ConceptPlan::All | ConceptPlan::One(_) => floor_behind(0, 0, choices),
         ConceptPlan::Walk(operator, operand) => {
             let inner = plan_floor(operand, choices, indexes);
             let own = walk_floor(indexes, *operator, operand);
-            PlanFloor {
-                floor: own.saturating_add(inner.floor),
-                rest: inner.rest,
-            }
+            floor_behind(own, inner.floor, inner.rest)
         }
         ConceptPlan::Members(operand) => {
             let inner = plan_floor(operand, choices, indexes);
             let own = members_floor(indexes, operand);
-            PlanFloor {
-                floor: own.saturating_add(inner.floor),
-                rest: inner.rest,
-            }
+            floor_behind(own, inner.floor, inner.rest)
         }
-        ConceptPlan::And(parts) | ConceptPlan::Or(parts) => {
-            let inner = parts_floor(parts, choices, indexes);
-            PlanFloor {
-                floor: inner.floor,
-                rest: inner.rest,
-            }
-        }
+        ConceptPlan::And(parts) | ConceptPlan::Or(parts) => parts_floor(parts, choices, indexes),
         ConceptPlan::Minus(first, second) => {
             let left = plan_floor(first, choices, indexes);
             let right = plan_floor(second, left.rest, indexes);
-            PlanFloor {
-                floor: left.floor.saturating_add(right.floor),
-                rest: right.rest,
-            }
+            floor_behind(left.floor, right.floor, right.rest)
         }
         ConceptPlan::Values(start, names) => {
             let from = plan_floor(start, choices, indexes);
             let types = parts_floor(names, from.rest, indexes);
-            PlanFloor {
-                floor: from.floor.saturating_add(types.floor),
-                rest: types.rest,
-            }
+            floor_behind(from.floor, types.floor, types.rest)
         }
         ConceptPlan::Pairs {
             back,
@@ -83,19 +62,9 @@ pub fn plan_floor<'a>(plan: &ConceptPlan, choices: &'a [Choice], indexes: &Index
             let of_types = plan_floor(types, after_first(choices), indexes);
             let of_test = test_floor(test, of_types.rest, indexes);
             let own = leaf_floor(indexes, *back, types, test, first_choice(choices));
-            let inner = of_types.floor.saturating_add(of_test.floor);
-            PlanFloor {
-                floor: own.saturating_add(inner),
-                rest: of_test.rest,
-            }
+            with_leaf(own, &of_types, &of_test)
         }
-        ConceptPlan::Units { units, .. } => {
-            let inner = unit_floor(units, choices, indexes);
-            PlanFloor {
-                floor: inner.floor,
-                rest: inner.rest,
-            }
-        }
+        ConceptPlan::Units { units, .. } => unit_floor(units, choices, indexes),
     }
 }
 
@@ -107,34 +76,18 @@ pub fn unit_floor<'a>(plan: &UnitPlan, choices: &'a [Choice], indexes: &Indexes)
     ensures rest { result.rest.now ≡ drop (group_leaves (group_plan_of plan.now)) choices.now }
 {
     match plan {
-        UnitPlan::Nothing | UnitPlan::Every => PlanFloor {
-            floor: 0,
-            rest: choices,
-        },
-        UnitPlan::And(parts) | UnitPlan::Or(parts) => {
-            let inner = unit_parts_floor(parts, choices, indexes);
-            PlanFloor {
-                floor: inner.floor,
-                rest: inner.rest,
-            }
-        }
+        UnitPlan::Nothing | UnitPlan::Every => floor_behind(0, 0, choices),
+        UnitPlan::And(parts) | UnitPlan::Or(parts) => unit_parts_floor(parts, choices, indexes),
         UnitPlan::Minus(first, second) => {
             let left = unit_floor(first, choices, indexes);
             let right = unit_floor(second, left.rest, indexes);
-            PlanFloor {
-                floor: left.floor.saturating_add(right.floor),
-                rest: right.rest,
-            }
+            floor_behind(left.floor, right.floor, right.rest)
         }
         UnitPlan::Pairs { types, test, .. } => {
             let of_types = plan_floor(types, after_first(choices), indexes);
             let of_test = test_floor(test, of_types.rest, indexes);
             let own = leaf_floor(indexes, false, types, test, first_choice(choices));
-            let inner = of_types.floor.saturating_add(of_test.floor);
-            PlanFloor {
-                floor: own.saturating_add(inner),
-                rest: of_test.rest,
-            }
+            with_leaf(own, &of_types, &of_test)
         }
     }
 }
@@ -147,16 +100,9 @@ fn test_floor<'a>(test: &ValueTest, choices: &'a [Choice], indexes: &Indexes) ->
 {
     match test {
         ValueTest::Within(operand) | ValueTest::Outside(operand) => {
-            let inner = plan_floor(operand, choices, indexes);
-            PlanFloor {
-                floor: inner.floor,
-                rest: inner.rest,
-            }
+            plan_floor(operand, choices, indexes)
         }
-        ValueTest::Number(_, _) => PlanFloor {
-            floor: 0,
-            rest: choices,
-        },
+        ValueTest::Number(_, _) => floor_behind(0, 0, choices),
     }
 }
 
@@ -194,6 +140,26 @@ fn unit_parts_floor<'a>(
         rest = part.rest;
     }
     PlanFloor { floor, rest }
+}
+
+// Two floors together, and the choices behind both.
+fn floor_behind(one: u64, other: u64, rest: &[Choice]) -> PlanFloor<'_>
+    ensures floor { result.floor ≡ capped (one + other) }
+    ensures rest { result.rest.now ≡ rest.now }
+{
+    PlanFloor {
+        floor: one.saturating_add(other),
+        rest,
+    }
+}
+
+// Of a leaf, with its types and its test.
+fn with_leaf<'a>(own: u64, of_types: &PlanFloor<'a>, of_test: &PlanFloor<'a>) -> PlanFloor<'a>
+    ensures floor { result.floor ≡ capped (own + (of_types.now.floor + of_test.now.floor)) }
+    ensures rest { result.rest.now ≡ of_test.now.rest.now }
+{
+    let inner = of_types.floor.saturating_add(of_test.floor);
+    floor_behind(own, inner, of_test.rest)
 }
 
 // The list of the concept that a walk is from, if it is one in force.

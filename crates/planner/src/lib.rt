@@ -14,5 +14,5 @@ mod tally;
 
 pub use crate::choice::{Choice, after_first, first_choice};
 pub use crate::floors::{PlanFloor, plan_floor, unit_floor};
-pub use crate::laws::{floor_within_bound, leads_are_least, worked_bounds_hold};
+pub use crate::laws::{finds_within_size, floor_within_bound, leads_are_least, worked_bounds_hold};
 pub use crate::physical::{PhysicalPlan, bound, choose, choose_with, floor, own_bounds};
