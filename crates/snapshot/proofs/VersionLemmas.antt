@@ -19,7 +19,7 @@ use Rattle.std.proofs.lemmas.List.{get_or-map, map_push, length_push, map-append
 use Rattle.std.proofs.lemmas.List.Elements.{All-contains, All-push, All-weaker, Contains-append_left, Contains-get_or, Contains-push}
 use Rattle.snapshot.proofs.SingleLemmas.{any-none, is_later-itself}
 use Rattle.std.proofs.lemmas.List.Quantifiers.{position-Some}
-use Rattle.indexmap.specs.IndexSet.{insert_key}
+use Rattle.first_met.specs.FirstMet.{keys_behind}
 use Rattle.rf2_rows.specs.Rows.{row_fault}
 use Rattle.rf2_rows.specs.Versions.{same_row, same_time}
 use Rattle.rf2_rows.proofs.VersionLemmas.{same_row-refl, same_row-sym, same_row-trans}
@@ -189,7 +189,7 @@ module _ (taken : Taken) (rising : IsStrictlyIncreasing taken.repeated) (rows : 
           (λ repeated. (version, Contains-get_or taken.versions number default placed.0, record { code = row_code; same = same })) before
 
     -- the first row of a version is taken
-    pub taken_first : (codes : List ℕ) (versions : List Version) (chosen : List Bool) → has taken.codes code ≡ false → row_fault row.kind row.text ≡ None → codes ≡ insert_key nat_eq taken.codes code
+    pub taken_first : (codes : List ℕ) (versions : List Version) (chosen : List Bool) → has taken.codes code ≡ false → row_fault row.kind row.text ≡ None → codes ≡ keys_behind taken.codes code
         → versions ≡ taken.versions ++ record { code = code; place = length taken.chosen; kind = row.kind; text = row.text } ∷ [] → chosen ≡ taken.chosen ++ true ∷ []
         → HasTaken (record { repeated = taken.repeated; codes = codes; versions = versions; chosen = chosen }) (rows ++ row ∷ [])
     taken_first codes versions chosen new accepted codes_are versions_are chosen_are =

@@ -37,7 +37,7 @@ AreLines inside = All (IsLineOf inside.lines.items) inside.rows.items
 abbrev pub taken_in : Inside → Taken
 taken_in inside = record {
   repeated = inside.repeated;
-  codes = inside.seen.keys;
+  codes = inside.seen;
   versions = inside.versions;
   chosen = inside.chosen.items;
 }

@@ -3,7 +3,7 @@ ghost use Rattle.std.specs.Prelude.{◌≡◌, ◌<◌, ◌^◌, IfOk, IfSome, I
 ghost use Rattle.rf2_rows.specs.RowTexts.{text_in};
 ghost use Rattle.snapshot.specs.Keys.{IsMet, IsShort, key_in, keyed_behind, no_keys, uuids_behind};
 
-use indexmap::IndexSet;
+use first_met::FirstMet;
 use rf2_rows::Row;
 use sctid::SctId;
 use std::alloc::{AllocError, Global};
@@ -23,7 +23,7 @@ const RELATIONSHIPS: u64 = 12_223_372_036_854_775_808;
 #[derive(Drop)]
 pub struct RowKeys {
     // the UUIDs of members, which have the numbers from 0
-    uuids: IndexSet<u128>,
+    uuids: FirstMet,
     keys: Vec<u64>,
 }
 
@@ -32,7 +32,7 @@ impl Model for RowKeys {
 
     ghost Value = { Keyed };
 
-    ghost view = { λ keys. record { uuids = keys.uuids.keys; keys = keys.keys.items } };
+    ghost view = { λ keys. record { uuids = keys.uuids; keys = keys.keys.items } };
 }
 
 impl RowKeys {
@@ -40,7 +40,7 @@ impl RowKeys {
         ensures { result ≡ no_keys }
     {
         RowKeys {
-            uuids: IndexSet::new(alloc),
+            uuids: FirstMet::new(alloc),
             keys: Vec::new(alloc),
         }
     }
@@ -78,7 +78,7 @@ impl RowKeys {
             Row::Relationship(row) => Ok(RELATIONSHIPS + row.id.number()),
             Row::Concrete(row) => Ok(CONCRETE_VALUES + row.id.number()),
             Row::Member(row) => {
-                let (place, _) = self.uuids.insert_full(row.id.as_u128())?;
+                let (place, _) = self.uuids.meet(row.id.as_u128())?;
                 Ok(place as u64)
             }
         }
@@ -94,7 +94,7 @@ impl RowKeys {
             Row::Description(row) => Some(DESCRIPTIONS + row.id.number()),
             Row::Relationship(row) => Some(RELATIONSHIPS + row.id.number()),
             Row::Concrete(row) => Some(CONCRETE_VALUES + row.id.number()),
-            Row::Member(row) => match self.uuids.get_index_of(&row.id.as_u128()) {
+            Row::Member(row) => match self.uuids.place_of(row.id.as_u128()) {
                 Some(place) => Some(place as u64),
                 None => None,
             },

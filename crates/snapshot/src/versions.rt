@@ -11,7 +11,7 @@ ghost use Rattle.snapshot.specs.Taken.{IsCodeOf, Version, is_older, is_outdated,
 
 use crate::rising_keys::RisingKeys;
 use crate::spans::{Span, push_bytes};
-use indexmap::IndexSet;
+use first_met::FirstMet;
 use rf2_rows::{FileKind, same_row};
 use std::alloc::{AllocError, Global};
 use std::marker::Model;
@@ -130,7 +130,7 @@ pub struct Versions {
     // the keys of the components that have several rows
     repeated: RisingKeys,
     // the codes of the versions, to find a version's number by its code
-    seen: IndexSet<u64>,
+    seen: FirstMet,
     // the versions in the order in which they were first seen
     versions: VersionRows,
     // for each row so far whether it is the first of its version
@@ -162,7 +162,7 @@ impl Versions {
     {
         Versions {
             repeated: RisingKeys::new(repeated),
-            seen: IndexSet::new(alloc),
+            seen: FirstMet::new(alloc),
             versions: VersionRows::new(alloc),
             chosen: Vec::new(alloc),
         }
@@ -219,7 +219,7 @@ impl Versions {
         ensures taken { IfOk result (λ fits. (rows : List Noted) → HasTaken self.old rows → AreOfItsKind rows (noted row.now)
             → fits ≡ true → HasTaken self.new (rows ++ noted row.now ∷ [])) }
     {
-        match self.seen.get_index_of(&code) {
+        match self.seen.place_of(code as u128) {
             Some(number) => {
                 if !self.versions.agrees(number, row.kind, row.text) {
                     return Ok(false);
@@ -245,7 +245,7 @@ impl Versions {
         let place = self.chosen.len();
         self.chosen.push(true)?;
         self.versions.push(code, place, row.kind, row.text)?;
-        self.seen.insert(code)?;
+        let _ = self.seen.meet(code as u128)?;
         Ok(())
     }
 

@@ -1,0 +1,2 @@
+pub mod FirstMet
+pub mod FirstMetInside
