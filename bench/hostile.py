@@ -19,6 +19,8 @@ import sys
 import tempfile
 import time
 
+import make_crafted
+
 ROOT = os.path.dirname(os.path.dirname(os.path.abspath(__file__)))
 CONCEPTS = "sct2_Concept_Snapshot_INT_20240101.txt"
 RELATIONSHIPS = "sct2_Relationship_Snapshot_INT_20240101.txt"
@@ -306,6 +308,30 @@ def memory():
     case("one of them is enough", (0, b"") in told, True)
 
 
+def seconds_of(*words):
+    """The least time of three runs, each of which must end well."""
+    times = []
+    for _ in range(3):
+        started = time.time()
+        status = run(*words, stdin=b"*:*=#1\n", seconds=300)[0]
+        times.append(time.time() - started if status == 0 else float("inf"))
+    return min(times)
+
+
+def crafted():
+    """Releases that are meant to burn time: dense hierarchies, and rows that a hash would put in one place."""
+    with folder() as room:
+        for kind, seconds in (("layers", 3), ("chain", 5)):
+            make_crafted.make(kind, f"{room}/{kind}")
+            case(f"{kind}: a load with indexes ends within {seconds} s", seconds_of("query", f"{room}/{kind}") < seconds, True)
+        for kind in ("members", "decimals"):
+            make_crafted.make(kind, f"{room}/{kind}")
+            make_crafted.make(kind, f"{room}/ordinary-{kind}", ordinary=True)
+            for word in ("check", "query"):
+                taken, ordinary = seconds_of(word, f"{room}/{kind}"), seconds_of(word, f"{room}/ordinary-{kind}")
+                case(f"{kind}: {word} takes 1.5 times what ordinary ones take at the most", taken <= 1.5 * ordinary + 0.02, True)
+
+
 if __name__ == "__main__":
     given = sys.argv[1] if len(sys.argv) > 1 else f"{ROOT}/crates/hosecrag/out/hosecrag"
     FILES = sample_files()
@@ -315,7 +341,7 @@ if __name__ == "__main__":
         os.chmod(at, 0o755)
         PROGRAM = shutil.copy(given, f"{at}/hosecrag")
         os.chmod(PROGRAM, 0o755)
-        for part in (words, streams, links, several, names, kinds_of_file, long_lines, memory, spoiled):
+        for part in (words, streams, links, several, names, kinds_of_file, long_lines, memory, spoiled, crafted):
             part()
     print(f"{passed} passed, {failed} failed")
     sys.exit(1 if failed else 0)

@@ -11,6 +11,7 @@ use Rattle.idset.specs.Sets.{has_item, listed_numbers, numbers_where}
 use Rattle.idset.proofs.Normal.{has_item-numbers_where, has_item-numbers_where_past, numbers_where-agree}
 use Rattle.hierarchy.specs.KeyedLists.{list_of}
 use Rattle.ancestor_index.specs.HierarchyLists.{is_child, lists_where}
+use Rattle.ancestor_index.specs.Gathered.{gathered_by}
 use Rattle.ancestor_index.specs.Parents.{AreParentsBy}
 
 -- ---- tests that compute
@@ -151,10 +152,7 @@ parent_placed {rows} {parents} {order} {places} {lists} {k} turn parent there =
           ∙ (λ i. numbers_where (length order) (reaches rows ((get_or-take k order j 0 less ∙ is) i)));
     }
 
--- what is gathered for it: its parents, each with its list
-abbrev pub gathered_by : List ℕ → List (List ℕ) → List ℕ → List ℕ
-gathered_by places lists found = flat_map (λ concept. concept ∷ list_of lists (get_or places concept 0)) found
-
+-- ---- what is gathered for it: its parents, each with its list
 gathered_told : {rows : List (ℕ × ℕ)} {parents : List (List ℕ)} {order places : List ℕ} {lists : List (List ℕ)} {k : ℕ} → Turn rows parents order places lists k
     → (d : ℕ) → has_item (gathered_by places lists (numbers_where (length order) (is_child rows (get_or order k 0)))) d ≡ true → (d < length order) × Reaches rows (get_or order k 0) d
 gathered_told {rows} {parents} {order} {places} {lists} {k} turn d told =

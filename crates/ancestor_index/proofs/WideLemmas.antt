@@ -8,7 +8,7 @@ use Rattle.idset.specs.Sets.{has_item}
 use Rattle.idset.specs.Words.{MarkedBelow, words_for}
 use Rattle.hierarchy.specs.KeyedLists.{list_of}
 use Rattle.hierarchy.proofs.CutLemmas.{slice_range-append}
-use Rattle.ancestor_index.specs.Wide.{IsKept, IsWide}
+use Rattle.ancestor_index.specs.Wide.{AreWide, IsKept, IsWide}
 
 -- words stay when more come behind
 pub kept_more : (count : ℕ) (list words added : List ℕ) (end : ℕ) → IsKept count list words end → IsKept count list (words ++ added) end
@@ -57,3 +57,15 @@ kept_step count place lists words added ends end len known here concept below = 
   where
     earlier : concept ≢ place → concept < place
     earlier other = ⊎_elim (λ (less : concept < place). less) (λ (past : place ≤ concept). absurd (other (omega arith))) (cases_lt concept place)
+
+-- the words of one list more
+pub wide_step : (count : ℕ) (lists : List (List ℕ)) (list words added ends : List ℕ) (end : ℕ) → AreWide count lists ends words → IsKept count list (words ++ added) end
+    → AreWide count (lists ++ list ∷ []) (ends ++ end ∷ []) (words ++ added)
+wide_step count lists list words added ends end wide here = record {
+  len = omega (arith, wide.len, length-append ends (end ∷ []), length-append lists (list ∷ []));
+  kept = λ concept below.
+      kept_step count (length lists) (lists ++ list ∷ []) words added ends end wide.len
+      (λ concept less. subst (λ (own : List ℕ). IsKept count own words (get_or ends concept 0)) (sym (get_or_append_left lists (list ∷ []) [] concept less)) (wide.kept concept less))
+      (subst (λ (own : List ℕ). IsKept count own (words ++ added) end) (sym (get_or_push lists list [] (length lists) refl)) here)
+      concept (omega (arith, below, length-append lists (list ∷ [])));
+}

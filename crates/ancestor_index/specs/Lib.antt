@@ -1,3 +1,4 @@
+pub mod Gathered
 pub mod HierarchyLists
 pub mod IndexInside
 pub mod Parents

@@ -1,14 +1,19 @@
 //! The ancestors of each concept: its parents, and the ancestors of these.
-ghost use Rattle.std.specs.Prelude.{ℕ, ◌≡◌, ◌<◌, ◌++◌, ◌∷◌, ◌^◌, List, All, IfOk, OnOk, flat_map, length, map, nat_eq, slice_index, vec_len};
+ghost use Rattle.std.specs.Prelude.{ℕ, ◌≡◌, ◌<◌, ◌^◌, ◌||◌, ◌++◌, Bool, List, All, IfOk, IfSome, OnOk, length, map, nat_eq, slice_index, vec_len};
 ghost use Rattle.std.specs.List.{IsDistinct};
 ghost use Rattle.hierarchy.specs.Hierarchy.{reaches};
-ghost use Rattle.idset.specs.Sets.{numbers_where};
-ghost use Rattle.hierarchy.specs.KeyedLists.{list_of};
+ghost use Rattle.idset.specs.Sets.{IsRisingBelow, has_item, listed_numbers, numbers_where};
+ghost use Rattle.idset.specs.Words.{AreWordsBelow, MarkedBelow, is_set};
+ghost use Rattle.hierarchy.specs.KeyedLists.{AreItemsBelow, list_of};
 ghost use Rattle.ancestor_index.specs.HierarchyLists.{lists_where};
+ghost use Rattle.ancestor_index.specs.Gathered.{AreGathered, gathered_by, has_joined};
 ghost use Rattle.ancestor_index.specs.Parents.{AreParentsBy};
+ghost use Rattle.ancestor_index.specs.Wide.{AreWide};
 
 use crate::rising::keep_rising;
+use crate::wide::WideLists;
 use hierarchy::KeyedLists;
+use idset::{ConceptSet, WordSet};
 use std::alloc::{AllocError, Global};
 
 /// The ancestors of each concept, by the parents of each and an order in which parents come first.
@@ -49,36 +54,146 @@ fn ancestors_in_order(
     order: &[u32],
     places: &[u32],
 ) -> Result<KeyedLists, AllocError>
+    requires few { length order.now < 2 ^ 32 }
     requires parents { (rows : List (ℕ × ℕ)) × AreParentsBy rows parents.now order.now }
     requires len { length places.now ≡ length order.now }
     requires places { (place : ℕ) → place < length order.now → slice_index places.now (slice_index order.now place) ≡ place }
     ensures { IfOk result (λ lists. (rows : List (ℕ × ℕ)) → AreParentsBy rows parents.now order.now
         → lists ≡ map (λ concept. numbers_where (length order.now) (reaches rows concept)) order.now) }
 {
+    let count = order.len() as u32;
     let mut lists = KeyedLists::with_capacity(alloc, order.len(), order.len())?;
+    let mut wide = WideLists::with_capacity(alloc, order.len())?;
     let mut list = Vec::new(alloc);
     for concept in order {
-        list.clear();
-        gather(&mut list, parents.of(*concept), places, &lists)?;
-        keep_rising(&mut list);
+        join(
+            alloc,
+            &mut list,
+            parents.of(*concept),
+            places,
+            &lists,
+            &wide,
+            count,
+        )?;
+        wide.push(alloc, list.as_slice(), count)?;
         lists = lists.push(list.as_slice())?;
     }
     Ok(lists)
 }
 
-// Adds concepts, each with the concepts of its list, which is the list of its place.
-fn gather(
+// Leaves in `list` concepts, each with the concepts of its list, which is the list of its place, in rising order and
+// once each. Long lists are joined by their words.
+fn join(
+    alloc: Global,
     list: &mut Vec<u32>,
     concepts: &[u32],
     places: &[u32],
     lists: &KeyedLists,
+    wide: &WideLists,
+    count: u32,
 ) -> Result<(), AllocError>
-    requires { All (λ concept. (concept < length places.now) × (slice_index places.now concept < length lists.now)) concepts.now }
-    ensures { OnOk result (list.new.items ≡ list.old.items ++ flat_map (λ concept. concept ∷ list_of lists.now (slice_index places.now concept)) concepts.now) }
+    requires concepts { All (λ concept. (concept < count) × (concept < length places.now) × (slice_index places.now concept < length lists.now)) concepts.now }
+    requires items { AreItemsBelow count lists.now }
+    requires wide { AreWide count lists.now wide.now.ends.items wide.now.words.items }
+    ensures { OnOk result (list.new.items ≡ listed_numbers count (gathered_by places.now lists.now concepts.now)) }
 {
+    let joined: Option<WordSet> = gather(alloc, list, concepts, places, lists, wide, count)?;
+    keep_rising(list);
+    add_joined(alloc, list, joined)
+}
+
+// Gathers concepts, each with the concepts of its list, which is the list of its place: those of the long lists in
+// a set, so that joining them takes words and not all their items, and the others in `list`.
+fn gather<S: ConceptSet>(
+    alloc: Global,
+    list: &mut Vec<u32>,
+    concepts: &[u32],
+    places: &[u32],
+    lists: &KeyedLists,
+    wide: &WideLists,
+    count: u32,
+) -> Result<Option<S>, AllocError>
+    requires concepts { All (λ concept. (concept < count) × (concept < length places.now) × (slice_index places.now concept < length lists.now)) concepts.now }
+    requires items { AreItemsBelow count lists.now }
+    requires wide { AreWide count lists.now wide.now.ends.items wide.now.words.items }
+    ensures gathered { IfOk result (λ joined. AreGathered S.items_of count (gathered_by places.now lists.now concepts.now) list.new.items joined) }
+    ensures below { OnOk result (All (λ item. item < count) list.new.items) }
+    ensures bound { IfOk result (λ joined. IfSome joined (λ set. S.bound_of set ≡ count)) }
+{
+    list.clear();
+    let mut joined: Option<S> = None;
     for concept in concepts {
         list.push(*concept)?;
-        list.extend_from_slice(lists.of(places[*concept as usize]))?;
+        let place = places[*concept as usize];
+        let words = wide.of(place, count);
+        joined = add_list(alloc, list, joined, lists.of(place), words, count)?;
+    }
+    Ok(joined)
+}
+
+// Gathers a list: in the set where it has words of bits, else in `list`.
+fn add_list<S: ConceptSet>(
+    alloc: Global,
+    list: &mut Vec<u32>,
+    joined: Option<S>,
+    own: &[u32],
+    words: Option<&[u64]>,
+    count: u32,
+) -> Result<Option<S>, AllocError>
+    requires words { IfSome words (λ words. MarkedBelow count words.now (has_item own.now)) }
+    requires own { All (λ item. item < count) own.now }
+    requires list { All (λ item. item < count) list.old.items }
+    requires bound { IfSome joined (λ set. S.bound_of set ≡ count) }
+    ensures gathered { IfOk result (λ now. (all : List ℕ) → AreGathered S.items_of count all list.old.items joined
+        → AreGathered S.items_of count (all ++ own.now) list.new.items now) }
+    ensures below { OnOk result (All (λ item. item < count) list.new.items) }
+    ensures bound { IfOk result (λ now. IfSome now (λ set. S.bound_of set ≡ count)) }
+{
+    match words {
+        Some(words) => {
+            let set = with_words(alloc, joined, words, count)?;
+            Ok(Some(set))
+        }
+        None => {
+            list.extend_from_slice(own)?;
+            Ok(joined)
+        }
+    }
+}
+
+// A set, if there is one, with the numbers of words of bits.
+fn with_words<S: ConceptSet>(
+    alloc: Global,
+    joined: Option<S>,
+    words: &[u64],
+    count: u32,
+) -> Result<S, AllocError>
+    requires words { AreWordsBelow count words.now }
+    requires bound { IfSome joined (λ set. S.bound_of set ≡ count) }
+    ensures items { IfOk result (λ set. (number : ℕ) → number < count
+        → has_item (S.items_of set) number ≡ (has_joined S.items_of joined number || is_set words.now number)) }
+    ensures bound { IfOk result (λ set. S.bound_of set ≡ count) }
+{
+    let set = S::from_words(alloc, words, count)?;
+    match joined {
+        Some(others) => others.or(alloc, &set),
+        None => Ok(set),
+    }
+}
+
+// Adds the items of a set, if there is one, to a rising list.
+fn add_joined<S: ConceptSet>(
+    alloc: Global,
+    list: &mut Vec<u32>,
+    joined: Option<S>,
+) -> Result<(), AllocError>
+    requires { IfSome joined (λ set. IsRisingBelow (S.bound_of set) list.old.items) }
+    ensures { OnOk result ((count : ℕ) (test : ℕ → Bool) → IfSome joined (λ set. S.bound_of set ≡ count) → list.old.items ≡ numbers_where count test
+        → list.new.items ≡ numbers_where count (λ number. test number || has_joined S.items_of joined number)) }
+{
+    if let Some(mut set) = joined {
+        set.add_all(alloc, list.as_slice())?;
+        *list = set.items(alloc)?;
     }
     Ok(())
 }

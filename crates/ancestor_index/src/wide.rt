@@ -1,5 +1,5 @@
 //! Long lists once more as words of bits, which sets are made of without going through the list.
-ghost use Rattle.std.specs.Prelude.{ℕ, ◌≡◌, ◌↔◌, ◌<◌, ◌++◌, ◌^◌, List, All, IfOk, IfSome, IsSome, IsTrue, length};
+ghost use Rattle.std.specs.Prelude.{ℕ, ◌≡◌, ◌↔◌, ◌<◌, ◌++◌, ◌∷◌, ◌^◌, [], List, All, IfOk, IfSome, IsSome, IsTrue, OnOk, length};
 ghost use Rattle.idset.specs.Sets.{has_item};
 ghost use Rattle.idset.specs.Words.{MarkedBelow};
 ghost use Rattle.hierarchy.specs.KeyedLists.{AreItemsBelow, list_of};
@@ -24,13 +24,11 @@ pub fn wide_lists(alloc: Global, lists: &KeyedLists, count: u32) -> Result<WideL
     requires few { length lists.now < 2 ^ 32 }
     ensures { IfOk result (λ wide. AreWide count lists.now wide.ends.items wide.words.items) }
 {
-    let mut words = Vec::new(alloc);
-    let mut ends = Vec::with_capacity(alloc, lists.len() as usize)?;
+    let mut wide = WideLists::with_capacity(alloc, lists.len() as usize)?;
     for concept in 0..lists.len() {
-        let end = put_words(alloc, lists.of(concept), count, &mut words)?;
-        ends.push(end)?;
+        wide.push(alloc, lists.of(concept), count)?;
     }
-    Ok(WideLists { words, ends })
+    Ok(wide)
 }
 
 // Adds the words of a list, if it is long, and tells where they end.
@@ -60,6 +58,28 @@ fn is_wide(list: &[u32], count: u32) -> bool
 }
 
 impl WideLists {
+    /// No list, with room for so many before any more memory is asked for.
+    pub fn with_capacity(alloc: Global, lists: usize) -> Result<WideLists, AllocError>
+        ensures { IfOk result (λ wide. (count : ℕ) → AreWide count [] wide.ends.items wide.words.items) }
+    {
+        let ends = Vec::with_capacity(alloc, lists)?;
+        Ok(WideLists {
+            words: Vec::new(alloc),
+            ends,
+        })
+    }
+
+    /// Takes the list of the next concept, of numbers below `count`.
+    pub fn push(&mut self, alloc: Global, list: &[u32], count: u32) -> Result<(), AllocError>
+        requires { All (λ item. item < count) list.now }
+        ensures { OnOk result ((lists : List (List ℕ)) → AreWide count lists self.old.ends.items self.old.words.items
+            → AreWide count (lists ++ list.now ∷ []) self.new.ends.items self.new.words.items) }
+    {
+        let end = put_words(alloc, list, count, &mut self.words)?;
+        self.ends.push(end)?;
+        Ok(())
+    }
+
     /// The words of the list of a concept below `count`, if it is long.
     pub fn of(&self, concept: u32, count: u32) -> Option<&[u64]>
         requires { (lists : List (List ℕ)) × AreWide count lists self.now.ends.items self.now.words.items × (concept < length lists) }

@@ -1,11 +1,15 @@
 use Rattle.std.proofs.Common.{ℕ, ◌≡◌, ◌<◌, ◌++◌, ◌∷◌, [], ◌∙◌, List, length, get_or, map, sym, subst, ap, arith}
 use Rattle.std.specs.Prelude.{All, Contains}
 use Rattle.std.proofs.lemmas.List.{take_all}
-use Rattle.std.proofs.lemmas.List.Elements.{Contains-get_or}
+use Rattle.std.proofs.lemmas.List.Elements.{All-nil, Contains-get_or}
+use Rattle.hierarchy.specs.KeyedLists.{AreItemsBelow}
 use Rattle.idset.specs.Sets.{listed_numbers, numbers_where}
 use Rattle.hierarchy.specs.Hierarchy.{reaches}
 use Rattle.ancestor_index.specs.HierarchyLists.{is_child}
-use Rattle.ancestor_index.proofs.ClosureLemmas.{Turn, gathered_below, gathered_by, gathered_listed, length-where, order_below, own_parents, parent_placed}
+use Rattle.ancestor_index.proofs.ClosureLemmas.{Turn, gathered_listed, length-where, order_below, own_parents, parent_placed}
+use Rattle.ancestor_index.specs.Gathered.{gathered_by}
+use Rattle.ancestor_index.specs.Wide.{AreWide}
+use Rattle.ancestor_index.proofs.GatherLemmas.{items_more, where_below}
 use Rattle.ancestor_index.proofs.ListLemmas.{map_more}
 use Rattle.ancestor_index.proofs.closure.ancestors_in_order.Goals as goal
 
@@ -20,38 +24,65 @@ of-requires c =
       length-where (length order) (is_child c.requires.parents.0),
     )
 
-pub gather-requires : goal.gather-requires
-gather-requires c = λ i d inside.
+pub join-requires-clause-concepts : goal.join-requires-clause-concepts
+join-requires-clause-concepts c = λ i d inside.
     let order = c.args.order.now in
     let rows = c.requires.parents.0 in
     let given = c.requires.parents.1 in
     let turn : Turn rows c.args.parents.now order c.args.places.now c.loop-concept.lists c.loop-concept.concept-index =
-    record { given = given; len = c.requires.len; placed = c.requires.places; within = c.loop-concept-test.true; known = c.loop-concept.invariant rows given } in
+    record { given = given; len = c.requires.len; placed = c.requires.places; within = c.loop-concept-test.true; known = c.loop-concept.invariant.known rows given } in
     let own : c.of.result.now ≡ numbers_where (length order) (is_child rows (get_or order c.loop-concept.concept-index 0)) = c.of.ensures ∙ own_parents turn in
     let placed = parent_placed turn (get_or c.of.result.now i d) (subst (λ (xs : List ℕ). Contains xs (get_or c.of.result.now i d)) own (Contains-get_or c.of.result.now i d inside)) in
-    (placed.near, placed.early)
+    (omega (arith, placed.near, c.requires.len), placed.near, placed.early)
+
+pub join-requires-clause-items : goal.join-requires-clause-items
+join-requires-clause-items c = c.loop-concept.invariant.items
+
+pub join-requires-clause-wide : goal.join-requires-clause-wide
+join-requires-clause-wide c = c.loop-concept.invariant.wide
+
+-- what was joined are the ancestors of the concept
+pub push-requires : goal.push-requires
+push-requires c =
+    where_below (length c.args.order.now) _ c.as_slice.result.now (c.as_slice.ensures.value ∙ c.in_ok-join.ensures)
 
 pub loop-concept-preserved : goal.loop-concept-preserved
-loop-concept-preserved c = λ rows given.
+loop-concept-preserved c =
     let order = c.args.order.now in
     let count = length order in
     let k = c.loop-concept.concept-index in
-    let concept = get_or order k 0 in
-    let turn : Turn rows c.args.parents.now order c.args.places.now c.loop-concept.lists k =
-    record { given = given; len = c.requires.len; placed = c.requires.places; within = c.loop-concept-test.true; known = c.loop-concept.invariant rows given } in
-    let own : c.of.result.now ≡ numbers_where count (is_child rows concept) = c.of.ensures ∙ own_parents turn in
-    let all = gathered_by c.args.places.now c.loop-concept.lists (numbers_where count (is_child rows concept)) in
-    let gathered : c.gather.new.list.items ≡ all = c.in_ok-gather.ensures ∙ (λ i. c.clear.ensures.items i ++ gathered_by c.args.places.now c.loop-concept.lists (own i)) in
-    let made : c.as_slice.result.now ≡ numbers_where count (reaches rows concept) =
-    c.as_slice.ensures.value
-    ∙ c.keep_rising.ensures count (subst (λ (xs : List ℕ). All (λ number. number < count) xs) (sym gathered) (gathered_below turn))
-    ∙ ap (listed_numbers count) gathered
-    ∙ gathered_listed turn in
-    c.in_ok-lists-2.ensures
-    ∙ (λ i. c.loop-concept.invariant rows given i ++ made i ∷ [])
-    ∙ sym (map_more (λ concept. numbers_where count (reaches rows concept)) order k 0 c.loop-concept-test.true)
+    let list = c.as_slice-in-loop-concept.result.now in
+    let below : All (λ item. item < count) list = where_below count _ list (c.as_slice-in-loop-concept.ensures.value ∙ c.in_ok-join.ensures) in
+    let same = c.as_slice.ensures.value ∙ sym c.as_slice-in-loop-concept.ensures.value in
+    record {
+      known = λ rows given.
+          let concept = get_or order k 0 in
+          let turn : Turn rows c.args.parents.now order c.args.places.now c.loop-concept.lists k =
+          record { given = given; len = c.requires.len; placed = c.requires.places; within = c.loop-concept-test.true; known = c.loop-concept.invariant.known rows given } in
+          let own : c.of.result.now ≡ numbers_where count (is_child rows concept) = c.of.ensures ∙ own_parents turn in
+          let made : c.as_slice-in-loop-concept.result.now ≡ numbers_where count (reaches rows concept) =
+          c.as_slice-in-loop-concept.ensures.value
+          ∙ c.in_ok-join.ensures
+          ∙ ap (λ (concepts : List ℕ). listed_numbers count (gathered_by c.args.places.now c.loop-concept.lists concepts)) own
+          ∙ gathered_listed turn in
+          c.in_ok-lists-2.ensures
+          ∙ (λ i. c.loop-concept.invariant.known rows given i ++ made i ∷ [])
+          ∙ sym (map_more (λ concept. numbers_where count (reaches rows concept)) order k 0 c.loop-concept-test.true);
+      items = subst (AreItemsBelow count) (sym c.in_ok-lists-2.ensures) (items_more count c.loop-concept.lists list c.loop-concept.invariant.items below);
+      wide = subst (λ (lists : List (List ℕ)). AreWide count lists c.push.new.self.ends.items c.push.new.self.words.items) (sym c.in_ok-lists-2.ensures)
+          (subst (λ (pushed : List ℕ). AreWide count (c.loop-concept.lists ++ pushed ∷ []) c.push.new.self.ends.items c.push.new.self.words.items) same
+          (c.in_ok-push.ensures c.loop-concept.lists c.loop-concept.invariant.wide));
+    }
+
+pub loop-concept-init : goal.loop-concept-init
+loop-concept-init c = record {
+  known = λ rows given. c.in_ok-lists.ensures;
+  items = subst (AreItemsBelow (length c.args.order.now)) (sym c.in_ok-lists.ensures) (All-nil (λ (items : List ℕ). All (λ item. item < length c.args.order.now) items));
+  wide = subst (λ (lists : List (List ℕ)). AreWide (length c.args.order.now) lists c.in_ok-wide.wide.ends.items c.in_ok-wide.wide.words.items) (sym c.in_ok-lists.ensures)
+      (c.in_ok-wide.ensures (length c.args.order.now));
+}
 
 pub returns : goal.returns
 returns c = λ rows given.
-    c.loop-concept.invariant rows given
+    c.loop-concept.invariant.known rows given
     ∙ ap (map (λ concept. numbers_where (length c.args.order.now) (reaches rows concept))) (take_all c.loop-concept.concept-index c.args.order.now (omega arith))

@@ -1,7 +1,11 @@
-use Rattle.std.proofs.Common.{◌≡◌, ◌++◌, ◌∷◌, take, slice_index}
-use Rattle.std.specs.Prelude.{flat_map}
-use Rattle.hierarchy.specs.KeyedLists.{list_of}
+use Rattle.std.proofs.Common.{◌≡◌, ◌<◌, take}
+use Rattle.std.specs.Prelude.{All, IfSome}
+use Rattle.ancestor_index.specs.Gathered.{AreGathered, gathered_by}
 use Rattle.ancestor_index.proofs.closure.gather.Given as goal
 
 abbrev pub invariant-loop-concept : goal.invariant-loop-concept
-invariant-loop-concept l = l.list.items ≡ l.fn.list.items ++ flat_map (λ concept. concept ∷ list_of l.lists (slice_index l.places concept)) (take l.concept-index l.concepts)
+invariant-loop-concept g l = record {
+  gathered : AreGathered g.S.ConceptSet.items_of l.count (gathered_by l.places l.lists (take l.concept-index l.concepts)) l.list.items l.joined;
+  below : All (λ item. item < l.count) l.list.items;
+  bound : IfSome l.joined (λ set. g.S.ConceptSet.bound_of set ≡ l.count);
+}

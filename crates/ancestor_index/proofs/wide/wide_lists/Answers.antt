@@ -1,20 +1,16 @@
-use Rattle.std.proofs.Common.{ℕ, ◌++◌, ◌∷◌, [], ◌∙◌, List, length, get_or, sym, subst, ap, arith, length-append}
-use Rattle.hierarchy.specs.KeyedLists.{list_of}
-use Rattle.ancestor_index.specs.Wide.{IsKept}
-use Rattle.ancestor_index.proofs.WideLemmas.{kept_step}
+use Rattle.std.proofs.Common.{◌∙◌, ◌++◌, ◌∷◌, [], List, ℕ, ap, arith, subst, sym, take}
+use Rattle.std.proofs.lemmas.List.{take_all, take_more}
+use Rattle.ancestor_index.specs.Wide.{AreWide}
 use Rattle.ancestor_index.proofs.wide.wide_lists.Goals as goal
 
 pub loop-concept-preserved : goal.loop-concept-preserved
 loop-concept-preserved c =
-    let lists = c.args.lists.now in
-    let grown = c.put_words.ensures.grown in
-    let pushed = c.in_ok-push.ensures.items in
-    let here = subst (λ (list : List ℕ). IsKept c.args.count list c.put_words.new.words.items c.in_ok-end.end) c.of.ensures c.in_ok-end.ensures.kept in
-    record {
-      len = ap (λ (xs : List ℕ). length xs) pushed ∙ omega (arith, length-append c.loop-concept.ends.items (c.in_ok-end.end ∷ []), c.loop-concept.invariant.len);
-      kept = λ concept below.
-          subst (λ (ends : List ℕ). IsKept c.args.count (list_of lists concept) c.put_words.new.words.items (get_or ends concept 0)) (sym pushed)
-          (subst (λ (words : List ℕ). IsKept c.args.count (list_of lists concept) words (get_or (c.loop-concept.ends.items ++ c.in_ok-end.end ∷ []) concept 0)) (sym grown.1)
-          (kept_step c.args.count c.loop-concept.concept lists c.loop-concept.words.items grown.0 c.loop-concept.ends.items c.in_ok-end.end c.loop-concept.invariant.len c.loop-concept.invariant.kept
-          (subst (λ (words : List ℕ). IsKept c.args.count (list_of lists c.loop-concept.concept) words c.in_ok-end.end) grown.1 here) concept below));
-    }
+    let before = take c.loop-concept.concept c.args.lists.now in
+    subst (λ (lists : List (List ℕ)). AreWide c.args.count lists c.push.new.self.ends.items c.push.new.self.words.items)
+    (ap (λ (list : List ℕ). before ++ list ∷ []) c.of.ensures ∙ sym (take_more c.args.lists.now c.loop-concept.concept [] (omega arith)))
+    (c.in_ok-push.ensures before c.loop-concept.invariant)
+
+pub returns : goal.returns
+returns c =
+    subst (λ (lists : List (List ℕ)). AreWide c.args.count lists c.loop-concept.wide.ends.items c.loop-concept.wide.words.items)
+    (take_all c.loop-concept.concept c.args.lists.now (omega arith)) c.loop-concept.invariant

@@ -1,10 +1,6 @@
-use Rattle.std.proofs.Common.{ℕ, ◌≡◌, ◌<◌, length, slice_index}
-use Rattle.hierarchy.specs.KeyedLists.{list_of}
-use Rattle.ancestor_index.specs.Wide.{IsKept}
+use Rattle.std.proofs.Common.{take}
+use Rattle.ancestor_index.specs.Wide.{AreWide}
 use Rattle.ancestor_index.proofs.wide.wide_lists.Given as goal
 
 abbrev pub invariant-loop-concept : goal.invariant-loop-concept
-invariant-loop-concept l = record {
-  len : length l.ends.items ≡ l.concept;
-  kept : (concept : ℕ) → concept < l.concept → IsKept l.count (list_of l.lists concept) l.words.items (slice_index l.ends.items concept);
-}
+invariant-loop-concept l = AreWide l.count (take l.concept l.lists) l.wide.ends.items l.wide.words.items

@@ -1,0 +1,12 @@
+use Rattle.std.proofs.Common.{arith}
+use Rattle.std.proofs.lemmas.Bool.Decides.{nat_tests}
+use Rattle.std.proofs.lemmas.Grind.{common_steps}
+use Rattle.idset.proofs.Normal.{has_item-numbers_where}
+use Rattle.ancestor_index.proofs.GatherLemmas.{with_words_has}
+use Rattle.ancestor_index.proofs.closure.with_words.Goals as goal
+
+pub returns-in-Some-clause-items : goal.returns-in-Some-clause-items
+returns-in-Some-clause-items g c = grind (arith, common_steps, nat_tests, with_words_has, c.or.ensures, c.in_ok-set.ensures)
+
+pub returns-in-None-clause-items : goal.returns-in-None-clause-items
+returns-in-None-clause-items g c = grind (arith, common_steps, nat_tests, has_item-numbers_where, c.in_ok-set.ensures)

@@ -1,0 +1,18 @@
+-- What is gathered of concepts with their lists, before it is brought in order.
+use Rattle.std.specs.Prelude.{ℕ, ◌≡◌, ◌<◌, ◌∷◌, ◌||◌, Bool, false, List, Option, None, Some, flat_map, slice_index}
+use Rattle.idset.specs.Sets.{has_item}
+use Rattle.hierarchy.specs.KeyedLists.{list_of}
+
+-- concepts, each with the concepts of its list, which is the list of its place
+abbrev pub gathered_by : List ℕ → List (List ℕ) → List ℕ → List ℕ
+gathered_by places lists concepts = flat_map (λ concept. concept ∷ list_of lists (slice_index places concept)) concepts
+
+-- whether a number is in a set, if there is one
+abbrev pub has_joined : {S : Type 0} → (S → List ℕ) → Option S → ℕ → Bool
+has_joined items_of None number = false
+has_joined items_of (Some set) number = has_item (items_of set) number
+
+-- of the numbers below a count those in a list or in a set are those of another list
+abbrev pub AreGathered : {S : Type 0} → (S → List ℕ) → ℕ → List ℕ → List ℕ → Option S → Type 0
+AreGathered items_of count all list joined =
+    (number : ℕ) → number < count → has_item all number ≡ (has_item list number || has_joined items_of joined number)
