@@ -45,6 +45,11 @@ impl Extent {
         }
     }
 
+    /// Whether they are asked one by one sooner than so many concepts are gone through.
+    pub fn are_few_beside(self, concepts: u32) -> bool {
+        self.items.saturating_mul(LOOK_UP) < u64::from(concepts)
+    }
+
     /// Whether their groups are looked up sooner than so many groups are found without them.
     pub fn has_few_groups(self, groups: u64) -> bool {
         self.groups < groups

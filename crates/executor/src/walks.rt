@@ -278,9 +278,9 @@ fn kept_apart<S: ConceptSet>(
     Ok(kept)
 }
 
-// Whether the list of a concept has none of a set. The concepts one is-a row away are looked at first: most
-// often one of them is in the set, and the whole list lies far off in memory.
-fn is_apart<S: ConceptSet>(index: &AncestorIndex, family: Family, concept: u32, set: &S) -> bool
+/// Whether the list of a concept has none of a set. The concepts one is-a row away are looked at first: most
+/// often one of them is in the set, and the whole list lies far off in memory.
+pub fn is_apart<S: ConceptSet>(index: &AncestorIndex, family: Family, concept: u32, set: &S) -> bool
     requires over { IsOver (S.bound_of set.now) index.now }
     requires below { concept < S.bound_of set.now }
     ensures { result ≡ not (list_any (has_item (S.items_of set.now)) (list_of (lists_of index.now family) concept)) }
@@ -288,8 +288,8 @@ fn is_apart<S: ConceptSet>(index: &AncestorIndex, family: Family, concept: u32, 
     !meets(family.near().list(index, concept), set) && !meets(family.list(index, concept), set)
 }
 
-// Whether a set has one of the concepts of a list.
-fn meets<S: ConceptSet>(list: &[u32], set: &S) -> bool
+/// Whether a set has one of the concepts of a list.
+pub fn meets<S: ConceptSet>(list: &[u32], set: &S) -> bool
     ensures { result ≡ list_any (has_item (S.items_of set.now)) list.now }
 {
     list.iter().any(|concept| set.has(*concept))

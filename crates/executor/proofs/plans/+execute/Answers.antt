@@ -16,6 +16,7 @@ use Rattle.idset.specs.Sets.{has_item, numbers_where}
 use Rattle.postings.specs.Groups.{all_groups}
 use Rattle.executor.specs.Groups.{groups_where, some_group_in}
 use Rattle.executor.specs.Numbers.{numbers_in}
+use Rattle.executor.specs.Steps.{led_to}
 use Rattle.executor.specs.Within.{groups_within, leads_off, leads_off_groups, may_be, numbers_within}
 use Rattle.rf2_rows.specs.Pairs.{Pair}
 use Rattle.executor.proofs.GroupNodeLemmas as groups
@@ -57,12 +58,13 @@ execute_within-returns-in_ok-found-in-One-clause-items g t c =
 pub execute_within-returns-in_ok-found-in-Walk-clause-items : goal.execute_within-returns-in_ok-found-in-Walk-clause-items
 execute_within-returns-in_ok-found-in-Walk-clause-items g t c =
     let release = c.args.snapshot.now.release in
-    let may : ℕ → Bool = may_be g.S.ConceptSet.items_of c.args.candidates.now in
-    kept_node release may (plan_of c.args.plan.now) (g.S.ConceptSet.items_of c.in_ok-led-in-Walk.led) (g.S.ConceptSet.items_of c.in_ok-found-in-Walk.found)
-    (walk_node release (plan_of c.args.plan.now) (g.S.ConceptSet.items_of c.in_ok-led-in-Walk.led) (plan_of c.deref.result.now) c.in-Walk.operator c.hierarchy.result.now
-    (g.S.ConceptSet.bound_of c.in_ok-from-in-Walk.from) (g.S.ConceptSet.items_of c.in_ok-from-in-Walk.from)
+    let from = c.in_ok-from-in-Walk.from in
+    let led : List ℕ = led_to c.hierarchy-hierarchy.result.now (g.S.ConceptSet.bound_of from) c.in-Walk.operator (g.S.ConceptSet.items_of from) in
+    kept_node release (may_be g.S.ConceptSet.items_of c.args.candidates.now) (plan_of c.args.plan.now) led (g.S.ConceptSet.items_of c.in_ok-found-in-Walk.found)
+    (walk_node release (plan_of c.args.plan.now) led (plan_of c.deref.result.now) c.in-Walk.operator c.hierarchy-hierarchy.result.now
+    (g.S.ConceptSet.bound_of from) (g.S.ConceptSet.items_of from)
     (ap plan_of c.in-Walk.is ∙ ap (λ (plan : ConceptPlan). walk_plan c.in-Walk.operator (plan_of plan)) (sym c.deref.ensures))
-    (c.hierarchy.ensures ∙ c.requires.index.hierarchy) c.in_ok-from-in-Walk.ensures.bound c.in_ok-from-in-Walk.ensures.items c.in_ok-led-in-Walk.ensures.items)
+    (c.hierarchy-hierarchy.ensures ∙ c.requires.index.hierarchy) c.in_ok-from-in-Walk.ensures.bound c.in_ok-from-in-Walk.ensures.items refl)
     c.in_ok-found-in-Walk.ensures.items
 
 pub execute_within-returns-in_ok-found-in-Members-clause-items : goal.execute_within-returns-in_ok-found-in-Members-clause-items

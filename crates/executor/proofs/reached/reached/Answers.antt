@@ -1,5 +1,4 @@
-use Rattle.std.proofs.Common.{ℕ, List, ◌≡◌, ◌<◌, ◌+◌, ◌||◌, ◌∙◌, length, get_or, refl, sym, ap, subst, arith}
-use Rattle.hierarchy.specs.ParentsFirst.{IsParentsFirst}
+use Rattle.std.proofs.Common.{ℕ, List, ◌≡◌, ◌<◌, ◌+◌, ◌||◌, ◌∙◌, length, get_or, sym, ap, subst, arith}
 use Rattle.hierarchy.specs.KeyedLists.{list_of}
 use Rattle.idset.specs.Sets.{IsRisingBelow, all_items, has_item, numbers_where}
 use Rattle.idset.specs.Words.{is_set}
