@@ -41,7 +41,8 @@ module _ (count : ℕ) (hierarchy : Hierarchy) (over : IsOver count hierarchy) (
         let below : from.0 < count = subst (λ (n : ℕ). n < count) from.1.2 (all_below count items rises from.1.0 from.0 from.1.1) in
         let stood = listed_stands count hierarchy over f from.0 concept below from.2 in
         some_item_passes (has_item items) own from.0
-        (item_there own from.0 (stands_listed count hierarchy over (back_of f) concept from.0 inside below (sym (stands_back over.release f from.0 concept) ∙ stood.1)))
+        (item_there own from.0 (stands_listed count hierarchy over (back_of f) concept from.0 inside below
+        (sym (stands_back over.release f from.0 concept) ∙ stood.1)))
         (there_item items from.0 from.1)
 
     again : list_any (has_item items) own ≡ true → list_any (λ other. has_item (list_of lists other) concept) items ≡ true
@@ -57,7 +58,8 @@ module _ (count : ℕ) (hierarchy : Hierarchy) (over : IsOver count hierarchy) (
         both_ways (list_any (has_item items) own) (list_any (λ other. has_item (list_of lists other) concept) items) again there
         ∙ sym (has_item-numbers_where count (λ n. list_any (λ other. has_item (list_of lists other) n) items) concept inside)
 
-    pub asked_or_self : (has_item items concept || has_item (joined count lists items) concept) ≡ has_item (all_items count items (joined count lists items)) concept
+    pub asked_or_self : (has_item items concept || has_item (joined count lists items) concept)
+        ≡ has_item (all_items count items (joined count lists items)) concept
     asked_or_self = sym (has_item-numbers_where count (λ n. has_item items n || has_item (joined count lists items) n) concept inside)
 
     pub asked_apart : (has_item items concept && not (list_any (has_item items) (list_of lists concept))) ≡ has_item (apart lists items) concept
@@ -82,7 +84,8 @@ module _ (count : ℕ) (hierarchy : Hierarchy) (over : IsOver count hierarchy) (
   led_asked operator wanted wanted_rises =
       ap (filter (has_item led)) (rising_is_numbers_where count wanted wanted_rises)
       ∙ filter-numbers_where count (has_item wanted) (has_item led)
-      ∙ sym (restricted_to count (has_item wanted) (has_item led) led (filter (has_item wanted) led) (rising_is_numbers_where count led (led_rises operator)) refl)
+      ∙ sym (restricted_to count (has_item wanted) (has_item led) led (filter (has_item wanted) led)
+      (rising_is_numbers_where count led (led_rises operator)) refl)
     where
       led : List ℕ
       led = led_to hierarchy count operator items

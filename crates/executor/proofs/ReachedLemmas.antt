@@ -225,7 +225,8 @@ module _ (release : Release) (rows : List (ℕ × ℕ)) (order : List ℕ) (risi
             one_on p a (ends there).1 (ends there).0 (or_right (has_item items p) (has_item found p) (down beneath chain told))
             (ap (λ (g : Family). stands release (near_of g) p a) beneath ∙ child a p there)
 
-        led : (g : Family) → f ≡ g → (concept : ℕ) → concept < count → n < count → has_item items concept ≡ true → stands release g concept n ≡ true → has_item found n ≡ true
+        led : (g : Family) → f ≡ g → (concept : ℕ) → concept < count → n < count → has_item items concept ≡ true → stands release g concept n ≡ true
+            → has_item found n ≡ true
         led family.Ancestors same concept inside n_inside own stood =
             up same (chain_from_test rows concept n (same_reach release.concepts rows release.isa rising within are concept n inside n_inside ∙ stood))
             (or_left (has_item items concept) (has_item found concept) own)

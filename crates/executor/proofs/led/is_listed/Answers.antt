@@ -16,4 +16,5 @@ returns g c =
     c.meets.ensures
     ∙ (λ i. list_any (has_item items) (c.list.ensures i))
     ∙ (λ i. list_any (has_item items) (list_of (lists_of c.args.index.now (c.back.ensures i)) c.args.concept))
-    ∙ asked_back (g.S.ConceptSet.bound_of c.args.operand.now) c.args.index.now c.requires.over items (g.met.S.ConceptSet.rising c.args.operand.now) c.args.family c.args.concept c.requires.below
+    ∙ asked_back (g.S.ConceptSet.bound_of c.args.operand.now) c.args.index.now c.requires.over items
+    (g.met.S.ConceptSet.rising c.args.operand.now) c.args.family c.args.concept c.requires.below

@@ -24,7 +24,8 @@ from_items-requires g c =
     c.as_slice-2.ensures.value ∙ c.in_ok-kept.ensures ∙ ap (filter (has_item led)) (c.as_slice.ensures.value ∙ c.in_ok-own.ensures) in
     subst (λ (bound : ℕ). IsRisingBelow bound c.as_slice-2.result.now) (sym c.bound.ensures)
     (subst (λ (items : List ℕ). IsRisingBelow count items) (sym kept)
-    (rises_within-filter 0 count (has_item led) wanted (subst (λ (bound : ℕ). IsRisingBelow bound wanted) c.requires.wanted (g.met.S.ConceptSet.rising c.args.wanted.now))))
+    (rises_within-filter 0 count (has_item led) wanted (subst (λ (bound : ℕ). IsRisingBelow bound wanted) c.requires.wanted
+    (g.met.S.ConceptSet.rising c.args.wanted.now))))
 
 pub returns-clause-items : goal.returns-clause-items
 returns-clause-items g c =

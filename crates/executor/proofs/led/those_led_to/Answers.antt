@@ -10,7 +10,8 @@ is_led_to-requires-clause-below g c = c.requires.below c.loop-concept.concept-in
 
 pub loop-concept-preserved : goal.loop-concept-preserved
 loop-concept-preserved g c =
-    let test : ℕ → Bool = has_item (led_to c.args.index.now (g.S.ConceptSet.bound_of c.args.operand.now) c.args.operator (g.S.ConceptSet.items_of c.args.operand.now)) in
+    let test : ℕ → Bool =
+    has_item (led_to c.args.index.now (g.S.ConceptSet.bound_of c.args.operand.now) c.args.operator (g.S.ConceptSet.items_of c.args.operand.now)) in
     let k = c.loop-concept.concept-index in
     elim c.if-is_led_to.branch [
       | then-is_led_to+in_ok-push w ↦
