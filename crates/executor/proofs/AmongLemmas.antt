@@ -47,10 +47,12 @@ module _ (indexed : Indexed) (grouped : Bool) (one : ℕ → Bool) (passes : Val
   row_counts n within are = by_case (slice_get (entries_of indexed.rows) n) refl are
     where
       long : length (entries_of indexed.rows) ≡ length indexed.rows
-      long = sym (length-map (entries_of indexed.rows) (λ (entry : Entry). entry.row)) ∙ ap (λ (rows : List Attribute). length rows) (rows_of_entries [] indexed.rows)
+      long = sym (length-map (entries_of indexed.rows) (λ (entry : Entry). entry.row))
+          ∙ ap (λ (rows : List Attribute). length rows) (rows_of_entries [] indexed.rows)
 
       by_case : (at : Option Entry) → slice_get (entries_of indexed.rows) n ≡ at → IfSome at (AreRowCells indexed cells)
-          → (cond grouped cells.is_first_in_group cells.is_first && (is_set types cells.type_place && is_set passing cells.value)) ≡ at_entry (pair_counts grouped one passes) at
+          → (cond grouped cells.is_first_in_group cells.is_first && (is_set types cells.type_place && is_set passing cells.value))
+          ≡ at_entry (pair_counts grouped one passes) at
       by_case None is are = absurd (none_within (entries_of indexed.rows) n (omega (arith, within, long)) is)
       by_case (Some entry) is are = told_counts entry are grouped
 
@@ -81,7 +83,8 @@ pub places_counted : (rows : List Attribute) (p : Attribute → Bool) (test : En
     → count_by (λ n. at_entry test (slice_get (entries_of rows) n)) (places_where p rows) ≡ count_by (λ entry. p entry.row && test entry) (entries_of rows)
 places_counted rows p test =
     ap (λ (all : List Attribute). count_by (λ n. at_entry test (slice_get (entries_of rows) n)) (places_where p all)) (sym (rows_of_entries [] rows))
-    ∙ places_count p test (λ n. at_entry test (slice_get (entries_of rows) n)) (entries_of rows) 0 (λ k. ap (λ m. at_entry test (slice_get (entries_of rows) m)) (zero_sum k)) (λ k within. refl)
+    ∙ places_count p test (λ n. at_entry test (slice_get (entries_of rows) n)) (entries_of rows) 0
+    (λ k. ap (λ m. at_entry test (slice_get (entries_of rows) m)) (zero_sum k)) (λ k within. refl)
   where
     zero_sum : (k : ℕ) → 0 + k ≡ k
     zero_sum k = omega arith
@@ -98,13 +101,16 @@ has_kept p (x ∷ xs) n = elim (cases_eq x n) [
     never true = refl
     never false = refl
 
-    by_same : has_item (filter p xs) n ≡ (has_item xs n && p n) → x ≡ n → (b : Bool) → p x ≡ b → has_item (cond b (x ∷ filter p xs) (filter p xs)) n ≡ (((x == n) || has_item xs n) && p n)
-    by_same rest same true keeps = (λ i. eq-eqb x n same i || has_item (filter p xs) n) ∙ sym (λ i. (eq-eqb x n same i || has_item xs n) && (ap p (sym same) ∙ keeps) i)
+    by_same : has_item (filter p xs) n ≡ (has_item xs n && p n) → x ≡ n → (b : Bool) → p x ≡ b
+        → has_item (cond b (x ∷ filter p xs) (filter p xs)) n ≡ (((x == n) || has_item xs n) && p n)
+    by_same rest same true keeps = (λ i. eq-eqb x n same i || has_item (filter p xs) n)
+        ∙ sym (λ i. (eq-eqb x n same i || has_item xs n) && (ap p (sym same) ∙ keeps) i)
     by_same rest same false leaves =
         rest ∙ (λ i. has_item xs n && (ap p (sym same) ∙ leaves) i) ∙ never (has_item xs n)
         ∙ sym ((λ i. (eq-eqb x n same i || has_item xs n) && (ap p (sym same) ∙ leaves) i))
 
-    by_other : has_item (filter p xs) n ≡ (has_item xs n && p n) → (x == n) ≡ false → (b : Bool) → has_item (cond b (x ∷ filter p xs) (filter p xs)) n ≡ (((x == n) || has_item xs n) && p n)
+    by_other : has_item (filter p xs) n ≡ (has_item xs n && p n) → (x == n) ≡ false → (b : Bool)
+        → has_item (cond b (x ∷ filter p xs) (filter p xs)) n ≡ (((x == n) || has_item xs n) && p n)
     by_other rest apart true = (λ i. apart i || rest i) ∙ sym (λ i. (apart i || has_item xs n) && p n)
     by_other rest apart false = rest ∙ sym (λ i. (apart i || has_item xs n) && p n)
 
@@ -118,7 +124,8 @@ module _ (indexed : Indexed) (release : Release) (is : IsIndexOf indexed release
   among_within bound counted items kept found kept_is found_is =
       found_is
       ∙ (λ i. numbers_where (counted i) (has_item (kept_is i)))
-      ∙ numbers_where-agree (length release.concepts) (has_item (filter keeps items)) (λ n. has_item items n && has_pairs count one passes (out_pairs release (get_or release.concepts n 0)))
+      ∙ numbers_where-agree (length release.concepts) (has_item (filter keeps items))
+      (λ n. has_item items n && has_pairs count one passes (out_pairs release (get_or release.concepts n 0)))
       (λ n within. has_kept keeps items n ∙ ap (λ (b : Bool). has_item items n && b) (ap (lies_in count) (own n within)))
     where
       keeps : ℕ → Bool
@@ -137,9 +144,11 @@ module _ (indexed : Indexed) (release : Release) (is : IsIndexOf indexed release
   groups_among_within bound counted items kept found kept_is found_is =
       found_is
       ∙ (λ i. numbers_where (counted i) (has_item (kept_is i)))
-      ∙ numbers_where-agree (length (groups_in indexed)) (has_item (filter keeps items)) (λ n. has_item items n && some_group_in release (has_pairs count one passes) (slice_get (groups_in indexed) n))
+      ∙ numbers_where-agree (length (groups_in indexed)) (has_item (filter keeps items))
+      (λ n. has_item items n && some_group_in release (has_pairs count one passes) (slice_get (groups_in indexed) n))
       (λ n within. has_kept keeps items n ∙ ap (λ (b : Bool). has_item items n && b) (own n within (slice_get (groups_in indexed) n) refl))
-      ∙ ap (λ (groups : List ConceptGroup). numbers_where (length groups) (λ n. has_item items n && some_group_in release (has_pairs count one passes) (slice_get groups n)))
+      ∙ ap (λ (groups : List ConceptGroup). numbers_where (length groups)
+      (λ n. has_item items n && some_group_in release (has_pairs count one passes) (slice_get groups n)))
       (groups_are indexed release is rising)
     where
       keeps : ℕ → Bool
@@ -150,7 +159,8 @@ module _ (indexed : Indexed) (release : Release) (is : IsIndexOf indexed release
       own n within None at = absurd (none_within (groups_in indexed) n within at)
       own n within (Some group) at = ap (lies_in count)
           (places_counted indexed.rows (is_in_group group) (pair_counts true one passes)
-          ∙ (λ i. count_by (λ (entry : Entry). is_in_some (sym at i) entry.row && (entry.is_first_in_group && has_pair_in one passes entry.row)) (entries_of indexed.rows))
+          ∙ (λ i. count_by (λ (entry : Entry). is_in_some (sym at i) entry.row && (entry.is_first_in_group && has_pair_in one passes entry.row))
+          (entries_of indexed.rows))
           ∙ group_counted indexed release is rising one passes n group at)
 
 -- the rows of a group
@@ -158,7 +168,8 @@ pub unit_told : (indexed : Indexed) (n : ℕ) (rows : List ℕ) → n < length (
     → IfSome (slice_get (groups_in indexed) n) (λ group. rows ≡ rows_of_group indexed group) → rows ≡ rows_of_unit indexed (slice_get (groups_in indexed) n)
 unit_told indexed n rows within told = by_case (slice_get (groups_in indexed) n) refl told
   where
-    by_case : (at : Option ConceptGroup) → slice_get (groups_in indexed) n ≡ at → IfSome at (λ group. rows ≡ rows_of_group indexed group) → rows ≡ rows_of_unit indexed at
+    by_case : (at : Option ConceptGroup) → slice_get (groups_in indexed) n ≡ at → IfSome at (λ group. rows ≡ rows_of_group indexed group)
+        → rows ≡ rows_of_unit indexed at
     by_case None is told = absurd (none_within (groups_in indexed) n within is)
     by_case (Some group) is told = told
 

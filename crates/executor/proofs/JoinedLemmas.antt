@@ -1,5 +1,5 @@
 -- How the lists of some concepts are joined.
-use Rattle.std.proofs.Common.{ℕ, ◌≡◌, ◌<◌, ◌≤◌, ◌+◌, ◌++◌, ◌∷◌, [], ◌∙◌, ⊎_elim, Bool, true, false, ◌&&◌, ◌||◌, ltb, cond, List, length, get_or, take, refl, sym, ap, subst, arith, append-nil, append_assoc}
+use Rattle.std.proofs.Common.{ℕ, ◌≡◌, ◌<◌, ◌≤◌, ◌+◌, ◌++◌, ◌∷◌, [], ◌∙◌, ⊎_elim, Bool, true, false, ◌&&◌, ◌||◌, cond, List, length, get_or, take, refl, sym, ap, subst, arith, append-nil, append_assoc}
 use Rattle.std.specs.Prelude.{All, filter}
 use Rattle.std.specs.Bool.{beq}
 use Rattle.std.specs.List.{list_any}

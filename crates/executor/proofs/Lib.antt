@@ -4,6 +4,7 @@ pub mod GroupNodeLemmas
 pub mod HitLemmas
 pub mod JoinedLemmas
 pub mod LeafLemmas
+pub mod LedLemmas
 pub mod ListLemmas
 pub mod MemberLemmas
 pub mod NodeLemmas

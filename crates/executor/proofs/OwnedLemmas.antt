@@ -102,13 +102,16 @@ module _ (release : Release) where
       elim (cases_lt g (length block)) [
         | inl near ↦
             let is : concept_in (slice_get (block ++ rest) g) ≡ x =
-            ap concept_in (get_left block rest g near) ∙ of_block x (keys_of release x) g (omega (arith, near, length-map (keys_of release x) (group_with x))) in
+            ap concept_in (get_left block rest g near) ∙ of_block x (keys_of release x) g
+            (omega (arith, near, length-map (keys_of release x) (group_with x))) in
             subst (Contains (x ∷ xs)) (sym is) (0, omega arith, refl)
         | inr far ↦
             let at : g ≡ length block + (g - length block) = omega (arith, far) in
-            let is : slice_get (block ++ rest) g ≡ slice_get rest (g - length block) = ap (slice_get (block ++ rest)) at ∙ get_right block rest (g - length block) in
+            let is : slice_get (block ++ rest) g ≡ slice_get rest (g - length block) =
+            ap (slice_get (block ++ rest)) at ∙ get_right block rest (g - length block) in
             subst (λ (found : Option ConceptGroup). Contains (x ∷ xs) (concept_in found)) (sym is)
-            (Contains-append_right (x ∷ []) xs (concept_in (slice_get rest (g - length block))) (own_among xs (g - length block) (omega (arith, far, within, all))))
+            (Contains-append_right (x ∷ []) xs (concept_in (slice_get rest (g - length block)))
+            (own_among xs (g - length block) (omega (arith, far, within, all))))
       ]
 
   -- the groups of the concept at a place are behind those of the concepts before it
@@ -124,7 +127,8 @@ module _ (release : Release) where
         | inl near ↦ (omega arith, omega (arith, near, length-append block []))
         | inr far ↦
             let at : g ≡ length block + (g - length block) = omega (arith, far) in
-            let its : slice_get (block ++ rest) g ≡ slice_get rest (g - length block) = ap (slice_get (block ++ rest)) at ∙ get_right block rest (g - length block) in
+            let its : slice_get (block ++ rest) g ≡ slice_get rest (g - length block) =
+            ap (slice_get (block ++ rest)) at ∙ get_right block rest (g - length block) in
             let below : g - length block < length rest = omega (arith, far, within, length-append block rest) in
             absurd (absent x xs distinct.0 (subst (Contains xs) (ap concept_in (sym its) ∙ is) (own_among xs (g - length block) below)))
       ]
@@ -135,11 +139,13 @@ module _ (release : Release) where
       elim (cases_lt g (length block)) [
         | inl near ↦
             let its : concept_in (slice_get (block ++ rest) g) ≡ x =
-            ap concept_in (get_left block rest g near) ∙ of_block x (keys_of release x) g (omega (arith, near, length-map (keys_of release x) (group_with x))) in
+            ap concept_in (get_left block rest g near) ∙ of_block x (keys_of release x) g
+            (omega (arith, near, length-map (keys_of release x) (group_with x))) in
             absurd (absent x xs distinct.0 (subst (Contains xs) (sym is ∙ its) (Contains-get_or xs n 0 inner)))
         | inr far ↦
             let at : g ≡ length block + (g - length block) = omega (arith, far) in
-            let its : slice_get (block ++ rest) g ≡ slice_get rest (g - length block) = ap (slice_get (block ++ rest)) at ∙ get_right block rest (g - length block) in
+            let its : slice_get (block ++ rest) g ≡ slice_get rest (g - length block) =
+            ap (slice_get (block ++ rest)) at ∙ get_right block rest (g - length block) in
             let below : g - length block < length rest = omega (arith, far, within, length-append block rest) in
             let span = spans xs distinct.1 (g - length block) n below inner (ap concept_in (sym its) ∙ is) in (
               omega (arith, far, span.0, length-append block (groups_among release (take n xs))),
@@ -160,7 +166,8 @@ before_all indexed n =
 
 module _ (indexed : Indexed) (release : Release) (index : IsIndexOf indexed release) (rising : IsStrictlyIncreasing release.concepts) where
   pub owned : (items found : List ℕ)
-      → ((concept group : ℕ) → has_item items concept ≡ true → length (groups_before indexed concept) ≤ group → group < length (groups_before indexed (concept + 1)) → has_item found group ≡ true)
+      → ((concept group : ℕ) → has_item items concept ≡ true → length (groups_before indexed concept) ≤ group
+      → group < length (groups_before indexed (concept + 1)) → has_item found group ≡ true)
       → (groups : List ℕ) → groups ≡ numbers_where (length (groups_in indexed)) (has_item found)
       → HaveGroupsOf release items groups
   owned items found have groups groups_are_found number group is_item inside within same =

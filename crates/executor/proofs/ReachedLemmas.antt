@@ -1,6 +1,6 @@
 -- What one pass over the is-a rows finds, in which each concept has its turn before those that are one row away.
-use Rattle.std.proofs.Common.{ℕ, ◌≡◌, ◌<◌, ◌≤◌, ◌+◌, ◌-◌, ◌∙◌, Bool, true, false, ◌||◌, List, length, get_or, map, take, inl, inr, refl, sym, ap, subst, arith, []}
-use Rattle.std.specs.Prelude.{All, Contains, nat_eq}
+use Rattle.std.proofs.Common.{ℕ, ◌≡◌, ◌<◌, ◌≤◌, ◌+◌, ◌-◌, ◌∙◌, true, false, ◌||◌, List, length, get_or, map, take, inl, inr, refl, sym, ap, subst, arith, []}
+use Rattle.std.specs.Prelude.{Contains, nat_eq}
 use Rattle.std.specs.List.{list_any}
 use Rattle.std.specs.List.Sorted.{IsStrictlyIncreasing}
 use Rattle.std.proofs.lemmas.Bool.{cases_eq, eqb-false, false≢true, or_cases, or_left, or_right}
@@ -8,7 +8,7 @@ use Rattle.std.proofs.lemmas.List.{get_or-take, get_or_default, length-take}
 use Rattle.std.proofs.lemmas.List.Elements.{Contains-get_or}
 use Rattle.std.proofs.lemmas.Map.Keys.{apart_from_distinct}
 use Rattle.rf2_rows.specs.Release.{Release}
-use Rattle.hierarchy.specs.Hierarchy.{IsWithin, Reaches, more_rows, one_row, reaches}
+use Rattle.hierarchy.specs.Hierarchy.{IsWithin, Reaches, more_rows, one_row}
 use Rattle.hierarchy.specs.ParentsFirst.{IsParentsFirst}
 use Rattle.hierarchy.specs.KeyedLists.{list_of}
 use Rattle.hierarchy.proofs.HierarchyLemmas.{chain_from_test}
@@ -16,7 +16,7 @@ use Rattle.snapshot.specs.Numbering.{row_of_numbers}
 use Rattle.constraint_tree.proofs.WalkLemmas.{passing_item, some_item_passes}
 use Rattle.idset.specs.Sets.{IsRisingBelow, all_items, has_item}
 use Rattle.ancestor_index.specs.HierarchyLists.{Hierarchy, hierarchy_of, is_child}
-use Rattle.ancestor_index.proofs.BuildLemmas.{order_count, same_child, same_reach}
+use Rattle.ancestor_index.proofs.BuildLemmas.{same_child, same_reach}
 use Rattle.ancestor_index.proofs.ClosureLemmas.{both_ways, item_there, row_there, there_item, there_row}
 use Rattle.executor.specs.Joined.{AreJoined, is_whole, near_of, turn_of}
 use Rattle.executor.specs.Steps.{IsOver, lists_of}
@@ -225,7 +225,8 @@ module _ (release : Release) (rows : List (ℕ × ℕ)) (order : List ℕ) (risi
             one_on p a (ends there).1 (ends there).0 (or_right (has_item items p) (has_item found p) (down beneath chain told))
             (ap (λ (g : Family). stands release (near_of g) p a) beneath ∙ child a p there)
 
-        led : (g : Family) → f ≡ g → (concept : ℕ) → concept < count → n < count → has_item items concept ≡ true → stands release g concept n ≡ true → has_item found n ≡ true
+        led : (g : Family) → f ≡ g → (concept : ℕ) → concept < count → n < count → has_item items concept ≡ true → stands release g concept n ≡ true
+            → has_item found n ≡ true
         led family.Ancestors same concept inside n_inside own stood =
             up same (chain_from_test rows concept n (same_reach release.concepts rows release.isa rising within are concept n inside n_inside ∙ stood))
             (or_left (has_item items concept) (has_item found concept) own)

@@ -1,7 +1,7 @@
 -- The places of the types that are one of some concepts.
-use Rattle.std.proofs.Common.{ℕ, ◌≡◌, ◌<◌, ◌+◌, ◌++◌, ◌∷◌, [], ◌==◌, ◌||◌, ◌∙◌, Bool, true, false, List, length, get_or, map, take, inl, inr, refl, sym, ap, arith}
-use Rattle.std.specs.Prelude.{All, None, Option, Some, nat_eq, position}
-use Rattle.std.specs.List.{IsDistinct, list_any}
+use Rattle.std.proofs.Common.{ℕ, ◌≡◌, ◌<◌, ◌+◌, ◌++◌, ◌∷◌, [], ◌==◌, ◌||◌, ◌∙◌, Bool, true, false, List, length, get_or, take, inl, inr, refl, sym, ap, arith}
+use Rattle.std.specs.Prelude.{None, Option, Some, nat_eq, position}
+use Rattle.std.specs.List.{IsDistinct}
 use Rattle.std.proofs.lemmas.Bool.{cases_eq, cases_lt, eq-eqb, eqb-false, eqb-true, ne_eqb}
 use Rattle.std.proofs.lemmas.List.{take_more}
 use Rattle.std.proofs.lemmas.List.Folds.{list_any-append}
@@ -31,7 +31,8 @@ or_nothing false = refl
 
 module _ (types : List ℕ) (apart : IsDistinct nat_eq types) where
   -- the place that an identifier is found at is the only one that it has
-  only_place : (id place : ℕ) → place < length types → (found : Option ℕ) → position (nat_eq id) types ≡ found → is_place found place ≡ (id == get_or types place 0)
+  only_place : (id place : ℕ) → place < length types → (found : Option ℕ) → position (nat_eq id) types ≡ found
+      → is_place found place ≡ (id == get_or types place 0)
   only_place id place within None at = sym (ne_eqb id (get_or types place 0) (λ same. concept_number-None types id at place within (sym same)))
   only_place id place within (Some p) at = elim (cases_eq p place) [
     | inl same ↦ eq-eqb p place same ∙ sym (eq-eqb id (get_or types place 0) (named ∙ ap (λ (n : ℕ). get_or types n 0) same))
@@ -68,10 +69,12 @@ module _ (types : List ℕ) (apart : IsDistinct nat_eq types) where
       added (Some p) = item_more places p place
 
 -- the types of rows stand once each
-pub places_more_of : (rows : List Attribute) (concepts numbers places : List ℕ) (k : ℕ) → k < length numbers → (id : ℕ) → id ≡ get_or concepts (get_or numbers k 0) 0
+pub places_more_of : (rows : List Attribute) (concepts numbers places : List ℕ) (k : ℕ) → k < length numbers → (id : ℕ)
+    → id ≡ get_or concepts (get_or numbers k 0) 0
     → (found : Option ℕ) → position (nat_eq id) (types_of rows) ≡ found
     → ((place : ℕ) → place < length (types_of rows) → has_item places place ≡ is_one_of concepts (take k numbers) (get_or (types_of rows) place 0))
-    → (place : ℕ) → place < length (types_of rows) → has_item (with_place places found) place ≡ is_one_of concepts (take (k + 1) numbers) (get_or (types_of rows) place 0)
+    → (place : ℕ) → place < length (types_of rows) → has_item (with_place places found) place
+    ≡ is_one_of concepts (take (k + 1) numbers) (get_or (types_of rows) place 0)
 places_more_of rows = places_more (types_of rows) (types_apart rows)
 
 -- a place that is found is one of them

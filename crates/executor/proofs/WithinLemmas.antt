@@ -81,7 +81,8 @@ module _ {X : Type 0} (bound : ℕ) (test : X → ℕ → Bool) (parts : List X)
       → found ≡ numbers_where bound (λ n. start n && list_all (λ part. test part n) (take (k + 1) parts))
   all_again start found had found_is =
       found_is
-      ∙ numbers_where-agree bound (λ n. start n && list_all (λ part. test part n) (take k parts)) (λ n. start n && list_all (λ part. test part n) (take (k + 1) parts))
+      ∙ numbers_where-agree bound (λ n. start n && list_all (λ part. test part n) (take k parts))
+      (λ n. start n && list_all (λ part. test part n) (take (k + 1) parts))
       (λ n inside. kept (start n) (list_all (λ part. test part n) (take k parts)) (test (get_or parts k d) n) (had n inside) ∙ one_more start n)
     where
       kept : (a b c : Bool) → (a ≡ true → c ≡ true) → (a && b) ≡ ((a && b) && c)

@@ -22,7 +22,10 @@ use Rattle.executor.proofs.WithinLemmas.{all_again, all_done, minus_within, rest
 -- what all of a list pass, one of them passes
 pub passed_by : {X : Type 0} (test : X → Bool) (xs : List X) (k : ℕ) (x : X) → list_all test xs ≡ true → slice_get xs k ≡ Some x → test x ≡ true
 passed_by test [] k x all at = absurd cc
-passed_by test (y ∷ ys) zero x all at = let same : y ≡ x = cc in let here : test y ≡ true = (and_parts (test y) (list_all test ys) all).0 in ap test (sym same) ∙ here
+passed_by test (y ∷ ys) zero x all at =
+    let same : y ≡ x = cc in
+    let here : test y ≡ true = (and_parts (test y) (list_all test ys) all).0 in
+    ap test (sym same) ∙ here
 passed_by test (y ∷ ys) (suc k) x all at = passed_by test ys k x (and_parts (test y) (list_all test ys) all).1 at
 
 module _ (release : Release) (may : ℕ → Bool) where
@@ -39,7 +42,8 @@ module _ (release : Release) (may : ℕ → Bool) where
   pub kept_set : (set : ℕ → Bool) (some found : List ℕ) → some ≡ numbers_in release set → found ≡ filter may some → found ≡ numbers_within release may set
   kept_set set some found some_is found_is = restricted_to (length release.concepts) may (by_number set) some found some_is found_is
 
-  pub kept_node : (plan : Plan) (some found : List ℕ) → some ≡ numbers_in release (means release plan) → found ≡ filter may some → found ≡ numbers_within release may (means release plan)
+  pub kept_node : (plan : Plan) (some found : List ℕ) → some ≡ numbers_in release (means release plan) → found ≡ filter may some
+      → found ≡ numbers_within release may (means release plan)
   kept_node plan some found some_is found_is = restricted_to (length release.concepts) may (by_number (means release plan)) some found some_is found_is
 
   pub meant_within : (plan other : Plan) → plan ≡ other → numbers_within release may (means release other) ≡ numbers_within release may (means release plan)
@@ -61,15 +65,18 @@ module _ (release : Release) (may : ℕ → Bool) where
       → found ≡ numbers_where (length release.concepts) (λ n. (may n && leads_off release (slice_get parts lead) (get_or release.concepts n 0)) && list_all (λ part. means release (plan_of part) (get_or release.concepts n 0)) parts)
       → found ≡ numbers_within release may (λ concept. list_all (λ part. means release (plan_of part) concept) parts)
   led_all parts lead found found_is =
-      all_done (length release.concepts) may (λ n. leads_off release (slice_get parts lead) (get_or release.concepts n 0)) (λ n. list_all (λ part. means release (plan_of part) (get_or release.concepts n 0)) parts)
+      all_done (length release.concepts) may (λ n. leads_off release (slice_get parts lead) (get_or release.concepts n 0))
+      (λ n. list_all (λ part. means release (plan_of part) (get_or release.concepts n 0)) parts)
       found (λ n within all. had (get_or release.concepts n 0) (slice_get parts lead) refl all) found_is
     where
-      had : (concept : ℕ) (at : Option ConceptPlan) → slice_get parts lead ≡ at → list_all (λ part. means release (plan_of part) concept) parts ≡ true → leads_off release at concept ≡ true
+      had : (concept : ℕ) (at : Option ConceptPlan) → slice_get parts lead ≡ at
+          → list_all (λ part. means release (plan_of part) concept) parts ≡ true → leads_off release at concept ≡ true
       had concept None is all = refl
       had concept (Some part) is all = passed_by (λ p. means release (plan_of p) concept) parts lead part all is
 
   -- where no part is executed first
-  pub led_none : (parts : List ConceptPlan) (lead : ℕ) (every found : List ℕ) → length parts ≤ lead → every ≡ range_with_len 0 (length release.concepts) → found ≡ filter may every
+  pub led_none : (parts : List ConceptPlan) (lead : ℕ) (every found : List ℕ) → length parts ≤ lead
+      → every ≡ range_with_len 0 (length release.concepts) → found ≡ filter may every
       → found ≡ numbers_within release may (leads_off release (slice_get parts lead))
   led_none parts lead every found past every_is found_is =
       restricted_to (length release.concepts) may (λ n. true) every found (every_is ∙ each) found_is
@@ -108,10 +115,12 @@ module _ (release : Release) (may : ℕ → Bool) where
       ∙ ap (filter may) same
       ∙ restricted_to (length all) may (group_by_number q) (groups_where release q) (filter may (groups_where release q)) refl refl
 
-  pub kept_groups : (set : List Pair → Bool) (some found : List ℕ) → some ≡ groups_where release set → found ≡ filter may some → found ≡ groups_within release may set
+  pub kept_groups : (set : List Pair → Bool) (some found : List ℕ) → some ≡ groups_where release set → found ≡ filter may some
+      → found ≡ groups_within release may set
   kept_groups set some found some_is found_is = restricted_to (length all) may (group_by_number set) some found some_is found_is
 
-  pub groups_meant : (plan other : GroupPlan) → plan ≡ other → groups_within release may (group_means release other) ≡ groups_within release may (group_means release plan)
+  pub groups_meant : (plan other : GroupPlan) → plan ≡ other
+      → groups_within release may (group_means release other) ≡ groups_within release may (group_means release plan)
   groups_meant plan other is = ap (λ (p : GroupPlan). groups_within release may (group_means release p)) (sym is)
 
   nothing_in : (at : Option ConceptGroup) → false ≡ some_group_in release (λ pairs. false) at
@@ -134,12 +143,14 @@ module _ (release : Release) (may : ℕ → Bool) where
       → right ≡ groups_within release (has_item left) (group_means release second)
       → found ≡ other_items left right → found ≡ groups_within release may (group_means release plan)
   minus_groups plan first second left right found is left_is right_is found_is =
-      minus_within (length all) may (group_by_number (group_means release first)) (group_by_number (group_means release second)) left right found left_is right_is found_is
+      minus_within (length all) may (group_by_number (group_means release first))
+      (group_by_number (group_means release second)) left right found left_is right_is found_is
       ∙ (λ i. numbers_where (length all) (λ n. may n && minus_in (group_means release first) (group_means release second) (slice_get all n) i))
       ∙ groups_meant plan (minus_group first second) is
 
   -- each group that there is has its pairs
-  there : (n : ℕ) → n < length all → (at : Option ConceptGroup) → slice_get all n ≡ at → (set : List Pair → Bool) → ((pairs : List Pair) → set pairs ≡ true) → some_group_in release set at ≡ true
+  there : (n : ℕ) → n < length all → (at : Option ConceptGroup) → slice_get all n ≡ at → (set : List Pair → Bool)
+      → ((pairs : List Pair) → set pairs ≡ true) → some_group_in release set at ≡ true
   there n within None is set each = absurd (leaf.none_within all n within is)
   there n within (Some group) is set each = each _
 
@@ -164,7 +175,8 @@ module _ (release : Release) (may : ℕ → Bool) where
       all_done (length all) may (λ n. some_group_in release (leads_off_groups release (slice_get parts lead)) (slice_get all n))
       (λ n. list_all (λ part. some_group_in release (group_means release (group_plan_of part)) (slice_get all n)) parts)
       found (λ n within each. had n within (slice_get parts lead) refl each) found_is
-      ∙ numbers_where-agree (length all) (λ n. may n && list_all (λ part. some_group_in release (group_means release (group_plan_of part)) (slice_get all n)) parts)
+      ∙ numbers_where-agree (length all) (λ n. may n && list_all
+      (λ part. some_group_in release (group_means release (group_plan_of part)) (slice_get all n)) parts)
       (λ n. may n && some_group_in release (λ pairs. list_all (λ part. group_means release (group_plan_of part) pairs) parts) (slice_get all n))
       (λ n within. ap (λ (b : Bool). may n && b) (all_in parts n within (slice_get all n) refl))
     where
@@ -172,7 +184,8 @@ module _ (release : Release) (may : ℕ → Bool) where
           → list_all (λ part. some_group_in release (group_means release (group_plan_of part)) (slice_get all n)) parts ≡ true
           → some_group_in release (leads_off_groups release at) (slice_get all n) ≡ true
       had n within None is each = there n within (slice_get all n) refl (λ pairs. true) (λ pairs. refl)
-      had n within (Some part) is each = passed_by (λ p. some_group_in release (group_means release (group_plan_of p)) (slice_get all n)) parts lead part each is
+      had n within (Some part) is each = passed_by (λ p. some_group_in release (group_means release (group_plan_of p))
+          (slice_get all n)) parts lead part each is
 
   pub groups_led_again : (parts : List UnitPlan) (lead k : ℕ) → k ≡ lead → k < length parts → (found : List ℕ)
       → found ≡ numbers_where (length all) (λ n. (may n && some_group_in release (leads_off_groups release (slice_get parts lead)) (slice_get all n)) && list_all (λ part. some_group_in release (group_means release (group_plan_of part)) (slice_get all n)) (take k parts))
@@ -189,7 +202,8 @@ module _ (release : Release) (may : ℕ → Bool) where
     | inr (past, at) ↦ absurd (omega (arith, past, within))
   ]
 
-  pub groups_led_none : (parts : List UnitPlan) (lead : ℕ) (every found : List ℕ) → length parts ≤ lead → every ≡ groups_where release (λ pairs. true) → found ≡ filter may every
+  pub groups_led_none : (parts : List UnitPlan) (lead : ℕ) (every found : List ℕ) → length parts ≤ lead
+      → every ≡ groups_where release (λ pairs. true) → found ≡ filter may every
       → found ≡ groups_within release may (leads_off_groups release (slice_get parts lead))
   groups_led_none parts lead every found past every_is found_is =
       kept_groups (λ pairs. true) every found every_is found_is

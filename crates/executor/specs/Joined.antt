@@ -21,6 +21,13 @@ near_of family.Descendants = family.Children
 near_of family.Parents = family.Parents
 near_of family.Children = family.Children
 
+-- the family whose lists lead back
+abbrev pub back_of : Family → Family
+back_of family.Ancestors = family.Descendants
+back_of family.Descendants = family.Ancestors
+back_of family.Parents = family.Children
+back_of family.Children = family.Parents
+
 -- the place in an order, parents before their children, of the concept of a turn: each has its turn before those that are in
 -- the near family's list of it
 abbrev pub turn_of : Family → ℕ → ℕ → ℕ

@@ -12,6 +12,12 @@ use std::alloc::{AllocError, Global};
 // A row that is looked up by its number takes about as long as so many that stand side by side.
 const LOOK_UP: u64 = 8;
 
+// To ask a concept by its own list takes about as long as to go through so many concepts, and to ask so few takes no longer
+// than to copy one list.
+const QUESTION: u64 = 32;
+
+const FEW: u64 = 16;
+
 // The rows of more candidates than there are rows, divided by this, are not counted: to read them all is sooner done.
 const WIDE: u32 = 64;
 
@@ -43,6 +49,11 @@ impl Extent {
             rows: self.rows,
             groups: self.groups,
         }
+    }
+
+    /// Whether they are asked one by one sooner than a list is copied, or so many concepts are gone through.
+    pub fn are_few_beside(self, concepts: u32) -> bool {
+        self.items <= FEW || self.items.saturating_mul(QUESTION) < u64::from(concepts)
     }
 
     /// Whether their groups are looked up sooner than so many groups are found without them.

@@ -3,7 +3,7 @@ ghost use Rattle.std.specs.Prelude.{◌≡◌, ◌↔◌, ◌<◌, IfSome, IsSom
 ghost use Rattle.idset.specs.Sets.{has_item};
 ghost use Rattle.idset.specs.Words.{MarkedBelow};
 ghost use Rattle.hierarchy.specs.KeyedLists.{list_of};
-ghost use Rattle.executor.specs.Joined.{is_whole as is_whole_of, near_of, turn_of};
+ghost use Rattle.executor.specs.Joined.{back_of, is_whole as is_whole_of, near_of, turn_of};
 ghost use Rattle.executor.specs.Steps.{HasWords, lists_of};
 
 use ancestor_index::AncestorIndex;
@@ -39,6 +39,18 @@ impl Family {
         match self {
             Family::Ancestors | Family::Parents => Family::Parents,
             Family::Descendants | Family::Children => Family::Children,
+        }
+    }
+
+    /// The family whose lists lead back.
+    pub fn back(self) -> Family
+        ensures { result ≡ back_of self }
+    {
+        match self {
+            Family::Ancestors => Family::Descendants,
+            Family::Descendants => Family::Ancestors,
+            Family::Parents => Family::Children,
+            Family::Children => Family::Parents,
         }
     }
 

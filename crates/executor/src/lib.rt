@@ -12,6 +12,7 @@ mod family;
 mod guesses;
 mod hits;
 mod leaves;
+mod led;
 mod nodes;
 mod passing;
 mod plans;

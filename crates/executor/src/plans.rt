@@ -13,13 +13,13 @@ ghost use Rattle.executor.specs.Within.{AreBelow, groups_within, leads_off, lead
 use crate::candidates::{Candidates, extent_of, group_extent_of, none_left, restricted};
 use crate::guesses::{group_lead_of, guess_of_groups, lead_of};
 use crate::leaves::{groups_with_pairs_within, values_of, with_pairs_within};
+use crate::led::walk_within;
 use crate::nodes::{
     common, each_concept, each_group, either, no_concept, no_group, one_concept, without,
 };
 use crate::passing::{comparing, outside, within};
 use crate::reference_sets::members;
 use crate::units::{groups_of, with_groups};
-use crate::walks::walk;
 use constraint_tree::Cardinality;
 use idset::ConceptSet;
 use postings::Indexes;
@@ -78,8 +78,8 @@ fn execute_within<S: ConceptSet>(
         }
         ConceptPlan::Walk(operator, operand) => {
             let from: S = execute_within(alloc, operand, &Candidates::All, snapshot, indexes)?;
-            let led = walk(alloc, snapshot, indexes.hierarchy(), *operator, &from)?;
-            let found = restricted(alloc, led, candidates)?;
+            let hierarchy = indexes.hierarchy();
+            let found = walk_within(alloc, snapshot, hierarchy, *operator, &from, candidates)?;
             Ok(found)
         }
         ConceptPlan::Members(operand) => {

@@ -18,6 +18,9 @@ use std::alloc::{AllocError, Global};
 // A list of so many items is joined before the shorter ones: what it has need not be looked at again.
 const LONG: usize = 64;
 
+// To go to one is-a row after the other in the order of the hierarchy takes about as long as to read so many items of lists.
+const PASS: u64 = 8;
+
 /// The concepts that an operator leads to from those of a set (Expression Constraint Language, "Simple
 /// Expression Constraints").
 pub fn walk<S: ConceptSet>(
@@ -135,7 +138,7 @@ fn union<S: ConceptSet>(
     S::from_words(alloc, found.words(), operand.bound())
 }
 
-// The same as words. Where the lists have more items than there are is-a rows, one pass over the rows is the shorter way.
+// The same as words. Where the lists have too many items, one pass over the is-a rows is the shorter way.
 fn all_listed<S: ConceptSet>(
     alloc: Global,
     snapshot: &Snapshot,
@@ -149,7 +152,7 @@ fn all_listed<S: ConceptSet>(
     ensures joined { IfOk result (λ found. AreJoined (lists_of index.now family) (S.items_of operand.now) (⟦<WordSet as ConceptSet>⟧.items_of found)) }
     ensures bound { IfOk result (λ found. ⟦<WordSet as ConceptSet>⟧.bound_of found ≡ S.bound_of operand.now) }
 {
-    let mut left = index.link_count() as u64;
+    let mut left = most_items(index);
     let mut found = WordSet::from_items(alloc, &[], operand.bound())?;
     let long = add_lists(alloc, index, family, concepts, true, &mut left, &mut found)?;
     if !long {
@@ -160,6 +163,14 @@ fn all_listed<S: ConceptSet>(
         return reached(alloc, snapshot, index, family, operand);
     }
     Ok(found)
+}
+
+// How many items of lists are read at the most before the lists are left for a pass over the is-a rows. With those of the
+// pass they are no more than all lists have.
+fn most_items(index: &AncestorIndex) -> u64 {
+    let links = index.link_count() as u64;
+    let pairs = index.ancestor_count() as u64;
+    links.saturating_mul(PASS).min(pairs.saturating_sub(links))
 }
 
 // Adds to a set the lists of those concepts whose lists are long, or are not. Tells whether it has added all: of lists that
@@ -278,9 +289,9 @@ fn kept_apart<S: ConceptSet>(
     Ok(kept)
 }
 
-// Whether the list of a concept has none of a set. The concepts one is-a row away are looked at first: most
-// often one of them is in the set, and the whole list lies far off in memory.
-fn is_apart<S: ConceptSet>(index: &AncestorIndex, family: Family, concept: u32, set: &S) -> bool
+/// Whether the list of a concept has none of a set. The concepts one is-a row away are looked at first: most
+/// often one of them is in the set, and the whole list lies far off in memory.
+pub fn is_apart<S: ConceptSet>(index: &AncestorIndex, family: Family, concept: u32, set: &S) -> bool
     requires over { IsOver (S.bound_of set.now) index.now }
     requires below { concept < S.bound_of set.now }
     ensures { result ≡ not (list_any (has_item (S.items_of set.now)) (list_of (lists_of index.now family) concept)) }
@@ -288,8 +299,8 @@ fn is_apart<S: ConceptSet>(index: &AncestorIndex, family: Family, concept: u32, 
     !meets(family.near().list(index, concept), set) && !meets(family.list(index, concept), set)
 }
 
-// Whether a set has one of the concepts of a list.
-fn meets<S: ConceptSet>(list: &[u32], set: &S) -> bool
+/// Whether a set has one of the concepts of a list.
+pub fn meets<S: ConceptSet>(list: &[u32], set: &S) -> bool
     ensures { result ≡ list_any (has_item (S.items_of set.now)) list.now }
 {
     list.iter().any(|concept| set.has(*concept))

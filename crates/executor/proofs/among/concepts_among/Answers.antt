@@ -15,7 +15,8 @@ use Rattle.executor.proofs.among.concepts_among.Goals.{then-lies_in+in_ok-push, 
 pub pairs_among-pairs-requires : goal.pairs_among-pairs-requires
 pairs_among-pairs-requires c =
     subst (All (λ n. n < length c.args.indexes.now.rows)) (sym c.rows_of.ensures)
-    (places_where-within (λ (row : Attribute). row.source == get_or c.args.indexes.now.concepts (get_or c.args.concepts.now c.loop-concept.concept-index 0) 0) c.args.indexes.now.rows)
+    (places_where-within (λ (row : Attribute). row.source == get_or c.args.indexes.now.concepts
+    (get_or c.args.concepts.now c.loop-concept.concept-index 0) 0) c.args.indexes.now.rows)
 
 pub loop-concept-preserved : goal.loop-concept-preserved
 loop-concept-preserved c =
@@ -23,7 +24,8 @@ loop-concept-preserved c =
     let concepts = c.args.concepts.now in
     let k = c.loop-concept.concept-index in
     let concept : ℕ = get_or concepts k 0 in
-    let test : (ℕ → Bool) → (Value → Bool) → ℕ → Bool = λ one passes number. lies_in c.args.count (pairs_among indexed false one passes (rows_by_source indexed number)) in
+    let test : (ℕ → Bool) → (Value → Bool) → ℕ → Bool =
+    λ one passes number. lies_in c.args.count (pairs_among indexed false one passes (rows_by_source indexed number)) in
     elim c.if-lies_in.branch [
       | then-lies_in+in_ok-push w ↦ record {
         within = subst (All (λ number. number < length indexed.concepts)) (sym (ap (λ (v : Vec ℕ _). v.items) w.kept-is ∙ w.in_ok-push.ensures.items))
@@ -31,7 +33,8 @@ loop-concept-preserved c =
             (one_below (length indexed.concepts) concept (c.requires k 0 c.loop-concept-test.true)));
         kept = λ one passes types tells.
             let here : test one passes concept ≡ true =
-            ap (lies_in c.args.count) (ap (pairs_among indexed false one passes) (sym c.rows_of.ensures) ∙ sym (c.pairs_among-pairs.ensures one passes types tells)) ∙ sym c.lies_in.ensures ∙ w.if-lies_in.true in
+            ap (lies_in c.args.count) (ap (pairs_among indexed false one passes) (sym c.rows_of.ensures)
+            ∙ sym (c.pairs_among-pairs.ensures one passes types tells)) ∙ sym c.lies_in.ensures ∙ w.if-lies_in.true in
             ap (λ (v : Vec ℕ _). v.items) w.kept-is ∙ w.in_ok-push.ensures.items
             ∙ (λ i. c.loop-concept.invariant.kept one passes types tells i ++ cond (sym here i) (concept ∷ []) [])
             ∙ sym (filter_more (test one passes) concepts k 0 c.loop-concept-test.true);
@@ -40,7 +43,8 @@ loop-concept-preserved c =
         within = subst (All (λ number. number < length indexed.concepts)) (sym (ap (λ (v : Vec ℕ _). v.items) w.kept-is)) c.loop-concept.invariant.within;
         kept = λ one passes types tells.
             let here : test one passes concept ≡ false =
-            ap (lies_in c.args.count) (ap (pairs_among indexed false one passes) (sym c.rows_of.ensures) ∙ sym (c.pairs_among-pairs.ensures one passes types tells)) ∙ sym c.lies_in.ensures ∙ w.if-lies_in.false in
+            ap (lies_in c.args.count) (ap (pairs_among indexed false one passes) (sym c.rows_of.ensures)
+            ∙ sym (c.pairs_among-pairs.ensures one passes types tells)) ∙ sym c.lies_in.ensures ∙ w.if-lies_in.false in
             ap (λ (v : Vec ℕ _). v.items) w.kept-is
             ∙ c.loop-concept.invariant.kept one passes types tells
             ∙ sym (append-nil (filter (test one passes) (take k concepts)))

@@ -14,7 +14,8 @@ loop-n-preserved c = elim c.if-counts.branch [
     few = omega (arith, w.pairs-is);
     pairs = λ one passes types tells.
         w.pairs-is ∙ ap (λ (n : ℕ). n + 1) (c.loop-n.invariant.pairs one passes types tells)
-        ∙ sym (count_by_more_yes (λ n. at_entry (pair_counts c.args.grouped one passes) (slice_get (entries_of c.args.indexes.now.rows) n)) c.args.rows.now c.loop-n.n-index 0 c.loop-n-test.true
+        ∙ sym (count_by_more_yes (λ n. at_entry (pair_counts c.args.grouped one passes)
+        (slice_get (entries_of c.args.indexes.now.rows) n)) c.args.rows.now c.loop-n.n-index 0 c.loop-n-test.true
         (sym (row_counts c.args.indexes.now c.args.grouped one passes c.args.types.now c.args.passing.now types tells c.cells-row.result
         (get_or c.args.rows.now c.loop-n.n-index 0) (c.requires c.loop-n.n-index 0 c.loop-n-test.true) c.cells-row.ensures)
         ∙ sym c.counts.ensures ∙ w.if-counts.true));
@@ -23,7 +24,8 @@ loop-n-preserved c = elim c.if-counts.branch [
     few = omega (arith, w.pairs-is);
     pairs = λ one passes types tells.
         w.pairs-is ∙ c.loop-n.invariant.pairs one passes types tells
-        ∙ sym (count_by_more_no (λ n. at_entry (pair_counts c.args.grouped one passes) (slice_get (entries_of c.args.indexes.now.rows) n)) c.args.rows.now c.loop-n.n-index 0 c.loop-n-test.true
+        ∙ sym (count_by_more_no (λ n. at_entry (pair_counts c.args.grouped one passes)
+        (slice_get (entries_of c.args.indexes.now.rows) n)) c.args.rows.now c.loop-n.n-index 0 c.loop-n-test.true
         (sym (row_counts c.args.indexes.now c.args.grouped one passes c.args.types.now c.args.passing.now types tells c.cells-row.result
         (get_or c.args.rows.now c.loop-n.n-index 0) (c.requires c.loop-n.n-index 0 c.loop-n-test.true) c.cells-row.ensures)
         ∙ sym c.counts.ensures ∙ w.if-counts.false));

@@ -35,8 +35,10 @@ abbrev pub invariant-groups_in_all-loop-place : goal.invariant-groups_in_all-loo
 invariant-groups_in_all-loop-place g l = record {
   items : g.S.ConceptSet.items_of l.groups
       ≡ numbers_where (length (all_groups l.snapshot.release))
-      (λ n. (may_be g.S.ConceptSet.items_of l.candidates n && some_group_in l.snapshot.release (leads_off_groups l.snapshot.release (slice_get l.parts l.lead)) (slice_get (all_groups l.snapshot.release) n))
-      && list_all (λ part. some_group_in l.snapshot.release (group_means l.snapshot.release (group_plan_of part)) (slice_get (all_groups l.snapshot.release) n)) (take l.place l.parts));
+      (λ n. (may_be g.S.ConceptSet.items_of l.candidates n && some_group_in l.snapshot.release
+      (leads_off_groups l.snapshot.release (slice_get l.parts l.lead)) (slice_get (all_groups l.snapshot.release) n))
+      && list_all (λ part. some_group_in l.snapshot.release (group_means l.snapshot.release (group_plan_of part))
+      (slice_get (all_groups l.snapshot.release) n)) (take l.place l.parts));
   bound : g.S.ConceptSet.bound_of l.groups ≡ length (all_groups l.snapshot.release);
 }
 
@@ -45,7 +47,8 @@ invariant-groups_in_some-loop-part g l = record {
   items : g.S.ConceptSet.items_of l.groups
       ≡ numbers_where (length (all_groups l.snapshot.release))
       (λ n. may_be g.S.ConceptSet.items_of l.candidates n
-      && list_any (λ part. some_group_in l.snapshot.release (group_means l.snapshot.release (group_plan_of part)) (slice_get (all_groups l.snapshot.release) n)) (take l.part-index l.parts));
+      && list_any (λ part. some_group_in l.snapshot.release (group_means l.snapshot.release (group_plan_of part))
+      (slice_get (all_groups l.snapshot.release) n)) (take l.part-index l.parts));
   bound : g.S.ConceptSet.bound_of l.groups ≡ length (all_groups l.snapshot.release);
 }
 

@@ -1,5 +1,4 @@
-use Rattle.std.proofs.Common.{ℕ, List, ◌≡◌, ◌<◌, ◌+◌, ◌||◌, ◌∙◌, length, get_or, refl, sym, ap, subst, arith}
-use Rattle.hierarchy.specs.ParentsFirst.{IsParentsFirst}
+use Rattle.std.proofs.Common.{ℕ, List, ◌≡◌, ◌<◌, ◌+◌, ◌||◌, ◌∙◌, length, get_or, sym, ap, subst, arith}
 use Rattle.hierarchy.specs.KeyedLists.{list_of}
 use Rattle.idset.specs.Sets.{IsRisingBelow, all_items, has_item, numbers_where}
 use Rattle.idset.specs.Words.{is_set}
@@ -33,7 +32,8 @@ list-requires g c =
 pub add_all-requires : goal.add_all-requires
 add_all-requires g c =
     let order = c.parents_first-order.result.now in
-    let listed : c.list.result.now ≡ list_of (lists_of c.args.index.now (near_of c.args.family)) (get_or order (turn_of c.args.family (length order) c.loop-turn.turn) 0) =
+    let listed : c.list.result.now ≡ list_of (lists_of c.args.index.now (near_of c.args.family))
+    (get_or order (turn_of c.args.family (length order) c.loop-turn.turn) 0) =
     c.list.ensures ∙ (λ i. list_of (lists_of c.args.index.now (c.near.ensures i)) (get_or order (c.place_of_turn.ensures i) 0)) in
     subst (λ (bound : ℕ). IsRisingBelow bound c.list.result.now) (sym c.loop-turn.invariant.bound)
     (subst (λ (list : List ℕ). IsRisingBelow (g.S.ConceptSet.bound_of c.args.set.now) list) (sym listed)
@@ -52,15 +52,18 @@ loop-turn-preserved g c =
     let found : List ℕ = numbers_where c.loop-turn.found.bound (is_set c.loop-turn.found.words.items) in
     let concept : ℕ = get_or order (turn_of f (length order) turn) 0 in
     let asked : (has_item items concept || has_item found concept) ≡ c.is_in_one.result =
-    (λ i. has_item items (get_or order (sym c.place_of_turn.ensures i) 0) || has_item found (get_or order (sym c.place_of_turn.ensures i) 0)) ∙ sym c.is_in_one.ensures in
+    (λ i. has_item items (get_or order (sym c.place_of_turn.ensures i) 0) || has_item found (get_or order (sym c.place_of_turn.ensures i) 0))
+    ∙ sym c.is_in_one.ensures in
     elim c.if-is_in_one.branch [
       | then-is_in_one+in_ok-add_all w ↦ record {
         passed =
-            subst (IsPassed (lists_of c.args.index.now f) (lists_of c.args.index.now (near_of f)) (λ turn. get_or order (turn_of f (length order) turn) 0) (turn + 1) items)
+            subst (IsPassed (lists_of c.args.index.now f) (lists_of c.args.index.now (near_of f))
+            (λ turn. get_or order (turn_of f (length order) turn) 0) (turn + 1) items)
             (sym (ap (λ (set : _). numbers_where set.bound (is_set set.words.items)) w.found-is))
             (passed_on c.args.snapshot.now.release c.isa_rows.result.now order c.concept_count.ensures.rising c.isa_rows.ensures.within
             c.isa_rows.ensures.rows (c.parents_first-order.ensures c.isa_rows.result.now c.isa_rows.ensures.rows c.isa_rows.ensures.within)
-            count c.args.index.now c.requires.over.hierarchy_is c.requires.over.count_is f c.requires.whole items (g.met.S.ConceptSet.rising c.args.set.now) turn found
+            count c.args.index.now c.requires.over.hierarchy_is c.requires.over.count_is f c.requires.whole items
+            (g.met.S.ConceptSet.rising c.args.set.now) turn found
             w.list.result.now (numbers_where w.add_all.new.self.bound (is_set w.add_all.new.self.words.items)) c.loop-turn-test.true
             (subst (λ (bound : ℕ). IsRisingBelow bound found) c.loop-turn.invariant.bound c.loop-turn.found.rising)
             (w.list.ensures ∙ (λ i. list_of (lists_of c.args.index.now (w.near.ensures i)) (get_or order (c.place_of_turn.ensures i) 0)))
@@ -70,11 +73,13 @@ loop-turn-preserved g c =
       }
       | else-is_in_one w ↦ record {
         passed =
-            subst (IsPassed (lists_of c.args.index.now f) (lists_of c.args.index.now (near_of f)) (λ turn. get_or order (turn_of f (length order) turn) 0) (turn + 1) items)
+            subst (IsPassed (lists_of c.args.index.now f) (lists_of c.args.index.now (near_of f))
+            (λ turn. get_or order (turn_of f (length order) turn) 0) (turn + 1) items)
             (sym (ap (λ (set : _). numbers_where set.bound (is_set set.words.items)) w.found-is))
             (passed_over c.args.snapshot.now.release c.isa_rows.result.now order c.concept_count.ensures.rising c.isa_rows.ensures.within
             c.isa_rows.ensures.rows (c.parents_first-order.ensures c.isa_rows.result.now c.isa_rows.ensures.rows c.isa_rows.ensures.within)
-            count c.args.index.now c.requires.over.hierarchy_is c.requires.over.count_is f c.requires.whole items (g.met.S.ConceptSet.rising c.args.set.now) turn found
+            count c.args.index.now c.requires.over.hierarchy_is c.requires.over.count_is f c.requires.whole items
+            (g.met.S.ConceptSet.rising c.args.set.now) turn found
             (asked ∙ w.if-is_in_one.false) c.loop-turn.invariant.passed);
         bound = ap (λ (set : _). set.bound) w.found-is ∙ c.loop-turn.invariant.bound;
       }

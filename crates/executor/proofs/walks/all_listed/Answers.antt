@@ -1,4 +1,4 @@
-use Rattle.std.proofs.Common.{ℕ, List, true, false, ◌≡◌, ◌∙◌, ◌++◌, [], All, ◌<◌, sym, ap, subst}
+use Rattle.std.proofs.Common.{ℕ, List, true, ◌∙◌, [], All, ◌<◌, sym, ap, subst}
 use Rattle.idset.specs.Sets.{has_item, numbers_where}
 use Rattle.idset.specs.Words.{is_set}
 use Rattle.executor.specs.Joined.{AreJoined, with_length}

@@ -1,0 +1,151 @@
+//! Which of some candidates an operator leads to, by the lists of each.
+ghost use Rattle.std.specs.Prelude.{◌≡◌, ◌<◌, All, IfOk, filter};
+ghost use Rattle.idset.specs.Sets.{all_items, has_item};
+ghost use Rattle.executor.specs.Steps.{apart as apart_of, IsOf, IsOver, joined, led_to, lists_of};
+ghost use Rattle.executor.specs.Within.{AreBelow, may_be};
+
+use crate::candidates::{Candidates, restricted};
+use crate::family::Family;
+use crate::walks::{is_apart, meets, walk};
+use ancestor_index::AncestorIndex;
+use constraint_tree::Operator;
+use idset::ConceptSet;
+use snapshot::Snapshot;
+use std::alloc::{AllocError, Global};
+
+/// The candidates among the concepts that an operator leads to from those of a set (Expression Constraint Language,
+/// "Simple Expression Constraints").
+pub fn walk_within<S: ConceptSet>(
+    alloc: Global,
+    snapshot: &Snapshot,
+    index: &AncestorIndex,
+    operator: Operator,
+    operand: &S,
+    candidates: &Candidates<'_, S>,
+) -> Result<S, AllocError>
+    requires over { IsOf snapshot.now.release (S.bound_of operand.now) index.now }
+    requires candidates { AreBelow S.bound_of (S.bound_of operand.now) candidates.now }
+    ensures items { IfOk result (λ found. S.items_of found ≡ filter (may_be S.items_of candidates.now) (led_to index.now (S.bound_of operand.now) operator (S.items_of operand.now))) }
+    ensures bound { IfOk result (λ found. S.bound_of found ≡ S.bound_of operand.now) }
+{
+    if let Candidates::Within(wanted, extent) = candidates {
+        if extent.are_few_beside(operand.count()) {
+            let found = led_among(alloc, index, operator, operand, *wanted)?;
+            return Ok(found);
+        }
+    }
+    let led = walk(alloc, snapshot, index, operator, operand)?;
+    let found = restricted(alloc, led, candidates)?;
+    Ok(found)
+}
+
+// The concepts of a set that an operator leads to from another.
+fn led_among<S: ConceptSet>(
+    alloc: Global,
+    index: &AncestorIndex,
+    operator: Operator,
+    operand: &S,
+    wanted: &S,
+) -> Result<S, AllocError>
+    requires over { IsOver (S.bound_of operand.now) index.now }
+    requires wanted { S.bound_of wanted.now ≡ S.bound_of operand.now }
+    ensures items { IfOk result (λ found. S.items_of found ≡ filter (has_item (S.items_of wanted.now)) (led_to index.now (S.bound_of operand.now) operator (S.items_of operand.now))) }
+    ensures bound { IfOk result (λ found. S.bound_of found ≡ S.bound_of operand.now) }
+{
+    let own = wanted.items(alloc)?;
+    let kept = those_led_to(alloc, index, operator, operand, own.as_slice())?;
+    S::from_items(alloc, kept.as_slice(), operand.bound())
+}
+
+// Those of some concepts that an operator leads to from a set.
+fn those_led_to<S: ConceptSet>(
+    alloc: Global,
+    index: &AncestorIndex,
+    operator: Operator,
+    operand: &S,
+    concepts: &[u32],
+) -> Result<Vec<u32>, AllocError>
+    requires over { IsOver (S.bound_of operand.now) index.now }
+    requires below { All (λ concept. concept < S.bound_of operand.now) concepts.now }
+    ensures { IfOk result (λ kept. kept.items ≡ filter (has_item (led_to index.now (S.bound_of operand.now) operator (S.items_of operand.now))) concepts.now) }
+{
+    let mut kept = Vec::new(alloc);
+    for concept in concepts {
+        if is_led_to(index, operator, operand, *concept) {
+            kept.push(*concept)?;
+        }
+    }
+    Ok(kept)
+}
+
+// Whether an operator leads to a concept from a set.
+fn is_led_to<S: ConceptSet>(
+    index: &AncestorIndex,
+    operator: Operator,
+    operand: &S,
+    concept: u32,
+) -> bool
+    requires over { IsOver (S.bound_of operand.now) index.now }
+    requires below { concept < S.bound_of operand.now }
+    ensures { result ≡ has_item (led_to index.now (S.bound_of operand.now) operator (S.items_of operand.now)) concept }
+{
+    match operator {
+        Operator::Descendants => is_listed(index, Family::Descendants, operand, concept),
+        Operator::DescendantsOrSelf => is_listed_or_self(
+            index,
+            Family::Descendants,
+            operand,
+            concept,
+        ),
+        Operator::Children => is_listed(index, Family::Children, operand, concept),
+        Operator::ChildrenOrSelf => is_listed_or_self(index, Family::Children, operand, concept),
+        Operator::Ancestors => is_listed(index, Family::Ancestors, operand, concept),
+        Operator::AncestorsOrSelf => is_listed_or_self(index, Family::Ancestors, operand, concept),
+        Operator::Parents => is_listed(index, Family::Parents, operand, concept),
+        Operator::ParentsOrSelf => is_listed_or_self(index, Family::Parents, operand, concept),
+        Operator::Top => is_kept_apart(index, Family::Ancestors, operand, concept),
+        Operator::Bottom => is_kept_apart(index, Family::Descendants, operand, concept),
+    }
+}
+
+// Whether a concept is in the list of one of a set: one of the set is in the list that leads back.
+fn is_listed<S: ConceptSet>(
+    index: &AncestorIndex,
+    family: Family,
+    operand: &S,
+    concept: u32,
+) -> bool
+    requires over { IsOver (S.bound_of operand.now) index.now }
+    requires below { concept < S.bound_of operand.now }
+    ensures { result ≡ has_item (joined (S.bound_of operand.now) (lists_of index.now family) (S.items_of operand.now)) concept }
+{
+    meets(family.back().list(index, concept), operand)
+}
+
+// The same, or in the set.
+fn is_listed_or_self<S: ConceptSet>(
+    index: &AncestorIndex,
+    family: Family,
+    operand: &S,
+    concept: u32,
+) -> bool
+    requires over { IsOver (S.bound_of operand.now) index.now }
+    requires below { concept < S.bound_of operand.now }
+    ensures { result ≡ has_item (all_items (S.bound_of operand.now) (S.items_of operand.now) (joined (S.bound_of operand.now) (lists_of index.now family) (S.items_of operand.now))) concept }
+{
+    operand.has(concept) || is_listed(index, family, operand, concept)
+}
+
+// Whether a concept is one of a set that has none of its list.
+fn is_kept_apart<S: ConceptSet>(
+    index: &AncestorIndex,
+    family: Family,
+    operand: &S,
+    concept: u32,
+) -> bool
+    requires over { IsOver (S.bound_of operand.now) index.now }
+    requires below { concept < S.bound_of operand.now }
+    ensures { result ≡ has_item (apart_of (lists_of index.now family) (S.items_of operand.now)) concept }
+{
+    operand.has(concept) && is_apart(index, family, concept, operand)
+}
