@@ -3,10 +3,10 @@ ghost use Rattle.std.specs.Prelude.{◌≡◌, ◌<◌, ◌++◌, ◌∷◌, [],
 ghost use Rattle.std.specs.List.{slice_set};
 ghost use Rattle.set_algebra.specs.Plan.{group_plan_of, group_plans_of, plan_of, plans_of, test_plan_of};
 ghost use Rattle.planner.specs.Bounds.{own_bounds, own_list};
-ghost use Rattle.planner.specs.Leaves.{group_count, group_leaves, groups_leaves, leaves, plan_count, plans_leaves, test_leaves};
+ghost use Rattle.planner.specs.Leaves.{group_leaves, groups_leaves, leaves, plans_leaves, test_leaves};
 ghost use Rattle.planner.specs.Nodes.{group_list, groups_list, node_list, plans_list, test_list};
 ghost use Rattle.planner.specs.Sizes.{group_size, group_sizes, size as size_of, sizes, test_size};
-ghost use Rattle.planner.specs.Tallies.{IsTallyOf};
+ghost use Rattle.planner.specs.Tallies.{IsTallyOf, no_tally, tally_with};
 
 use crate::choice::{Choice, after_first, first_choice};
 use crate::counts::{
@@ -27,11 +27,10 @@ pub struct Listed<'a> {
     pub rest: &'a [Choice],
 }
 
-// The same of some plans together, and how many they are.
+// The same of some plans together.
 #[derive(Clone, Copy)]
 struct ListedParts<'a> {
     tally: Tally,
-    count: u64,
     rest: &'a [Choice],
 }
 
@@ -70,7 +69,7 @@ pub fn list<'a>(
         }
         ConceptPlan::Or(parts) => {
             let inner = list_parts(parts, all, choices, indexes, bounds)?;
-            let own = in_some(all, &inner.tally, inner.count);
+            let own = in_some(all, &inner.tally, parts.len() as u64);
             Ok(closed(bounds, at, own, inner.rest))
         }
         ConceptPlan::Minus(first, second) => {
@@ -82,7 +81,7 @@ pub fn list<'a>(
         ConceptPlan::Values(start, names) => {
             let from = list(start, choices, indexes, bounds)?;
             let types = list_parts(names, 0, from.rest, indexes, bounds)?;
-            let own = values(indexes, types.count, from.size);
+            let own = values(indexes, names.len() as u64, from.size);
             Ok(closed(bounds, at, own, types.rest))
         }
         ConceptPlan::Pairs {
@@ -130,7 +129,7 @@ fn list_units<'a>(
         }
         UnitPlan::Or(parts) => {
             let inner = list_unit_parts(parts, all, choices, indexes, bounds)?;
-            let own = in_some(all, &inner.tally, inner.count);
+            let own = in_some(all, &inner.tally, parts.len() as u64);
             Ok(closed(bounds, at, own, inner.rest))
         }
         UnitPlan::Minus(first, second) => {
@@ -181,19 +180,15 @@ fn list_parts<'a>(
     bounds: &mut Vec<u64>,
 ) -> Result<ListedParts<'a>, AllocError>
     ensures bounds { OnOk result (bounds.new.items ≡ bounds.old.items ++ plans_list (own_list indexes.now) choices.now (plans_of parts.now)) }
-    ensures count { IfOk result (λ found. found.count ≡ plan_count (plans_of parts.now)) }
     ensures tally { IfOk result (λ found. IsTallyOf all (sizes indexes.now choices.now (plans_of parts.now)) found.tally) }
     ensures rest { IfOk result (λ found. found.rest.now ≡ drop (plans_leaves (plans_of parts.now)) choices.now) }
 {
-    let mut tally = Tally::none(all);
-    let mut rest = choices;
+    let mut listed = no_parts(all, choices);
     for place in 0..parts.len() {
-        let part = list(&parts[place], rest, indexes, bounds)?;
-        tally = tally.with(place as u64, part.size);
-        rest = part.rest;
+        let part = list(&parts[place], listed.rest, indexes, bounds)?;
+        listed = and_part(&listed, place as u64, &part);
     }
-    let count = parts.len() as u64;
-    Ok(ListedParts { tally, count, rest })
+    Ok(listed)
 }
 
 // Adds those of some plans of groups.
@@ -206,19 +201,37 @@ fn list_unit_parts<'a>(
     bounds: &mut Vec<u64>,
 ) -> Result<ListedParts<'a>, AllocError>
     ensures bounds { OnOk result (bounds.new.items ≡ bounds.old.items ++ groups_list (own_list indexes.now) choices.now (group_plans_of parts.now)) }
-    ensures count { IfOk result (λ found. found.count ≡ group_count (group_plans_of parts.now)) }
     ensures tally { IfOk result (λ found. IsTallyOf all (group_sizes indexes.now choices.now (group_plans_of parts.now)) found.tally) }
     ensures rest { IfOk result (λ found. found.rest.now ≡ drop (groups_leaves (group_plans_of parts.now)) choices.now) }
 {
-    let mut tally = Tally::none(all);
-    let mut rest = choices;
+    let mut listed = no_parts(all, choices);
     for place in 0..parts.len() {
-        let part = list_units(&parts[place], rest, indexes, bounds)?;
-        tally = tally.with(place as u64, part.size);
-        rest = part.rest;
+        let part = list_units(&parts[place], listed.rest, indexes, bounds)?;
+        listed = and_part(&listed, place as u64, &part);
     }
-    let count = parts.len() as u64;
-    Ok(ListedParts { tally, count, rest })
+    Ok(listed)
+}
+
+// Of no plans; a number stands for the least of their sizes.
+fn no_parts(all: u64, choices: &[Choice]) -> ListedParts<'_>
+    ensures tally { result.tally ≡ no_tally all }
+    ensures rest { result.rest.now ≡ choices.now }
+{
+    ListedParts {
+        tally: Tally::none(all),
+        rest: choices,
+    }
+}
+
+// Of one plan more, at a place.
+fn and_part<'a>(before: &ListedParts<'a>, place: u64, part: &Listed<'a>) -> ListedParts<'a>
+    ensures tally { result.tally ≡ tally_with place before.now.tally part.now.size }
+    ensures rest { result.rest.now ≡ part.now.rest.now }
+{
+    ListedParts {
+        tally: before.tally.with(place, part.size),
+        rest: part.rest,
+    }
 }
 
 // A place for the bound of a node, before those of its children.

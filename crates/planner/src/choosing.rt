@@ -4,10 +4,10 @@ ghost use Rattle.std.specs.List.{slice_set};
 ghost use Rattle.set_algebra.specs.Plan.{group_plan_of, group_plans_of, plan_of, plans_of, test_plan_of};
 ghost use Rattle.planner.specs.Chosen.{chosen, group_chosen, groups_chosen, plans_chosen, test_chosen};
 ghost use Rattle.planner.specs.Leads.{lead_list};
-ghost use Rattle.planner.specs.Leaves.{group_count, group_leaves, groups_leaves, leaves, plan_count, plans_leaves, test_leaves};
+ghost use Rattle.planner.specs.Leaves.{group_leaves, groups_leaves, leaves, plans_leaves, test_leaves};
 ghost use Rattle.planner.specs.Nodes.{group_list, groups_list, node_list, plans_list, test_list};
 ghost use Rattle.planner.specs.Sizes.{group_size, group_sizes, size as size_of, sizes, test_size};
-ghost use Rattle.planner.specs.Tallies.{IsTallyOf};
+ghost use Rattle.planner.specs.Tallies.{IsTallyOf, no_tally, tally_with};
 
 use crate::choice::{Choice, after_first, first};
 use crate::counts::{concepts, groups, leaf, members, units as units_of, values, walk};
@@ -40,7 +40,6 @@ pub struct Settled<'a> {
 #[derive(Clone, Copy)]
 struct SettledParts<'a> {
     tally: Tally,
-    count: u64,
     asked: &'a [Choice],
     others: &'a [Choice],
 }
@@ -106,7 +105,7 @@ pub fn settle<'a>(
         ConceptPlan::Values(start, names) => {
             let from = settle(start, asked, others, indexes, choosing)?;
             let types = settle_parts(names, 0, from.asked, from.others, indexes, choosing)?;
-            let own = values(indexes, types.count, from.size);
+            let own = values(indexes, names.len() as u64, from.size);
             Ok(found_behind(own.size, types.asked, types.others))
         }
         ConceptPlan::Pairs {
@@ -218,26 +217,16 @@ fn settle_parts<'a>(
 ) -> Result<SettledParts<'a>, AllocError>
     ensures choices { OnOk result (choosing.new.choices.items ≡ choosing.old.choices.items ++ plans_chosen indexes.now asked.now others.now (plans_of parts.now)) }
     ensures leads { OnOk result (choosing.new.leads.items ≡ choosing.old.leads.items ++ plans_list (lead_list indexes.now) (plans_chosen indexes.now asked.now others.now (plans_of parts.now)) (plans_of parts.now)) }
-    ensures count { IfOk result (λ found. found.count ≡ plan_count (plans_of parts.now)) }
     ensures tally { IfOk result (λ found. IsTallyOf all (sizes indexes.now (plans_chosen indexes.now asked.now others.now (plans_of parts.now)) (plans_of parts.now)) found.tally) }
     ensures asked { IfOk result (λ found. found.asked.now ≡ drop (plans_leaves (plans_of parts.now)) asked.now) }
     ensures others { IfOk result (λ found. found.others.now ≡ drop (plans_leaves (plans_of parts.now)) others.now) }
 {
-    let mut tally = Tally::none(all);
-    let mut asked_left = asked;
-    let mut others_left = others;
+    let mut found = no_parts(all, asked, others);
     for place in 0..parts.len() {
-        let part = settle(&parts[place], asked_left, others_left, indexes, choosing)?;
-        tally = tally.with(place as u64, part.size);
-        asked_left = part.asked;
-        others_left = part.others;
+        let part = settle(&parts[place], found.asked, found.others, indexes, choosing)?;
+        found = and_part(&found, place as u64, &part);
     }
-    Ok(SettledParts {
-        tally,
-        count: parts.len() as u64,
-        asked: asked_left,
-        others: others_left,
-    })
+    Ok(found)
 }
 
 // Adds those of some plans of groups.
@@ -252,26 +241,16 @@ fn settle_unit_parts<'a>(
 ) -> Result<SettledParts<'a>, AllocError>
     ensures choices { OnOk result (choosing.new.choices.items ≡ choosing.old.choices.items ++ groups_chosen indexes.now asked.now others.now (group_plans_of parts.now)) }
     ensures leads { OnOk result (choosing.new.leads.items ≡ choosing.old.leads.items ++ groups_list (lead_list indexes.now) (groups_chosen indexes.now asked.now others.now (group_plans_of parts.now)) (group_plans_of parts.now)) }
-    ensures count { IfOk result (λ found. found.count ≡ group_count (group_plans_of parts.now)) }
     ensures tally { IfOk result (λ found. IsTallyOf all (group_sizes indexes.now (groups_chosen indexes.now asked.now others.now (group_plans_of parts.now)) (group_plans_of parts.now)) found.tally) }
     ensures asked { IfOk result (λ found. found.asked.now ≡ drop (groups_leaves (group_plans_of parts.now)) asked.now) }
     ensures others { IfOk result (λ found. found.others.now ≡ drop (groups_leaves (group_plans_of parts.now)) others.now) }
 {
-    let mut tally = Tally::none(all);
-    let mut asked_left = asked;
-    let mut others_left = others;
+    let mut found = no_parts(all, asked, others);
     for place in 0..parts.len() {
-        let part = settle_units(&parts[place], asked_left, others_left, indexes, choosing)?;
-        tally = tally.with(place as u64, part.size);
-        asked_left = part.asked;
-        others_left = part.others;
+        let part = settle_units(&parts[place], found.asked, found.others, indexes, choosing)?;
+        found = and_part(&found, place as u64, &part);
     }
-    Ok(SettledParts {
-        tally,
-        count: parts.len() as u64,
-        asked: asked_left,
-        others: others_left,
-    })
+    Ok(found)
 }
 
 // How much a plan finds, and the choices behind its own.
@@ -284,6 +263,32 @@ fn found_behind<'a>(size: u64, asked: &'a [Choice], others: &'a [Choice]) -> Set
         size,
         asked,
         others,
+    }
+}
+
+// Of no plans; a number stands for the least of their sizes.
+fn no_parts<'a>(all: u64, asked: &'a [Choice], others: &'a [Choice]) -> SettledParts<'a>
+    ensures tally { result.tally ≡ no_tally all }
+    ensures asked { result.asked.now ≡ asked.now }
+    ensures others { result.others.now ≡ others.now }
+{
+    SettledParts {
+        tally: Tally::none(all),
+        asked,
+        others,
+    }
+}
+
+// Of one plan more, at a place.
+fn and_part<'a>(before: &SettledParts<'a>, place: u64, part: &Settled<'a>) -> SettledParts<'a>
+    ensures tally { result.tally ≡ tally_with place before.now.tally part.now.size }
+    ensures asked { result.asked.now ≡ part.now.asked.now }
+    ensures others { result.others.now ≡ part.now.others.now }
+{
+    SettledParts {
+        tally: before.tally.with(place, part.size),
+        asked: part.asked,
+        others: part.others,
     }
 }
 

@@ -2,10 +2,10 @@
 ghost use Rattle.std.specs.Prelude.{◌≡◌, ◌+◌, drop};
 ghost use Rattle.set_algebra.specs.Plan.{group_plan_of, group_plans_of, plan_of, plans_of, test_plan_of};
 ghost use Rattle.planner.specs.Bounds.{bound as bound_of, capped, own_number};
-ghost use Rattle.planner.specs.Leaves.{group_count, group_leaves, groups_leaves, leaves, plan_count, plans_leaves, test_leaves};
+ghost use Rattle.planner.specs.Leaves.{group_leaves, groups_leaves, leaves, plans_leaves, test_leaves};
 ghost use Rattle.planner.specs.Nodes.{group_sum, groups_sum, plans_sum, test_sum};
 ghost use Rattle.planner.specs.Sizes.{group_size, group_sizes, size as size_of, sizes, test_size};
-ghost use Rattle.planner.specs.Tallies.{IsTallyOf};
+ghost use Rattle.planner.specs.Tallies.{IsTallyOf, no_tally, tally_with};
 
 use crate::choice::{Choice, after_first, first_choice};
 use crate::counts::{
@@ -27,11 +27,10 @@ pub struct PlanCost<'a> {
     pub rest: &'a [Choice],
 }
 
-// The same of some plans together, and how many they are.
+// The same of some plans together.
 #[derive(Clone, Copy)]
 struct PartsCost<'a> {
     tally: Tally,
-    count: u64,
     bound: u64,
     rest: &'a [Choice],
 }
@@ -65,7 +64,7 @@ pub fn cost<'a>(plan: &ConceptPlan, choices: &'a [Choice], indexes: &Indexes) ->
         }
         ConceptPlan::Or(parts) => {
             let inner = parts_cost(parts, all, choices, indexes);
-            let own = in_some(all, &inner.tally, inner.count);
+            let own = in_some(all, &inner.tally, parts.len() as u64);
             with_parts(own, inner.bound, inner.rest)
         }
         ConceptPlan::Minus(first, second) => {
@@ -76,7 +75,7 @@ pub fn cost<'a>(plan: &ConceptPlan, choices: &'a [Choice], indexes: &Indexes) ->
         ConceptPlan::Values(start, names) => {
             let from = cost(start, choices, indexes);
             let types = parts_cost(names, 0, from.rest, indexes);
-            let own = values(indexes, types.count, from.size);
+            let own = values(indexes, names.len() as u64, from.size);
             with_parts(own, from.bound.saturating_add(types.bound), types.rest)
         }
         ConceptPlan::Pairs {
@@ -117,7 +116,7 @@ fn unit_cost<'a>(plan: &UnitPlan, choices: &'a [Choice], indexes: &Indexes) -> P
         }
         UnitPlan::Or(parts) => {
             let inner = unit_parts_cost(parts, all, choices, indexes);
-            let own = in_some(all, &inner.tally, inner.count);
+            let own = in_some(all, &inner.tally, parts.len() as u64);
             with_parts(own, inner.bound, inner.rest)
         }
         UnitPlan::Minus(first, second) => {
@@ -163,27 +162,16 @@ fn parts_cost<'a>(
     choices: &'a [Choice],
     indexes: &Indexes,
 ) -> PartsCost<'a>
-    ensures count { result.count ≡ plan_count (plans_of parts.now) }
     ensures tally { IsTallyOf all (sizes indexes.now choices.now (plans_of parts.now)) result.tally }
     ensures bound { result.bound ≡ capped (plans_sum (own_number indexes.now) choices.now (plans_of parts.now)) }
     ensures rest { result.rest.now ≡ drop (plans_leaves (plans_of parts.now)) choices.now }
 {
-    let mut tally = Tally::none(all);
-    let mut bound = 0u64;
-    let mut rest = choices;
+    let mut sum = no_parts(all, choices);
     for place in 0..parts.len() {
-        let part = cost(&parts[place], rest, indexes);
-        tally = tally.with(place as u64, part.size);
-        bound = bound.saturating_add(part.bound);
-        rest = part.rest;
+        let part = cost(&parts[place], sum.rest, indexes);
+        sum = and_part(&sum, place as u64, &part);
     }
-    let count = parts.len() as u64;
-    PartsCost {
-        tally,
-        count,
-        bound,
-        rest,
-    }
+    sum
 }
 
 // Of some plans of groups.
@@ -194,26 +182,41 @@ fn unit_parts_cost<'a>(
     choices: &'a [Choice],
     indexes: &Indexes,
 ) -> PartsCost<'a>
-    ensures count { result.count ≡ group_count (group_plans_of parts.now) }
     ensures tally { IsTallyOf all (group_sizes indexes.now choices.now (group_plans_of parts.now)) result.tally }
     ensures bound { result.bound ≡ capped (groups_sum (own_number indexes.now) choices.now (group_plans_of parts.now)) }
     ensures rest { result.rest.now ≡ drop (groups_leaves (group_plans_of parts.now)) choices.now }
 {
-    let mut tally = Tally::none(all);
-    let mut bound = 0u64;
-    let mut rest = choices;
+    let mut sum = no_parts(all, choices);
     for place in 0..parts.len() {
-        let part = unit_cost(&parts[place], rest, indexes);
-        tally = tally.with(place as u64, part.size);
-        bound = bound.saturating_add(part.bound);
-        rest = part.rest;
+        let part = unit_cost(&parts[place], sum.rest, indexes);
+        sum = and_part(&sum, place as u64, &part);
     }
-    let count = parts.len() as u64;
+    sum
+}
+
+// Of no plans; a number stands for the least of their sizes.
+fn no_parts(all: u64, choices: &[Choice]) -> PartsCost<'_>
+    ensures tally { result.tally ≡ no_tally all }
+    ensures bound { result.bound ≡ 0 }
+    ensures rest { result.rest.now ≡ choices.now }
+{
     PartsCost {
-        tally,
-        count,
-        bound,
-        rest,
+        tally: Tally::none(all),
+        bound: 0,
+        rest: choices,
+    }
+}
+
+// Of one plan more, at a place.
+fn and_part<'a>(before: &PartsCost<'a>, place: u64, part: &PlanCost<'a>) -> PartsCost<'a>
+    ensures tally { result.tally ≡ tally_with place before.now.tally part.now.size }
+    ensures bound { result.bound ≡ capped (before.now.bound + part.now.bound) }
+    ensures rest { result.rest.now ≡ part.now.rest.now }
+{
+    PartsCost {
+        tally: before.tally.with(place, part.size),
+        bound: before.bound.saturating_add(part.bound),
+        rest: part.rest,
     }
 }
 

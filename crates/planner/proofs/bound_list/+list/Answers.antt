@@ -1,4 +1,4 @@
-use Rattle.std.proofs.Common.{◌++◌, ◌∙◌, drop, sym, ap}
+use Rattle.std.proofs.Common.{arith, ◌≡◌, ◌++◌, ◌∙◌, drop, sym, ap}
 use Rattle.std.specs.List.{slice_set}
 use Rattle.set_algebra.specs.Plan.{Plan, plan_of, plans_of}
 use Rattle.planner.specs.Bounds.{capped, own_bounds, own_list, values_bound}
@@ -7,17 +7,19 @@ use Rattle.planner.specs.Nodes.{plans_list}
 use Rattle.planner.specs.Sizes.{size, values_size}
 use Rattle.planner.proofs.ListLemmas.{put_seam_two}
 use Rattle.planner.proofs.LoopLemmas.{list_end, list_turn, rest_end, rest_turn, sizes_end, sizes_turn}
-use Rattle.planner.proofs.PartLemmas.{group_count-parts, plan_count-parts, values_are, values_behind}
+use Rattle.planner.proofs.PartLemmas.{plan_count-parts, values_are, values_behind}
 use Rattle.planner.proofs.bound_list.+list.Goals as goal
 
 pub list_parts-loop-place-preserved : goal.list_parts-loop-place-preserved
 list_parts-loop-place-preserved t c =
     let left = c.loop-place.invariant in
     let part = c.in_ok-part.ensures in
+    let next = c.and_part-listed.ensures in
+    let behind = next.rest ∙ part.rest in
     record {
-      rest = rest_turn left.rest c.loop-place-test.true c.index-parts-place.is part.rest;
-      sizes = sizes_turn left.sizes c.loop-place-test.true c.index-parts-place.is part.size part.rest c.with-tally.ensures;
-      bounds = list_turn left.bounds c.loop-place-test.true c.index-parts-place.is part.bounds part.rest;
+      rest = rest_turn left.rest c.loop-place-test.true c.index-parts-place.is behind;
+      sizes = sizes_turn left.sizes c.loop-place-test.true c.index-parts-place.is part.size behind next.tally;
+      bounds = list_turn left.bounds c.loop-place-test.true c.index-parts-place.is part.bounds behind;
     }
 
 pub list_parts-returns : goal.list_parts-returns
@@ -25,7 +27,6 @@ list_parts-returns t c =
     let left = c.loop-place.invariant in
     record {
       bounds = list_end left.bounds c.loop-place-test.false;
-      count = sym (plan_count-parts c.args.parts.now);
       tally = sizes_end left.sizes c.loop-place-test.false;
       rest = rest_end left.rest c.loop-place-test.false;
     }
@@ -34,10 +35,12 @@ pub list_unit_parts-loop-place-preserved : goal.list_unit_parts-loop-place-prese
 list_unit_parts-loop-place-preserved t c =
     let left = c.loop-place.invariant in
     let part = c.in_ok-part.ensures in
+    let next = c.and_part-listed.ensures in
+    let behind = next.rest ∙ part.rest in
     record {
-      rest = rest_turn left.rest c.loop-place-test.true c.index-parts-place.is part.rest;
-      sizes = sizes_turn left.sizes c.loop-place-test.true c.index-parts-place.is part.size part.rest c.with-tally.ensures;
-      bounds = list_turn left.bounds c.loop-place-test.true c.index-parts-place.is part.bounds part.rest;
+      rest = rest_turn left.rest c.loop-place-test.true c.index-parts-place.is behind;
+      sizes = sizes_turn left.sizes c.loop-place-test.true c.index-parts-place.is part.size behind next.tally;
+      bounds = list_turn left.bounds c.loop-place-test.true c.index-parts-place.is part.bounds behind;
     }
 
 pub list_unit_parts-returns : goal.list_unit_parts-returns
@@ -45,7 +48,6 @@ list_unit_parts-returns t c =
     let left = c.loop-place.invariant in
     record {
       bounds = list_end left.bounds c.loop-place-test.false;
-      count = sym (group_count-parts c.args.parts.now);
       tally = sizes_end left.sizes c.loop-place-test.false;
       rest = rest_end left.rest c.loop-place-test.false;
     }
@@ -60,7 +62,8 @@ list-returns-in_ok-types-in-Values t c =
     let given = c.args.bounds.now.items in
     let from = c.in_ok-from-in-Values.ensures in
     let types = c.in_ok-types-in-Values.ensures in
-    let own = c.values-own.ensures.bound ∙ (λ i. capped (values_bound indexed (types.count i) (from.size i))) in
+    let count : c.len-in-Values.result ≡ plan_count names = omega (arith, plan_count-parts c.deref-in-Values-2.result.now) in
+    let own = c.values-own.ensures.bound ∙ (λ i. capped (values_bound indexed (count i) (from.size i))) in
     let first = from.bounds ∙ (λ i. c.in_ok-at.ensures.bounds i ++ own_bounds indexed choices start) in
     let both = types.bounds ∙ (λ i. first i ++ plans_list (own_list indexed) (from.rest i) names) in
     record {
@@ -71,7 +74,7 @@ list-returns-in_ok-types-in-Values t c =
           ∙ sym (ap (λ (plan : Plan). given ++ own_bounds indexed choices plan) is);
       size = c.closed-in-Values.ensures.size
           ∙ c.values-own.ensures.size
-          ∙ (λ i. values_size indexed (types.count i) (from.size i))
+          ∙ (λ i. values_size indexed (count i) (from.size i))
           ∙ sym (ap (size indexed choices) is);
       rest = c.closed-in-Values.ensures.rest ∙ values_behind start names choices is from.rest types.rest;
     }

@@ -7,14 +7,14 @@ use Rattle.planner.proofs.bound_list.+list.Given as goal
 
 abbrev pub invariant-list_parts-loop-place : goal.invariant-list_parts-loop-place
 invariant-list_parts-loop-place l = record {
-  rest : RestLeft ConceptPlan of_concepts l.choices l.parts l.place l.rest;
-  sizes : SizesLeft ConceptPlan of_concepts (concept_sizes l.indexes) l.all l.choices l.parts l.place l.tally l.rest;
-  bounds : ListLeft ConceptPlan of_concepts (concept_list (own_list l.indexes)) l.fn.bounds.items l.choices l.parts l.place l.bounds.items l.rest;
+  rest : RestLeft ConceptPlan of_concepts l.choices l.parts l.place l.listed.rest.now;
+  sizes : SizesLeft ConceptPlan of_concepts (concept_sizes l.indexes) l.all l.choices l.parts l.place l.listed.tally l.listed.rest.now;
+  bounds : ListLeft ConceptPlan of_concepts (concept_list (own_list l.indexes)) l.fn.bounds.items l.choices l.parts l.place l.bounds.items l.listed.rest.now;
 }
 
 abbrev pub invariant-list_unit_parts-loop-place : goal.invariant-list_unit_parts-loop-place
 invariant-list_unit_parts-loop-place l = record {
-  rest : RestLeft UnitPlan of_groups l.choices l.parts l.place l.rest;
-  sizes : SizesLeft UnitPlan of_groups (unit_sizes l.indexes) l.all l.choices l.parts l.place l.tally l.rest;
-  bounds : ListLeft UnitPlan of_groups (unit_list (own_list l.indexes)) l.fn.bounds.items l.choices l.parts l.place l.bounds.items l.rest;
+  rest : RestLeft UnitPlan of_groups l.choices l.parts l.place l.listed.rest.now;
+  sizes : SizesLeft UnitPlan of_groups (unit_sizes l.indexes) l.all l.choices l.parts l.place l.listed.tally l.listed.rest.now;
+  bounds : ListLeft UnitPlan of_groups (unit_list (own_list l.indexes)) l.fn.bounds.items l.choices l.parts l.place l.bounds.items l.listed.rest.now;
 }

@@ -1,4 +1,4 @@
-use Rattle.std.proofs.Common.{◌++◌, ◌∙◌, append_assoc, drop, sym, ap}
+use Rattle.std.proofs.Common.{arith, ◌≡◌, ◌++◌, ◌∙◌, append_assoc, drop, sym, ap}
 use Rattle.set_algebra.specs.Plan.{Plan, plan_of, plans_of}
 use Rattle.planner.specs.Chosen.{chosen, plans_chosen}
 use Rattle.planner.specs.Leads.{lead_list}
@@ -7,14 +7,15 @@ use Rattle.planner.specs.Nodes.{node_list, plans_list}
 use Rattle.planner.specs.Sizes.{size, values_size}
 use Rattle.planner.proofs.ChoosingLemmas.{chosen_end, chosen_turn}
 use Rattle.planner.proofs.FrontLemmas.{drop_chosen, leads_chosen, size_chosen}
-use Rattle.planner.proofs.PartLemmas.{group_count-parts, plan_count-parts, values_are, values_behind}
+use Rattle.planner.proofs.PartLemmas.{plan_count-parts, values_are, values_behind}
 use Rattle.planner.proofs.choosing.+settle.Goals as goal
 
 pub settle_parts-loop-place-preserved : goal.settle_parts-loop-place-preserved
 settle_parts-loop-place-preserved t c =
     let part = c.in_ok-part.ensures in
-    chosen_turn c.loop-place.invariant c.loop-place-test.true c.index-parts-place.is part.choices part.leads part.size part.asked part.others
-    c.with-tally.ensures
+    let next = c.and_part-found.ensures in
+    chosen_turn c.loop-place.invariant c.loop-place-test.true c.index-parts-place.is part.choices part.leads part.size (next.asked ∙ part.asked)
+    (next.others ∙ part.others) next.tally
 
 pub settle_parts-returns : goal.settle_parts-returns
 settle_parts-returns t c =
@@ -22,7 +23,6 @@ settle_parts-returns t c =
     record {
       choices = all.choices_are;
       leads = all.leads_are;
-      count = sym (plan_count-parts c.args.parts.now);
       tally = all.tally_is;
       asked = all.asked_is;
       others = all.others_is;
@@ -31,8 +31,9 @@ settle_parts-returns t c =
 pub settle_unit_parts-loop-place-preserved : goal.settle_unit_parts-loop-place-preserved
 settle_unit_parts-loop-place-preserved t c =
     let part = c.in_ok-part.ensures in
-    chosen_turn c.loop-place.invariant c.loop-place-test.true c.index-parts-place.is part.choices part.leads part.size part.asked part.others
-    c.with-tally.ensures
+    let next = c.and_part-found.ensures in
+    chosen_turn c.loop-place.invariant c.loop-place-test.true c.index-parts-place.is part.choices part.leads part.size (next.asked ∙ part.asked)
+    (next.others ∙ part.others) next.tally
 
 pub settle_unit_parts-returns : goal.settle_unit_parts-returns
 settle_unit_parts-returns t c =
@@ -40,7 +41,6 @@ settle_unit_parts-returns t c =
     record {
       choices = all.choices_are;
       leads = all.leads_are;
-      count = sym (group_count-parts c.args.parts.now);
       tally = all.tally_is;
       asked = all.asked_is;
       others = all.others_is;
@@ -58,6 +58,7 @@ settle-returns-in_ok-types-in-Values t c =
     let is = values_are c.in-Values.start c.in-Values.names c.in-Values.is c.deref-in-Values.ensures c.deref-in-Values-2.ensures.value in
     let from = c.in_ok-from-in-Values.ensures in
     let types = c.in_ok-types-in-Values.ensures in
+    let count : c.len.result ≡ plan_count names = omega (arith, plan_count-parts c.deref-in-Values-2.result.now) in
     let first = chosen indexed asked others start in
     let last = plans_chosen indexed (drop (leaves start) asked) (drop (leaves start) others) names in
     record {
@@ -73,7 +74,7 @@ settle-returns-in_ok-types-in-Values t c =
           ∙ sym (ap (λ (plan : Plan). had ++ node_list (lead_list indexed) (chosen indexed asked others plan) plan) is);
       size = c.found_behind-in-Values.ensures.size
           ∙ c.values-own.ensures.size
-          ∙ (λ i. values_size indexed (types.count i) (from.size i))
+          ∙ (λ i. values_size indexed (count i) (from.size i))
           ∙ ap (values_size indexed (plan_count names)) (sym (size_chosen indexed asked others start last))
           ∙ sym (ap (λ (plan : Plan). size indexed (chosen indexed asked others plan) plan) is);
       asked = c.found_behind-in-Values.ensures.asked ∙ values_behind start names asked is from.asked types.asked;

@@ -9,11 +9,11 @@ use Rattle.planner.proofs.choosing.+settle.Given as goal
 abbrev pub invariant-settle_parts-loop-place : goal.invariant-settle_parts-loop-place
 invariant-settle_parts-loop-place l =
     ChosenLeft ConceptPlan of_concepts (concept_sizes l.indexes) (concept_list (lead_list l.indexes)) (given_concepts l.indexes) l.all l.asked l.others
-    l.parts l.fn.choosing.choices.items l.fn.choosing.leads.items l.place l.tally l.asked_left l.others_left l.choosing.choices.items
+    l.parts l.fn.choosing.choices.items l.fn.choosing.leads.items l.place l.found.tally l.found.asked.now l.found.others.now l.choosing.choices.items
     l.choosing.leads.items
 
 abbrev pub invariant-settle_unit_parts-loop-place : goal.invariant-settle_unit_parts-loop-place
 invariant-settle_unit_parts-loop-place l =
     ChosenLeft UnitPlan of_groups (unit_sizes l.indexes) (unit_list (lead_list l.indexes)) (given_groups l.indexes) l.all l.asked l.others
-    l.parts l.fn.choosing.choices.items l.fn.choosing.leads.items l.place l.tally l.asked_left l.others_left l.choosing.choices.items
+    l.parts l.fn.choosing.choices.items l.fn.choosing.leads.items l.place l.found.tally l.found.asked.now l.found.others.now l.choosing.choices.items
     l.choosing.leads.items
