@@ -25,7 +25,8 @@ leaf_choices indexed asked others all back count types test =
     ∷ (inner ++ last)
 
 -- ---- what holds of a leaf that has no choice holds of each leaf where there are no choices
-module _ (Holds : LeafFact) (of_none : (all : Indexed → ℕ) (back : Bool) (count : Cardinality) (types : Plan) (test : TestPlan) → Holds all back count types test []) where
+module _ (Holds : LeafFact)
+    (of_none : (all : Indexed → ℕ) (back : Bool) (count : Cardinality) (types : Plan) (test : TestPlan) → Holds all back count types test []) where
   -- behind none there are none
   behind_none : (Fact : List Choice → Type 0) (n : ℕ) → Fact [] → Fact (drop n [])
   behind_none Fact n of_none = subst Fact (sym (drop-nil n)) of_none
