@@ -153,6 +153,9 @@ fn all_listed<S: ConceptSet>(
     ensures bound { IfOk result (λ found. ⟦<WordSet as ConceptSet>⟧.bound_of found ≡ S.bound_of operand.now) }
 {
     let mut left = most_items(index);
+    if family.is_whole() && has_more_items(index, family, concepts, operand.bound(), left) {
+        return reached(alloc, snapshot, index, family, operand);
+    }
     let mut found = WordSet::from_items(alloc, &[], operand.bound())?;
     let long = add_lists(alloc, index, family, concepts, true, &mut left, &mut found)?;
     if !long {
@@ -171,6 +174,27 @@ fn most_items(index: &AncestorIndex) -> u64 {
     let links = index.link_count() as u64;
     let pairs = index.ancestor_count() as u64;
     links.saturating_mul(PASS).min(pairs.saturating_sub(links))
+}
+
+// Whether the lists of some concepts have more items than so many, so that not all are read. Of descendants this shows as they
+// are read: most often one list has the others in it.
+fn has_more_items(
+    index: &AncestorIndex,
+    family: Family,
+    concepts: &[u32],
+    count: u32,
+    most: u64,
+) -> bool
+    requires over { IsOver count index.now }
+    requires below { All (λ concept. concept < count) concepts.now }
+{
+    let mut items = 0u64;
+    if matches!(family, Family::Ancestors) {
+        for concept in concepts {
+            items = items.saturating_add(index.ancestors(*concept).len() as u64);
+        }
+    }
+    items > most
 }
 
 // Adds to a set the lists of those concepts whose lists are long, or are not. Tells whether it has added all: of lists that

@@ -20,12 +20,18 @@ returns-clause-joined g c =
 
 pub add_lists-requires-clause-below : goal.add_lists-requires-clause-below
 add_lists-requires-clause-below g c =
-    subst (λ (count : ℕ). All (λ concept. concept < count) c.args.concepts.now) (sym (c.in_ok-found.ensures.bound ∙ c.bound.ensures))
+    subst (λ (count : ℕ). All (λ concept. concept < count) c.args.concepts.now) (sym (c.in_ok-found.ensures.bound ∙ c.bound-2.ensures))
     (subst (All (λ concept. concept < g.S.ConceptSet.bound_of c.args.operand.now)) (sym c.requires.concepts)
     (all_below (g.S.ConceptSet.bound_of c.args.operand.now) (g.S.ConceptSet.items_of c.args.operand.now) (g.met.S.ConceptSet.rising c.args.operand.now)))
 
 pub add_lists-requires-2-clause-below : goal.add_lists-requires-2-clause-below
 add_lists-requires-2-clause-below g c =
-    subst (λ (count : ℕ). All (λ concept. concept < count) c.args.concepts.now) (sym (c.add_lists.ensures.bound ∙ c.in_ok-found.ensures.bound ∙ c.bound.ensures))
+    subst (λ (count : ℕ). All (λ concept. concept < count) c.args.concepts.now) (sym (c.add_lists.ensures.bound ∙ c.in_ok-found.ensures.bound ∙ c.bound-2.ensures))
+    (subst (All (λ concept. concept < g.S.ConceptSet.bound_of c.args.operand.now)) (sym c.requires.concepts)
+    (all_below (g.S.ConceptSet.bound_of c.args.operand.now) (g.S.ConceptSet.items_of c.args.operand.now) (g.met.S.ConceptSet.rising c.args.operand.now)))
+
+pub has_more_items-requires-clause-below : goal.has_more_items-requires-clause-below
+has_more_items-requires-clause-below g c =
+    subst (λ (count : ℕ). All (λ concept. concept < count) c.args.concepts.now) (sym c.bound.ensures)
     (subst (All (λ concept. concept < g.S.ConceptSet.bound_of c.args.operand.now)) (sym c.requires.concepts)
     (all_below (g.S.ConceptSet.bound_of c.args.operand.now) (g.S.ConceptSet.items_of c.args.operand.now) (g.met.S.ConceptSet.rising c.args.operand.now)))
