@@ -321,7 +321,7 @@ def seconds_of(*words):
 def crafted():
     """Releases that are meant to burn time: dense hierarchies, and rows that a hash would put in one place."""
     with folder() as room:
-        for kind, seconds in (("layers", 3), ("chain", 5)):
+        for kind, seconds in (("layers", 4), ("chain", 20)):
             make_crafted.make(kind, f"{room}/{kind}")
             case(f"{kind}: a load with indexes ends within {seconds} s", seconds_of("query", f"{room}/{kind}") < seconds, True)
         for kind in ("members", "decimals"):

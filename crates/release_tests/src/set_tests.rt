@@ -27,6 +27,12 @@ fn holds<S: ConceptSet>(
     }
 }
 
+// Whether the words of a set are these.
+fn has_words<S: ConceptSet>(alloc: Global, set: &S, wanted: &[u64]) -> Result<bool, AllocError> {
+    let words = set.marks(alloc)?;
+    Ok(words.as_slice() == wanted)
+}
+
 // The operations on x = 0 2 5 and y = 2 5 9 below 10.
 fn operations_hold<S: ConceptSet>(alloc: Global, x: &S, y: &S) -> Result<bool, AllocError>
     requires { S.bound_of x.now ≡ S.bound_of y.now }
@@ -37,7 +43,8 @@ fn operations_hold<S: ConceptSet>(alloc: Global, x: &S, y: &S) -> Result<bool, A
             && holds(alloc, x.minus(alloc, y), &[0])?
             && holds(alloc, y.minus(alloc, x), &[9])?
             && holds(alloc, x.others(alloc), &[1, 3, 4, 6, 7, 8, 9])?
-            && holds(alloc, x.copy(alloc), &[0, 2, 5])?,
+            && holds(alloc, x.copy(alloc), &[0, 2, 5])?
+            && has_words(alloc, x, &[0b10_0101])?,
     )
 }
 
