@@ -57,7 +57,8 @@ pub no_set_list : (count : ℕ) (test : ℕ → Bool) → numbers_where count te
 no_set_list count test = numbers_where-agree count _ _ (λ number below. grind (arith, common_steps))
 
 -- numbers below a count rise below the bound of a set
-pub rises_below : {S : Type 0} (bound_of : S → ℕ) (count : ℕ) (test : ℕ → Bool) (list : List ℕ) (joined : Option S) → IfSome joined (λ set. bound_of set ≡ count)
+pub rises_below : {S : Type 0} (bound_of : S → ℕ) (count : ℕ) (test : ℕ → Bool) (list : List ℕ) (joined : Option S)
+    → IfSome joined (λ set. bound_of set ≡ count)
     → list ≡ numbers_where count test → IfSome joined (λ set. IsRisingBelow (bound_of set) list)
 rises_below bound_of count test list None bound is = tt
 rises_below bound_of count test list (Some set) bound is =
@@ -65,8 +66,12 @@ rises_below bound_of count test list (Some set) bound is =
 
 -- numbers below a count are below it
 pub where_below : (count : ℕ) (test : ℕ → Bool) (list : List ℕ) → list ≡ numbers_where count test → All (λ number. number < count) list
-where_below count test list is i d inside = (there_where count test (get_or list i d) (subst (λ (xs : List ℕ). Contains xs (get_or list i d)) is (Contains-get_or list i d inside))).0
+where_below count test list is i d inside =
+    (there_where count test (get_or list i d) (subst (λ (xs : List ℕ). Contains xs (get_or list i d)) is (Contains-get_or list i d inside))).0
 
 -- one list more, whose items are below a count
-pub items_more : (count : ℕ) (lists : List (List ℕ)) (list : List ℕ) → AreItemsBelow count lists → All (λ item. item < count) list → AreItemsBelow count (lists ++ list ∷ [])
-items_more count lists list below own = All-append (λ (items : List ℕ). All (λ item. item < count) items) lists (list ∷ []) below (All-cons (λ (items : List ℕ). All (λ item. item < count) items) list [] own (All-nil (λ (items : List ℕ). All (λ item. item < count) items)))
+pub items_more : (count : ℕ) (lists : List (List ℕ)) (list : List ℕ) → AreItemsBelow count lists → All (λ item. item < count) list
+    → AreItemsBelow count (lists ++ list ∷ [])
+items_more count lists list below own =
+    let are_below = λ (items : List ℕ). All (λ item. item < count) items in
+    All-append are_below lists (list ∷ []) below (All-cons are_below list [] own (All-nil are_below))

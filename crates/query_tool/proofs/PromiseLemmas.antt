@@ -44,8 +44,10 @@ concepts_rise : KeepsRising → (language : List ℕ) (files : List FileText) (c
     → IsStrictlyIncreasing contents.release.concepts
 concepts_rise rises language files contents loads =
     let places = places_from 0 files in
-    let loaded = unless_unnamed (list_any is_concept_file files) (loaded_from (limits_in_force standard_limits) language (length (filter has_kind files)) places) contents loads in
-    let whole = loaded_whole (contents_of language (length (filter has_kind files)) places) contents (first_fault (limits_in_force standard_limits) [] places) loaded in
+    let limits = limits_in_force standard_limits in
+    let kinds = length (filter has_kind files) in
+    let loaded = unless_unnamed (list_any is_concept_file files) (loaded_from limits language kinds places) contents loads in
+    let whole = loaded_whole (contents_of language kinds places) contents (first_fault limits [] places) loaded in
     subst (λ (own : Contents). IsStrictlyIncreasing own.release.concepts) (sym whole)
     (rises (map (λ (row : ConceptRow). row.id) (filter (λ (row : ConceptRow). row.active) (concept_rows (map text_of_row (chosen (rows_of places))))))).0
 
@@ -65,11 +67,13 @@ kept test numbers number = (
   λ there.
       let both = both_true (has_item numbers number) (test number) (sym (has_kept test numbers number) ∙ there_item (filter test numbers) number there) in
       (item_there numbers number both.0, both.1),
-  λ both. item_there (filter test numbers) number (has_kept test numbers number ∙ true_both (has_item numbers number) (test number) (there_item numbers number both.0) both.1),
+  λ both. item_there (filter test numbers) number
+      (has_kept test numbers number ∙ true_both (has_item numbers number) (test number) (there_item numbers number both.0) both.1),
 )
 
 -- the answer to a line, in the words of the promise
-answer_said : (contents : Contents) → IsStrictlyIncreasing contents.release.concepts → (line text : List ℕ) → IsAnswer contents line text → Answers contents line text
+answer_said : (contents : Contents) → IsStrictlyIncreasing contents.release.concepts → (line text : List ℕ) → IsAnswer contents line text
+    → Answers contents line text
 answer_said contents rise line text (inl (tree, is, same)) = inl (
   tree,
   is,
@@ -102,7 +106,8 @@ pub promise_kept : {R W E : Type 0} → KeepsRising → (r : Input R) (w : Outpu
     × (text : List ℕ) × AreAnswers (Answers contents) (query_lines bytes) text × (w.written after.output ≡ Some (there ++ text))
 promise_kept rises r w e before after files language bytes there old new task asked (inl served) reads wrote =
     let contents = served.contents in
-    let answers_from = λ (earlier : Option (List ℕ)) (known : List ℕ). AreWritten (IsAnswer contents) (query_lines known) earlier (w.written after.output) in
+    let answers_from = λ (earlier : Option (List ℕ)) (known : List ℕ).
+    AreWritten (IsAnswer contents) (query_lines known) earlier (w.written after.output) in
     let loads : IsLoadOf files language task.names (Ok contents) = subst (IsLoadOf files language task.names) served.loaded asked.loaded.loaded in
     let answered : IsAnswered r w contents before after =
     subst (λ (mode : Mode). IsServed r w mode contents before after) asked.mode_is served.ended.served in

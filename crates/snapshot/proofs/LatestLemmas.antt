@@ -41,7 +41,8 @@ any_same test other (item ∷ items) same = grind (arith, common_steps, (same it
 
 -- of rows of one component and one time both are superseded, or neither
 superseded_same : (all : List RowAt) (row other : RowAt) → same_version row other ≡ true → is_superseded all row ≡ is_superseded all other
-superseded_same all row other same = any_same _ _ all (λ third. grind (arith, common_steps, (component_as row other third), (later_than_same (time_of row) (time_of other) (time_of third))))
+superseded_same all row other same = any_same _ _ all (λ third.
+    grind (arith, common_steps, (component_as row other third), (later_than_same (time_of row) (time_of other) (time_of third))))
 
 -- rows among others, and one more of them behind
 among_both : (all earlier : List RowAt) (row : RowAt) → AreAmong all earlier → IsAmong all row → AreAmong all (earlier ++ row ∷ [])
@@ -64,13 +65,15 @@ module _ (of : RowAt) where
     unbeaten : beats (time_of row) rows ≡ false
 
   -- a row in front is later, or is not
-  with_first : (first : RowAt) (rows : List RowAt) (latest : HasLatest rows) (later : Bool) → (own first && is_later (time_of first) (time_of latest.row)) ≡ later → HasLatest (first ∷ rows)
+  with_first : (first : RowAt) (rows : List RowAt) (latest : HasLatest rows) (later : Bool)
+      → (own first && is_later (time_of first) (time_of latest.row)) ≡ later → HasLatest (first ∷ rows)
   with_first first rows latest true is = record {
     row = first;
     among = λ test none. grind (arith, common_steps);
     is_own = grind (arith, common_steps);
     unbeaten =
-        let rest = any-none (λ other. own other && is_later (time_of other) (time_of latest.row)) (λ other. own other && is_later (time_of other) (time_of first)) rows
+        let rest = any-none (λ other. own other && is_later (time_of other) (time_of latest.row))
+        (λ other. own other && is_later (time_of other) (time_of first)) rows
         (λ other not. grind (arith, common_steps, (later_trans (time_of other) (time_of first) (time_of latest.row)))) latest.unbeaten in
         grind (arith, common_steps, (is_later-itself (time_of first)));
   }
@@ -104,7 +107,8 @@ module _ (of : RowAt) where
   stands all row = own row && not (is_superseded all row)
 
   -- of two that stand the times are one
-  both_stand : (all : List RowAt) (row other : RowAt) → IsAmong all row → IsAmong all other → stands all row ≡ true → stands all other ≡ true → same_version other row ≡ true
+  both_stand : (all : List RowAt) (row other : RowAt) → IsAmong all row → IsAmong all other → stands all row ≡ true → stands all other ≡ true
+      → same_version other row ≡ true
   both_stand all row other among among_other one two =
       let not_row = among (λ third. same_component third other && is_later (time_of third) (time_of other)) (grind (arith, common_steps)) in
       let not_other = among_other (λ third. same_component third row && is_later (time_of third) (time_of row)) (grind (arith, common_steps)) in
@@ -115,7 +119,8 @@ module _ (of : RowAt) where
   stands_as all row other among among_other standing =
       grind (arith, common_steps, (both_stand all row other among among_other standing), (superseded_same all other row), (component_as row of other))
 
-  repeats : (all earlier : List RowAt) (row : RowAt) → IsAmong all row → AreAmong all earlier → stands all row ≡ true → is_repeated earlier row ≡ list_any (stands all) earlier
+  repeats : (all earlier : List RowAt) (row : RowAt) → IsAmong all row → AreAmong all earlier → stands all row ≡ true
+      → is_repeated earlier row ≡ list_any (stands all) earlier
   repeats all [] row among all_among standing = refl
   repeats all (first ∷ earlier) row among all_among standing =
       grind (arith, common_steps, (stands_as all row first among all_among.0 standing), (repeats all earlier row among all_among.1 standing))
