@@ -53,9 +53,6 @@ pub joined_list : (count : ℕ) (test : ℕ → Bool) (items list : List ℕ) �
 joined_list count test items list is = numbers_where-agree count _ _ (λ number below.
     grind (arith, common_steps, nat_tests, (ap (λ (xs : List ℕ). has_item xs number) is), (has_item-numbers_where count test number below)))
 
-pub no_set_list : (count : ℕ) (test : ℕ → Bool) → numbers_where count test ≡ numbers_where count (λ number. test number || false)
-no_set_list count test = numbers_where-agree count _ _ (λ number below. grind (arith, common_steps))
-
 -- numbers below a count rise below the bound of a set
 pub rises_below : {S : Type 0} (bound_of : S → ℕ) (count : ℕ) (test : ℕ → Bool) (list : List ℕ) (joined : Option S)
     → IfSome joined (λ set. bound_of set ≡ count)

@@ -51,13 +51,6 @@ impl FirstMet {
         self.keys.len()
     }
 
-    /// The keys, in the order in which they were first met.
-    pub fn as_slice(&self) -> &[u128]
-        ensures { result.now ≡ self.now }
-    {
-        self.keys.as_slice()
-    }
-
     /// The place of a key, from 0, if it was met.
     #[tactic(auto, using(crate::proofs::PlaceLemmas::met, crate::proofs::PlaceLemmas::not_met))]
     pub fn place_of(&self, key: u128) -> Option<usize>

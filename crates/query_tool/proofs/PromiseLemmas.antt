@@ -2,6 +2,7 @@
 use Rattle.std.proofs.Common.{arith, ℕ, ◌≡◌, ◌∙◌, ◌↔◌, ◌++◌, ◌∷◌, [], ◌&&◌, inl, inr, Bool, true, cond, refl, List, length, map, Option, None, Some, Result, Ok, Err, ap, sym, subst}
 use Rattle.std.specs.List.{list_any}
 use Rattle.std.specs.Prelude.{IfSome, IsTrue, Contains, filter}
+use Rattle.std.proofs.lemmas.Bool.{and_parts}
 use Rattle.std.proofs.lemmas.Bool.Decides.{nat_tests}
 use Rattle.std.proofs.lemmas.Grind.{common_steps}
 use Rattle.std.proofs.lemmas.List.Kept.{IsStrictlyIncreasing-filter}
@@ -55,9 +56,6 @@ has_kept : (test : ℕ → Bool) (numbers : List ℕ) (number : ℕ) → has_ite
 has_kept test [] number = refl
 has_kept test (first ∷ numbers) number = grind (arith, common_steps, nat_tests, (has_kept test numbers number))
 
-both_true : (one other : Bool) → (one && other) ≡ true → (one ≡ true) × (other ≡ true)
-both_true one other is = grind arith
-
 true_both : (one other : Bool) → one ≡ true → other ≡ true → (one && other) ≡ true
 true_both one other is is_other = grind arith
 
@@ -65,7 +63,7 @@ true_both one other is is_other = grind arith
 kept : (test : ℕ → Bool) (numbers : List ℕ) (number : ℕ) → Contains (filter test numbers) number ↔ (Contains numbers number × IsTrue (test number))
 kept test numbers number = (
   λ there.
-      let both = both_true (has_item numbers number) (test number) (sym (has_kept test numbers number) ∙ there_item (filter test numbers) number there) in
+      let both = and_parts (has_item numbers number) (test number) (sym (has_kept test numbers number) ∙ there_item (filter test numbers) number there) in
       (item_there numbers number both.0, both.1),
   λ both. item_there (filter test numbers) number
       (has_kept test numbers number ∙ true_both (has_item numbers number) (test number) (there_item numbers number both.0) both.1),
