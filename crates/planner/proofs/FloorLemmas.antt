@@ -46,7 +46,7 @@ module _ (one other : NodeNumber) (plans : (choices : List Choice) (plan : Plan)
     plans_sum-le choices (plan_then first rest) =
         omega (arith, node_sum-le choices first, plans_sum-le (drop (leaves first) choices) rest)
 
-    group_sum-le : (choices : List Choice) (plan : GroupPlan) → group_sum one choices plan ≤ group_sum other choices plan
+    pub group_sum-le : (choices : List Choice) (plan : GroupPlan) → group_sum one choices plan ≤ group_sum other choices plan
     group_sum-le choices nothing_group = groups choices nothing_group
     group_sum-le choices every_group = groups choices every_group
     group_sum-le choices (and_group parts) = omega (arith, groups choices (and_group parts), groups_sum-le choices parts)
@@ -96,7 +96,7 @@ one-le-rows_left indexed count all (values_plan start names) = omega arith
 one-le-rows_left indexed count all (pairs_plan back pairs types test) = omega arith
 one-le-rows_left indexed count all (units_plan pairs units) = omega arith
 
-leaf-le : (indexed : Indexed) (all : ℕ) (back : Bool) (count : _) (types : Plan) (test : TestPlan) (type_size value_size : ℕ) (choice : Choice)
+pub leaf-le : (indexed : Indexed) (all : ℕ) (back : Bool) (count : _) (types : Plan) (test : TestPlan) (type_size value_size : ℕ) (choice : Choice)
     → leaf_floor indexed back types test choice ≤ leaf_bound (leaf_of indexed all back count types test type_size value_size) choice
 leaf-le indexed all back count types (within_plan values) type_size value_size ByValue =
     omega (arith, one-le-rows_left indexed (value_row_count indexed back) (length indexed.rows) values)
@@ -106,7 +106,7 @@ leaf-le indexed all back count types test type_size value_size ByType =
     omega (arith, one-le-rows_left indexed (type_row_count indexed) (length indexed.rows) types)
 leaf-le indexed all back count types test type_size value_size Scan = omega arith
 
-walk-le : (indexed : Indexed) (operator : Operator) (one : Option ℕ) (size : ℕ)
+pub walk-le : (indexed : Indexed) (operator : Operator) (one : Option ℕ) (size : ℕ)
     → cond (is_extreme operator) 0 (of_one indexed one (list_length indexed operator)) ≤ walk_bound indexed operator one size
 walk-le indexed operator (Some id) size = elim (is_extreme operator) as (λ (b : Bool).
     cond b 0 (of_one indexed (Some id) (list_length indexed operator)) ≤ walk_bound indexed operator (Some id) size)
@@ -115,7 +115,7 @@ walk-le indexed operator None size = elim (is_extreme operator) as (λ (b : Bool
     cond b 0 (of_one indexed None (list_length indexed operator)) ≤ walk_bound indexed operator None size)
     [ true ↦ omega arith | false ↦ omega arith ]
 
-members-le : (indexed : Indexed) (one : Option ℕ) (size : ℕ) → of_one indexed one (member_count indexed) ≤ members_bound indexed one size
+pub members-le : (indexed : Indexed) (one : Option ℕ) (size : ℕ) → of_one indexed one (member_count indexed) ≤ members_bound indexed one size
 members-le indexed (Some id) size = omega (arith, in_force-le (concept_number indexed.concepts id) (member_count indexed id))
 members-le indexed None size = omega arith
 
@@ -148,3 +148,9 @@ group_own-le indexed choices (pairs_group count types test) =
 pub floor-le-bound : (indexed : Indexed) (choices : List Choice) (plan : Plan) → floor indexed choices plan ≤ bound indexed choices plan
 floor-le-bound indexed choices plan =
     node_sum-le (floor_number indexed) (own_number indexed) (own-le indexed) (group_own-le indexed) choices plan
+
+-- the same of groups
+pub group_floor-le-bound : (indexed : Indexed) (choices : List Choice) (plan : GroupPlan)
+    → group_sum (floor_number indexed) choices plan ≤ group_sum (own_number indexed) choices plan
+group_floor-le-bound indexed choices plan =
+    group_sum-le (floor_number indexed) (own_number indexed) (own-le indexed) (group_own-le indexed) choices plan

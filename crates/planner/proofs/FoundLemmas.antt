@@ -331,7 +331,8 @@ module _ (release : Release) (indexed : Indexed) (is : IsIndexOf indexed release
       cc)
 
   -- ---- values
-  pub many-values : (set types : ℕ → Bool) → ((concept : ℕ) → set concept ≡ true → has_concept release concept ≡ true)
+  pub many-values : (set types : ℕ → Bool)
+      → ((row : Attribute) → Contains release.attributes row → set row.source ≡ true → has_concept release row.source ≡ true)
       → many (is_value release set types) ≤ length indexed.rows
   many-values set types forced =
       few_counted (λ concept (row : Attribute). value_eq row.value (concept_value concept)) release.concepts value_once indexed.rows
@@ -341,7 +342,7 @@ module _ (release : Release) (indexed : Indexed) (is : IsIndexOf indexed release
       let row = passing_item (λ (row : Attribute). (set row.source && types row.type_id) && value_eq row.value (concept_value concept))
       release.attributes parts.1 in
       let both = and_parts (set row.0.source && types row.0.type_id) (value_eq row.0.value (concept_value concept)) row.2 in
-      (row.0, by_source row.0 row.1 (forced row.0.source (and_parts (set row.0.source) (types row.0.type_id) both.0).0), both.1))
+      (row.0, by_source row.0 row.1 (forced row.0 row.1 (and_parts (set row.0.source) (types row.0.type_id) both.0).0), both.1))
 
   -- ---- leaves
   module _ (count : Cardinality) (types : Plan) (test : TestPlan) where

@@ -118,7 +118,8 @@ module _ (release : Release) (indexed : Indexed) (is : IsIndexOf indexed release
   -- along types, of which there is one at least
   values-le : (names : Plans) (types : Plan) (set : ℕ → Bool) → ((concept : ℕ) → set concept ≡ true → has_concept release concept ≡ true)
       → many (leads release set (plan_then types names)) ≤ length indexed.rows
-  values-le no_plans types set forced = many-values release indexed is rising set (means release types) forced
+  values-le no_plans types set forced =
+      many-values release indexed is rising set (means release types) (λ row there. forced row.source)
   values-le (plan_then others names) types set forced =
       values-le names others (is_value release set (means release types))
       (λ concept passes. (and_parts (has_concept release concept) _ passes).0)

@@ -98,10 +98,10 @@ pub fn cost<'a>(plan: &ConceptPlan, choices: &'a [Choice], indexes: &Indexes) ->
     }
 }
 
-// Of a plan of groups.
+/// Of a plan of groups.
 #[cycle(cost)]
 #[tactic(auto, using(crate::proofs::Rules::costing))]
-fn unit_cost<'a>(plan: &UnitPlan, choices: &'a [Choice], indexes: &Indexes) -> PlanCost<'a>
+pub fn unit_cost<'a>(plan: &UnitPlan, choices: &'a [Choice], indexes: &Indexes) -> PlanCost<'a>
     ensures size { result.size ≡ group_size indexes.now choices.now (group_plan_of plan.now) }
     ensures bound { result.bound ≡ capped (group_sum (own_number indexes.now) choices.now (group_plan_of plan.now)) }
     ensures rest { result.rest.now ≡ drop (group_leaves (group_plan_of plan.now)) choices.now }

@@ -162,8 +162,8 @@ fn with_leaf<'a>(own: u64, of_types: &PlanFloor<'a>, of_test: &PlanFloor<'a>) ->
     floor_behind(own, inner, of_test.rest)
 }
 
-// The list of the concept that a walk is from, if it is one in force.
-fn walk_floor(indexes: &Indexes, operator: Operator, operand: &ConceptPlan) -> u64
+/// The floor of a walk: the list of the concept that it is from, if that is one in force.
+pub fn walk_floor(indexes: &Indexes, operator: Operator, operand: &ConceptPlan) -> u64
     ensures { result ≡ (if is_extreme_of operator then 0 else of_one indexes.now (one_of (plan_of operand.now)) (list_length_of indexes.now operator)) }
 {
     if is_extreme(operator) {
@@ -175,8 +175,8 @@ fn walk_floor(indexes: &Indexes, operator: Operator, operand: &ConceptPlan) -> u
     }
 }
 
-// The components of the reference set, if it is one in force.
-fn members_floor(indexes: &Indexes, operand: &ConceptPlan) -> u64
+/// The floor of the components of reference sets: those of the one, if it is in force.
+pub fn members_floor(indexes: &Indexes, operand: &ConceptPlan) -> u64
     ensures { result ≡ of_one indexes.now (one_of (plan_of operand.now)) (member_count_of indexes.now) }
 {
     match one(operand) {
@@ -185,8 +185,8 @@ fn members_floor(indexes: &Indexes, operand: &ConceptPlan) -> u64
     }
 }
 
-// The rows of a leaf: all where it is scanned, else those of the one concept in force that its test or its types are.
-fn leaf_floor(
+/// The floor of a leaf: all rows where it is scanned, else those of the one concept in force that its test or its types are.
+pub fn leaf_floor(
     indexes: &Indexes,
     back: bool,
     types: &ConceptPlan,
