@@ -10,10 +10,10 @@ use Rattle.postings.specs.Groups.{ConceptGroup, all_groups}
 use Rattle.set_algebra.specs.declared.plan.UnitPlan.{UnitPlan}
 use Rattle.set_algebra.specs.Meaning.{all_group_mean, group_means, has_pairs, means, some_group_means, value_passes}
 use Rattle.set_algebra.specs.Plan.{GroupPlan, Plan, TestPlan, and_group, every_group, group_plan_of, group_plans_of, or_group, pairs_group}
-use Rattle.executor.specs.Groups.{groups_where, some_group_in}
-use Rattle.executor.specs.Numbers.{numbers_in}
-use Rattle.executor.specs.Tested.{is_one_of}
-use Rattle.executor.proofs.LeafLemmas.{none_within}
+use Rattle.pair_sets.specs.Groups.{groups_where, some_group_in}
+use Rattle.pair_sets.specs.Numbers.{numbers_in}
+use Rattle.pair_sets.specs.Tested.{is_one_of}
+use Rattle.pair_sets.proofs.LeafLemmas.{none_within}
 use Rattle.executor.proofs.NodeLemmas.{one_meant}
 
 module _ (release : Release) where

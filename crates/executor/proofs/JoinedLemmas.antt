@@ -17,6 +17,7 @@ use Rattle.idset.proofs.Rising.{has_item-past_bound, numbers_where-rising, risin
 use Rattle.hierarchy.specs.KeyedLists.{list_of}
 use Rattle.ancestor_index.specs.HierarchyLists.{Hierarchy, hierarchy_of, is_child, lists_where}
 use Rattle.ancestor_index.proofs.ClosureLemmas.{item_there, length-where, list_of-where, row_there, there_item, there_where, where_there}
+use Rattle.pair_sets.proofs.ListLemmas.{any_append}
 use Rattle.executor.specs.Joined.{AreJoined, is_long, is_whole, near_of, with_length}
 use Rattle.executor.specs.Steps.{IsOver, joined, lists_of}
 use Rattle.executor.specs.declared.family.Family.{Family}
@@ -104,14 +105,6 @@ over_near count hierarchy over f concept below set told =
     found.2
 
 -- ---- joining
-pub any_append : {X : Type 0} (test : X → Bool) (xs ys : List X) → list_any test (xs ++ ys) ≡ (list_any test xs || list_any test ys)
-any_append test [] ys = refl
-any_append test (x ∷ xs) ys = ap (λ (b : Bool). test x || b) (any_append test xs ys) ∙ assoc (test x) (list_any test xs) (list_any test ys)
-  where
-    assoc : (a b c : Bool) → (a || (b || c)) ≡ ((a || b) || c)
-    assoc true b c = refl
-    assoc false b c = refl
-
 or_nothing : (b : Bool) → (b || false) ≡ b
 or_nothing true = refl
 or_nothing false = refl
@@ -237,7 +230,3 @@ words_list count bound words list is rises marked =
 
 pub words_joined : (count : ℕ) (lists : List (List ℕ)) (concept : ℕ) (words : List ℕ) → ((n : ℕ) → is_set words n ≡ has_item (list_of lists concept) n) → numbers_where count (is_set words) ≡ joined count lists (concept ∷ [])
 words_joined count lists concept words marked = words_are count words (list_of lists concept) marked ∙ one_joined count lists concept
-
--- all items of a rising list are below the bound
-pub all_below : (count : ℕ) (items : List ℕ) → IsRisingBelow count items → All (λ item. item < count) items
-all_below count items rises k d within = subst (λ (n : ℕ). n < count) (sym (get_or_default items k d 0 within)) (get_or-below 0 count items k rises within)

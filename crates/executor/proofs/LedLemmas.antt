@@ -16,9 +16,10 @@ use Rattle.executor.specs.Joined.{back_of}
 use Rattle.executor.specs.Steps.{IsOver, apart, joined, led_to, lists_of}
 use Rattle.executor.specs.declared.family.Family.{Family}
 use Rattle.executor.specs.declared.family.Family.TheVariants as family
-use Rattle.executor.proofs.AmongLemmas.{has_kept}
-use Rattle.executor.proofs.JoinedLemmas.{all_below, listed_stands, stands, stands_listed}
-use Rattle.executor.proofs.WithinLemmas.{restricted_to}
+use Rattle.pair_sets.proofs.AmongLemmas.{has_kept}
+use Rattle.pair_sets.proofs.ListLemmas.{all_below}
+use Rattle.executor.proofs.JoinedLemmas.{listed_stands, stands, stands_listed}
+use Rattle.pair_sets.proofs.WithinLemmas.{restricted_to}
 
 -- one concept stands to another as the other stands back to it
 stands_back : (release : Release) (f : Family) (a b : ℕ) → stands release f a b ≡ stands release (back_of f) b a

@@ -16,19 +16,10 @@ use Rattle.ancestor_index.specs.HierarchyLists.{is_child}
 use Rattle.ancestor_index.proofs.ClosureLemmas.{both_ways, list_of-where, there_where, where_there}
 use Rattle.postings.specs.Indexed.{members_of}
 use Rattle.executor.specs.Members.{components_of}
-use Rattle.executor.specs.Numbers.{numbers_in}
-use Rattle.executor.specs.Tested.{is_one_of}
-use Rattle.executor.proofs.JoinedLemmas.{any_append}
-use Rattle.executor.proofs.Normal.{in_force_kept, numbers_in-agree}
-
--- where tests agree on the items of a list, so they do on whether some item passes
-pub any_agree : {X : Type 0} (xs : List X) (p q : X → Bool) (d : X) → ((k : ℕ) → k < length xs → p (get_or xs k d) ≡ q (get_or xs k d)) → list_any p xs ≡ list_any q xs
-any_agree [] p q d agree = refl
-any_agree (x ∷ xs) p q d agree = λ i. agree 0 (omega arith) i || any_agree xs p q d (λ k within. agree (suc k) (omega (arith, within))) i
-
-pub any_map : {X Y : Type 0} (f : X → Y) (test : Y → Bool) (xs : List X) → list_any test (map f xs) ≡ list_any (λ x. test (f x)) xs
-any_map f test [] = refl
-any_map f test (x ∷ xs) = ap (λ (b : Bool). test (f x) || b) (any_map f test xs)
+use Rattle.pair_sets.specs.Numbers.{numbers_in}
+use Rattle.pair_sets.specs.Tested.{is_one_of}
+use Rattle.pair_sets.proofs.ListLemmas.{any_agree, any_append}
+use Rattle.pair_sets.proofs.Normal.{in_force_kept, numbers_in-agree}
 
 -- ---- the components of some reference sets, and those of the member rows
 any_or : {X : Type 0} (f g : X → Bool) (xs : List X) → list_any (λ x. f x || g x) xs ≡ (list_any f xs || list_any g xs)

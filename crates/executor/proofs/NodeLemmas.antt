@@ -2,7 +2,7 @@
 use Rattle.std.proofs.Common.{ℕ, zero, suc, ◌≡◌, ◌<◌, arith, ◌∙◌, ◌∷◌, [], Bool, true, ◌==◌, ◌&&◌, ◌||◌, List, length, get_or, take, ◌+◌, refl, sym, ap}
 use Rattle.std.proofs.lemmas.Bool.{and_parts}
 use Rattle.std.specs.List.{list_all, list_any, range_with_len}
-use Rattle.rf2_rows.specs.Release.{Release}
+use Rattle.rf2_rows.specs.Release.{Release, Value}
 use Rattle.constraint_tree.specs.declared.operator.Operator.{Operator}
 use Rattle.constraint_tree.specs.Denotation.{is_value}
 use Rattle.constraint_tree.specs.Passing.{is_outside, is_within}
@@ -13,14 +13,12 @@ use Rattle.set_algebra.specs.declared.plan.ConceptPlan.{ConceptPlan}
 use Rattle.set_algebra.specs.Meaning.{all_mean, group_means, has_groups, has_pairs, leads, means, pairs_of, some_means, value_passes}
 use Rattle.set_algebra.specs.Plan.{GroupPlan, Plan, Plans, TestPlan, all_plan, and_plan, members_plan, no_plans, one_plan, or_plan, outside_plan, pairs_plan, plan_of, plan_then, plans_of, units_plan, values_plan, walk_plan, within_plan}
 use Rattle.set_algebra.proofs.MeaningLemmas.{in_force_if_meant}
-use Rattle.postings.specs.Indexed.{Indexed, value_at, values_of}
-use Rattle.executor.specs.Hits.{TellsPassing}
 use Rattle.executor.specs.Members.{components_of}
-use Rattle.executor.specs.Numbers.{numbers_in}
+use Rattle.pair_sets.specs.Numbers.{numbers_in}
 use Rattle.executor.specs.Steps.{led_to}
-use Rattle.executor.specs.Tested.{is_one_of}
+use Rattle.pair_sets.specs.Tested.{is_one_of}
 use Rattle.executor.proofs.MemberLemmas.{components_in, one_of_set}
-use Rattle.executor.proofs.Normal.{each_in_force, in_force_kept, numbers_in-agree}
+use Rattle.pair_sets.proofs.Normal.{each_in_force, in_force_kept, numbers_in-agree}
 use Rattle.executor.proofs.StepLemmas.{led_is}
 
 meant : (release : Release) (plan other : Plan) → plan ≡ other → numbers_in release (means release other) ≡ numbers_in release (means release plan)
@@ -139,18 +137,15 @@ name_step release plan names k name within is concepts found types led are types
         (led_in_force release (plans_of (take k names)) (means release plan) (in_force_if_meant release plan)) id i)
 
 -- what passes a test by the concepts of a set passes it by the plan that means them
-pub within_told : (indexed : Indexed) (release : Release) (plan : Plan) (items words : List ℕ) (test : TestPlan) → test ≡ within_plan plan
-    → indexed.concepts ≡ release.concepts → items ≡ numbers_in release (means release plan)
-    → TellsPassing indexed (is_within (is_one_of indexed.concepts items)) words → TellsPassing indexed (value_passes release test) words
-within_told indexed release plan items words test is are items_are tells number =
-    tells number
-    ∙ ap (λ (set : ℕ → Bool). is_within set (value_at (values_of indexed) number)) (one_meant release plan indexed.concepts items are items_are)
-    ∙ ap (λ (t : TestPlan). value_passes release t (value_at (values_of indexed) number)) (sym is)
+module _ (release : Release) (plan : Plan) (concepts items : List ℕ) (test : TestPlan) where
+  pub within_passes : test ≡ within_plan plan → concepts ≡ release.concepts → items ≡ numbers_in release (means release plan)
+      → (value : Value) → is_within (is_one_of concepts items) value ≡ value_passes release test value
+  within_passes is are items_are value =
+      ap (λ (set : ℕ → Bool). is_within set value) (one_meant release plan concepts items are items_are)
+      ∙ ap (λ (t : TestPlan). value_passes release t value) (sym is)
 
-pub outside_told : (indexed : Indexed) (release : Release) (plan : Plan) (items words : List ℕ) (test : TestPlan) → test ≡ outside_plan plan
-    → indexed.concepts ≡ release.concepts → items ≡ numbers_in release (means release plan)
-    → TellsPassing indexed (is_outside (is_one_of indexed.concepts items)) words → TellsPassing indexed (value_passes release test) words
-outside_told indexed release plan items words test is are items_are tells number =
-    tells number
-    ∙ ap (λ (set : ℕ → Bool). is_outside set (value_at (values_of indexed) number)) (one_meant release plan indexed.concepts items are items_are)
-    ∙ ap (λ (t : TestPlan). value_passes release t (value_at (values_of indexed) number)) (sym is)
+  pub outside_passes : test ≡ outside_plan plan → concepts ≡ release.concepts → items ≡ numbers_in release (means release plan)
+      → (value : Value) → is_outside (is_one_of concepts items) value ≡ value_passes release test value
+  outside_passes is are items_are value =
+      ap (λ (set : ℕ → Bool). is_outside set value) (one_meant release plan concepts items are items_are)
+      ∙ ap (λ (t : TestPlan). value_passes release t value) (sym is)

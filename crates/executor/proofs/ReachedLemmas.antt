@@ -22,7 +22,8 @@ use Rattle.executor.specs.Joined.{AreJoined, is_whole, near_of, turn_of}
 use Rattle.executor.specs.Steps.{IsOver, lists_of}
 use Rattle.executor.specs.declared.family.Family.{Family}
 use Rattle.executor.specs.declared.family.Family.TheVariants as family
-use Rattle.executor.proofs.JoinedLemmas.{all_below, has_all, listed_stands, near_stands, over_length, over_rising, over_whole, stands, stands_listed}
+use Rattle.pair_sets.proofs.ListLemmas.{all_below}
+use Rattle.executor.proofs.JoinedLemmas.{has_all, listed_stands, near_stands, over_length, over_rising, over_whole, stands, stands_listed}
 
 -- what has been found before a turn: nothing but what items lead to, and of each concept that had its turn, if it is an item or
 -- was found, all that is one row away

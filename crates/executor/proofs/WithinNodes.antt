@@ -13,11 +13,12 @@ use Rattle.set_algebra.specs.declared.plan.ConceptPlan.{ConceptPlan}
 use Rattle.set_algebra.specs.declared.plan.UnitPlan.{UnitPlan}
 use Rattle.set_algebra.specs.Meaning.{group_means, means}
 use Rattle.set_algebra.specs.Plan.{GroupPlan, Plan, group_plan_of, minus_group, minus_plan, nothing_group, empty_plan, plan_of}
-use Rattle.executor.specs.Groups.{groups_where, some_group_in}
-use Rattle.executor.specs.Numbers.{numbers_in}
-use Rattle.executor.specs.Within.{groups_within, leads_off, leads_off_groups, numbers_within}
-use Rattle.executor.proofs.LeafLemmas as leaf
-use Rattle.executor.proofs.WithinLemmas.{all_again, all_done, minus_within, restricted_to, some_of_none}
+use Rattle.pair_sets.specs.Groups.{groups_where, some_group_in}
+use Rattle.pair_sets.specs.Numbers.{numbers_in}
+use Rattle.executor.specs.Lead.{leads_off, leads_off_groups}
+use Rattle.pair_sets.specs.Within.{groups_within, numbers_within}
+use Rattle.pair_sets.proofs.LeafLemmas as leaf
+use Rattle.pair_sets.proofs.WithinLemmas.{all_again, all_done, kept_groups, minus_within, restricted_to, some_of_none}
 
 -- what all of a list pass, one of them passes
 pub passed_by : {X : Type 0} (test : X → Bool) (xs : List X) (k : ℕ) (x : X) → list_all test xs ≡ true → slice_get xs k ≡ Some x → test x ≡ true
@@ -38,9 +39,6 @@ module _ (release : Release) (may : ℕ → Bool) where
       sym (restricted_to (length release.concepts) may (by_number p) (numbers_in release p) (filter may (numbers_in release p)) refl refl)
       ∙ ap (filter may) same
       ∙ restricted_to (length release.concepts) may (by_number q) (numbers_in release q) (filter may (numbers_in release q)) refl refl
-
-  pub kept_set : (set : ℕ → Bool) (some found : List ℕ) → some ≡ numbers_in release set → found ≡ filter may some → found ≡ numbers_within release may set
-  kept_set set some found some_is found_is = restricted_to (length release.concepts) may (by_number set) some found some_is found_is
 
   pub kept_node : (plan : Plan) (some found : List ℕ) → some ≡ numbers_in release (means release plan) → found ≡ filter may some
       → found ≡ numbers_within release may (means release plan)
@@ -114,10 +112,6 @@ module _ (release : Release) (may : ℕ → Bool) where
       sym (restricted_to (length all) may (group_by_number p) (groups_where release p) (filter may (groups_where release p)) refl refl)
       ∙ ap (filter may) same
       ∙ restricted_to (length all) may (group_by_number q) (groups_where release q) (filter may (groups_where release q)) refl refl
-
-  pub kept_groups : (set : List Pair → Bool) (some found : List ℕ) → some ≡ groups_where release set → found ≡ filter may some
-      → found ≡ groups_within release may set
-  kept_groups set some found some_is found_is = restricted_to (length all) may (group_by_number set) some found some_is found_is
 
   pub groups_meant : (plan other : GroupPlan) → plan ≡ other
       → groups_within release may (group_means release other) ≡ groups_within release may (group_means release plan)
@@ -206,7 +200,7 @@ module _ (release : Release) (may : ℕ → Bool) where
       → every ≡ groups_where release (λ pairs. true) → found ≡ filter may every
       → found ≡ groups_within release may (leads_off_groups release (slice_get parts lead))
   groups_led_none parts lead every found past every_is found_is =
-      kept_groups (λ pairs. true) every found every_is found_is
+      kept_groups release may (λ pairs. true) every found every_is found_is
       ∙ ap (λ (at : Option UnitPlan). groups_within release may (leads_off_groups release at)) (sym (slice_get_past parts lead past))
 
   pub any_done : (parts : List UnitPlan) (found : List ℕ)

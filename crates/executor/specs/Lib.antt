@@ -1,11 +1,4 @@
-pub mod Among
-pub mod Counted
-pub mod Groups
-pub mod Hits
 pub mod Joined
+pub mod Lead
 pub mod Members
-pub mod Numbers
-pub mod Owned
 pub mod Steps
-pub mod Tested
-pub mod Within

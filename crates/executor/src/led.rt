@@ -2,19 +2,20 @@
 ghost use Rattle.std.specs.Prelude.{◌≡◌, ◌<◌, All, IfOk, filter};
 ghost use Rattle.idset.specs.Sets.{all_items, has_item};
 ghost use Rattle.executor.specs.Steps.{apart as apart_of, IsOf, IsOver, joined, led_to, lists_of};
-ghost use Rattle.executor.specs.Within.{AreBelow, may_be};
+ghost use Rattle.pair_sets.specs.Within.{AreBelow, may_be};
 
-use crate::candidates::{Candidates, restricted};
 use crate::family::Family;
+use crate::walk_ways::WalkWay;
 use crate::walks::{is_apart, meets, walk};
 use ancestor_index::AncestorIndex;
 use constraint_tree::Operator;
 use idset::ConceptSet;
+use pair_sets::{Candidates, restricted};
 use snapshot::Snapshot;
 use std::alloc::{AllocError, Global};
 
 /// The candidates among the concepts that an operator leads to from those of a set (Expression Constraint Language,
-/// "Simple Expression Constraints").
+/// "Simple Expression Constraints"), found in a way.
 pub fn walk_within<S: ConceptSet>(
     alloc: Global,
     snapshot: &Snapshot,
@@ -22,19 +23,20 @@ pub fn walk_within<S: ConceptSet>(
     operator: Operator,
     operand: &S,
     candidates: &Candidates<'_, S>,
+    way: WalkWay,
 ) -> Result<S, AllocError>
     requires over { IsOf snapshot.now.release (S.bound_of operand.now) index.now }
     requires candidates { AreBelow S.bound_of (S.bound_of operand.now) candidates.now }
     ensures items { IfOk result (λ found. S.items_of found ≡ filter (may_be S.items_of candidates.now) (led_to index.now (S.bound_of operand.now) operator (S.items_of operand.now))) }
     ensures bound { IfOk result (λ found. S.bound_of found ≡ S.bound_of operand.now) }
 {
-    if let Candidates::Within(wanted, extent) = candidates {
-        if extent.are_few_beside(operand.count()) {
-            let found = led_among(alloc, index, operator, operand, *wanted)?;
+    if way.asks_candidates {
+        if let Candidates::Within(wanted, _) = candidates {
+            let found = led_among(alloc, index, operator, operand, *wanted, way.near_first)?;
             return Ok(found);
         }
     }
-    let led = walk(alloc, snapshot, index, operator, operand)?;
+    let led = walk(alloc, snapshot, index, operator, operand, way.near_first)?;
     let found = restricted(alloc, led, candidates)?;
     Ok(found)
 }
@@ -46,6 +48,7 @@ fn led_among<S: ConceptSet>(
     operator: Operator,
     operand: &S,
     wanted: &S,
+    near_first: bool,
 ) -> Result<S, AllocError>
     requires over { IsOver (S.bound_of operand.now) index.now }
     requires wanted { S.bound_of wanted.now ≡ S.bound_of operand.now }
@@ -53,7 +56,7 @@ fn led_among<S: ConceptSet>(
     ensures bound { IfOk result (λ found. S.bound_of found ≡ S.bound_of operand.now) }
 {
     let own = wanted.items(alloc)?;
-    let kept = those_led_to(alloc, index, operator, operand, own.as_slice())?;
+    let kept = those_led_to(alloc, index, operator, operand, own.as_slice(), near_first)?;
     S::from_items(alloc, kept.as_slice(), operand.bound())
 }
 
@@ -64,6 +67,7 @@ fn those_led_to<S: ConceptSet>(
     operator: Operator,
     operand: &S,
     concepts: &[u32],
+    near_first: bool,
 ) -> Result<Vec<u32>, AllocError>
     requires over { IsOver (S.bound_of operand.now) index.now }
     requires below { All (λ concept. concept < S.bound_of operand.now) concepts.now }
@@ -71,7 +75,7 @@ fn those_led_to<S: ConceptSet>(
 {
     let mut kept = Vec::new(alloc);
     for concept in concepts {
-        if is_led_to(index, operator, operand, *concept) {
+        if is_led_to(index, operator, operand, *concept, near_first) {
             kept.push(*concept)?;
         }
     }
@@ -84,6 +88,7 @@ fn is_led_to<S: ConceptSet>(
     operator: Operator,
     operand: &S,
     concept: u32,
+    near_first: bool,
 ) -> bool
     requires over { IsOver (S.bound_of operand.now) index.now }
     requires below { concept < S.bound_of operand.now }
@@ -103,8 +108,8 @@ fn is_led_to<S: ConceptSet>(
         Operator::AncestorsOrSelf => is_listed_or_self(index, Family::Ancestors, operand, concept),
         Operator::Parents => is_listed(index, Family::Parents, operand, concept),
         Operator::ParentsOrSelf => is_listed_or_self(index, Family::Parents, operand, concept),
-        Operator::Top => is_kept_apart(index, Family::Ancestors, operand, concept),
-        Operator::Bottom => is_kept_apart(index, Family::Descendants, operand, concept),
+        Operator::Top => is_kept_apart(index, Family::Ancestors, operand, concept, near_first),
+        Operator::Bottom => is_kept_apart(index, Family::Descendants, operand, concept, near_first),
     }
 }
 
@@ -142,10 +147,11 @@ fn is_kept_apart<S: ConceptSet>(
     family: Family,
     operand: &S,
     concept: u32,
+    near_first: bool,
 ) -> bool
     requires over { IsOver (S.bound_of operand.now) index.now }
     requires below { concept < S.bound_of operand.now }
     ensures { result ≡ has_item (apart_of (lists_of index.now family) (S.items_of operand.now)) concept }
 {
-    operand.has(concept) && is_apart(index, family, concept, operand)
+    operand.has(concept) && is_apart(index, family, concept, operand, near_first)
 }

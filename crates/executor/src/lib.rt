@@ -4,22 +4,16 @@
 //! function for each kind of node, over the sets of the node's parts and the lists of the index.
 #![tactic(auto)]
 
-mod among;
-mod candidates;
-mod choice;
-mod counts;
+mod counting;
 mod family;
 mod guesses;
-mod hits;
-mod leaves;
 mod led;
 mod nodes;
-mod passing;
 mod plans;
 mod reached;
 mod reference_sets;
-mod types;
-mod units;
+mod walk_ways;
 mod walks;
 
 pub use crate::plans::execute;
+pub use pair_sets::Visits;

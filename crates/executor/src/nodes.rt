@@ -1,11 +1,11 @@
 //! The nodes without parts, and those that join sets.
 ghost use Rattle.std.specs.Prelude.{◌≡◌, ◌==◌, ◌&&◌, [], IfOk, length};
 ghost use Rattle.std.specs.List.{range_with_len};
-ghost use Rattle.idset.specs.Sets.{all_items, common_items, other_items};
+ghost use Rattle.idset.specs.Sets.{all_items, common_items};
 ghost use Rattle.constraint_tree.specs.Walks.{has_concept};
 ghost use Rattle.postings.specs.Groups.{all_groups};
 ghost use Rattle.postings.specs.Indexed.{IsIndexOf};
-ghost use Rattle.executor.specs.Numbers.{numbers_in};
+ghost use Rattle.pair_sets.specs.Numbers.{numbers_in};
 
 use idset::ConceptSet;
 use postings::Indexes;
@@ -96,13 +96,4 @@ pub fn either<S: ConceptSet>(alloc: Global, one: &S, other: &S) -> Result<S, All
     ensures bound { IfOk result (λ found. S.bound_of found ≡ S.bound_of one.now) }
 {
     one.or(alloc, other)
-}
-
-/// The concepts in the first set and not in the second.
-pub fn without<S: ConceptSet>(alloc: Global, first: &S, second: &S) -> Result<S, AllocError>
-    requires bound { S.bound_of first.now ≡ S.bound_of second.now }
-    ensures items { IfOk result (λ found. S.items_of found ≡ other_items (S.items_of first.now) (S.items_of second.now)) }
-    ensures bound { IfOk result (λ found. S.bound_of found ≡ S.bound_of first.now) }
-{
-    first.minus(alloc, second)
 }

@@ -1,66 +1,131 @@
 //! Going down a plan.
-ghost use Rattle.std.specs.Prelude.{◌≡◌, ◌&&◌, Bool, IfOk, List, length, slice_get};
+ghost use Rattle.std.specs.Prelude.{◌≡◌, ◌≤◌, ◌<◌, ◌+◌, ◌*◌, ◌-◌, ◌^◌, ◌&&◌, Bool, IfOk, List, drop, length, min, slice_get, take};
 ghost use Rattle.std.specs.List.{list_all, list_any};
 ghost use Rattle.rf2_rows.specs.Pairs.{Pair};
+ghost use Rattle.rf2_rows.specs.Release.{Value};
 ghost use Rattle.postings.specs.Groups.{all_groups};
 ghost use Rattle.postings.specs.Indexed.{IsIndexOf};
 ghost use Rattle.set_algebra.specs.Meaning.{group_means, has_groups, leads, means, value_passes};
-ghost use Rattle.set_algebra.specs.Plan.{Plan, group_plan_of, plan_of, plans_of, test_plan_of};
-ghost use Rattle.executor.specs.Hits.{TellsPassing};
-ghost use Rattle.executor.specs.Numbers.{numbers_in};
-ghost use Rattle.executor.specs.Within.{AreBelow, groups_within, leads_off, leads_off_groups, may_be, numbers_within};
+ghost use Rattle.set_algebra.specs.Plan.{Plan, group_plan_of, group_plans_of, plan_of, plans_of, test_plan_of, units_plan};
+ghost use Rattle.planner.specs.Bounds.{bound as bound_of, own_number, values_bound};
+ghost use Rattle.planner.specs.Floors.{floor as floor_of, floor_number};
+ghost use Rattle.planner.specs.Leaves.{group_count, groups_leaves, leaves, plan_count, plans_leaves};
+ghost use Rattle.planner.specs.Nodes.{group_sum, groups_sum, node_sum, plans_sum, test_sum};
+ghost use Rattle.planner.specs.Sizes.{group_size, group_sizes, size as size_of, sizes, test_size, total};
+ghost use Rattle.pair_sets.specs.Numbers.{numbers_in};
+ghost use Rattle.pair_sets.specs.Tested.{IsTestBelow, found_for, passes_of};
+ghost use Rattle.executor.specs.Lead.{leads_off, leads_off_groups, of_lead};
+ghost use Rattle.pair_sets.specs.Within.{AreBelow, groups_within, may_be, numbers_within};
 
-use crate::candidates::{Candidates, extent_of, group_extent_of, none_left, restricted};
+use crate::counting::{
+    concept_leaf_limits, count_members, count_units, count_walk, group_leaf_limits,
+};
 use crate::guesses::{group_lead_of, guess_of_groups, lead_of};
-use crate::leaves::{groups_with_pairs_within, values_of, with_pairs_within};
 use crate::led::walk_within;
 use crate::nodes::{
-    common, each_concept, each_group, either, no_concept, no_group, one_concept, without,
+    common, each_concept, each_group, either, no_concept, no_group, one_concept,
 };
-use crate::passing::{comparing, outside, within};
-use crate::reference_sets::members;
-use crate::units::{groups_of, with_groups};
+use crate::reference_sets::{component_count, members};
+use crate::walk_ways::walk_way;
 use constraint_tree::Cardinality;
 use idset::ConceptSet;
+use pair_sets::{
+    Candidates, Tested, Visits, count_of_test, extent_left, extent_of, group_extent_of, groups_of,
+    groups_with_pairs_within, none_left, restricted, rows_of_types, types_in, values_of,
+    with_groups, with_pairs_within, without,
+};
+use planner::{Choice, PhysicalPlan, after_first, first_choice, plan_floor, unit_floor, unit_size};
 use postings::Indexes;
 use set_algebra::{ConceptPlan, UnitPlan, ValueTest};
 use snapshot::Snapshot;
 use std::alloc::{AllocError, Global};
 
-/// The concepts that a plan means over a release, as a set of their numbers whose bound is the number of
-/// concepts. The indexes are those of the release. The error is want of memory.
+/// The concepts that a plan means over a release, as a set of their numbers whose bound is the number of concepts, whatever the
+/// choices of its leaves. The indexes are those of the release. What is read is counted: no more than the bound of the plan,
+/// also where the answer is an error; and at least its floor where it is none, or the count stands at `u64::MAX`. The error is
+/// want of memory.
 pub fn execute<S: ConceptSet>(
     alloc: Global,
-    plan: &ConceptPlan,
+    physical: &PhysicalPlan,
     snapshot: &Snapshot,
     indexes: &Indexes,
+    visits: &mut Visits,
 ) -> Result<S, AllocError>
     requires index { IsIndexOf indexes.now snapshot.now.release }
-    ensures items { IfOk result (λ found. S.items_of found ≡ numbers_in snapshot.now.release (means snapshot.now.release (plan_of plan.now))) }
+    ensures items { IfOk result (λ found. S.items_of found ≡ numbers_in snapshot.now.release (means snapshot.now.release (plan_of physical.now.plan))) }
     ensures bound { IfOk result (λ found. S.bound_of found ≡ length snapshot.now.release.concepts) }
+    ensures grows { visits.old.count ≤ visits.new.count }
+    ensures within { visits.new.count ≤ visits.old.count + bound_of indexes.now physical.now.choices (plan_of physical.now.plan) }
+    ensures floor { IfOk result (λ _. min (visits.old.count + floor_of indexes.now physical.now.choices (plan_of physical.now.plan)) (2 ^ 64 - 1) ≤ visits.new.count) }
 {
-    let found: S = execute_within(alloc, plan, &Candidates::All, snapshot, indexes)?;
+    let plan = physical.plan();
+    let choices = physical.choices();
+    let found: S = execute_within(
+        alloc,
+        plan,
+        choices,
+        &Candidates::All,
+        snapshot,
+        indexes,
+        visits,
+    )?;
     Ok(found)
 }
 
-// The candidates among the concepts that a plan means.
+// The candidates among the concepts that a plan means, which are no more than its size. Where there is no candidate the plan
+// is left out, and its floor counted.
 #[cycle(execute)]
 fn execute_within<S: ConceptSet>(
     alloc: Global,
     plan: &ConceptPlan,
+    choices: &[Choice],
     candidates: &Candidates<'_, S>,
     snapshot: &Snapshot,
     indexes: &Indexes,
+    visits: &mut Visits,
 ) -> Result<S, AllocError>
     requires index { IsIndexOf indexes.now snapshot.now.release }
     requires candidates { AreBelow S.bound_of (length snapshot.now.release.concepts) candidates.now }
     ensures items { IfOk result (λ found. S.items_of found ≡ numbers_within snapshot.now.release (may_be S.items_of candidates.now) (means snapshot.now.release (plan_of plan.now))) }
     ensures bound { IfOk result (λ found. S.bound_of found ≡ length snapshot.now.release.concepts) }
+    ensures grows { visits.old.count ≤ visits.new.count }
+    ensures within { visits.new.count ≤ visits.old.count + node_sum (own_number indexes.now) choices.now (plan_of plan.now) }
+    ensures floor { IfOk result (λ _. min (visits.old.count + node_sum (floor_number indexes.now) choices.now (plan_of plan.now)) (2 ^ 64 - 1) ≤ visits.new.count) }
+    ensures size { IfOk result (λ found. length (S.items_of found) ≤ size_of indexes.now choices.now (plan_of plan.now)) }
 {
+    // the concepts rise, and the sources of all attribute rows are in force
+    snapshot.concept_count();
+    snapshot.attribute_count();
     if none_left(candidates) {
+        visits.add(plan_floor(plan, choices, indexes).floor);
         let found = no_concept(alloc, snapshot)?;
         return Ok(found);
     }
+    let found = execute_node(alloc, plan, choices, candidates, snapshot, indexes, visits)?;
+    Ok(found)
+}
+
+// The same of a plan that is not left out.
+#[cycle(execute)]
+#[tactic(auto, using(crate::proofs::Rules::node_parts))]
+fn execute_node<S: ConceptSet>(
+    alloc: Global,
+    plan: &ConceptPlan,
+    choices: &[Choice],
+    candidates: &Candidates<'_, S>,
+    snapshot: &Snapshot,
+    indexes: &Indexes,
+    visits: &mut Visits,
+) -> Result<S, AllocError>
+    requires index { IsIndexOf indexes.now snapshot.now.release }
+    requires candidates { AreBelow S.bound_of (length snapshot.now.release.concepts) candidates.now }
+    ensures items { IfOk result (λ found. S.items_of found ≡ numbers_within snapshot.now.release (may_be S.items_of candidates.now) (means snapshot.now.release (plan_of plan.now))) }
+    ensures bound { IfOk result (λ found. S.bound_of found ≡ length snapshot.now.release.concepts) }
+    ensures grows { visits.old.count ≤ visits.new.count }
+    ensures within { visits.new.count ≤ visits.old.count + node_sum (own_number indexes.now) choices.now (plan_of plan.now) }
+    ensures floor { IfOk result (λ _. min (visits.old.count + node_sum (floor_number indexes.now) choices.now (plan_of plan.now)) (2 ^ 64 - 1) ≤ visits.new.count) }
+{
+    let all = Candidates::All;
     match plan {
         ConceptPlan::Empty => {
             let found = no_concept(alloc, snapshot)?;
@@ -77,36 +142,55 @@ fn execute_within<S: ConceptSet>(
             Ok(found)
         }
         ConceptPlan::Walk(operator, operand) => {
-            let from: S = execute_within(alloc, operand, &Candidates::All, snapshot, indexes)?;
+            let from: S = execute_within(alloc, operand, choices, &all, snapshot, indexes, visits)?;
             let hierarchy = indexes.hierarchy();
-            let found = walk_within(alloc, snapshot, hierarchy, *operator, &from, candidates)?;
+            let way = walk_way(alloc, hierarchy, *operator, &from, candidates)?;
+            count_walk(
+                indexes,
+                choices,
+                *operator,
+                operand,
+                from.count(),
+                way.items,
+                visits,
+            );
+            let found = walk_within(
+                alloc, snapshot, hierarchy, *operator, &from, candidates, way,
+            )?;
             Ok(found)
         }
         ConceptPlan::Members(operand) => {
-            let from: S = execute_within(alloc, operand, &Candidates::All, snapshot, indexes)?;
+            let from: S = execute_within(alloc, operand, choices, &all, snapshot, indexes, visits)?;
+            let components = component_count(alloc, indexes, &from)?;
+            count_members(indexes, choices, operand, from.count(), components, visits);
             let some = members(alloc, snapshot, indexes, &from)?;
             let found = restricted(alloc, some, candidates)?;
             Ok(found)
         }
         ConceptPlan::And(parts) => {
-            let found = in_all(alloc, parts, candidates, snapshot, indexes)?;
+            let found = in_all(alloc, parts, choices, candidates, snapshot, indexes, visits)?;
             Ok(found)
         }
         ConceptPlan::Or(parts) => {
-            let found = in_some(alloc, parts, candidates, snapshot, indexes)?;
+            let found = in_some(alloc, parts, choices, candidates, snapshot, indexes, visits)?;
             Ok(found)
         }
         ConceptPlan::Minus(first, second) => {
-            let left: S = execute_within(alloc, first, candidates, snapshot, indexes)?;
-            let extent = extent_of(alloc, snapshot, indexes, &left)?;
-            let still = Candidates::Within(&left, extent);
-            let right: S = execute_within(alloc, second, &still, snapshot, indexes)?;
+            let left: S = execute_within(
+                alloc, first, choices, candidates, snapshot, indexes, visits,
+            )?;
+            visits.add(left.count() as u64);
+            let still = Candidates::Within(&left, extent_left(candidates, left.count()));
+            let rest = plan_floor(first, choices, indexes).rest;
+            let right: S = execute_within(alloc, second, rest, &still, snapshot, indexes, visits)?;
+            visits.add(right.count() as u64);
             let found = without(alloc, &left, &right)?;
             Ok(found)
         }
         ConceptPlan::Values(start, names) => {
-            let from: S = execute_within(alloc, start, &Candidates::All, snapshot, indexes)?;
-            let led = led_along(alloc, from, names, snapshot, indexes)?;
+            let from: S = execute_within(alloc, start, choices, &all, snapshot, indexes, visits)?;
+            let rest = plan_floor(start, choices, indexes).rest;
+            let led = led_along(alloc, from, names, rest, snapshot, indexes, visits)?;
             let found = restricted(alloc, led, candidates)?;
             Ok(found)
         }
@@ -116,15 +200,31 @@ fn execute_within<S: ConceptSet>(
             types,
             test,
         } => {
-            let types: S = execute_within(alloc, types, &Candidates::All, snapshot, indexes)?;
-            let passing = words_of::<S>(alloc, test, snapshot, indexes)?;
+            let of_types = after_first(choices);
+            let of_test = plan_floor(types, of_types, indexes).rest;
+            let typed: S = execute_within(alloc, types, of_types, &all, snapshot, indexes, visits)?;
+            let tested: Tested<S> = tested_of(alloc, test, of_test, snapshot, indexes, visits)?;
+            let limits = concept_leaf_limits(
+                indexes,
+                choices,
+                *back,
+                *count,
+                types,
+                test,
+                typed.count(),
+                count_of_test(&tested),
+            );
+            let choice = first_choice(choices);
             let found = with_pairs_within(
-                alloc, snapshot, indexes, *back, *count, &types, &passing, candidates,
+                alloc, snapshot, indexes, choice, limits, *back, *count, &typed, tested,
+                candidates, visits,
             )?;
             Ok(found)
         }
         ConceptPlan::Units { count, units } => {
-            let found = units_within(alloc, *count, units, candidates, snapshot, indexes)?;
+            let found = units_within(
+                alloc, *count, units, choices, candidates, snapshot, indexes, visits,
+            )?;
             Ok(found)
         }
     }
@@ -136,104 +236,182 @@ fn units_within<S: ConceptSet>(
     alloc: Global,
     count: Cardinality,
     units: &UnitPlan,
+    choices: &[Choice],
     candidates: &Candidates<'_, S>,
     snapshot: &Snapshot,
     indexes: &Indexes,
+    visits: &mut Visits,
 ) -> Result<S, AllocError>
     requires index { IsIndexOf indexes.now snapshot.now.release }
     requires candidates { AreBelow S.bound_of (length snapshot.now.release.concepts) candidates.now }
     ensures items { IfOk result (λ found. S.items_of found ≡ numbers_within snapshot.now.release (may_be S.items_of candidates.now) (has_groups snapshot.now.release count (group_means snapshot.now.release (group_plan_of units.now)))) }
     ensures bound { IfOk result (λ found. S.bound_of found ≡ length snapshot.now.release.concepts) }
+    ensures grows { visits.old.count ≤ visits.new.count }
+    ensures within { visits.new.count ≤ visits.old.count + node_sum (own_number indexes.now) choices.now (units_plan count (group_plan_of units.now)) }
+    ensures floor { IfOk result (λ _. min (visits.old.count + node_sum (floor_number indexes.now) choices.now (units_plan count (group_plan_of units.now))) (2 ^ 64 - 1) ≤ visits.new.count) }
 {
     // the concepts rise, so that each has its groups once
     snapshot.concept_count();
     if let Candidates::Within(wanted, extent) = candidates {
-        if extent.has_few_groups(guess_of_groups(units, indexes)) {
+        let most = unit_size(units, choices, indexes);
+        if extent.has_few_groups(guess_of_groups(units, indexes), most) {
             let own: S = groups_of(alloc, snapshot, indexes, *wanted)?;
             let theirs = Candidates::Within(&own, extent.of_groups());
-            let groups: S = execute_groups(alloc, units, &theirs, snapshot, indexes)?;
+            let groups: S = execute_groups(
+                alloc, units, choices, &theirs, snapshot, indexes, visits,
+            )?;
+            let items = extent.items_of_groups(groups.count());
+            count_units(indexes, choices, count, units, most, items, visits);
             let some = with_groups(alloc, snapshot, indexes, count, &groups)?;
             let found = common(alloc, &some, *wanted)?;
             return Ok(found);
         }
     }
-    let groups: S = execute_groups(alloc, units, &Candidates::All, snapshot, indexes)?;
+    let all = Candidates::All;
+    let groups: S = execute_groups(alloc, units, choices, &all, snapshot, indexes, visits)?;
+    let found_groups = groups.count() as u64;
+    count_units(
+        indexes,
+        choices,
+        count,
+        units,
+        found_groups,
+        u64::MAX,
+        visits,
+    );
     let some = with_groups(alloc, snapshot, indexes, count, &groups)?;
     let found = restricted(alloc, some, candidates)?;
     Ok(found)
 }
 
 // The candidates among the concepts that all of some plans mean; of no plans each candidate. One part is executed
-// first, and each of the others for what is left.
+// first, and each of the others for what is left. What each has found is read once.
 #[cycle(execute)]
 fn in_all<S: ConceptSet>(
     alloc: Global,
     parts: &[ConceptPlan],
+    choices: &[Choice],
     candidates: &Candidates<'_, S>,
     snapshot: &Snapshot,
     indexes: &Indexes,
+    visits: &mut Visits,
 ) -> Result<S, AllocError>
     requires index { IsIndexOf indexes.now snapshot.now.release }
     requires candidates { AreBelow S.bound_of (length snapshot.now.release.concepts) candidates.now }
     ensures items { IfOk result (λ found. S.items_of found ≡ numbers_within snapshot.now.release (may_be S.items_of candidates.now) (λ concept. list_all (λ part. means snapshot.now.release (plan_of part) concept) parts.now)) }
     ensures bound { IfOk result (λ found. S.bound_of found ≡ length snapshot.now.release.concepts) }
+    ensures grows { visits.old.count ≤ visits.new.count }
+    ensures within { visits.new.count ≤ visits.old.count + (2 * total (sizes indexes.now choices.now (plans_of parts.now)) + plans_sum (own_number indexes.now) choices.now (plans_of parts.now)) }
+    ensures floor { IfOk result (λ _. min (visits.old.count + plans_sum (floor_number indexes.now) choices.now (plans_of parts.now)) (2 ^ 64 - 1) ≤ visits.new.count) }
 {
-    let lead = lead_of(parts, indexes);
-    let mut found: S = led_by(alloc, parts, lead, candidates, snapshot, indexes)?;
+    if parts.is_empty() {
+        let every = each_concept(alloc, snapshot)?;
+        let left = restricted(alloc, every, candidates)?;
+        return Ok(left);
+    }
+    let lead = lead_of(parts, indexes).min(parts.len() - 1);
+    let at = choices_at(parts, choices, lead, indexes);
+    let mut found: S = led_by(
+        alloc, parts, lead, at, candidates, snapshot, indexes, visits,
+    )?;
+    let mut rest = choices;
     for place in 0..parts.len() {
+        let part = &parts[place];
+        let behind = plan_floor(part, rest, indexes).rest;
         if place != lead {
             let extent = extent_of(alloc, snapshot, indexes, &found)?;
             let still = Candidates::Within(&found, extent);
-            let next: S = execute_within(alloc, &parts[place], &still, snapshot, indexes)?;
+            let next: S = execute_within(alloc, part, rest, &still, snapshot, indexes, visits)?;
+            visits.add(next.count() as u64);
             found = next;
         }
+        rest = behind;
     }
     Ok(found)
 }
 
-// The candidates among the concepts that the plan at a place means; where there is none, all candidates.
+// The choices of the leaves of some plans, from those of the one at a place on.
+fn choices_at<'a>(
+    parts: &[ConceptPlan],
+    choices: &'a [Choice],
+    place: usize,
+    indexes: &Indexes,
+) -> &'a [Choice]
+    requires { place < length parts.now }
+    ensures { result.now ≡ drop (plans_leaves (plans_of (take place parts.now))) choices.now }
+{
+    let mut rest = choices;
+    for before in 0..place {
+        rest = plan_floor(&parts[before], rest, indexes).rest;
+    }
+    rest
+}
+
+// The candidates among the concepts that the plan at a place means. What it has found is read once.
 #[cycle(execute)]
 fn led_by<S: ConceptSet>(
     alloc: Global,
     parts: &[ConceptPlan],
     lead: usize,
+    choices: &[Choice],
     candidates: &Candidates<'_, S>,
     snapshot: &Snapshot,
     indexes: &Indexes,
+    visits: &mut Visits,
 ) -> Result<S, AllocError>
     requires index { IsIndexOf indexes.now snapshot.now.release }
     requires candidates { AreBelow S.bound_of (length snapshot.now.release.concepts) candidates.now }
+    requires lead { lead < length parts.now }
     ensures items { IfOk result (λ found. S.items_of found ≡ numbers_within snapshot.now.release (may_be S.items_of candidates.now) (leads_off snapshot.now.release (slice_get parts.now lead))) }
     ensures bound { IfOk result (λ found. S.bound_of found ≡ length snapshot.now.release.concepts) }
+    ensures grows { visits.old.count ≤ visits.new.count }
+    ensures within { visits.new.count ≤ visits.old.count + of_lead (λ part. size_of indexes.now choices.now (plan_of part) + node_sum (own_number indexes.now) choices.now (plan_of part)) (slice_get parts.now lead) }
+    ensures floor { IfOk result (λ _. min (visits.old.count + of_lead (λ part. node_sum (floor_number indexes.now) choices.now (plan_of part)) (slice_get parts.now lead)) (2 ^ 64 - 1) ≤ visits.new.count) }
 {
-    if lead < parts.len() {
-        let found = execute_within(alloc, &parts[lead], candidates, snapshot, indexes)?;
-        Ok(found)
-    } else {
-        let every = each_concept(alloc, snapshot)?;
-        let found = restricted(alloc, every, candidates)?;
-        Ok(found)
-    }
+    let found: S = execute_within(
+        alloc,
+        &parts[lead],
+        choices,
+        candidates,
+        snapshot,
+        indexes,
+        visits,
+    )?;
+    visits.add(found.count() as u64);
+    Ok(found)
 }
 
-// The candidates among the concepts that one of some plans means; of no plans none.
+// The candidates among the concepts that one of some plans means; of no plans none. What is found so far is read again
+// with what each plan has found.
 #[cycle(execute)]
 fn in_some<S: ConceptSet>(
     alloc: Global,
     parts: &[ConceptPlan],
+    choices: &[Choice],
     candidates: &Candidates<'_, S>,
     snapshot: &Snapshot,
     indexes: &Indexes,
+    visits: &mut Visits,
 ) -> Result<S, AllocError>
     requires index { IsIndexOf indexes.now snapshot.now.release }
     requires candidates { AreBelow S.bound_of (length snapshot.now.release.concepts) candidates.now }
     ensures items { IfOk result (λ found. S.items_of found ≡ numbers_within snapshot.now.release (may_be S.items_of candidates.now) (λ concept. list_any (λ part. means snapshot.now.release (plan_of part) concept) parts.now)) }
     ensures bound { IfOk result (λ found. S.bound_of found ≡ length snapshot.now.release.concepts) }
+    ensures grows { visits.old.count ≤ visits.new.count }
+    ensures within { visits.new.count ≤ visits.old.count + (plan_count (plans_of parts.now) * total (sizes indexes.now choices.now (plans_of parts.now)) + plans_sum (own_number indexes.now) choices.now (plans_of parts.now)) }
+    ensures floor { IfOk result (λ _. min (visits.old.count + plans_sum (floor_number indexes.now) choices.now (plans_of parts.now)) (2 ^ 64 - 1) ≤ visits.new.count) }
 {
+    // the concepts rise, and the sources of all attribute rows are in force
+    snapshot.concept_count();
+    snapshot.attribute_count();
     let mut found: S = no_concept(alloc, snapshot)?;
+    let mut rest = choices;
     for part in parts {
-        let next: S = execute_within(alloc, part, candidates, snapshot, indexes)?;
+        let behind = plan_floor(part, rest, indexes).rest;
+        let next: S = execute_within(alloc, part, rest, candidates, snapshot, indexes, visits)?;
+        visits.add(found.count() as u64 + next.count() as u64);
         found = either(alloc, &found, &next)?;
+        rest = behind;
     }
     Ok(found)
 }
@@ -245,70 +423,125 @@ fn led_along<S: ConceptSet>(
     alloc: Global,
     from: S,
     names: &[ConceptPlan],
+    choices: &[Choice],
     snapshot: &Snapshot,
     indexes: &Indexes,
+    visits: &mut Visits,
 ) -> Result<S, AllocError>
     requires index { IsIndexOf indexes.now snapshot.now.release }
     requires bound { S.bound_of from ≡ length snapshot.now.release.concepts }
     ensures items { IfOk result (λ found. (plan : Plan) → S.items_of from ≡ numbers_in snapshot.now.release (means snapshot.now.release plan)
         → S.items_of found ≡ numbers_in snapshot.now.release (leads snapshot.now.release (means snapshot.now.release plan) (plans_of names.now))) }
     ensures bound { IfOk result (λ found. S.bound_of found ≡ length snapshot.now.release.concepts) }
+    ensures grows { visits.old.count ≤ visits.new.count }
+    ensures within { visits.new.count ≤ visits.old.count + (values_bound indexes.now (plan_count (plans_of names.now)) (length (S.items_of from)) + plans_sum (own_number indexes.now) choices.now (plans_of names.now)) }
+    ensures floor { IfOk result (λ _. min (visits.old.count + plans_sum (floor_number indexes.now) choices.now (plans_of names.now)) (2 ^ 64 - 1) ≤ visits.new.count) }
 {
+    // the concepts rise, and the sources of all attribute rows are in force
+    snapshot.concept_count();
+    snapshot.attribute_count();
+    let all = Candidates::All;
+    let rows = indexes.row_count() as u64;
     let mut found = from;
+    let mut rest = choices;
     for name in names {
-        let types: S = execute_within(alloc, name, &Candidates::All, snapshot, indexes)?;
+        let behind = plan_floor(name, rest, indexes).rest;
+        let named: S = execute_within(alloc, name, rest, &all, snapshot, indexes, visits)?;
+        let types = types_in(alloc, snapshot, indexes, &named)?;
+        let read = rows_of_types(indexes, types.ids.as_slice()).min(rows);
+        visits.add(found.count() as u64 + read);
         found = values_of(alloc, snapshot, indexes, &found, &types)?;
+        rest = behind;
     }
     Ok(found)
 }
 
-// Words of bits that say of each value whether it passes a test.
+// What a test asks of values.
 #[cycle(execute)]
-fn words_of<S: ConceptSet>(
+fn tested_of<S: ConceptSet>(
     alloc: Global,
     test: &ValueTest,
+    choices: &[Choice],
     snapshot: &Snapshot,
     indexes: &Indexes,
-) -> Result<Vec<u64>, AllocError>
+    visits: &mut Visits,
+) -> Result<Tested<S>, AllocError>
     requires index { IsIndexOf indexes.now snapshot.now.release }
-    ensures { IfOk result (λ words. TellsPassing indexes.now (value_passes snapshot.now.release (test_plan_of test.now)) words.items) }
+    ensures passes { IfOk result (λ tested. (value : Value) → passes_of S.items_of indexes.now.concepts tested value ≡ value_passes snapshot.now.release (test_plan_of test.now) value) }
+    ensures bound { IfOk result (λ tested. IsTestBelow S.bound_of (length indexes.now.concepts) tested) }
+    ensures grows { visits.old.count ≤ visits.new.count }
+    ensures within { visits.new.count ≤ visits.old.count + test_sum (own_number indexes.now) choices.now (test_plan_of test.now) }
+    ensures floor { IfOk result (λ _. min (visits.old.count + test_sum (floor_number indexes.now) choices.now (test_plan_of test.now)) (2 ^ 64 - 1) ≤ visits.new.count) }
+    ensures size { IfOk result (λ tested. found_for S.items_of tested ≤ test_size indexes.now choices.now (test_plan_of test.now)) }
 {
+    let all = Candidates::All;
     match test {
         ValueTest::Within(operand) => {
-            let set: S = execute_within(alloc, operand, &Candidates::All, snapshot, indexes)?;
-            let words = within(alloc, indexes, &set)?;
-            Ok(words)
+            let set: S = execute_within(alloc, operand, choices, &all, snapshot, indexes, visits)?;
+            Ok(Tested::Within(set))
         }
         ValueTest::Outside(operand) => {
-            let set: S = execute_within(alloc, operand, &Candidates::All, snapshot, indexes)?;
-            let words = outside(alloc, indexes, &set)?;
-            Ok(words)
+            let set: S = execute_within(alloc, operand, choices, &all, snapshot, indexes, visits)?;
+            Ok(Tested::Outside(set))
         }
-        ValueTest::Number(compare, number) => {
-            let words = comparing(alloc, indexes, *compare, *number)?;
-            Ok(words)
-        }
+        ValueTest::Number(compare, number) => Ok(Tested::Number(*compare, *number)),
     }
 }
 
-// The candidates among the groups that a plan means, as a set of their numbers whose bound is the number of groups.
+// The candidates among the groups that a plan means, as a set of their numbers whose bound is the number of groups; they are
+// no more than its size. Where there is no candidate the plan is left out, and its floor counted.
 #[cycle(execute)]
 fn execute_groups<S: ConceptSet>(
     alloc: Global,
     plan: &UnitPlan,
+    choices: &[Choice],
     candidates: &Candidates<'_, S>,
     snapshot: &Snapshot,
     indexes: &Indexes,
+    visits: &mut Visits,
 ) -> Result<S, AllocError>
     requires index { IsIndexOf indexes.now snapshot.now.release }
     requires candidates { AreBelow S.bound_of (length (all_groups snapshot.now.release)) candidates.now }
     ensures items { IfOk result (λ found. S.items_of found ≡ groups_within snapshot.now.release (may_be S.items_of candidates.now) (group_means snapshot.now.release (group_plan_of plan.now))) }
     ensures bound { IfOk result (λ found. S.bound_of found ≡ length (all_groups snapshot.now.release)) }
+    ensures grows { visits.old.count ≤ visits.new.count }
+    ensures within { visits.new.count ≤ visits.old.count + group_sum (own_number indexes.now) choices.now (group_plan_of plan.now) }
+    ensures floor { IfOk result (λ _. min (visits.old.count + group_sum (floor_number indexes.now) choices.now (group_plan_of plan.now)) (2 ^ 64 - 1) ≤ visits.new.count) }
+    ensures size { IfOk result (λ found. length (S.items_of found) ≤ group_size indexes.now choices.now (group_plan_of plan.now)) }
 {
+    // the concepts rise, and the sources of all attribute rows are in force
+    snapshot.concept_count();
+    snapshot.attribute_count();
     if none_left(candidates) {
+        visits.add(unit_floor(plan, choices, indexes).floor);
         let found = no_group(alloc, snapshot, indexes)?;
         return Ok(found);
     }
+    let found = execute_group_node(alloc, plan, choices, candidates, snapshot, indexes, visits)?;
+    Ok(found)
+}
+
+// The same of a plan that is not left out.
+#[cycle(execute)]
+#[tactic(auto, using(crate::proofs::Rules::node_parts))]
+fn execute_group_node<S: ConceptSet>(
+    alloc: Global,
+    plan: &UnitPlan,
+    choices: &[Choice],
+    candidates: &Candidates<'_, S>,
+    snapshot: &Snapshot,
+    indexes: &Indexes,
+    visits: &mut Visits,
+) -> Result<S, AllocError>
+    requires index { IsIndexOf indexes.now snapshot.now.release }
+    requires candidates { AreBelow S.bound_of (length (all_groups snapshot.now.release)) candidates.now }
+    ensures items { IfOk result (λ found. S.items_of found ≡ groups_within snapshot.now.release (may_be S.items_of candidates.now) (group_means snapshot.now.release (group_plan_of plan.now))) }
+    ensures bound { IfOk result (λ found. S.bound_of found ≡ length (all_groups snapshot.now.release)) }
+    ensures grows { visits.old.count ≤ visits.new.count }
+    ensures within { visits.new.count ≤ visits.old.count + group_sum (own_number indexes.now) choices.now (group_plan_of plan.now) }
+    ensures floor { IfOk result (λ _. min (visits.old.count + group_sum (floor_number indexes.now) choices.now (group_plan_of plan.now)) (2 ^ 64 - 1) ≤ visits.new.count) }
+{
+    let all = Candidates::All;
     match plan {
         UnitPlan::Nothing => {
             let found = no_group(alloc, snapshot, indexes)?;
@@ -320,26 +553,47 @@ fn execute_groups<S: ConceptSet>(
             Ok(found)
         }
         UnitPlan::And(parts) => {
-            let found = groups_in_all(alloc, parts, candidates, snapshot, indexes)?;
+            let found = groups_in_all(
+                alloc, parts, choices, candidates, snapshot, indexes, visits,
+            )?;
             Ok(found)
         }
         UnitPlan::Or(parts) => {
-            let found = groups_in_some(alloc, parts, candidates, snapshot, indexes)?;
+            let found = groups_in_some(
+                alloc, parts, choices, candidates, snapshot, indexes, visits,
+            )?;
             Ok(found)
         }
         UnitPlan::Minus(first, second) => {
-            let left: S = execute_groups(alloc, first, candidates, snapshot, indexes)?;
-            let extent = group_extent_of(alloc, snapshot, indexes, &left)?;
-            let still = Candidates::Within(&left, extent);
-            let right: S = execute_groups(alloc, second, &still, snapshot, indexes)?;
+            let left: S = execute_groups(
+                alloc, first, choices, candidates, snapshot, indexes, visits,
+            )?;
+            visits.add(left.count() as u64);
+            let still = Candidates::Within(&left, extent_left(candidates, left.count()));
+            let rest = unit_floor(first, choices, indexes).rest;
+            let right: S = execute_groups(alloc, second, rest, &still, snapshot, indexes, visits)?;
+            visits.add(right.count() as u64);
             let groups = without(alloc, &left, &right)?;
             Ok(groups)
         }
         UnitPlan::Pairs { count, types, test } => {
-            let types: S = execute_within(alloc, types, &Candidates::All, snapshot, indexes)?;
-            let passing = words_of::<S>(alloc, test, snapshot, indexes)?;
+            let of_types = after_first(choices);
+            let of_test = plan_floor(types, of_types, indexes).rest;
+            let typed: S = execute_within(alloc, types, of_types, &all, snapshot, indexes, visits)?;
+            let tested: Tested<S> = tested_of(alloc, test, of_test, snapshot, indexes, visits)?;
+            let limits = group_leaf_limits(
+                indexes,
+                choices,
+                *count,
+                types,
+                test,
+                typed.count(),
+                count_of_test(&tested),
+            );
+            let choice = first_choice(choices);
             let found = groups_with_pairs_within(
-                alloc, snapshot, indexes, *count, &types, &passing, candidates,
+                alloc, snapshot, indexes, choice, limits, *count, &typed, tested, candidates,
+                visits,
             )?;
             Ok(found)
         }
@@ -351,51 +605,95 @@ fn execute_groups<S: ConceptSet>(
 fn groups_in_all<S: ConceptSet>(
     alloc: Global,
     parts: &[UnitPlan],
+    choices: &[Choice],
     candidates: &Candidates<'_, S>,
     snapshot: &Snapshot,
     indexes: &Indexes,
+    visits: &mut Visits,
 ) -> Result<S, AllocError>
     requires index { IsIndexOf indexes.now snapshot.now.release }
     requires candidates { AreBelow S.bound_of (length (all_groups snapshot.now.release)) candidates.now }
     ensures items { IfOk result (λ found. S.items_of found ≡ groups_within snapshot.now.release (may_be S.items_of candidates.now) (λ pairs. list_all (λ part. group_means snapshot.now.release (group_plan_of part) pairs) parts.now)) }
     ensures bound { IfOk result (λ found. S.bound_of found ≡ length (all_groups snapshot.now.release)) }
+    ensures grows { visits.old.count ≤ visits.new.count }
+    ensures within { visits.new.count ≤ visits.old.count + (2 * total (group_sizes indexes.now choices.now (group_plans_of parts.now)) + groups_sum (own_number indexes.now) choices.now (group_plans_of parts.now)) }
+    ensures floor { IfOk result (λ _. min (visits.old.count + groups_sum (floor_number indexes.now) choices.now (group_plans_of parts.now)) (2 ^ 64 - 1) ≤ visits.new.count) }
 {
-    let lead = group_lead_of(parts, indexes);
-    let mut groups: S = groups_led_by(alloc, parts, lead, candidates, snapshot, indexes)?;
+    if parts.is_empty() {
+        let every = each_group(alloc, snapshot, indexes)?;
+        let left = restricted(alloc, every, candidates)?;
+        return Ok(left);
+    }
+    let lead = group_lead_of(parts, indexes).min(parts.len() - 1);
+    let at = unit_choices_at(parts, choices, lead, indexes);
+    let mut groups: S = groups_led_by(
+        alloc, parts, lead, at, candidates, snapshot, indexes, visits,
+    )?;
+    let mut rest = choices;
     for place in 0..parts.len() {
+        let part = &parts[place];
+        let behind = unit_floor(part, rest, indexes).rest;
         if place != lead {
             let extent = group_extent_of(alloc, snapshot, indexes, &groups)?;
             let still = Candidates::Within(&groups, extent);
-            let next: S = execute_groups(alloc, &parts[place], &still, snapshot, indexes)?;
+            let next: S = execute_groups(alloc, part, rest, &still, snapshot, indexes, visits)?;
+            visits.add(next.count() as u64);
             groups = next;
         }
+        rest = behind;
     }
     Ok(groups)
 }
 
-// The candidates among the groups that the plan at a place means; where there is none, all candidates.
+// The choices of the leaves of some plans of groups, from those of the one at a place on.
+fn unit_choices_at<'a>(
+    parts: &[UnitPlan],
+    choices: &'a [Choice],
+    place: usize,
+    indexes: &Indexes,
+) -> &'a [Choice]
+    requires { place < length parts.now }
+    ensures { result.now ≡ drop (groups_leaves (group_plans_of (take place parts.now))) choices.now }
+{
+    let mut rest = choices;
+    for before in 0..place {
+        rest = unit_floor(&parts[before], rest, indexes).rest;
+    }
+    rest
+}
+
+// The candidates among the groups that the plan at a place means.
 #[cycle(execute)]
 fn groups_led_by<S: ConceptSet>(
     alloc: Global,
     parts: &[UnitPlan],
     lead: usize,
+    choices: &[Choice],
     candidates: &Candidates<'_, S>,
     snapshot: &Snapshot,
     indexes: &Indexes,
+    visits: &mut Visits,
 ) -> Result<S, AllocError>
     requires index { IsIndexOf indexes.now snapshot.now.release }
     requires candidates { AreBelow S.bound_of (length (all_groups snapshot.now.release)) candidates.now }
+    requires lead { lead < length parts.now }
     ensures items { IfOk result (λ found. S.items_of found ≡ groups_within snapshot.now.release (may_be S.items_of candidates.now) (leads_off_groups snapshot.now.release (slice_get parts.now lead))) }
     ensures bound { IfOk result (λ found. S.bound_of found ≡ length (all_groups snapshot.now.release)) }
+    ensures grows { visits.old.count ≤ visits.new.count }
+    ensures within { visits.new.count ≤ visits.old.count + of_lead (λ part. group_size indexes.now choices.now (group_plan_of part) + group_sum (own_number indexes.now) choices.now (group_plan_of part)) (slice_get parts.now lead) }
+    ensures floor { IfOk result (λ _. min (visits.old.count + of_lead (λ part. group_sum (floor_number indexes.now) choices.now (group_plan_of part)) (slice_get parts.now lead)) (2 ^ 64 - 1) ≤ visits.new.count) }
 {
-    if lead < parts.len() {
-        let groups = execute_groups(alloc, &parts[lead], candidates, snapshot, indexes)?;
-        Ok(groups)
-    } else {
-        let every = each_group(alloc, snapshot, indexes)?;
-        let groups = restricted(alloc, every, candidates)?;
-        Ok(groups)
-    }
+    let groups: S = execute_groups(
+        alloc,
+        &parts[lead],
+        choices,
+        candidates,
+        snapshot,
+        indexes,
+        visits,
+    )?;
+    visits.add(groups.count() as u64);
+    Ok(groups)
 }
 
 // The candidates among the groups that one of some plans means; of no plans none.
@@ -403,19 +701,31 @@ fn groups_led_by<S: ConceptSet>(
 fn groups_in_some<S: ConceptSet>(
     alloc: Global,
     parts: &[UnitPlan],
+    choices: &[Choice],
     candidates: &Candidates<'_, S>,
     snapshot: &Snapshot,
     indexes: &Indexes,
+    visits: &mut Visits,
 ) -> Result<S, AllocError>
     requires index { IsIndexOf indexes.now snapshot.now.release }
     requires candidates { AreBelow S.bound_of (length (all_groups snapshot.now.release)) candidates.now }
     ensures items { IfOk result (λ found. S.items_of found ≡ groups_within snapshot.now.release (may_be S.items_of candidates.now) (λ pairs. list_any (λ part. group_means snapshot.now.release (group_plan_of part) pairs) parts.now)) }
     ensures bound { IfOk result (λ found. S.bound_of found ≡ length (all_groups snapshot.now.release)) }
+    ensures grows { visits.old.count ≤ visits.new.count }
+    ensures within { visits.new.count ≤ visits.old.count + (group_count (group_plans_of parts.now) * total (group_sizes indexes.now choices.now (group_plans_of parts.now)) + groups_sum (own_number indexes.now) choices.now (group_plans_of parts.now)) }
+    ensures floor { IfOk result (λ _. min (visits.old.count + groups_sum (floor_number indexes.now) choices.now (group_plans_of parts.now)) (2 ^ 64 - 1) ≤ visits.new.count) }
 {
+    // the concepts rise, and the sources of all attribute rows are in force
+    snapshot.concept_count();
+    snapshot.attribute_count();
     let mut groups: S = no_group(alloc, snapshot, indexes)?;
+    let mut rest = choices;
     for part in parts {
-        let next: S = execute_groups(alloc, part, candidates, snapshot, indexes)?;
+        let behind = unit_floor(part, rest, indexes).rest;
+        let next: S = execute_groups(alloc, part, rest, candidates, snapshot, indexes, visits)?;
+        visits.add(groups.count() as u64 + next.count() as u64);
         groups = either(alloc, &groups, &next)?;
+        rest = behind;
     }
     Ok(groups)
 }

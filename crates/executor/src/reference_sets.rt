@@ -28,6 +28,29 @@ pub fn members<S: ConceptSet>(
     S::from_numbers(alloc, found.as_slice(), snapshot.concept_count())
 }
 
+/// How many components the reference sets of a set have, one set beside the other.
+pub fn component_count<S: ConceptSet>(
+    alloc: Global,
+    indexes: &Indexes,
+    refsets: &S,
+) -> Result<u64, AllocError>
+    requires { S.bound_of refsets.now ≡ length indexes.now.concepts }
+{
+    let numbers = refsets.items(alloc)?;
+    Ok(components_among(indexes, numbers.as_slice()))
+}
+
+// The same of some reference sets.
+fn components_among(indexes: &Indexes, refsets: &[u32]) -> u64
+    requires { All (λ refset. refset < length indexes.now.concepts) refsets.now }
+{
+    let mut components = 0u64;
+    for refset in refsets {
+        components = components.saturating_add(indexes.members(*refset).len() as u64);
+    }
+    components
+}
+
 // The components of some reference sets, one set behind the other.
 fn components(alloc: Global, indexes: &Indexes, refsets: &[u32]) -> Result<Vec<u32>, AllocError>
     requires { All (λ refset. refset < length indexes.now.concepts) refsets.now }

@@ -29,6 +29,7 @@ pub fn walk<S: ConceptSet>(
     index: &AncestorIndex,
     operator: Operator,
     operand: &S,
+    near_first: bool,
 ) -> Result<S, AllocError>
     requires over { IsOf snapshot.now.release (S.bound_of operand.now) index.now }
     ensures items { IfOk result (λ found. S.items_of found ≡ led_to index.now (S.bound_of operand.now) operator (S.items_of operand.now)) }
@@ -61,8 +62,8 @@ pub fn walk<S: ConceptSet>(
         ),
         Operator::Parents => listed(alloc, snapshot, index, Family::Parents, operand),
         Operator::ParentsOrSelf => listed_or_self(alloc, snapshot, index, Family::Parents, operand),
-        Operator::Top => apart(alloc, index, Family::Ancestors, operand),
-        Operator::Bottom => apart(alloc, index, Family::Descendants, operand),
+        Operator::Top => apart(alloc, index, Family::Ancestors, operand, near_first),
+        Operator::Bottom => apart(alloc, index, Family::Descendants, operand, near_first),
     }
 }
 
@@ -282,13 +283,21 @@ fn apart<S: ConceptSet>(
     index: &AncestorIndex,
     family: Family,
     operand: &S,
+    near_first: bool,
 ) -> Result<S, AllocError>
     requires over { IsOver (S.bound_of operand.now) index.now }
     ensures items { IfOk result (λ found. S.items_of found ≡ apart_of (lists_of index.now family) (S.items_of operand.now)) }
     ensures bound { IfOk result (λ found. S.bound_of found ≡ S.bound_of operand.now) }
 {
     let concepts = operand.items(alloc)?;
-    let kept = kept_apart(alloc, index, family, concepts.as_slice(), operand)?;
+    let kept = kept_apart(
+        alloc,
+        index,
+        family,
+        concepts.as_slice(),
+        operand,
+        near_first,
+    )?;
     S::from_items(alloc, kept.as_slice(), operand.bound())
 }
 
@@ -299,6 +308,7 @@ fn kept_apart<S: ConceptSet>(
     family: Family,
     concepts: &[u32],
     set: &S,
+    near_first: bool,
 ) -> Result<Vec<u32>, AllocError>
     requires over { IsOver (S.bound_of set.now) index.now }
     requires below { All (λ concept. concept < S.bound_of set.now) concepts.now }
@@ -306,21 +316,30 @@ fn kept_apart<S: ConceptSet>(
 {
     let mut kept = Vec::new(alloc);
     for concept in concepts {
-        if is_apart(index, family, *concept, set) {
+        if is_apart(index, family, *concept, set, near_first) {
             kept.push(*concept)?;
         }
     }
     Ok(kept)
 }
 
-/// Whether the list of a concept has none of a set. The concepts one is-a row away are looked at first: most
-/// often one of them is in the set, and the whole list lies far off in memory.
-pub fn is_apart<S: ConceptSet>(index: &AncestorIndex, family: Family, concept: u32, set: &S) -> bool
+/// Whether the list of a concept has none of a set. The concepts one is-a row away are looked at first where that is asked
+/// for: most often one of them is in the set, and the whole list lies far off in memory.
+pub fn is_apart<S: ConceptSet>(
+    index: &AncestorIndex,
+    family: Family,
+    concept: u32,
+    set: &S,
+    near_first: bool,
+) -> bool
     requires over { IsOver (S.bound_of set.now) index.now }
     requires below { concept < S.bound_of set.now }
     ensures { result ≡ not (list_any (has_item (S.items_of set.now)) (list_of (lists_of index.now family) concept)) }
 {
-    !meets(family.near().list(index, concept), set) && !meets(family.list(index, concept), set)
+    if near_first && meets(family.near().list(index, concept), set) {
+        return false;
+    }
+    !meets(family.list(index, concept), set)
 }
 
 /// Whether a set has one of the concepts of a list.

@@ -1,4 +1,4 @@
-//! Queries over the sample release and over a chain, executed in each form of set.
+//! Queries over the sample release and over a chain, executed in each form of set, whichever way their leaves are answered.
 //!
 //! Where an allocation failed a test is run once more, so that it holds with every allocation failing in
 //! its turn.
@@ -7,8 +7,9 @@ ghost use Rattle.postings.specs.Indexed.{IsIndexOf};
 use crate::load_tests::{chain_of, files_of, sample};
 use constraint_tree::Constraint;
 use ecl_parser::parse;
-use executor::execute;
+use executor::{Visits, execute};
 use idset::{ConceptSet, MixedSet, SortedSet, WordSet};
+use planner::{Choice, PhysicalPlan, bound, choose_with, floor};
 use postings::Indexes;
 use release_files::NamedBytes;
 use set_algebra::{ConceptPlan, lower};
@@ -21,7 +22,7 @@ use std::test::Fail;
 // and Root 9.
 type Row = (&'static [u8], &'static [u32]);
 
-const ROWS: [Row; 29] = [
+const ROWS: [Row; 43] = [
     (b"*", &[0, 1, 2, 3, 4, 5, 6, 7, 8, 9]),
     (b"103007", &[3]),
     (b"999999", &[]),
@@ -51,38 +52,91 @@ const ROWS: [Row; 29] = [
     (b"<100005:[2..*]{104001=* OR 105000=*}", &[2, 3]),
     (b"<<106004:[3..3] R 105000=<100005", &[7]),
     (b"*:105000>#2", &[2, 3]),
+    (b"<100005:104001=<<106004,105000=*", &[1, 2, 3]),
+    (b"<100005:[2..*]105000=*", &[]),
+    (b"<100005:[1..1]{105000=*}", &[1, 2]),
+    (b"<100005:{[0..0]105000=*}", &[2, 3]),
+    (b"<<100005:[0..0]105000=*", &[0]),
+    (b"<<100005:[0..0]{105000=*}", &[0]),
+    (b"<100005 . 104001 . 105000", &[]),
+    (b"<100005:104001!=106004", &[3]),
+    (b"<100005:105000!=#3", &[2]),
+    (b"<100005:105000=#3", &[3]),
+    (b"*:105000=#2.50", &[2]),
+    (b"*:105000<#+2.6", &[2]),
+    (b"*:R 105000=103007", &[7]),
+    (b"107008,(*:R 104001=103007)", &[7]),
 ];
 
 // How many concepts are in the chain.
 const CHAIN: u32 = 300;
 
-// Whether a set that was made has just some numbers.
-fn is_found<S: ConceptSet>(
-    alloc: Global,
-    made: Result<S, AllocError>,
-    want: &[u32],
-) -> Result<bool, AllocError> {
-    let found = made?;
-    Ok(found.items(alloc)?.as_slice() == want)
-}
+// What is asked for of the leaves of a plan.
+const ASKED: [[Choice; 2]; 3] = [
+    [Choice::ByValue, Choice::ByValue],
+    [Choice::ByType, Choice::ByType],
+    [Choice::Scan, Choice::Scan],
+];
 
-// Whether a plan gives just the concepts with some numbers, in each form of set. What owns much is handed on and
-// dropped here and below: a function that owns it and has several ends is dear to prove.
-fn is_executed_and_drop(
+// Whether a plan gives a set that has just some numbers, and counts no less than its floor and no more than its bound.
+fn is_found<S: ConceptSet>(
     alloc: Global,
     snapshot: &Snapshot,
     indexes: &Indexes,
-    plan: ConceptPlan,
+    physical: &PhysicalPlan,
     want: &[u32],
 ) -> Result<bool, AllocError>
     requires { IsIndexOf indexes.now snapshot.now.release }
 {
-    let is_executed = is_executed(alloc, snapshot, indexes, &plan, want);
-    drop(plan);
-    is_executed
+    let mut visits = Visits { count: 0 };
+    let found: S = execute(alloc, physical, snapshot, indexes, &mut visits)?;
+    let least = floor(physical, indexes);
+    let most = bound(physical, indexes);
+    let counted = least <= visits.count && visits.count <= most;
+    Ok(counted && found.items(alloc)?.as_slice() == want)
 }
 
+// Whether a plan gives just the concepts with some numbers, in each form of set.
 fn is_executed(
+    alloc: Global,
+    snapshot: &Snapshot,
+    indexes: &Indexes,
+    physical: &PhysicalPlan,
+    want: &[u32],
+) -> Result<bool, AllocError>
+    requires { IsIndexOf indexes.now snapshot.now.release }
+{
+    Ok(
+        is_found::<SortedSet>(alloc, snapshot, indexes, physical, want)?
+            && is_found::<WordSet>(alloc, snapshot, indexes, physical, want)?
+            && is_found::<MixedSet>(alloc, snapshot, indexes, physical, want)?,
+    )
+}
+
+// The same under choices. What owns much is handed on and dropped here and below: a function that owns it and has several
+// ends is dear to prove.
+fn is_chosen_and_drop(
+    alloc: Global,
+    snapshot: &Snapshot,
+    indexes: &Indexes,
+    plan: ConceptPlan,
+    asked: &[Choice],
+    want: &[u32],
+) -> Result<bool, AllocError>
+    requires { IsIndexOf indexes.now snapshot.now.release }
+{
+    match choose_with(alloc, plan, asked, indexes) {
+        Ok(physical) => {
+            let is_executed = is_executed(alloc, snapshot, indexes, &physical, want);
+            drop(physical);
+            is_executed
+        }
+        Err(AllocError) => Err(AllocError),
+    }
+}
+
+// The same whichever way the leaves are answered.
+fn is_found_in_each_way(
     alloc: Global,
     snapshot: &Snapshot,
     indexes: &Indexes,
@@ -91,11 +145,27 @@ fn is_executed(
 ) -> Result<bool, AllocError>
     requires { IsIndexOf indexes.now snapshot.now.release }
 {
-    Ok(
-        is_found::<SortedSet>(alloc, execute(alloc, plan, snapshot, indexes), want)?
-            && is_found::<WordSet>(alloc, execute(alloc, plan, snapshot, indexes), want)?
-            && is_found::<MixedSet>(alloc, execute(alloc, plan, snapshot, indexes), want)?,
-    )
+    for asked in &ASKED {
+        let same = plan.copy(alloc)?;
+        if !is_chosen_and_drop(alloc, snapshot, indexes, same, asked, want)? {
+            return Ok(false);
+        }
+    }
+    Ok(true)
+}
+
+fn is_found_and_drop(
+    alloc: Global,
+    snapshot: &Snapshot,
+    indexes: &Indexes,
+    plan: ConceptPlan,
+    want: &[u32],
+) -> Result<bool, AllocError>
+    requires { IsIndexOf indexes.now snapshot.now.release }
+{
+    let is_found = is_found_in_each_way(alloc, snapshot, indexes, &plan, want);
+    drop(plan);
+    is_found
 }
 
 // Whether just the concepts with some numbers answer a constraint.
@@ -109,7 +179,7 @@ fn is_answered(
     requires { IsIndexOf indexes.now snapshot.now.release }
 {
     match lower(alloc, constraint) {
-        Ok(plan) => is_executed_and_drop(alloc, snapshot, indexes, plan, want),
+        Ok(plan) => is_found_and_drop(alloc, snapshot, indexes, plan, want),
         Err(AllocError) => Err(AllocError),
     }
 }

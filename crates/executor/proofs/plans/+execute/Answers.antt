@@ -1,28 +1,41 @@
-use Rattle.std.proofs.Common.{ℕ, List, ◌∙◌, ◌&&◌, Bool, length, get_or, sym, ap, refl, arith, Option}
+use Rattle.std.proofs.Common.{ℕ, List, ◌+◌, ◌*◌, ◌≤◌, ◌∙◌, ◌&&◌, Bool, true, drop, length, get_or, sym, ap, refl, arith, take, mul-le-mul_right, le_of_lt, Option}
 use Rattle.std.specs.Prelude.{slice_get}
 use Rattle.std.specs.List.{list_all, list_any}
-use Rattle.std.proofs.lemmas.List.{take_all}
+use Rattle.std.proofs.lemmas.List.{nil_from_length, take_all}
 use Rattle.std.proofs.lemmas.Option.{slice_get_read}
 use Rattle.set_algebra.specs.declared.plan.ConceptPlan.{ConceptPlan}
 use Rattle.set_algebra.specs.declared.plan.UnitPlan.{UnitPlan}
 use Rattle.set_algebra.specs.Meaning.{group_means, has_groups, has_pairs, leads, means, pairs_of, value_passes}
-use Rattle.executor.specs.Tested.{is_one_of}
-use Rattle.executor.specs.declared.candidates.Candidates.{Candidates}
-use Rattle.executor.proofs.UnitLemmas.{units_found, units_within as units_of_candidates}
-use Rattle.set_algebra.specs.Plan.{and_group, and_plan, group_plan_of, group_plans_of, members_plan, minus_group, minus_plan, or_group, or_plan, outside_plan, pairs_group, pairs_plan, plan_of, plans_of, test_plan_of, units_plan, values_plan, walk_plan, within_plan}
+use Rattle.pair_sets.specs.Tested.{is_one_of}
+use Rattle.pair_sets.specs.declared.candidates.Candidates.{Candidates}
+use Rattle.pair_sets.proofs.UnitLemmas.{units_found, units_within as units_of_candidates}
+use Rattle.set_algebra.specs.Plan.{Plan, and_group, and_plan, group_plan_of, group_plans_of, members_plan, minus_group, minus_plan, or_group, or_plan, outside_plan, pairs_group, pairs_plan, plan_of, plans_of, test_plan_of, units_plan, values_plan, walk_plan, within_plan}
 use Rattle.set_algebra.proofs.PlanLemmas.{group_plan_of-And, group_plan_of-Or, plan_of-And, plan_of-Or, plan_of-Values}
-use Rattle.idset.specs.Words.{is_set}
 use Rattle.idset.specs.Sets.{has_item, numbers_where}
 use Rattle.postings.specs.Groups.{all_groups}
-use Rattle.executor.specs.Groups.{groups_where, some_group_in}
-use Rattle.executor.specs.Numbers.{numbers_in}
+use Rattle.pair_sets.specs.Groups.{groups_where, some_group_in}
+use Rattle.pair_sets.specs.Numbers.{numbers_in}
 use Rattle.executor.specs.Steps.{led_to}
-use Rattle.executor.specs.Within.{groups_within, leads_off, leads_off_groups, may_be, numbers_within}
+use Rattle.executor.specs.Lead.{leads_off, leads_off_groups}
+use Rattle.pair_sets.specs.Within.{groups_within, may_be, numbers_within}
 use Rattle.rf2_rows.specs.Pairs.{Pair}
+use Rattle.planner.specs.declared.choice.Choice.{Choice}
+use Rattle.planner.specs.Bounds.{own_number, values_bound}
+use Rattle.planner.specs.Floors.{floor_number}
+use Rattle.planner.specs.Leaves.{leaves, plan_count}
+use Rattle.planner.specs.Nodes.{node_sum, plans_sum}
+use Rattle.planner.specs.Sizes.{group_sizes, size, sizes, total}
+use Rattle.planner.proofs.FloorLemmas.{floor-le-bound, group_floor-le-bound}
+use Rattle.planner.proofs.LoopLemmas.{concept_sum, of_concepts, of_groups, unit_sum}
+use Rattle.planner.proofs.PartLemmas.{group_count-parts, plan_count-parts, values_are}
 use Rattle.executor.proofs.GroupNodeLemmas as groups
-use Rattle.executor.proofs.NodeLemmas.{all_node, and_node, members_node, name_step, one_node, or_node, outside_told, pairs_node, units_node, values_node, walk_node, within_told}
-use Rattle.executor.proofs.WithinLemmas.{all_within, none_within, some_of_none, some_within}
-use Rattle.executor.proofs.WithinNodes.{any_done, empty_within, groups_led_again, groups_led_all, groups_led_none, groups_same, kept_groups, kept_node, kept_set, led_again, led_all, led_none, minus_groups, minus_node, nothing_within, within_same}
+use Rattle.pair_sets.proofs.LeafLemmas.{sources_known}
+use Rattle.executor.proofs.NodeLemmas.{all_node, and_node, members_node, name_step, one_node, or_node, outside_passes, pairs_node, units_node, values_node, walk_node, within_passes}
+use Rattle.executor.proofs.PartWork.{concepts_found, concepts_read, few_found, few_groups, few_joined, few_joined_groups, few_values, groups_found, groups_read}
+use Rattle.pair_sets.proofs.WithinLemmas.{all_of_none, all_within, none_within, some_of_none, some_within}
+use Rattle.pair_sets.proofs.WithinLemmas.{kept_groups, kept_set}
+use Rattle.executor.proofs.WithinNodes.{any_done, empty_within, groups_led_again, groups_led_all, groups_same, kept_node, led_again, led_all, minus_groups, minus_node, nothing_within, within_same}
+use Rattle.executor.proofs.WorkLemmas.{all_end, all_most, all_next, all_pass, all_start, all_turn, along_from, along_le, along_more, first_within, joined_reads, lead_inside, lead_is, no_parts, some_end, some_next, some_start, some_turn}
 use Rattle.executor.proofs.plans.+execute.Goals as goal
 use Rattle.executor.proofs.plans.+execute.Goals.{in_all-then-place-lead+in_ok-extent+in_ok-next, in_all-else-place-lead, groups_in_all-then-place-lead+in_ok-extent+in_ok-next, groups_in_all-else-place-lead}
 
@@ -34,15 +47,65 @@ execute_within-returns-then-none_left-clause-items g t c =
     (g.S.ConceptSet.items_of c.in_ok-found.found)
     (c.none_left.ensures c.if-none_left.true) c.in_ok-found.ensures.items
 
-pub execute_within-returns-in_ok-found-in-Empty-clause-items : goal.execute_within-returns-in_ok-found-in-Empty-clause-items
-execute_within-returns-in_ok-found-in-Empty-clause-items g t c =
+pub execute_within-returns-clause-size : goal.execute_within-returns-clause-size
+execute_within-returns-clause-size g t c =
+    few_found c.args.snapshot.now.release c.args.indexes.now c.requires.index c.concept_count.ensures.rising
+    (sources_known c.args.snapshot.now.release c.concept_count.ensures.rising c.attribute_count.ensures.by_source)
+    c.args.choices.now (plan_of c.args.plan.now) (may_be g.S.ConceptSet.items_of c.args.candidates.now)
+    (g.S.ConceptSet.items_of c.in_ok-found-2.found) c.in_ok-found-2.ensures.items
+
+pub execute_within-returns-then-none_left-clause-within : goal.execute_within-returns-then-none_left-clause-within
+execute_within-returns-then-none_left-clause-within g t c =
+    omega (
+      arith,
+      c.plan_floor.ensures.floor,
+      c.add.ensures.count,
+      floor-le-bound c.args.indexes.now c.args.choices.now (plan_of c.args.plan.now),
+    )
+
+pub execute_within-returns-in_err-found-clause-within : goal.execute_within-returns-in_err-found-clause-within
+execute_within-returns-in_err-found-clause-within g t c =
+    omega (
+      arith,
+      c.plan_floor.ensures.floor,
+      c.add.ensures.count,
+      floor-le-bound c.args.indexes.now c.args.choices.now (plan_of c.args.plan.now),
+    )
+
+pub execute_groups-returns-clause-size : goal.execute_groups-returns-clause-size
+execute_groups-returns-clause-size g t c =
+    few_groups c.args.snapshot.now.release c.args.indexes.now c.requires.index c.concept_count.ensures.rising
+    (sources_known c.args.snapshot.now.release c.concept_count.ensures.rising c.attribute_count.ensures.by_source)
+    c.args.choices.now (group_plan_of c.args.plan.now) (may_be g.S.ConceptSet.items_of c.args.candidates.now)
+    (g.S.ConceptSet.items_of c.in_ok-found-2.found) c.in_ok-found-2.ensures.items
+
+pub execute_groups-returns-then-none_left-clause-within : goal.execute_groups-returns-then-none_left-clause-within
+execute_groups-returns-then-none_left-clause-within g t c =
+    omega (
+      arith,
+      c.unit_floor.ensures.floor,
+      c.add.ensures.count,
+      group_floor-le-bound c.args.indexes.now c.args.choices.now (group_plan_of c.args.plan.now),
+    )
+
+pub execute_groups-returns-in_err-found-clause-within : goal.execute_groups-returns-in_err-found-clause-within
+execute_groups-returns-in_err-found-clause-within g t c =
+    omega (
+      arith,
+      c.unit_floor.ensures.floor,
+      c.add.ensures.count,
+      group_floor-le-bound c.args.indexes.now c.args.choices.now (group_plan_of c.args.plan.now),
+    )
+
+pub execute_node-returns-in_ok-found-in-Empty-clause-items : goal.execute_node-returns-in_ok-found-in-Empty-clause-items
+execute_node-returns-in_ok-found-in-Empty-clause-items g t c =
     let release = c.args.snapshot.now.release in
     let may : ℕ → Bool = may_be g.S.ConceptSet.items_of c.args.candidates.now in
     empty_within release may (plan_of c.args.plan.now) (g.S.ConceptSet.items_of c.in_ok-found-in-Empty.found)
     (ap plan_of c.in-Empty.is) c.in_ok-found-in-Empty.ensures.items
 
-pub execute_within-returns-in_ok-found-in-All-clause-items : goal.execute_within-returns-in_ok-found-in-All-clause-items
-execute_within-returns-in_ok-found-in-All-clause-items g t c =
+pub execute_node-returns-in_ok-found-in-All-clause-items : goal.execute_node-returns-in_ok-found-in-All-clause-items
+execute_node-returns-in_ok-found-in-All-clause-items g t c =
     let release = c.args.snapshot.now.release in
     let may : ℕ → Bool = may_be g.S.ConceptSet.items_of c.args.candidates.now in
     kept_node release may (plan_of c.args.plan.now) (g.S.ConceptSet.items_of c.in_ok-every-in-All.every) (g.S.ConceptSet.items_of c.in_ok-found-in-All.found)
@@ -50,8 +113,8 @@ execute_within-returns-in_ok-found-in-All-clause-items g t c =
     (ap plan_of c.in-All.is) c.in_ok-every-in-All.ensures.items)
     c.in_ok-found-in-All.ensures.items
 
-pub execute_within-returns-in_ok-found-in-One-clause-items : goal.execute_within-returns-in_ok-found-in-One-clause-items
-execute_within-returns-in_ok-found-in-One-clause-items g t c =
+pub execute_node-returns-in_ok-found-in-One-clause-items : goal.execute_node-returns-in_ok-found-in-One-clause-items
+execute_node-returns-in_ok-found-in-One-clause-items g t c =
     let release = c.args.snapshot.now.release in
     let may : ℕ → Bool = may_be g.S.ConceptSet.items_of c.args.candidates.now in
     kept_node release may (plan_of c.args.plan.now) (g.S.ConceptSet.items_of c.in_ok-one-in-One.one) (g.S.ConceptSet.items_of c.in_ok-found-in-One.found)
@@ -59,8 +122,8 @@ execute_within-returns-in_ok-found-in-One-clause-items g t c =
     (ap plan_of c.in-One.is) c.in_ok-one-in-One.ensures.items)
     c.in_ok-found-in-One.ensures.items
 
-pub execute_within-returns-in_ok-found-in-Walk-clause-items : goal.execute_within-returns-in_ok-found-in-Walk-clause-items
-execute_within-returns-in_ok-found-in-Walk-clause-items g t c =
+pub execute_node-returns-in_ok-found-in-Walk-clause-items : goal.execute_node-returns-in_ok-found-in-Walk-clause-items
+execute_node-returns-in_ok-found-in-Walk-clause-items g t c =
     let release = c.args.snapshot.now.release in
     let from = c.in_ok-from-in-Walk.from in
     let led : List ℕ = led_to c.hierarchy-hierarchy.result.now (g.S.ConceptSet.bound_of from) c.in-Walk.operator (g.S.ConceptSet.items_of from) in
@@ -71,8 +134,8 @@ execute_within-returns-in_ok-found-in-Walk-clause-items g t c =
     (c.hierarchy-hierarchy.ensures ∙ c.requires.index.hierarchy) c.in_ok-from-in-Walk.ensures.bound c.in_ok-from-in-Walk.ensures.items refl)
     c.in_ok-found-in-Walk.ensures.items
 
-pub execute_within-returns-in_ok-found-in-Members-clause-items : goal.execute_within-returns-in_ok-found-in-Members-clause-items
-execute_within-returns-in_ok-found-in-Members-clause-items g t c =
+pub execute_node-returns-in_ok-found-in-Members-clause-items : goal.execute_node-returns-in_ok-found-in-Members-clause-items
+execute_node-returns-in_ok-found-in-Members-clause-items g t c =
     let release = c.args.snapshot.now.release in
     let may : ℕ → Bool = may_be g.S.ConceptSet.items_of c.args.candidates.now in
     kept_node release may (plan_of c.args.plan.now) (g.S.ConceptSet.items_of c.in_ok-some-in-Members.some)
@@ -83,8 +146,8 @@ execute_within-returns-in_ok-found-in-Members-clause-items g t c =
     c.in_ok-from-in-Members.ensures.items c.in_ok-some-in-Members.ensures.items)
     c.in_ok-found-in-Members.ensures.items
 
-pub execute_within-returns-in_ok-found-in-And-clause-items : goal.execute_within-returns-in_ok-found-in-And-clause-items
-execute_within-returns-in_ok-found-in-And-clause-items g t c =
+pub execute_node-returns-in_ok-found-in-And-clause-items : goal.execute_node-returns-in_ok-found-in-And-clause-items
+execute_node-returns-in_ok-found-in-And-clause-items g t c =
     let release = c.args.snapshot.now.release in
     let may : ℕ → Bool = may_be g.S.ConceptSet.items_of c.args.candidates.now in
     let some : ℕ → Bool = λ concept. list_all (λ part. means release (plan_of part) concept) c.deref-in-And.result.now in
@@ -94,8 +157,8 @@ execute_within-returns-in_ok-found-in-And-clause-items g t c =
     (ap plan_of c.in-And.is ∙ plan_of-And c.in-And.parts ∙ ap (λ (parts : List ConceptPlan). and_plan (plans_of parts))
     (sym c.deref-in-And.ensures.value)) refl)
 
-pub execute_within-returns-in_ok-found-in-Or-clause-items : goal.execute_within-returns-in_ok-found-in-Or-clause-items
-execute_within-returns-in_ok-found-in-Or-clause-items g t c =
+pub execute_node-returns-in_ok-found-in-Or-clause-items : goal.execute_node-returns-in_ok-found-in-Or-clause-items
+execute_node-returns-in_ok-found-in-Or-clause-items g t c =
     let release = c.args.snapshot.now.release in
     let may : ℕ → Bool = may_be g.S.ConceptSet.items_of c.args.candidates.now in
     let some : ℕ → Bool = λ concept. list_any (λ part. means release (plan_of part) concept) c.deref-in-Or.result.now in
@@ -104,48 +167,123 @@ execute_within-returns-in_ok-found-in-Or-clause-items g t c =
     (or_node release (plan_of c.args.plan.now) (numbers_in release some) c.deref-in-Or.result.now
     (ap plan_of c.in-Or.is ∙ plan_of-Or c.in-Or.parts ∙ ap (λ (parts : List ConceptPlan). or_plan (plans_of parts)) (sym c.deref-in-Or.ensures.value)) refl)
 
-pub execute_within-returns-in_ok-found-in-Minus-clause-items : goal.execute_within-returns-in_ok-found-in-Minus-clause-items
-execute_within-returns-in_ok-found-in-Minus-clause-items g t c =
+pub execute_node-returns-in_ok-found-in-Minus-clause-items : goal.execute_node-returns-in_ok-found-in-Minus-clause-items
+execute_node-returns-in_ok-found-in-Minus-clause-items g t c =
     let release = c.args.snapshot.now.release in
     let may : ℕ → Bool = may_be g.S.ConceptSet.items_of c.args.candidates.now in
-    minus_node release may (plan_of c.args.plan.now) (plan_of c.deref-in-Minus.result.now) (plan_of c.deref-in-Minus-2.result.now)
+    minus_node release may (plan_of c.args.plan.now) (plan_of c.deref-in-Minus.result.now) (plan_of c.deref-in-Minus-3.result.now)
     (g.S.ConceptSet.items_of c.in_ok-left-in-Minus.left) (g.S.ConceptSet.items_of c.in_ok-right-in-Minus.right)
     (g.S.ConceptSet.items_of c.in_ok-found-in-Minus.found)
-    (ap plan_of c.in-Minus.is ∙ (λ i. minus_plan (plan_of (sym c.deref-in-Minus.ensures i)) (plan_of (sym c.deref-in-Minus-2.ensures i))))
+    (ap plan_of c.in-Minus.is ∙ (λ i. minus_plan (plan_of (sym c.deref-in-Minus.ensures i)) (plan_of (sym c.deref-in-Minus-3.ensures i))))
     c.in_ok-left-in-Minus.ensures.items c.in_ok-right-in-Minus.ensures.items c.in_ok-found-in-Minus.ensures.items
 
-pub execute_within-returns-in_ok-found-in-Values-clause-items : goal.execute_within-returns-in_ok-found-in-Values-clause-items
-execute_within-returns-in_ok-found-in-Values-clause-items g t c =
+pub execute_node-returns-in_ok-found-in-Values-clause-items : goal.execute_node-returns-in_ok-found-in-Values-clause-items
+execute_node-returns-in_ok-found-in-Values-clause-items g t c =
     let release = c.args.snapshot.now.release in
     let may : ℕ → Bool = may_be g.S.ConceptSet.items_of c.args.candidates.now in
     kept_node release may (plan_of c.args.plan.now) (g.S.ConceptSet.items_of c.in_ok-led-in-Values.led) (g.S.ConceptSet.items_of c.in_ok-found-in-Values.found)
     (values_node release (plan_of c.args.plan.now) (g.S.ConceptSet.items_of c.in_ok-led-in-Values.led)
-    (plan_of c.deref-in-Values.result.now) c.deref-in-Values-2.result.now
+    (plan_of c.deref-in-Values.result.now) c.deref-in-Values-3.result.now
     (ap plan_of c.in-Values.is ∙ plan_of-Values c.in-Values.start c.in-Values.names
-    ∙ (λ i. values_plan (plan_of (sym c.deref-in-Values.ensures i)) (plans_of (sym c.deref-in-Values-2.ensures.value i))))
+    ∙ (λ i. values_plan (plan_of (sym c.deref-in-Values.ensures i)) (plans_of (sym c.deref-in-Values-3.ensures.value i))))
     (c.in_ok-led-in-Values.ensures.items (plan_of c.deref-in-Values.result.now) c.in_ok-from-in-Values.ensures.items))
     c.in_ok-found-in-Values.ensures.items
 
-pub execute_within-returns-in_ok-found-in-Pairs-clause-items : goal.execute_within-returns-in_ok-found-in-Pairs-clause-items
-execute_within-returns-in_ok-found-in-Pairs-clause-items g t c =
+pub execute_node-returns-in_err-led-in-Values-clause-within : goal.execute_node-returns-in_err-led-in-Values-clause-within
+execute_node-returns-in_err-led-in-Values-clause-within g t c =
+    let indexed = c.args.indexes.now in
+    let choices = c.args.choices.now in
+    let names = plans_of c.deref-in-Values-3.result.now in
+    let is = values_are c.in-Values.start c.in-Values.names c.in-Values.is c.deref-in-Values.ensures c.deref-in-Values-3.ensures.value in
+    let behind =
+    c.plan_floor-in-Values.ensures.rest
+    ∙ ap (λ (start : ConceptPlan). drop (leaves (plan_of start)) choices) (c.deref-in-Values-2.ensures ∙ sym c.deref-in-Values.ensures) in
+    omega (
+      arith,
+      c.led_along.ensures.within,
+      c.execute_within-in-Values.ensures.within,
+      along_from indexed (plan_count names) (length (g.S.ConceptSet.items_of c.in_ok-from-in-Values.from))
+          (size indexed choices (plan_of c.deref-in-Values.result.now)) c.in_ok-from-in-Values.ensures.size,
+      ap (λ (plan : Plan). node_sum (own_number indexed) choices plan) is,
+      ap (λ (rest : List Choice). plans_sum (own_number indexed) rest names) behind,
+    )
+
+pub execute_node-returns-in_err-found-in-Values-clause-within : goal.execute_node-returns-in_err-found-in-Values-clause-within
+execute_node-returns-in_err-found-in-Values-clause-within g t c =
+    let indexed = c.args.indexes.now in
+    let choices = c.args.choices.now in
+    let names = plans_of c.deref-in-Values-3.result.now in
+    let is = values_are c.in-Values.start c.in-Values.names c.in-Values.is c.deref-in-Values.ensures c.deref-in-Values-3.ensures.value in
+    let behind =
+    c.plan_floor-in-Values.ensures.rest
+    ∙ ap (λ (start : ConceptPlan). drop (leaves (plan_of start)) choices) (c.deref-in-Values-2.ensures ∙ sym c.deref-in-Values.ensures) in
+    omega (
+      arith,
+      c.led_along.ensures.within,
+      c.execute_within-in-Values.ensures.within,
+      along_from indexed (plan_count names) (length (g.S.ConceptSet.items_of c.in_ok-from-in-Values.from))
+          (size indexed choices (plan_of c.deref-in-Values.result.now)) c.in_ok-from-in-Values.ensures.size,
+      ap (λ (plan : Plan). node_sum (own_number indexed) choices plan) is,
+      ap (λ (rest : List Choice). plans_sum (own_number indexed) rest names) behind,
+    )
+
+pub execute_node-returns-in_ok-found-in-Values-clause-within : goal.execute_node-returns-in_ok-found-in-Values-clause-within
+execute_node-returns-in_ok-found-in-Values-clause-within g t c =
+    let indexed = c.args.indexes.now in
+    let choices = c.args.choices.now in
+    let names = plans_of c.deref-in-Values-3.result.now in
+    let is = values_are c.in-Values.start c.in-Values.names c.in-Values.is c.deref-in-Values.ensures c.deref-in-Values-3.ensures.value in
+    let behind =
+    c.plan_floor-in-Values.ensures.rest
+    ∙ ap (λ (start : ConceptPlan). drop (leaves (plan_of start)) choices) (c.deref-in-Values-2.ensures ∙ sym c.deref-in-Values.ensures) in
+    omega (
+      arith,
+      c.led_along.ensures.within,
+      c.execute_within-in-Values.ensures.within,
+      along_from indexed (plan_count names) (length (g.S.ConceptSet.items_of c.in_ok-from-in-Values.from))
+          (size indexed choices (plan_of c.deref-in-Values.result.now)) c.in_ok-from-in-Values.ensures.size,
+      ap (λ (plan : Plan). node_sum (own_number indexed) choices plan) is,
+      ap (λ (rest : List Choice). plans_sum (own_number indexed) rest names) behind,
+    )
+
+pub execute_node-returns-in_ok-found-in-Values-clause-floor : goal.execute_node-returns-in_ok-found-in-Values-clause-floor
+execute_node-returns-in_ok-found-in-Values-clause-floor g t c =
+    let indexed = c.args.indexes.now in
+    let choices = c.args.choices.now in
+    let names = plans_of c.deref-in-Values-3.result.now in
+    let is = values_are c.in-Values.start c.in-Values.names c.in-Values.is c.deref-in-Values.ensures c.deref-in-Values-3.ensures.value in
+    let behind =
+    c.plan_floor-in-Values.ensures.rest
+    ∙ ap (λ (start : ConceptPlan). drop (leaves (plan_of start)) choices) (c.deref-in-Values-2.ensures ∙ sym c.deref-in-Values.ensures) in
+    omega (
+      arith,
+      c.in_ok-led-in-Values.ensures.floor,
+      c.in_ok-from-in-Values.ensures.floor,
+      ap (λ (plan : Plan). node_sum (floor_number indexed) choices plan) is,
+      ap (λ (rest : List Choice). plans_sum (floor_number indexed) rest names) behind,
+    )
+
+pub execute_node-returns-in_ok-found-in-Pairs-clause-items : goal.execute_node-returns-in_ok-found-in-Pairs-clause-items
+execute_node-returns-in_ok-found-in-Pairs-clause-items g t c =
     let release = c.args.snapshot.now.release in
     let may : ℕ → Bool = may_be g.S.ConceptSet.items_of c.args.candidates.now in
     let passes = value_passes release (test_plan_of c.in-Pairs.test) in
-    let some : ℕ → Bool =
-    λ concept. has_pairs c.in-Pairs.count (is_one_of c.args.indexes.now.concepts (g.S.ConceptSet.items_of c.in_ok-types-in-Pairs.types)) passes
-    (pairs_of release c.in-Pairs.back concept) in
-    c.in_ok-found-in-Pairs.ensures.items passes
-    (λ number. ap (λ (words : List ℕ). is_set words number) c.deref-in-Pairs-2.ensures.value ∙ c.in_ok-passing-in-Pairs.ensures number)
+    let one : ℕ → Bool = is_one_of c.args.indexes.now.concepts (g.S.ConceptSet.items_of c.in_ok-typed-in-Pairs.typed) in
+    let some : ℕ → Bool = λ concept. has_pairs c.in-Pairs.count one passes (pairs_of release c.in-Pairs.back concept) in
+    c.in_ok-found-in-Pairs.ensures.items
+    ∙ (λ i. numbers_within release may
+    (λ concept. has_pairs c.in-Pairs.count one (λ value. c.in_ok-tested-in-Pairs.ensures.passes value i) (pairs_of release c.in-Pairs.back concept)))
     ∙ within_same release may some (means release (plan_of c.args.plan.now))
     (pairs_node release (plan_of c.args.plan.now) (numbers_in release some)
-    c.in-Pairs.back c.in-Pairs.count (plan_of c.deref-in-Pairs.result.now) (test_plan_of c.in-Pairs.test)
-    c.args.indexes.now.concepts (g.S.ConceptSet.items_of c.in_ok-types-in-Pairs.types)
+    c.in-Pairs.back c.in-Pairs.count (plan_of c.deref-in-Pairs-2.result.now) (test_plan_of c.in-Pairs.test)
+    c.args.indexes.now.concepts (g.S.ConceptSet.items_of c.in_ok-typed-in-Pairs.typed)
     (ap plan_of c.in-Pairs.is
-    ∙ ap (λ (types : ConceptPlan). pairs_plan c.in-Pairs.back c.in-Pairs.count (plan_of types) (test_plan_of c.in-Pairs.test)) (sym c.deref-in-Pairs.ensures))
-    c.requires.index.concepts c.in_ok-types-in-Pairs.ensures.items refl)
+    ∙ ap (λ (types : ConceptPlan). pairs_plan c.in-Pairs.back c.in-Pairs.count (plan_of types) (test_plan_of c.in-Pairs.test))
+    (sym c.deref-in-Pairs-2.ensures))
+    c.requires.index.concepts c.in_ok-typed-in-Pairs.ensures.items refl)
 
-pub execute_within-returns-in_ok-found-in-Units-clause-items : goal.execute_within-returns-in_ok-found-in-Units-clause-items
-execute_within-returns-in_ok-found-in-Units-clause-items g t c =
+pub execute_node-returns-in_ok-found-in-Units-clause-items : goal.execute_node-returns-in_ok-found-in-Units-clause-items
+execute_node-returns-in_ok-found-in-Units-clause-items g t c =
     let release = c.args.snapshot.now.release in
     let may : ℕ → Bool = may_be g.S.ConceptSet.items_of c.args.candidates.now in
     let some : ℕ → Bool = has_groups release c.in-Units.count (group_means release (group_plan_of c.deref-in-Units.result.now)) in
@@ -157,7 +295,7 @@ execute_within-returns-in_ok-found-in-Units-clause-items g t c =
 pub units_within-returns-then-has_few_groups-clause-items : goal.units_within-returns-then-has_few_groups-clause-items
 units_within-returns-then-has_few_groups-clause-items g t c =
     let release = c.args.snapshot.now.release in
-    units_of_candidates release c.concept_count.ensures.rising c.args.count (group_means release (group_plan_of c.args.units.now))
+    units_of_candidates release c.concept_count-found_groups.ensures.rising c.args.count (group_means release (group_plan_of c.args.units.now))
     (g.S.ConceptSet.items_of c.in-Within.wanted.now) (g.S.ConceptSet.items_of c.in_ok-own.own) (g.S.ConceptSet.items_of c.in_ok-groups.groups)
     (g.S.ConceptSet.items_of c.in_ok-some.some) (g.S.ConceptSet.items_of c.in_ok-found.found)
     c.in_ok-own.ensures.groups c.in_ok-groups.ensures.items c.in_ok-some.ensures.items c.in_ok-found.ensures.items
@@ -170,18 +308,53 @@ units_within-returns-clause-items g t c =
     let may : ℕ → Bool = may_be g.S.ConceptSet.items_of c.args.candidates.now in
     kept_set release may (has_groups release c.args.count (group_means release (group_plan_of c.args.units.now)))
     (g.S.ConceptSet.items_of c.in_ok-some-2.some) (g.S.ConceptSet.items_of c.in_ok-found-2.found)
-    (units_found release c.concept_count.ensures.rising c.args.count (group_means release (group_plan_of c.args.units.now))
+    (units_found release c.concept_count-found_groups.ensures.rising c.args.count (group_means release (group_plan_of c.args.units.now))
     (g.S.ConceptSet.items_of c.in_ok-groups-2.groups) (g.S.ConceptSet.items_of c.in_ok-some-2.some)
     c.in_ok-groups-2.ensures.items c.in_ok-some-2.ensures.items)
     c.in_ok-found-2.ensures.items
 
-pub led_by-returns-in_ok-found-2-clause-items : goal.led_by-returns-in_ok-found-2-clause-items
-led_by-returns-in_ok-found-2-clause-items g t c =
+pub led_by-returns-clause-items : goal.led_by-returns-clause-items
+led_by-returns-clause-items g t c =
     let release = c.args.snapshot.now.release in
     let may : ℕ → Bool = may_be g.S.ConceptSet.items_of c.args.candidates.now in
-    led_none release may c.args.parts.now c.args.lead (g.S.ConceptSet.items_of c.in_ok-every.every) (g.S.ConceptSet.items_of c.in_ok-found-2.found)
-    (omega arith)
-    c.in_ok-every.ensures.items c.in_ok-found-2.ensures.items
+    c.in_ok-found.ensures.items
+    ∙ ap (λ (at : Option ConceptPlan). numbers_within release may (leads_off release at))
+    (sym (slice_get_read c.args.parts.now (length c.args.parts.now) c.args.lead c.index-parts-lead.result refl c.requires.lead c.index-parts-lead.is))
+
+pub led_by-returns-clause-within : goal.led_by-returns-clause-within
+led_by-returns-clause-within g t c =
+    let indexed = c.args.indexes.now in
+    omega (
+      arith,
+      c.execute_within.ensures.within,
+      c.in_ok-found.ensures.size,
+      c.add.ensures.count,
+      lead_is ((concepts_read indexed).of_part c.args.choices.now) c.args.parts.now c.args.lead c.index-parts-lead.result c.requires.lead
+          c.index-parts-lead.is,
+    )
+
+pub led_by-returns-clause-floor : goal.led_by-returns-clause-floor
+led_by-returns-clause-floor g t c =
+    let indexed = c.args.indexes.now in
+    omega (
+      arith,
+      c.in_ok-found.ensures.floor,
+      c.add.ensures.grows,
+      lead_is ((concept_sum (floor_number indexed)).of_part c.args.choices.now) c.args.parts.now c.args.lead c.index-parts-lead.result
+          c.requires.lead c.index-parts-lead.is,
+    )
+
+pub in_all-loop-place-init : goal.in_all-loop-place-init
+in_all-loop-place-init g t c =
+    let release = c.args.snapshot.now.release in
+    record {
+      items = all_of_none (length release.concepts)
+          (λ n. may_be g.S.ConceptSet.items_of c.args.candidates.now n
+          && leads_off release (slice_get c.args.parts.now c.min-lead.result) (get_or release.concepts n 0))
+          (g.S.ConceptSet.items_of c.in_ok-found.found) c.in_ok-found.ensures.items;
+      bound = c.in_ok-found.ensures.bound;
+      work = all_start c.choices_at-at.ensures c.led_by.ensures.grows c.led_by.ensures.within c.in_ok-found.ensures.floor;
+    }
 
 pub in_all-loop-place-preserved : goal.in_all-loop-place-preserved
 in_all-loop-place-preserved g t c =
@@ -192,21 +365,28 @@ in_all-loop-place-preserved g t c =
           record {
             items = ap (λ (found : _). g.S.ConceptSet.items_of found) w.found-is
                 ∙ all_within (length release.concepts) (λ (p : ConceptPlan) (n : ℕ). means release (plan_of p)
-                (get_or release.concepts n 0)) c.args.parts.now c.loop-place.place w.index-parts-place.result c.loop-place-test.true
-                (λ n. may n && leads_off release (slice_get c.args.parts.now c.lead_of-lead.result) (get_or release.concepts n 0))
+                (get_or release.concepts n 0)) c.args.parts.now c.loop-place.place c.index-parts-place.result c.loop-place-test.true
+                (λ n. may n && leads_off release (slice_get c.args.parts.now c.min-lead.result) (get_or release.concepts n 0))
                 (g.S.ConceptSet.items_of c.loop-place.found) (g.S.ConceptSet.items_of w.in_ok-next.next)
                 c.loop-place.invariant.items
                 (w.in_ok-next.ensures.items
                 ∙ ap (λ (p : ConceptPlan). numbers_within release (has_item (g.S.ConceptSet.items_of c.loop-place.found))
-                (means release (plan_of p))) w.index-parts-place.is);
+                (means release (plan_of p))) c.index-parts-place.is);
             bound = ap (λ (found : _). g.S.ConceptSet.bound_of found) w.found-is ∙ w.in_ok-next.ensures.bound;
+            work = all_turn c.loop-place.invariant.work c.index-parts-place.result c.loop-place-test.true c.index-parts-place.is
+                w.if-place-lead.true c.plan_floor.ensures.rest
+                (omega (arith, w.execute_within.ensures.grows, w.add.ensures.grows, ap (λ (visits : _). visits.count) w.visits-is))
+                (omega (arith, w.execute_within.ensures.within, w.add.ensures.count, w.in_ok-next.ensures.size, ap (λ (visits : _). visits.count) w.visits-is))
+                (omega (arith, w.in_ok-next.ensures.floor, w.add.ensures.grows, ap (λ (visits : _). visits.count) w.visits-is));
           }
       | in_all-else-place-lead w ↦
           record {
             items = ap (λ (found : _). g.S.ConceptSet.items_of found) w.found-is
-                ∙ led_again release may c.args.parts.now c.lead_of-lead.result c.loop-place.place w.if-place-lead.false c.loop-place-test.true
+                ∙ led_again release may c.args.parts.now c.min-lead.result c.loop-place.place w.if-place-lead.false c.loop-place-test.true
                 (g.S.ConceptSet.items_of c.loop-place.found) c.loop-place.invariant.items;
             bound = ap (λ (found : _). g.S.ConceptSet.bound_of found) w.found-is ∙ c.loop-place.invariant.bound;
+            work = all_pass c.loop-place.invariant.work c.index-parts-place.result c.loop-place-test.true c.index-parts-place.is
+                w.if-place-lead.false c.plan_floor.ensures.rest (ap (λ (visits : _). visits.count) w.visits-is);
           }
     ]
 
@@ -214,12 +394,37 @@ pub in_all-returns-clause-items : goal.in_all-returns-clause-items
 in_all-returns-clause-items g t c =
     let release = c.args.snapshot.now.release in
     let may : ℕ → Bool = may_be g.S.ConceptSet.items_of c.args.candidates.now in
-    led_all release may c.args.parts.now c.lead_of-lead.result (g.S.ConceptSet.items_of c.loop-place.found)
+    led_all release may c.args.parts.now c.min-lead.result (g.S.ConceptSet.items_of c.loop-place.found)
     (c.loop-place.invariant.items
     ∙ ap (λ (parts : List ConceptPlan). numbers_where (length release.concepts)
-    (λ n. (may n && leads_off release (slice_get c.args.parts.now c.lead_of-lead.result) (get_or release.concepts n 0)) && list_all
+    (λ n. (may n && leads_off release (slice_get c.args.parts.now c.min-lead.result) (get_or release.concepts n 0)) && list_all
     (λ part. means release (plan_of part) (get_or release.concepts n 0)) parts))
     (take_all c.loop-place.place c.args.parts.now (omega arith)))
+
+pub in_all-returns-in_err-found-clause-within : goal.in_all-returns-in_err-found-clause-within
+in_all-returns-in_err-found-clause-within g t c =
+    omega (
+      arith,
+      c.led_by.ensures.within,
+      first_within of_concepts (concepts_read c.args.indexes.now) c.args.parts.now c.min-lead.result c.choices_at-at.ensures (lead_inside c.lead_of.result c.is_empty.ensures c.if-is_empty.false c.min-lead.ensures),
+    )
+
+pub in_all-returns-in_err-extent-clause-within : goal.in_all-returns-in_err-extent-clause-within
+in_all-returns-in_err-extent-clause-within g t c = omega (arith, all_most c.loop-place.invariant.work (lead_inside c.lead_of.result c.is_empty.ensures c.if-is_empty.false c.min-lead.ensures))
+
+pub in_all-returns-in_err-next-clause-within : goal.in_all-returns-in_err-next-clause-within
+in_all-returns-in_err-next-clause-within g t c =
+    omega (
+      arith,
+      all_next {next = c.execute_within.new.visits.count} c.loop-place.invariant.work (lead_inside c.lead_of.result c.is_empty.ensures c.if-is_empty.false c.min-lead.ensures) c.index-parts-place.result c.loop-place-test.true c.index-parts-place.is c.if-place-lead.true
+          (omega (arith, c.execute_within.ensures.within)),
+    )
+
+pub in_all-returns-clause-within : goal.in_all-returns-clause-within
+in_all-returns-clause-within g t c = omega (arith, (all_end c.loop-place.invariant.work (omega arith) (lead_inside c.lead_of.result c.is_empty.ensures c.if-is_empty.false c.min-lead.ensures)).within)
+
+pub in_all-returns-clause-floor : goal.in_all-returns-clause-floor
+in_all-returns-clause-floor g t c = (all_end c.loop-place.invariant.work (omega arith) (lead_inside c.lead_of.result c.is_empty.ensures c.if-is_empty.false c.min-lead.ensures)).floor
 
 pub in_some-loop-part-init : goal.in_some-loop-part-init
 in_some-loop-part-init g t c =
@@ -228,11 +433,13 @@ in_some-loop-part-init g t c =
     record {
       items = some_of_none (length release.concepts) may (g.S.ConceptSet.items_of c.in_ok-found.found) c.in_ok-found.ensures.items;
       bound = c.in_ok-found.ensures.bound;
+      work = some_start c.args.visits.now.count;
     }
 
 pub in_some-loop-part-preserved : goal.in_some-loop-part-preserved
 in_some-loop-part-preserved g t c =
     let release = c.args.snapshot.now.release in
+    let indexed = c.args.indexes.now in
     let may : ℕ → Bool = may_be g.S.ConceptSet.items_of c.args.candidates.now in
     record {
       items = some_within (length release.concepts) (λ (p : ConceptPlan) (n : ℕ). means release (plan_of p)
@@ -243,7 +450,70 @@ in_some-loop-part-preserved g t c =
           (c.in_ok-next.ensures.items ∙ ap (λ (p : ConceptPlan). numbers_within release may (means release (plan_of p))) c.part-item.is)
           c.in_ok-found-2.ensures.items;
       bound = c.in_ok-found-2.ensures.bound ∙ c.loop-part.invariant.bound;
+      work = some_turn c.loop-part.invariant.work c.part-item.result c.loop-part-test.true c.part-item.is c.plan_floor.ensures.rest
+          (length (g.S.ConceptSet.items_of c.loop-part.found) + length (g.S.ConceptSet.items_of c.in_ok-next.next))
+          (joined_reads of_concepts (concepts_found indexed) c.args.choices.now c.args.parts.now c.loop-part.part-index c.part-item.result
+          c.loop-part-test.true c.part-item.is c.loop-part.invariant.work.rest
+          (length (g.S.ConceptSet.items_of c.loop-part.found)) (length (g.S.ConceptSet.items_of c.in_ok-next.next))
+          (few_joined release indexed c.requires.index c.concept_count.ensures.rising
+          (sources_known release c.concept_count.ensures.rising c.attribute_count.ensures.by_source) c.args.choices.now
+          (take c.loop-part.part-index c.args.parts.now) may (g.S.ConceptSet.items_of c.loop-part.found) c.loop-part.invariant.items)
+          c.in_ok-next.ensures.size)
+          (omega (arith, c.execute_within.ensures.grows, c.add.ensures.grows))
+          (omega (arith, c.execute_within.ensures.within, c.add.ensures.count))
+          (omega (arith, c.in_ok-next.ensures.floor, c.add.ensures.grows));
     }
+
+pub in_some-returns-in_err-next-clause-within : goal.in_some-returns-in_err-next-clause-within
+in_some-returns-in_err-next-clause-within g t c =
+    let indexed = c.args.indexes.now in
+    omega (
+      arith,
+      some_next {next = c.execute_within.new.visits.count} c.loop-part.invariant.work c.part-item.result c.loop-part-test.true c.part-item.is 0
+          (omega (
+            arith,
+            mul-le-mul_right {m = c.loop-part.part-index} (total (sizes indexed c.args.choices.now (plans_of c.args.parts.now)))
+                (le_of_lt c.loop-part-test.true),
+          ))
+          (omega (arith, c.execute_within.ensures.within)),
+      ap (λ (count : ℕ). count * total (sizes indexed c.args.choices.now (plans_of c.args.parts.now))) (plan_count-parts c.args.parts.now),
+    )
+
+pub in_some-returns-in_err-found-2-clause-within : goal.in_some-returns-in_err-found-2-clause-within
+in_some-returns-in_err-found-2-clause-within g t c =
+    let release = c.args.snapshot.now.release in
+    let indexed = c.args.indexes.now in
+    let may : ℕ → Bool = may_be g.S.ConceptSet.items_of c.args.candidates.now in
+    let all : ℕ = total (sizes indexed c.args.choices.now (plans_of c.args.parts.now)) in
+    let reads =
+    joined_reads of_concepts (concepts_found indexed) c.args.choices.now c.args.parts.now c.loop-part.part-index c.part-item.result
+    c.loop-part-test.true c.part-item.is c.loop-part.invariant.work.rest
+    (length (g.S.ConceptSet.items_of c.loop-part.found)) (length (g.S.ConceptSet.items_of c.in_ok-next.next))
+    (few_joined release indexed c.requires.index c.concept_count.ensures.rising
+    (sources_known release c.concept_count.ensures.rising c.attribute_count.ensures.by_source) c.args.choices.now
+    (take c.loop-part.part-index c.args.parts.now) may (g.S.ConceptSet.items_of c.loop-part.found) c.loop-part.invariant.items)
+    c.in_ok-next.ensures.size in
+    let more : (c.loop-part.part-index + 1) * all ≤ length c.args.parts.now * all = mul-le-mul_right all (omega (arith, c.loop-part-test.true)) in
+    omega (
+      arith,
+      some_next {next = c.add.new.self.count} c.loop-part.invariant.work c.part-item.result c.loop-part-test.true c.part-item.is
+          (length (g.S.ConceptSet.items_of c.loop-part.found) + length (g.S.ConceptSet.items_of c.in_ok-next.next))
+          (omega (arith, reads, more))
+          (omega (arith, c.execute_within.ensures.within, c.add.ensures.count)),
+      ap (λ (count : ℕ). count * all) (plan_count-parts c.args.parts.now),
+    )
+
+pub in_some-returns-clause-within : goal.in_some-returns-clause-within
+in_some-returns-clause-within g t c =
+    let indexed = c.args.indexes.now in
+    omega (
+      arith,
+      (some_end c.loop-part.invariant.work (omega arith)).within,
+      ap (λ (count : ℕ). count * total (sizes indexed c.args.choices.now (plans_of c.args.parts.now))) (plan_count-parts c.args.parts.now),
+    )
+
+pub in_some-returns-clause-floor : goal.in_some-returns-clause-floor
+in_some-returns-clause-floor g t c = (some_end c.loop-part.invariant.work (omega arith)).floor
 
 pub in_some-returns-clause-items : goal.in_some-returns-clause-items
 in_some-returns-clause-items g t c =
@@ -253,17 +523,93 @@ in_some-returns-clause-items g t c =
     ∙ ap (λ (parts : List ConceptPlan). numbers_within release may (λ concept. list_any (λ part. means release (plan_of part) concept) parts))
     (take_all c.loop-part.part-index c.args.parts.now (omega arith))
 
+pub led_along-loop-name-init : goal.led_along-loop-name-init
+led_along-loop-name-init g t c = record {
+  items = λ plan from. from;
+  bound = c.requires.bound;
+  few = λ some. absurd (omega (arith, some));
+  start = λ none. refl;
+  work = some_start c.args.visits.now.count;
+}
+
 pub led_along-loop-name-preserved : goal.led_along-loop-name-preserved
 led_along-loop-name-preserved g t c =
     let release = c.args.snapshot.now.release in
+    let indexed = c.args.indexes.now in
+    let sources : ℕ → Bool = is_one_of indexed.concepts (g.S.ConceptSet.items_of c.loop-name.found) in
+    let one : ℕ → Bool = is_one_of indexed.concepts (g.S.ConceptSet.items_of c.in_ok-named.named) in
     record {
       items = λ plan from.
           name_step release plan c.args.names.now c.loop-name.name-index c.name-item.result c.loop-name-test.true c.name-item.is
-          c.args.indexes.now.concepts (g.S.ConceptSet.items_of c.loop-name.found) (g.S.ConceptSet.items_of c.in_ok-types.types)
+          indexed.concepts (g.S.ConceptSet.items_of c.loop-name.found) (g.S.ConceptSet.items_of c.in_ok-named.named)
           (g.S.ConceptSet.items_of c.in_ok-found.found)
-          c.requires.index.concepts c.in_ok-types.ensures.items c.in_ok-found.ensures.items (c.loop-name.invariant.items plan from);
+          c.requires.index.concepts c.in_ok-named.ensures.items (c.in_ok-found.ensures.items one c.in_ok-types.ensures)
+          (c.loop-name.invariant.items plan from);
       bound = c.in_ok-found.ensures.bound;
+      few = λ some.
+          few_values release indexed c.requires.index c.concept_count-rows.ensures.rising
+          (sources_known release c.concept_count-rows.ensures.rising c.attribute_count-rows.ensures.by_source) sources one
+          (g.S.ConceptSet.items_of c.in_ok-found.found) (c.in_ok-found.ensures.items one c.in_ok-types.ensures);
+      start = λ none. absurd (omega (arith, none));
+      work = some_turn c.loop-name.invariant.work c.name-item.result c.loop-name-test.true c.name-item.is c.plan_floor.ensures.rest
+          (length (g.S.ConceptSet.items_of c.loop-name.found) + length indexed.rows)
+          (along_more indexed c.loop-name.name-index (length (g.S.ConceptSet.items_of c.args.from))
+          (length (g.S.ConceptSet.items_of c.loop-name.found)) c.loop-name.invariant.start c.loop-name.invariant.few)
+          (omega (arith, c.execute_within.ensures.grows, c.add.ensures.grows))
+          (omega (arith, c.execute_within.ensures.within, c.add.ensures.count, c.min-read.ensures))
+          (omega (arith, c.in_ok-named.ensures.floor, c.add.ensures.grows));
     }
+
+pub led_along-returns-in_err-named-clause-within : goal.led_along-returns-in_err-named-clause-within
+led_along-returns-in_err-named-clause-within g t c =
+    let indexed = c.args.indexes.now in
+    let first : ℕ = length (g.S.ConceptSet.items_of c.args.from) in
+    omega (
+      arith,
+      some_next {next = c.execute_within.new.visits.count} c.loop-name.invariant.work c.name-item.result c.loop-name-test.true c.name-item.is 0
+          (omega (arith, along_le indexed c.loop-name.name-index (length c.args.names.now) first (le_of_lt c.loop-name-test.true)))
+          (omega (arith, c.execute_within.ensures.within)),
+      ap (λ (count : ℕ). values_bound indexed count first) (plan_count-parts c.args.names.now),
+    )
+
+pub led_along-returns-in_err-types-clause-within : goal.led_along-returns-in_err-types-clause-within
+led_along-returns-in_err-types-clause-within g t c =
+    let indexed = c.args.indexes.now in
+    let first : ℕ = length (g.S.ConceptSet.items_of c.args.from) in
+    omega (
+      arith,
+      some_next {next = c.execute_within.new.visits.count} c.loop-name.invariant.work c.name-item.result c.loop-name-test.true c.name-item.is 0
+          (omega (arith, along_le indexed c.loop-name.name-index (length c.args.names.now) first (le_of_lt c.loop-name-test.true)))
+          (omega (arith, c.execute_within.ensures.within)),
+      ap (λ (count : ℕ). values_bound indexed count first) (plan_count-parts c.args.names.now),
+    )
+
+pub led_along-returns-in_err-found-clause-within : goal.led_along-returns-in_err-found-clause-within
+led_along-returns-in_err-found-clause-within g t c =
+    let indexed = c.args.indexes.now in
+    let first : ℕ = length (g.S.ConceptSet.items_of c.args.from) in
+    let found : ℕ = length (g.S.ConceptSet.items_of c.loop-name.found) in
+    let read = along_more indexed c.loop-name.name-index first found c.loop-name.invariant.start c.loop-name.invariant.few in
+    let more = along_le indexed (c.loop-name.name-index + 1) (length c.args.names.now) first (omega (arith, c.loop-name-test.true)) in
+    omega (
+      arith,
+      some_next {next = c.add.new.self.count} c.loop-name.invariant.work c.name-item.result c.loop-name-test.true c.name-item.is (found + length indexed.rows)
+          (omega (arith, read, more)) (omega (arith, c.execute_within.ensures.within, c.add.ensures.count, c.min-read.ensures)),
+      ap (λ (count : ℕ). values_bound indexed count first) (plan_count-parts c.args.names.now),
+    )
+
+pub led_along-returns-clause-within : goal.led_along-returns-clause-within
+led_along-returns-clause-within g t c =
+    let indexed = c.args.indexes.now in
+    let first : ℕ = length (g.S.ConceptSet.items_of c.args.from) in
+    omega (
+      arith,
+      (some_end c.loop-name.invariant.work (omega arith)).within,
+      ap (λ (count : ℕ). values_bound indexed count first) (plan_count-parts c.args.names.now),
+    )
+
+pub led_along-returns-clause-floor : goal.led_along-returns-clause-floor
+led_along-returns-clause-floor g t c = (some_end c.loop-name.invariant.work (omega arith)).floor
 
 pub led_along-returns-clause-items : goal.led_along-returns-clause-items
 led_along-returns-clause-items g t c =
@@ -273,21 +619,21 @@ led_along-returns-clause-items g t c =
     ∙ ap (λ (names : List ConceptPlan). numbers_in release (leads release (means release plan) (plans_of names)))
     (take_all c.loop-name.name-index c.args.names.now (omega arith))
 
-pub words_of-returns-in_ok-words-in-Within : goal.words_of-returns-in_ok-words-in-Within
-words_of-returns-in_ok-words-in-Within g t c =
+pub tested_of-returns-in_ok-set-in-Within-clause-passes : goal.tested_of-returns-in_ok-set-in-Within-clause-passes
+tested_of-returns-in_ok-set-in-Within-clause-passes g t c =
     let release = c.args.snapshot.now.release in
-    within_told c.args.indexes.now release (plan_of c.deref.result.now) (g.S.ConceptSet.items_of c.in_ok-set-in-Within.set)
-    c.in_ok-words-in-Within.words.items (test_plan_of c.args.test.now)
+    within_passes release (plan_of c.deref.result.now) c.args.indexes.now.concepts (g.S.ConceptSet.items_of c.in_ok-set-in-Within.set)
+    (test_plan_of c.args.test.now)
     (ap test_plan_of c.in-Within.is ∙ ap (λ (operand : ConceptPlan). within_plan (plan_of operand)) (sym c.deref.ensures))
-    c.requires.index.concepts c.in_ok-set-in-Within.ensures.items c.in_ok-words-in-Within.ensures
+    c.requires.index.concepts c.in_ok-set-in-Within.ensures.items
 
-pub words_of-returns-in_ok-words-in-Outside : goal.words_of-returns-in_ok-words-in-Outside
-words_of-returns-in_ok-words-in-Outside g t c =
+pub tested_of-returns-in_ok-set-in-Outside-clause-passes : goal.tested_of-returns-in_ok-set-in-Outside-clause-passes
+tested_of-returns-in_ok-set-in-Outside-clause-passes g t c =
     let release = c.args.snapshot.now.release in
-    outside_told c.args.indexes.now release (plan_of c.deref-in-Outside.result.now) (g.S.ConceptSet.items_of c.in_ok-set-in-Outside.set)
-    c.in_ok-words-in-Outside.words.items (test_plan_of c.args.test.now)
+    outside_passes release (plan_of c.deref-in-Outside.result.now) c.args.indexes.now.concepts (g.S.ConceptSet.items_of c.in_ok-set-in-Outside.set)
+    (test_plan_of c.args.test.now)
     (ap test_plan_of c.in-Outside.is ∙ ap (λ (operand : ConceptPlan). outside_plan (plan_of operand)) (sym c.deref-in-Outside.ensures))
-    c.requires.index.concepts c.in_ok-set-in-Outside.ensures.items c.in_ok-words-in-Outside.ensures
+    c.requires.index.concepts c.in_ok-set-in-Outside.ensures.items
 
 pub execute_groups-returns-then-none_left-clause-items : goal.execute_groups-returns-then-none_left-clause-items
 execute_groups-returns-then-none_left-clause-items g t c =
@@ -297,15 +643,15 @@ execute_groups-returns-then-none_left-clause-items g t c =
     (slice_get (all_groups release) n)) (g.S.ConceptSet.items_of c.in_ok-found.found)
     (c.none_left.ensures c.if-none_left.true) c.in_ok-found.ensures.items
 
-pub execute_groups-returns-in_ok-found-in-Nothing-clause-items : goal.execute_groups-returns-in_ok-found-in-Nothing-clause-items
-execute_groups-returns-in_ok-found-in-Nothing-clause-items g t c =
+pub execute_group_node-returns-in_ok-found-in-Nothing-clause-items : goal.execute_group_node-returns-in_ok-found-in-Nothing-clause-items
+execute_group_node-returns-in_ok-found-in-Nothing-clause-items g t c =
     let release = c.args.snapshot.now.release in
     let may : ℕ → Bool = may_be g.S.ConceptSet.items_of c.args.candidates.now in
     nothing_within release may (group_plan_of c.args.plan.now) (g.S.ConceptSet.items_of c.in_ok-found-in-Nothing.found)
     (ap group_plan_of c.in-Nothing.is) c.in_ok-found-in-Nothing.ensures.items
 
-pub execute_groups-returns-in_ok-found-in-Every-clause-items : goal.execute_groups-returns-in_ok-found-in-Every-clause-items
-execute_groups-returns-in_ok-found-in-Every-clause-items g t c =
+pub execute_group_node-returns-in_ok-found-in-Every-clause-items : goal.execute_group_node-returns-in_ok-found-in-Every-clause-items
+execute_group_node-returns-in_ok-found-in-Every-clause-items g t c =
     let release = c.args.snapshot.now.release in
     let may : ℕ → Bool = may_be g.S.ConceptSet.items_of c.args.candidates.now in
     kept_groups release may (group_means release (group_plan_of c.args.plan.now)) (g.S.ConceptSet.items_of c.in_ok-every-in-Every.every)
@@ -314,8 +660,8 @@ execute_groups-returns-in_ok-found-in-Every-clause-items g t c =
     (ap group_plan_of c.in-Every.is) c.in_ok-every-in-Every.ensures.items)
     c.in_ok-found-in-Every.ensures.items
 
-pub execute_groups-returns-in_ok-found-in-And-clause-items : goal.execute_groups-returns-in_ok-found-in-And-clause-items
-execute_groups-returns-in_ok-found-in-And-clause-items g t c =
+pub execute_group_node-returns-in_ok-found-in-And-clause-items : goal.execute_group_node-returns-in_ok-found-in-And-clause-items
+execute_group_node-returns-in_ok-found-in-And-clause-items g t c =
     let release = c.args.snapshot.now.release in
     let may : ℕ → Bool = may_be g.S.ConceptSet.items_of c.args.candidates.now in
     let some : List Pair → Bool = λ pairs. list_all (λ part. group_means release (group_plan_of part) pairs) c.deref.result.now in
@@ -325,8 +671,8 @@ execute_groups-returns-in_ok-found-in-And-clause-items g t c =
     (ap group_plan_of c.in-And.is ∙ group_plan_of-And c.in-And.parts
     ∙ ap (λ (parts : List UnitPlan). and_group (group_plans_of parts)) (sym c.deref.ensures.value)) refl)
 
-pub execute_groups-returns-in_ok-found-in-Or-clause-items : goal.execute_groups-returns-in_ok-found-in-Or-clause-items
-execute_groups-returns-in_ok-found-in-Or-clause-items g t c =
+pub execute_group_node-returns-in_ok-found-in-Or-clause-items : goal.execute_group_node-returns-in_ok-found-in-Or-clause-items
+execute_group_node-returns-in_ok-found-in-Or-clause-items g t c =
     let release = c.args.snapshot.now.release in
     let may : ℕ → Bool = may_be g.S.ConceptSet.items_of c.args.candidates.now in
     let some : List Pair → Bool = λ pairs. list_any (λ part. group_means release (group_plan_of part) pairs) c.deref-in-Or.result.now in
@@ -336,48 +682,83 @@ execute_groups-returns-in_ok-found-in-Or-clause-items g t c =
     (ap group_plan_of c.in-Or.is ∙ group_plan_of-Or c.in-Or.parts
     ∙ ap (λ (parts : List UnitPlan). or_group (group_plans_of parts)) (sym c.deref-in-Or.ensures.value)) refl)
 
-pub execute_groups-returns-in_ok-groups-in-Minus-clause-items : goal.execute_groups-returns-in_ok-groups-in-Minus-clause-items
-execute_groups-returns-in_ok-groups-in-Minus-clause-items g t c =
+pub execute_group_node-returns-in_ok-groups-in-Minus-clause-items : goal.execute_group_node-returns-in_ok-groups-in-Minus-clause-items
+execute_group_node-returns-in_ok-groups-in-Minus-clause-items g t c =
     let release = c.args.snapshot.now.release in
     let may : ℕ → Bool = may_be g.S.ConceptSet.items_of c.args.candidates.now in
-    minus_groups release may (group_plan_of c.args.plan.now) (group_plan_of c.deref-in-Minus.result.now) (group_plan_of c.deref-in-Minus-2.result.now)
+    minus_groups release may (group_plan_of c.args.plan.now) (group_plan_of c.deref-in-Minus.result.now) (group_plan_of c.deref-in-Minus-3.result.now)
     (g.S.ConceptSet.items_of c.in_ok-left-in-Minus.left) (g.S.ConceptSet.items_of c.in_ok-right-in-Minus.right)
     (g.S.ConceptSet.items_of c.in_ok-groups-in-Minus.groups)
-    (ap group_plan_of c.in-Minus.is ∙ (λ i. minus_group (group_plan_of (sym c.deref-in-Minus.ensures i)) (group_plan_of (sym c.deref-in-Minus-2.ensures i))))
+    (ap group_plan_of c.in-Minus.is ∙ (λ i. minus_group (group_plan_of (sym c.deref-in-Minus.ensures i)) (group_plan_of (sym c.deref-in-Minus-3.ensures i))))
     c.in_ok-left-in-Minus.ensures.items c.in_ok-right-in-Minus.ensures.items c.in_ok-groups-in-Minus.ensures.items
 
-pub execute_groups-returns-in_ok-found-in-Pairs-clause-items : goal.execute_groups-returns-in_ok-found-in-Pairs-clause-items
-execute_groups-returns-in_ok-found-in-Pairs-clause-items g t c =
+pub execute_group_node-returns-in_ok-found-in-Pairs-clause-items : goal.execute_group_node-returns-in_ok-found-in-Pairs-clause-items
+execute_group_node-returns-in_ok-found-in-Pairs-clause-items g t c =
     let release = c.args.snapshot.now.release in
     let may : ℕ → Bool = may_be g.S.ConceptSet.items_of c.args.candidates.now in
-    let some : List Pair → Bool =
-    has_pairs c.in-Pairs.count (is_one_of c.args.indexes.now.concepts (g.S.ConceptSet.items_of c.in_ok-types-in-Pairs.types))
-    (value_passes release (test_plan_of c.in-Pairs.test)) in
-    c.in_ok-found-in-Pairs.ensures.items (value_passes release (test_plan_of c.in-Pairs.test))
-    (λ number. ap (λ (words : List ℕ). is_set words number) c.deref-in-Pairs-2.ensures.value ∙ c.in_ok-passing-in-Pairs.ensures number)
+    let one : ℕ → Bool = is_one_of c.args.indexes.now.concepts (g.S.ConceptSet.items_of c.in_ok-typed-in-Pairs.typed) in
+    let some : List Pair → Bool = has_pairs c.in-Pairs.count one (value_passes release (test_plan_of c.in-Pairs.test)) in
+    c.in_ok-found-in-Pairs.ensures.items
+    ∙ (λ i. groups_within release may (has_pairs c.in-Pairs.count one (λ value. c.in_ok-tested-in-Pairs.ensures.passes value i)))
     ∙ groups_same release may some (group_means release (group_plan_of c.args.plan.now))
     (groups.pairs_node release (group_plan_of c.args.plan.now) (groups_where release some)
-    c.in-Pairs.count (plan_of c.deref-in-Pairs.result.now) (test_plan_of c.in-Pairs.test)
-    c.args.indexes.now.concepts (g.S.ConceptSet.items_of c.in_ok-types-in-Pairs.types)
+    c.in-Pairs.count (plan_of c.deref-in-Pairs-2.result.now) (test_plan_of c.in-Pairs.test)
+    c.args.indexes.now.concepts (g.S.ConceptSet.items_of c.in_ok-typed-in-Pairs.typed)
     (ap group_plan_of c.in-Pairs.is
-    ∙ ap (λ (types : ConceptPlan). pairs_group c.in-Pairs.count (plan_of types) (test_plan_of c.in-Pairs.test)) (sym c.deref-in-Pairs.ensures))
-    c.requires.index.concepts c.in_ok-types-in-Pairs.ensures.items refl)
+    ∙ ap (λ (types : ConceptPlan). pairs_group c.in-Pairs.count (plan_of types) (test_plan_of c.in-Pairs.test)) (sym c.deref-in-Pairs-2.ensures))
+    c.requires.index.concepts c.in_ok-typed-in-Pairs.ensures.items refl)
 
-pub groups_led_by-returns-in_ok-groups-clause-items : goal.groups_led_by-returns-in_ok-groups-clause-items
-groups_led_by-returns-in_ok-groups-clause-items g t c =
+pub groups_led_by-returns-clause-items : goal.groups_led_by-returns-clause-items
+groups_led_by-returns-clause-items g t c =
     let release = c.args.snapshot.now.release in
     let may : ℕ → Bool = may_be g.S.ConceptSet.items_of c.args.candidates.now in
     c.in_ok-groups.ensures.items
     ∙ ap (λ (at : Option UnitPlan). groups_within release may (leads_off_groups release at))
-    (sym (slice_get_read c.args.parts.now (length c.args.parts.now) c.args.lead c.index-parts-lead.result refl c.if-lead-parts.true c.index-parts-lead.is))
+    (sym (slice_get_read c.args.parts.now (length c.args.parts.now) c.args.lead c.index-parts-lead.result refl c.requires.lead c.index-parts-lead.is))
 
-pub groups_led_by-returns-in_ok-groups-2-clause-items : goal.groups_led_by-returns-in_ok-groups-2-clause-items
-groups_led_by-returns-in_ok-groups-2-clause-items g t c =
+pub groups_led_by-returns-clause-within : goal.groups_led_by-returns-clause-within
+groups_led_by-returns-clause-within g t c =
+    let indexed = c.args.indexes.now in
+    omega (
+      arith,
+      c.execute_groups.ensures.within,
+      c.in_ok-groups.ensures.size,
+      c.add.ensures.count,
+      lead_is ((groups_read indexed).of_part c.args.choices.now) c.args.parts.now c.args.lead c.index-parts-lead.result c.requires.lead
+          c.index-parts-lead.is,
+    )
+
+pub groups_led_by-returns-clause-floor : goal.groups_led_by-returns-clause-floor
+groups_led_by-returns-clause-floor g t c =
+    let indexed = c.args.indexes.now in
+    omega (
+      arith,
+      c.in_ok-groups.ensures.floor,
+      c.add.ensures.grows,
+      lead_is ((unit_sum (floor_number indexed)).of_part c.args.choices.now) c.args.parts.now c.args.lead c.index-parts-lead.result
+          c.requires.lead c.index-parts-lead.is,
+    )
+
+pub groups_in_all-returns-then-is_empty-clause-items : goal.groups_in_all-returns-then-is_empty-clause-items
+groups_in_all-returns-then-is_empty-clause-items g t c =
     let release = c.args.snapshot.now.release in
     let may : ℕ → Bool = may_be g.S.ConceptSet.items_of c.args.candidates.now in
-    groups_led_none release may c.args.parts.now c.args.lead (g.S.ConceptSet.items_of c.in_ok-every.every)
-    (g.S.ConceptSet.items_of c.in_ok-groups-2.groups) (omega arith)
-    (c.in_ok-every.ensures.items ∙ groups.each_where release) c.in_ok-groups-2.ensures.items
+    kept_groups release may (λ pairs. true) (g.S.ConceptSet.items_of c.in_ok-every.every) (g.S.ConceptSet.items_of c.in_ok-left.left)
+    (c.in_ok-every.ensures.items ∙ groups.each_where release) c.in_ok-left.ensures.items
+    ∙ ap (λ (parts : List UnitPlan). groups_within release may (λ pairs. list_all (λ part. group_means release (group_plan_of part) pairs) parts))
+    (sym (nil_from_length c.args.parts.now (no_parts c.is_empty.ensures c.if-is_empty.true)))
+
+pub groups_in_all-loop-place-init : goal.groups_in_all-loop-place-init
+groups_in_all-loop-place-init g t c =
+    let release = c.args.snapshot.now.release in
+    record {
+      items = all_of_none (length (all_groups release))
+          (λ n. may_be g.S.ConceptSet.items_of c.args.candidates.now n
+          && some_group_in release (leads_off_groups release (slice_get c.args.parts.now c.min-lead.result)) (slice_get (all_groups release) n))
+          (g.S.ConceptSet.items_of c.in_ok-groups.groups) c.in_ok-groups.ensures.items;
+      bound = c.in_ok-groups.ensures.bound;
+      work = all_start c.unit_choices_at-at.ensures c.groups_led_by.ensures.grows c.groups_led_by.ensures.within c.in_ok-groups.ensures.floor;
+    }
 
 pub groups_in_all-loop-place-preserved : goal.groups_in_all-loop-place-preserved
 groups_in_all-loop-place-preserved g t c =
@@ -388,22 +769,29 @@ groups_in_all-loop-place-preserved g t c =
           record {
             items = ap (λ (found : _). g.S.ConceptSet.items_of found) w.groups-is
                 ∙ all_within (length (all_groups release)) (λ (p : UnitPlan) (n : ℕ). some_group_in release (group_means release (group_plan_of p))
-                (slice_get (all_groups release) n)) c.args.parts.now c.loop-place.place w.index-parts-place.result c.loop-place-test.true
-                (λ n. may n && some_group_in release (leads_off_groups release (slice_get c.args.parts.now c.group_lead_of-lead.result))
+                (slice_get (all_groups release) n)) c.args.parts.now c.loop-place.place c.index-parts-place.result c.loop-place-test.true
+                (λ n. may n && some_group_in release (leads_off_groups release (slice_get c.args.parts.now c.min-lead.result))
                 (slice_get (all_groups release) n))
                 (g.S.ConceptSet.items_of c.loop-place.groups) (g.S.ConceptSet.items_of w.in_ok-next.next)
                 c.loop-place.invariant.items
                 (w.in_ok-next.ensures.items
                 ∙ ap (λ (p : UnitPlan). groups_within release (has_item (g.S.ConceptSet.items_of c.loop-place.groups))
-                (group_means release (group_plan_of p))) w.index-parts-place.is);
+                (group_means release (group_plan_of p))) c.index-parts-place.is);
             bound = ap (λ (found : _). g.S.ConceptSet.bound_of found) w.groups-is ∙ w.in_ok-next.ensures.bound;
+            work = all_turn c.loop-place.invariant.work c.index-parts-place.result c.loop-place-test.true c.index-parts-place.is
+                w.if-place-lead.true c.unit_floor.ensures.rest
+                (omega (arith, w.execute_groups.ensures.grows, w.add.ensures.grows, ap (λ (visits : _). visits.count) w.visits-is))
+                (omega (arith, w.execute_groups.ensures.within, w.add.ensures.count, w.in_ok-next.ensures.size, ap (λ (visits : _). visits.count) w.visits-is))
+                (omega (arith, w.in_ok-next.ensures.floor, w.add.ensures.grows, ap (λ (visits : _). visits.count) w.visits-is));
           }
       | groups_in_all-else-place-lead w ↦
           record {
             items = ap (λ (found : _). g.S.ConceptSet.items_of found) w.groups-is
-                ∙ groups_led_again release may c.args.parts.now c.group_lead_of-lead.result c.loop-place.place w.if-place-lead.false c.loop-place-test.true
+                ∙ groups_led_again release may c.args.parts.now c.min-lead.result c.loop-place.place w.if-place-lead.false c.loop-place-test.true
                 (g.S.ConceptSet.items_of c.loop-place.groups) c.loop-place.invariant.items;
             bound = ap (λ (found : _). g.S.ConceptSet.bound_of found) w.groups-is ∙ c.loop-place.invariant.bound;
+            work = all_pass c.loop-place.invariant.work c.index-parts-place.result c.loop-place-test.true c.index-parts-place.is
+                w.if-place-lead.false c.unit_floor.ensures.rest (ap (λ (visits : _). visits.count) w.visits-is);
           }
     ]
 
@@ -411,13 +799,38 @@ pub groups_in_all-returns-clause-items : goal.groups_in_all-returns-clause-items
 groups_in_all-returns-clause-items g t c =
     let release = c.args.snapshot.now.release in
     let may : ℕ → Bool = may_be g.S.ConceptSet.items_of c.args.candidates.now in
-    groups_led_all release may c.args.parts.now c.group_lead_of-lead.result (g.S.ConceptSet.items_of c.loop-place.groups)
+    groups_led_all release may c.args.parts.now c.min-lead.result (g.S.ConceptSet.items_of c.loop-place.groups)
     (c.loop-place.invariant.items
     ∙ ap (λ (parts : List UnitPlan). numbers_where (length (all_groups release))
-    (λ n. (may n && some_group_in release (leads_off_groups release (slice_get c.args.parts.now c.group_lead_of-lead.result))
+    (λ n. (may n && some_group_in release (leads_off_groups release (slice_get c.args.parts.now c.min-lead.result))
     (slice_get (all_groups release) n)) && list_all (λ part. some_group_in release (group_means release (group_plan_of part))
     (slice_get (all_groups release) n)) parts))
     (take_all c.loop-place.place c.args.parts.now (omega arith)))
+
+pub groups_in_all-returns-in_err-groups-clause-within : goal.groups_in_all-returns-in_err-groups-clause-within
+groups_in_all-returns-in_err-groups-clause-within g t c =
+    omega (
+      arith,
+      c.groups_led_by.ensures.within,
+      first_within of_groups (groups_read c.args.indexes.now) c.args.parts.now c.min-lead.result c.unit_choices_at-at.ensures (lead_inside c.group_lead_of.result c.is_empty.ensures c.if-is_empty.false c.min-lead.ensures),
+    )
+
+pub groups_in_all-returns-in_err-extent-clause-within : goal.groups_in_all-returns-in_err-extent-clause-within
+groups_in_all-returns-in_err-extent-clause-within g t c = omega (arith, all_most c.loop-place.invariant.work (lead_inside c.group_lead_of.result c.is_empty.ensures c.if-is_empty.false c.min-lead.ensures))
+
+pub groups_in_all-returns-in_err-next-clause-within : goal.groups_in_all-returns-in_err-next-clause-within
+groups_in_all-returns-in_err-next-clause-within g t c =
+    omega (
+      arith,
+      all_next {next = c.execute_groups.new.visits.count} c.loop-place.invariant.work (lead_inside c.group_lead_of.result c.is_empty.ensures c.if-is_empty.false c.min-lead.ensures) c.index-parts-place.result c.loop-place-test.true c.index-parts-place.is c.if-place-lead.true
+          (omega (arith, c.execute_groups.ensures.within)),
+    )
+
+pub groups_in_all-returns-clause-within : goal.groups_in_all-returns-clause-within
+groups_in_all-returns-clause-within g t c = omega (arith, (all_end c.loop-place.invariant.work (omega arith) (lead_inside c.group_lead_of.result c.is_empty.ensures c.if-is_empty.false c.min-lead.ensures)).within)
+
+pub groups_in_all-returns-clause-floor : goal.groups_in_all-returns-clause-floor
+groups_in_all-returns-clause-floor g t c = (all_end c.loop-place.invariant.work (omega arith) (lead_inside c.group_lead_of.result c.is_empty.ensures c.if-is_empty.false c.min-lead.ensures)).floor
 
 pub groups_in_some-loop-part-init : goal.groups_in_some-loop-part-init
 groups_in_some-loop-part-init g t c =
@@ -426,11 +839,13 @@ groups_in_some-loop-part-init g t c =
     record {
       items = some_of_none (length (all_groups release)) may (g.S.ConceptSet.items_of c.in_ok-groups.groups) c.in_ok-groups.ensures.items;
       bound = c.in_ok-groups.ensures.bound;
+      work = some_start c.args.visits.now.count;
     }
 
 pub groups_in_some-loop-part-preserved : goal.groups_in_some-loop-part-preserved
 groups_in_some-loop-part-preserved g t c =
     let release = c.args.snapshot.now.release in
+    let indexed = c.args.indexes.now in
     let may : ℕ → Bool = may_be g.S.ConceptSet.items_of c.args.candidates.now in
     record {
       items = some_within (length (all_groups release)) (λ (p : UnitPlan) (n : ℕ). some_group_in release (group_means release (group_plan_of p))
@@ -441,7 +856,69 @@ groups_in_some-loop-part-preserved g t c =
           (c.in_ok-next.ensures.items ∙ ap (λ (p : UnitPlan). groups_within release may (group_means release (group_plan_of p))) c.part-item.is)
           c.in_ok-groups-2.ensures.items;
       bound = c.in_ok-groups-2.ensures.bound ∙ c.loop-part.invariant.bound;
+      work = some_turn c.loop-part.invariant.work c.part-item.result c.loop-part-test.true c.part-item.is c.unit_floor.ensures.rest
+          (length (g.S.ConceptSet.items_of c.loop-part.groups) + length (g.S.ConceptSet.items_of c.in_ok-next.next))
+          (joined_reads of_groups (groups_found indexed) c.args.choices.now c.args.parts.now c.loop-part.part-index c.part-item.result
+          c.loop-part-test.true c.part-item.is c.loop-part.invariant.work.rest
+          (length (g.S.ConceptSet.items_of c.loop-part.groups)) (length (g.S.ConceptSet.items_of c.in_ok-next.next))
+          (few_joined_groups release indexed c.requires.index c.concept_count.ensures.rising
+          (sources_known release c.concept_count.ensures.rising c.attribute_count.ensures.by_source) c.args.choices.now
+          (take c.loop-part.part-index c.args.parts.now) may (g.S.ConceptSet.items_of c.loop-part.groups)
+          (any_done release may (take c.loop-part.part-index c.args.parts.now) (g.S.ConceptSet.items_of c.loop-part.groups) c.loop-part.invariant.items))
+          c.in_ok-next.ensures.size)
+          (omega (arith, c.execute_groups.ensures.grows, c.add.ensures.grows))
+          (omega (arith, c.execute_groups.ensures.within, c.add.ensures.count))
+          (omega (arith, c.in_ok-next.ensures.floor, c.add.ensures.grows));
     }
+
+pub groups_in_some-returns-in_err-groups-2-clause-within : goal.groups_in_some-returns-in_err-groups-2-clause-within
+groups_in_some-returns-in_err-groups-2-clause-within g t c =
+    let release = c.args.snapshot.now.release in
+    let indexed = c.args.indexes.now in
+    let may : ℕ → Bool = may_be g.S.ConceptSet.items_of c.args.candidates.now in
+    let all : ℕ = total (group_sizes indexed c.args.choices.now (group_plans_of c.args.parts.now)) in
+    let reads =
+    joined_reads of_groups (groups_found indexed) c.args.choices.now c.args.parts.now c.loop-part.part-index c.part-item.result
+    c.loop-part-test.true c.part-item.is c.loop-part.invariant.work.rest
+    (length (g.S.ConceptSet.items_of c.loop-part.groups)) (length (g.S.ConceptSet.items_of c.in_ok-next.next))
+    (few_joined_groups release indexed c.requires.index c.concept_count.ensures.rising
+    (sources_known release c.concept_count.ensures.rising c.attribute_count.ensures.by_source) c.args.choices.now
+    (take c.loop-part.part-index c.args.parts.now) may (g.S.ConceptSet.items_of c.loop-part.groups)
+    (any_done release may (take c.loop-part.part-index c.args.parts.now) (g.S.ConceptSet.items_of c.loop-part.groups) c.loop-part.invariant.items))
+    c.in_ok-next.ensures.size in
+    let more : (c.loop-part.part-index + 1) * all ≤ length c.args.parts.now * all = mul-le-mul_right all (omega (arith, c.loop-part-test.true)) in
+    omega (
+      arith,
+      some_next {next = c.add.new.self.count} c.loop-part.invariant.work c.part-item.result c.loop-part-test.true c.part-item.is
+          (length (g.S.ConceptSet.items_of c.loop-part.groups) + length (g.S.ConceptSet.items_of c.in_ok-next.next))
+          (omega (arith, reads, more))
+          (omega (arith, c.execute_groups.ensures.within, c.add.ensures.count)),
+      ap (λ (count : ℕ). count * all) (group_count-parts c.args.parts.now),
+    )
+
+pub groups_in_some-returns-in_err-next-clause-within : goal.groups_in_some-returns-in_err-next-clause-within
+groups_in_some-returns-in_err-next-clause-within g t c =
+    let indexed = c.args.indexes.now in
+    let all : ℕ = total (group_sizes indexed c.args.choices.now (group_plans_of c.args.parts.now)) in
+    omega (
+      arith,
+      some_next {next = c.execute_groups.new.visits.count} c.loop-part.invariant.work c.part-item.result c.loop-part-test.true c.part-item.is 0
+          (omega (arith, mul-le-mul_right {m = c.loop-part.part-index} all (le_of_lt c.loop-part-test.true))) (omega (arith, c.execute_groups.ensures.within)),
+      ap (λ (count : ℕ). count * all) (group_count-parts c.args.parts.now),
+    )
+
+pub groups_in_some-returns-clause-within : goal.groups_in_some-returns-clause-within
+groups_in_some-returns-clause-within g t c =
+    let indexed = c.args.indexes.now in
+    let all : ℕ = total (group_sizes indexed c.args.choices.now (group_plans_of c.args.parts.now)) in
+    omega (
+      arith,
+      (some_end c.loop-part.invariant.work (omega arith)).within,
+      ap (λ (count : ℕ). count * all) (group_count-parts c.args.parts.now),
+    )
+
+pub groups_in_some-returns-clause-floor : goal.groups_in_some-returns-clause-floor
+groups_in_some-returns-clause-floor g t c = (some_end c.loop-part.invariant.work (omega arith)).floor
 
 pub groups_in_some-returns-clause-items : goal.groups_in_some-returns-clause-items
 groups_in_some-returns-clause-items g t c =

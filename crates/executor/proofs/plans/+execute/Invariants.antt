@@ -1,13 +1,22 @@
-use Rattle.std.proofs.Common.{◌≡◌, ◌&&◌, length, get_or, take}
+use Rattle.std.proofs.Common.{◌≡◌, ◌≤◌, ◌<◌, ◌*◌, ◌&&◌, length, get_or, min, take}
 use Rattle.std.specs.Prelude.{slice_get}
 use Rattle.std.specs.List.{list_all, list_any}
 use Rattle.idset.specs.Sets.{numbers_where}
 use Rattle.postings.specs.Groups.{all_groups}
 use Rattle.set_algebra.specs.Meaning.{group_means, leads, means}
-use Rattle.set_algebra.specs.Plan.{Plan, group_plan_of, plan_of, plans_of}
-use Rattle.executor.specs.Groups.{some_group_in}
-use Rattle.executor.specs.Numbers.{numbers_in}
-use Rattle.executor.specs.Within.{leads_off, leads_off_groups, may_be}
+use Rattle.set_algebra.specs.declared.plan.ConceptPlan.{ConceptPlan}
+use Rattle.set_algebra.specs.declared.plan.UnitPlan.{UnitPlan}
+use Rattle.set_algebra.specs.Plan.{Plan, group_plan_of, group_plans_of, plan_of, plans_of}
+use Rattle.planner.specs.Bounds.{own_number, values_bound}
+use Rattle.planner.specs.Floors.{floor_number}
+use Rattle.planner.specs.Sizes.{group_sizes, sizes, total}
+use Rattle.planner.proofs.LoopLemmas.{concept_sum, of_concepts, of_groups, unit_sum}
+use Rattle.pair_sets.specs.Groups.{some_group_in}
+use Rattle.pair_sets.specs.Numbers.{numbers_in}
+use Rattle.executor.specs.Lead.{leads_off, leads_off_groups}
+use Rattle.pair_sets.specs.Within.{may_be}
+use Rattle.executor.proofs.PartWork.{concepts_read, groups_read}
+use Rattle.executor.proofs.WorkLemmas.{AllSoFar, SomeSoFar}
 use Rattle.executor.proofs.plans.+execute.Given as goal
 
 -- what is left of the part executed first, and of those so far
@@ -18,6 +27,8 @@ invariant-in_all-loop-place g l = record {
       (λ n. (may_be g.S.ConceptSet.items_of l.candidates n && leads_off l.snapshot.release (slice_get l.parts l.lead) (get_or l.snapshot.release.concepts n 0))
       && list_all (λ part. means l.snapshot.release (plan_of part) (get_or l.snapshot.release.concepts n 0)) (take l.place l.parts));
   bound : g.S.ConceptSet.bound_of l.found ≡ length l.snapshot.release.concepts;
+  work : AllSoFar ConceptPlan of_concepts (concept_sum (floor_number l.indexes)) (concepts_read l.indexes) l.choices l.parts l.lead l.place
+      l.fn.visits.count l.visits.count l.rest;
 }
 
 -- what is in one of those so far
@@ -28,6 +39,9 @@ invariant-in_some-loop-part g l = record {
       (λ n. may_be g.S.ConceptSet.items_of l.candidates n
       && list_any (λ part. means l.snapshot.release (plan_of part) (get_or l.snapshot.release.concepts n 0)) (take l.part-index l.parts));
   bound : g.S.ConceptSet.bound_of l.found ≡ length l.snapshot.release.concepts;
+  work : SomeSoFar ConceptPlan of_concepts (concept_sum (floor_number l.indexes)) (concept_sum (own_number l.indexes))
+      (λ place. place * total (sizes l.indexes l.choices (plans_of l.parts))) l.choices l.parts l.part-index
+      l.fn.visits.count l.visits.count l.rest;
 }
 
 -- the same of groups
@@ -40,6 +54,8 @@ invariant-groups_in_all-loop-place g l = record {
       && list_all (λ part. some_group_in l.snapshot.release (group_means l.snapshot.release (group_plan_of part))
       (slice_get (all_groups l.snapshot.release) n)) (take l.place l.parts));
   bound : g.S.ConceptSet.bound_of l.groups ≡ length (all_groups l.snapshot.release);
+  work : AllSoFar UnitPlan of_groups (unit_sum (floor_number l.indexes)) (groups_read l.indexes) l.choices l.parts l.lead l.place
+      l.fn.visits.count l.visits.count l.rest;
 }
 
 abbrev pub invariant-groups_in_some-loop-part : goal.invariant-groups_in_some-loop-part
@@ -50,6 +66,9 @@ invariant-groups_in_some-loop-part g l = record {
       && list_any (λ part. some_group_in l.snapshot.release (group_means l.snapshot.release (group_plan_of part))
       (slice_get (all_groups l.snapshot.release) n)) (take l.part-index l.parts));
   bound : g.S.ConceptSet.bound_of l.groups ≡ length (all_groups l.snapshot.release);
+  work : SomeSoFar UnitPlan of_groups (unit_sum (floor_number l.indexes)) (unit_sum (own_number l.indexes))
+      (λ place. place * total (group_sizes l.indexes l.choices (group_plans_of l.parts))) l.choices l.parts l.part-index
+      l.fn.visits.count l.visits.count l.rest;
 }
 
 -- where the names so far lead
@@ -59,4 +78,9 @@ invariant-led_along-loop-name g l = record {
       → g.S.ConceptSet.items_of l.found
       ≡ numbers_in l.snapshot.release (leads l.snapshot.release (means l.snapshot.release plan) (plans_of (take l.name-index l.names)));
   bound : g.S.ConceptSet.bound_of l.found ≡ length l.snapshot.release.concepts;
+  few : 0 < l.name-index → length (g.S.ConceptSet.items_of l.found) ≤ min (length l.indexes.concepts) (length l.indexes.rows);
+  start : l.name-index ≡ 0 → length (g.S.ConceptSet.items_of l.found) ≡ length (g.S.ConceptSet.items_of l.initial.found);
+  work : SomeSoFar ConceptPlan of_concepts (concept_sum (floor_number l.indexes)) (concept_sum (own_number l.indexes))
+      (λ place. values_bound l.indexes place (length (g.S.ConceptSet.items_of l.initial.found))) l.choices l.names l.name-index
+      l.fn.visits.count l.visits.count l.rest;
 }

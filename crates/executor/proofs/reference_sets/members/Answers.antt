@@ -5,7 +5,7 @@ use Rattle.std.proofs.lemmas.Result.{IfOk-weaker}
 use Rattle.idset.specs.Sets.{listed_numbers}
 use Rattle.hierarchy.specs.KeyedLists.{list_of}
 use Rattle.postings.specs.Indexed.{members_of}
-use Rattle.executor.proofs.JoinedLemmas.{all_below}
+use Rattle.pair_sets.proofs.ListLemmas.{all_below}
 use Rattle.executor.proofs.MemberLemmas.{members_below, members_listed}
 use Rattle.executor.proofs.reference_sets.members.Goals as goal
 

@@ -5,7 +5,7 @@ use Rattle.idset.specs.Sets.{has_item, IsRisingBelow}
 use Rattle.idset.proofs.Rising.{rises_within-filter}
 use Rattle.hierarchy.specs.KeyedLists.{list_of}
 use Rattle.executor.specs.Steps.{lists_of}
-use Rattle.executor.proofs.JoinedLemmas.{all_below}
+use Rattle.pair_sets.proofs.ListLemmas.{all_below}
 use Rattle.executor.proofs.walks.apart.Goals as goal
 
 pub kept_apart-requires-clause-below : goal.kept_apart-requires-clause-below

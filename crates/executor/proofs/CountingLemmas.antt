@@ -1,0 +1,31 @@
+-- The own bound of a node is no less where its parts find more.
+use Rattle.std.proofs.Common.{ℕ, ◌≤◌, Bool, Option, Some, None, arith}
+use Rattle.constraint_tree.specs.declared.operator.Cardinality.{Cardinality}
+use Rattle.constraint_tree.specs.declared.operator.Operator.{Operator}
+use Rattle.postings.specs.Indexed.{Indexed}
+use Rattle.set_algebra.specs.Plan.{Plan, TestPlan}
+use Rattle.planner.specs.declared.choice.Choice.{Choice}
+use Rattle.planner.specs.declared.choice.Choice.TheVariants.{ByValue, ByType, Scan}
+use Rattle.planner.specs.Alternatives.{leaf_bound}
+use Rattle.planner.specs.Bounds.{members_bound, walk_bound}
+use Rattle.planner.specs.Counts.{leaf_of}
+
+pub walk_more : (indexed : Indexed) (operator : Operator) (one : Option ℕ) (few many : ℕ) → few ≤ many
+    → walk_bound indexed operator one few ≤ walk_bound indexed operator one many
+walk_more indexed operator (Some id) few many more = omega arith
+walk_more indexed operator None few many more = omega (arith, more)
+
+pub members_more : (indexed : Indexed) (one : Option ℕ) (few many : ℕ) → few ≤ many
+    → members_bound indexed one few ≤ members_bound indexed one many
+members_more indexed (Some id) few many more = omega arith
+members_more indexed None few many more = omega (arith, more)
+
+pub leaf_more : (indexed : Indexed) (all : ℕ) (back : Bool) (count : Cardinality) (types : Plan) (test : TestPlan)
+    (few_types many_types few_values many_values : ℕ) (choice : Choice) → few_types ≤ many_types → few_values ≤ many_values
+    → leaf_bound (leaf_of indexed all back count types test few_types few_values) choice
+    ≤ leaf_bound (leaf_of indexed all back count types test many_types many_values) choice
+leaf_more indexed all back count types test few_types many_types few_values many_values ByValue more_types more_values =
+    omega (arith, more_values)
+leaf_more indexed all back count types test few_types many_types few_values many_values ByType more_types more_values =
+    omega (arith, more_types)
+leaf_more indexed all back count types test few_types many_types few_values many_values Scan more_types more_values = omega arith

@@ -1,0 +1,138 @@
+-- What the parts of a node of either sort find at most, and what they visit with what is read of that; and how many a set has of
+-- those that a plan means.
+use Rattle.std.proofs.Common.{ℕ, ◌+◌, ◌≡◌, ◌≤◌, ◌∙◌, ◌&&◌, Bool, true, List, length, get_or, min, refl, ap, arith}
+use Rattle.std.specs.Prelude.{All, slice_get}
+use Rattle.std.specs.List.{list_any, range_with_len}
+use Rattle.std.specs.List.Sorted.{IsStrictlyIncreasing}
+use Rattle.std.proofs.lemmas.Bool.{and_parts}
+use Rattle.std.proofs.lemmas.List.Elements.{All-contains}
+use Rattle.std.proofs.lemmas.List.Sums.{length-filter}
+use Rattle.rf2_rows.specs.Pairs.{Pair}
+use Rattle.rf2_rows.specs.Release.{Attribute, Release}
+use Rattle.hierarchy.specs.Members.{has}
+use Rattle.hierarchy.proofs.ReleaseLemmas.{contains_had}
+use Rattle.idset.specs.Sets.{numbers_where}
+use Rattle.constraint_tree.specs.Denotation.{is_value}
+use Rattle.constraint_tree.proofs.WalkLemmas.{tells_in_force}
+use Rattle.postings.specs.Groups.{all_groups}
+use Rattle.postings.specs.Indexed.{Indexed, IsIndexOf}
+use Rattle.set_algebra.specs.declared.plan.ConceptPlan.{ConceptPlan}
+use Rattle.set_algebra.specs.declared.plan.UnitPlan.{UnitPlan}
+use Rattle.set_algebra.specs.Meaning.{group_means, means}
+use Rattle.set_algebra.specs.Plan.{GroupPlan, Plan, group_plan_of, group_plans_of, or_group, or_plan, plan_of, plans_of}
+use Rattle.planner.specs.declared.choice.Choice.{Choice}
+use Rattle.planner.specs.Bounds.{own_number}
+use Rattle.planner.specs.Nodes.{group_sum, groups_sum, node_sum, plans_sum}
+use Rattle.planner.specs.Sizes.{group_size, group_sizes, size, sizes, total}
+use Rattle.planner.proofs.FewLemmas.{count_le, length-places}
+use Rattle.planner.proofs.FoundLemmas.{many-all, many-values}
+use Rattle.planner.proofs.LoopLemmas.{Sum, of_concepts, of_groups}
+use Rattle.planner.proofs.SizeLemmas.{group_numbers-le, numbers-le}
+use Rattle.pair_sets.specs.Groups.{groups_where, some_group_in}
+use Rattle.pair_sets.specs.Numbers.{numbers_in}
+use Rattle.pair_sets.specs.Within.{groups_within, numbers_within}
+use Rattle.executor.proofs.GroupNodeLemmas as groups
+use Rattle.executor.proofs.NodeLemmas.{or_node}
+use Rattle.executor.proofs.WithinNodes.{groups_same, within_same}
+
+abbrev pub concepts_found : Indexed → Sum ConceptPlan of_concepts
+concepts_found indexed = record {
+  of_part = λ choices part. size indexed choices (plan_of part);
+  of_parts = λ choices parts. total (sizes indexed choices (plans_of parts));
+  none = λ choices. refl;
+  more = λ choices part parts. refl;
+}
+
+abbrev pub concepts_read : Indexed → Sum ConceptPlan of_concepts
+concepts_read indexed = record {
+  of_part = λ choices part. size indexed choices (plan_of part) + node_sum (own_number indexed) choices (plan_of part);
+  of_parts = λ choices parts. total (sizes indexed choices (plans_of parts)) + plans_sum (own_number indexed) choices (plans_of parts);
+  none = λ choices. refl;
+  more = λ choices part parts. omega arith;
+}
+
+abbrev pub groups_found : Indexed → Sum UnitPlan of_groups
+groups_found indexed = record {
+  of_part = λ choices part. group_size indexed choices (group_plan_of part);
+  of_parts = λ choices parts. total (group_sizes indexed choices (group_plans_of parts));
+  none = λ choices. refl;
+  more = λ choices part parts. refl;
+}
+
+abbrev pub groups_read : Indexed → Sum UnitPlan of_groups
+groups_read indexed = record {
+  of_part = λ choices part. group_size indexed choices (group_plan_of part) + group_sum (own_number indexed) choices (group_plan_of part);
+  of_parts = λ choices parts.
+      total (group_sizes indexed choices (group_plans_of parts)) + groups_sum (own_number indexed) choices (group_plans_of parts);
+  none = λ choices. refl;
+  more = λ choices part parts. omega arith;
+}
+
+-- ---- no more is found than a plan means, of whichever candidates
+fewer : (bound : ℕ) (may set : ℕ → Bool) → length (numbers_where bound (λ n. may n && set n)) ≤ length (numbers_where bound set)
+fewer bound may set =
+    omega (
+      arith,
+      length-filter (λ n. may n && set n) (range_with_len 0 bound),
+      length-filter set (range_with_len 0 bound),
+      count_le (λ n. may n && set n) set (range_with_len 0 bound) (λ n passes. (and_parts (may n) (set n) passes).1),
+    )
+
+module _ (release : Release) (indexed : Indexed) (is : IsIndexOf indexed release) (rising : IsStrictlyIncreasing release.concepts)
+    (known : All (λ (row : Attribute). has release.concepts row.source ≡ true) release.attributes) where
+  pub few_found : (choices : List Choice) (plan : Plan) (may : ℕ → Bool) (found : List ℕ)
+      → found ≡ numbers_within release may (means release plan) → length found ≤ size indexed choices plan
+  few_found choices plan may found found_is =
+      omega (
+        arith,
+        ap (λ (numbers : List ℕ). length numbers) found_is,
+        fewer (length release.concepts) may (λ n. means release plan (get_or release.concepts n 0)),
+        numbers-le release indexed is rising known choices plan,
+      )
+
+  pub few_groups : (choices : List Choice) (plan : GroupPlan) (may : ℕ → Bool) (found : List ℕ)
+      → found ≡ groups_within release may (group_means release plan) → length found ≤ group_size indexed choices plan
+  few_groups choices plan may found found_is =
+      omega (
+        arith,
+        ap (λ (numbers : List ℕ). length numbers) found_is,
+        fewer (length (all_groups release)) may (λ n. some_group_in release (group_means release plan) (slice_get (all_groups release) n)),
+        group_numbers-le release indexed is rising known choices plan (some_group_in release (group_means release plan)) (λ group. refl),
+      )
+
+  -- nor than some parts find together
+  pub few_joined : (choices : List Choice) (parts : List ConceptPlan) (may : ℕ → Bool) (found : List ℕ)
+      → found ≡ numbers_within release may (λ concept. list_any (λ part. means release (plan_of part) concept) parts)
+      → length found ≤ total (sizes indexed choices (plans_of parts))
+  few_joined choices parts may found found_is =
+      let some : ℕ → Bool = λ concept. list_any (λ part. means release (plan_of part) concept) parts in
+      let few = few_found choices (or_plan (plans_of parts)) may found
+      (found_is ∙ within_same release may some (means release (or_plan (plans_of parts)))
+      (or_node release (or_plan (plans_of parts)) (numbers_in release some) parts refl refl)) in
+      omega (arith, few)
+
+  pub few_joined_groups : (choices : List Choice) (parts : List UnitPlan) (may : ℕ → Bool) (found : List ℕ)
+      → found ≡ groups_within release may (λ pairs. list_any (λ part. group_means release (group_plan_of part) pairs) parts)
+      → length found ≤ total (group_sizes indexed choices (group_plans_of parts))
+  few_joined_groups choices parts may found found_is =
+      let some : List Pair → Bool = λ pairs. list_any (λ part. group_means release (group_plan_of part) pairs) parts in
+      let few = few_groups choices (or_group (group_plans_of parts)) may found
+      (found_is ∙ groups_same release may some (group_means release (or_group (group_plans_of parts)))
+      (groups.or_node release (or_group (group_plans_of parts)) (groups_where release some) parts refl refl)) in
+      omega (arith, few)
+
+  -- nor are there more values of attributes than rows
+  pub few_values : (set types : ℕ → Bool) (found : List ℕ) → found ≡ numbers_in release (is_value release set types)
+      → length found ≤ min (length indexed.concepts) (length indexed.rows)
+  few_values set types found found_is =
+      omega (
+        arith,
+        ap (λ (numbers : List ℕ). length numbers) found_is,
+        length-places (is_value release set types) release.concepts 0,
+        many-all release indexed is rising (is_value release set types),
+        many-values release indexed is rising set types
+            (λ row there passes.
+            (tells_in_force release row.source).1
+            (contains_had release.concepts row.source
+            (All-contains (λ (row : Attribute). has release.concepts row.source ≡ true) release.attributes row known there))),
+      )

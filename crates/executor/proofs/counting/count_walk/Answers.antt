@@ -1,0 +1,16 @@
+use Rattle.std.proofs.Common.{arith}
+use Rattle.set_algebra.specs.Plan.{plan_of}
+use Rattle.planner.specs.Counts.{one_of}
+use Rattle.planner.specs.Sizes.{size}
+use Rattle.executor.proofs.CountingLemmas.{walk_more}
+use Rattle.executor.proofs.counting.count_walk.Goals as goal
+
+pub returns-clause-within : goal.returns-clause-within
+returns-clause-within c =
+    omega (
+      arith,
+      c.add_node.ensures.within,
+      c.walk_limits-limits.ensures.bound,
+      walk_more c.args.indexes.now c.args.operator (one_of (plan_of c.args.operand.now)) c.args.from
+          (size c.args.indexes.now c.args._choices.now (plan_of c.args.operand.now)) c.requires,
+    )

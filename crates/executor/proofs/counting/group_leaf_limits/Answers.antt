@@ -1,0 +1,39 @@
+use Rattle.std.proofs.Common.{ℕ, false, length, ap, arith}
+use Rattle.postings.specs.Groups.{groups_in}
+use Rattle.set_algebra.specs.Plan.{plan_of, test_plan_of}
+use Rattle.planner.specs.Alternatives.{leaf_bound}
+use Rattle.planner.specs.Counts.{leaf_of}
+use Rattle.planner.specs.Floors.{leaf_floor}
+use Rattle.planner.specs.Leaves.{test_choices, type_choices}
+use Rattle.planner.specs.Sizes.{size, test_size}
+use Rattle.executor.proofs.CountingLemmas.{leaf_more}
+use Rattle.executor.proofs.counting.group_leaf_limits.Goals as goal
+
+pub returns-clause-within : goal.returns-clause-within
+returns-clause-within c =
+    let indexed = c.args.indexes.now in
+    let choices = c.args.choices.now in
+    let types = plan_of c.args.types.now in
+    let test = test_plan_of c.args.test.now in
+    let type_size : ℕ = size indexed (type_choices choices) types in
+    let value_size : ℕ = test_size indexed (test_choices choices types) test in
+    let all = c.group_count-all.result in
+    omega (
+      arith,
+      c.leaf_limits.ensures.bound,
+      leaf_more indexed all false c.args.count types test
+          c.args.type_count type_size c.args.test_count value_size
+          c.first_choice-choice.result c.requires.types c.requires.test,
+      ap (λ (all : ℕ). leaf_bound (leaf_of indexed all false c.args.count types test type_size value_size)
+          c.first_choice-choice.result) c.group_count-all.ensures.count,
+      ap (leaf_bound (leaf_of indexed (length (groups_in indexed)) false c.args.count types test type_size value_size)) c.first_choice-choice.ensures,
+    )
+
+pub returns-clause-floor : goal.returns-clause-floor
+returns-clause-floor c =
+    let indexed = c.args.indexes.now in
+    omega (
+      arith,
+      c.leaf_limits.ensures.floor,
+      ap (leaf_floor indexed false (plan_of c.args.types.now) (test_plan_of c.args.test.now)) c.first_choice-choice.ensures,
+    )

@@ -1,0 +1,120 @@
+//! The visits of a node beside its parts, which are counted before the node reads. What it reads is told to each function, and what
+//! is counted lies between the floor and the own bound of the node.
+ghost use Rattle.std.specs.Prelude.{◌≡◌, ◌≤◌, ◌+◌, ◌-◌, ◌^◌, false, length, min};
+ghost use Rattle.constraint_tree.specs.declared.operator.Cardinality.{Cardinality as cardinality};
+ghost use Rattle.postings.specs.Groups.{groups_in};
+ghost use Rattle.set_algebra.specs.Plan.{group_plan_of, members_plan, pairs_group, pairs_plan, plan_of, test_plan_of, units_plan, walk_plan};
+ghost use Rattle.planner.specs.Bounds.{group_own_bound, own_bound};
+ghost use Rattle.planner.specs.Floors.{group_own_floor, own_floor};
+ghost use Rattle.planner.specs.Leaves.{test_choices, type_choices};
+ghost use Rattle.planner.specs.Sizes.{group_size, size, test_size};
+
+use constraint_tree::{Cardinality, Operator};
+use pair_sets::Visits;
+use planner::{
+    Choice, NodeLimits, first_choice, leaf_limits, members_limits, units_limits, walk_limits,
+};
+use postings::Indexes;
+use set_algebra::{ConceptPlan, UnitPlan, ValueTest};
+
+/// Counts a walk from so many concepts, which reads so many items of lists beside.
+pub fn count_walk(
+    indexes: &Indexes,
+    _choices: &[Choice],
+    operator: Operator,
+    operand: &ConceptPlan,
+    from: u32,
+    items: u64,
+    visits: &mut Visits,
+)
+    requires { from ≤ size indexes.now _choices.now (plan_of operand.now) }
+    ensures grows { visits.old.count ≤ visits.new.count }
+    ensures within { visits.new.count ≤ visits.old.count + own_bound indexes.now _choices.now (walk_plan operator (plan_of operand.now)) }
+    ensures floor { min (visits.old.count + own_floor indexes.now _choices.now (walk_plan operator (plan_of operand.now))) (2 ^ 64 - 1) ≤ visits.new.count }
+{
+    let limits = walk_limits(indexes, operator, operand, from as u64);
+    visits.add_node(items.saturating_add(from as u64), limits);
+}
+
+/// Counts the components of so many reference sets, which has so many items of lists beside.
+pub fn count_members(
+    indexes: &Indexes,
+    _choices: &[Choice],
+    operand: &ConceptPlan,
+    from: u32,
+    items: u64,
+    visits: &mut Visits,
+)
+    requires { from ≤ size indexes.now _choices.now (plan_of operand.now) }
+    ensures grows { visits.old.count ≤ visits.new.count }
+    ensures within { visits.new.count ≤ visits.old.count + own_bound indexes.now _choices.now (members_plan (plan_of operand.now)) }
+    ensures floor { min (visits.old.count + own_floor indexes.now _choices.now (members_plan (plan_of operand.now))) (2 ^ 64 - 1) ≤ visits.new.count }
+{
+    let limits = members_limits(indexes, operand, from as u64);
+    visits.add_node(items.saturating_add(from as u64), limits);
+}
+
+/// A leaf among concepts: between which numbers its visits lie, where so many types and so
+/// many concepts for its test were found.
+pub fn concept_leaf_limits(
+    indexes: &Indexes,
+    choices: &[Choice],
+    back: bool,
+    count: Cardinality,
+    types: &ConceptPlan,
+    test: &ValueTest,
+    type_count: u32,
+    test_count: u32,
+) -> NodeLimits
+    requires types { type_count ≤ size indexes.now (type_choices choices.now) (plan_of types.now) }
+    requires test { test_count ≤ test_size indexes.now (test_choices choices.now (plan_of types.now)) (test_plan_of test.now) }
+    ensures within { result.bound ≤ own_bound indexes.now choices.now (pairs_plan back count (plan_of types.now) (test_plan_of test.now)) }
+    ensures floor { own_floor indexes.now choices.now (pairs_plan back count (plan_of types.now) (test_plan_of test.now)) ≤ result.floor }
+    ensures ordered { result.floor ≤ result.bound }
+{
+    let all = indexes.concept_count() as u64;
+    let sizes = (type_count as u64, test_count as u64);
+    let choice = first_choice(choices);
+    leaf_limits(indexes, all, back, count, types, test, sizes, choice)
+}
+
+/// A leaf among groups: between which numbers its visits lie, where so many types and so
+/// many concepts for its test were found.
+pub fn group_leaf_limits(
+    indexes: &Indexes,
+    choices: &[Choice],
+    count: Cardinality,
+    types: &ConceptPlan,
+    test: &ValueTest,
+    type_count: u32,
+    test_count: u32,
+) -> NodeLimits
+    requires types { type_count ≤ size indexes.now (type_choices choices.now) (plan_of types.now) }
+    requires test { test_count ≤ test_size indexes.now (test_choices choices.now (plan_of types.now)) (test_plan_of test.now) }
+    ensures within { result.bound ≤ group_own_bound indexes.now choices.now (pairs_group count (plan_of types.now) (test_plan_of test.now)) }
+    ensures floor { group_own_floor indexes.now choices.now (pairs_group count (plan_of types.now) (test_plan_of test.now)) ≤ result.floor }
+    ensures ordered { result.floor ≤ result.bound }
+{
+    let all = indexes.group_count() as u64;
+    let sizes = (type_count as u64, test_count as u64);
+    let choice = first_choice(choices);
+    leaf_limits(indexes, all, false, count, types, test, sizes, choice)
+}
+
+/// Counts what is read for the concepts so many of whose groups are among so many.
+pub fn count_units(
+    indexes: &Indexes,
+    _choices: &[Choice],
+    count: Cardinality,
+    units: &UnitPlan,
+    groups: u64,
+    items: u64,
+    visits: &mut Visits,
+)
+    requires { groups ≤ group_size indexes.now _choices.now (group_plan_of units.now) }
+    ensures grows { visits.old.count ≤ visits.new.count }
+    ensures within { visits.new.count ≤ visits.old.count + own_bound indexes.now _choices.now (units_plan count (group_plan_of units.now)) }
+{
+    let limits = units_limits(count, indexes.concept_count() as u64, groups);
+    visits.add_node(items, limits);
+}

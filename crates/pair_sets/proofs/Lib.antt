@@ -1,0 +1,14 @@
+pub mod AmongLemmas
+pub mod BackLemmas
+pub mod ChoiceLemmas
+pub mod HitLemmas
+pub mod LeafLemmas
+pub mod ListLemmas
+pub mod Normal
+pub mod OwnedLemmas
+pub mod PassingLemmas
+pub mod TimesLemmas
+pub mod TypeLemmas
+pub mod UnitLemmas
+pub mod ValueStepLemmas
+pub mod WithinLemmas

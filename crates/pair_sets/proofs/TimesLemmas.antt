@@ -1,0 +1,134 @@
+-- How often numbers stand in lists.
+use Rattle.std.proofs.Common.{ℕ, zero, suc, ◌≡◌, ◌<◌, ◌≤◌, ◌+◌, ◌-◌, ◌∙◌, ◌∷◌, ◌++◌, [], inl, inr, arith}
+use Rattle.std.proofs.Common.{Bool, true, false, not, ◌&&◌, ◌||◌, ◌==◌, cond, List, length, Option, Some, refl, sym, ap}
+use Rattle.std.specs.Prelude.{All, filter, nat_le}
+use Rattle.std.proofs.lemmas.Bool.{cases_eq, cases_lt, eq-eqb, le-leb, leb-false, leb-true, lt-leb, ne_eqb}
+use Rattle.std.proofs.lemmas.List.Sums.{length-filter}
+use Rattle.ancestor_index.proofs.ClosureLemmas.{both_ways}
+use Rattle.idset.specs.Sets.{has_item}
+use Rattle.constraint_tree.specs.declared.operator.Cardinality.{Cardinality}
+use Rattle.constraint_tree.specs.Passing.{is_up_to, lies_in}
+use Rattle.pair_sets.specs.Counted.{times}
+
+-- ---- by recursion on the list
+pub times-cons : (number x : ℕ) (xs : List ℕ) → times number (x ∷ xs) ≡ cond (x == number) (1 + times number xs) (times number xs)
+times-cons number x xs =
+    sym (length-filter (λ y. y == number) (x ∷ xs))
+    ∙ elim (x == number) as (λ b. length (cond b (x ∷ filter (λ y. y == number) xs) (filter (λ y. y == number) xs))
+    ≡ cond b (1 + times number xs) (times number xs)) [
+      | true ↦ omega (arith, length-filter (λ y. y == number) xs)
+      | false ↦ length-filter (λ y. y == number) xs
+    ]
+
+-- a number is in a list where it stands there at least once
+pub has_times : (xs : List ℕ) (number : ℕ) → has_item xs number ≡ nat_le 1 (times number xs)
+has_times [] number = refl
+has_times (x ∷ xs) number =
+    elim (x == number) as (λ b. (b || has_item xs number) ≡ nat_le 1 (cond b (1 + times number xs) (times number xs))) [
+      | true ↦ sym (le-leb 1 (1 + times number xs) (omega arith))
+      | false ↦ has_times xs number
+    ] ∙ ap (nat_le 1) (sym (times-cons number x xs))
+
+pub times-append : (number : ℕ) (xs ys : List ℕ) → times number (xs ++ ys) ≡ times number xs + times number ys
+times-append number [] ys = let none : times number [] ≡ 0 = refl in omega (arith, none)
+times-append number (x ∷ xs) ys =
+    times-cons number x (xs ++ ys)
+    ∙ elim (x == number) as (λ b. cond b (1 + times number (xs ++ ys)) (times number (xs ++ ys))
+    ≡ cond b (1 + times number xs) (times number xs) + times number ys) [
+      | true ↦ omega (arith, times-append number xs ys)
+      | false ↦ times-append number xs ys
+    ]
+    ∙ ap (λ n. n + times number ys) (sym (times-cons number x xs))
+
+-- ---- a number more
+times_more : (number x : ℕ) → times number (x ∷ []) ≡ cond (x == number) 1 0
+times_more number x = times-cons number x []
+
+there_once : (xs : List ℕ) (number : ℕ) → has_item xs number ≡ true → 1 ≤ times number xs
+there_once xs number there = leb-true 1 (times number xs) (sym (has_times xs number) ∙ there)
+
+not_there : (xs : List ℕ) (number : ℕ) → has_item xs number ≡ false → times number xs ≡ 0
+not_there xs number absent = omega (arith, leb-false 1 (times number xs) (sym (has_times xs number) ∙ absent))
+
+-- of the numbers so far those that were there before are kept: one more that was there, and one that was not
+pub again_step : (xs left : List ℕ) (x number : ℕ) → has_item xs x ≡ true → times number left ≡ times number xs - 1
+    → times number (left ++ x ∷ []) ≡ times number (xs ++ x ∷ []) - 1
+again_step xs left x number there so_far =
+    times-append number left (x ∷ []) ∙ by_case ∙ sym (ap (λ n. n - 1) (times-append number xs (x ∷ [])))
+  where
+    by_case : times number left + times number (x ∷ []) ≡ (times number xs + times number (x ∷ [])) - 1
+    by_case = elim (cases_eq x number) [
+      | inl same ↦
+          let once : 1 ≤ times number xs = there_once xs number (ap (has_item xs) (sym same) ∙ there) in
+          omega (arith, once, so_far)
+      | inr other ↦ let none : times number (x ∷ []) ≡ 0
+          = times_more number x ∙ ap (λ b. cond b 1 0) (ne_eqb x number other) in omega (arith, none, so_far)
+    ]
+
+pub first_step : (xs left : List ℕ) (x number : ℕ) → has_item xs x ≡ false → times number left ≡ times number xs - 1
+    → times number left ≡ times number (xs ++ x ∷ []) - 1
+first_step xs left x number absent so_far = so_far ∙ by_case ∙ sym (ap (λ n. n - 1) (times-append number xs (x ∷ [])))
+  where
+    by_case : times number xs - 1 ≡ (times number xs + times number (x ∷ [])) - 1
+    by_case = elim (cases_eq x number) [
+      | inl same ↦
+          let none : times number xs ≡ 0 = not_there xs number (ap (has_item xs) (sym same) ∙ absent) in
+          let one : times number (x ∷ []) ≡ 1 = times_more number x ∙ ap (λ b. cond b 1 0) (eq-eqb x number same) in
+          omega (arith, none, one)
+      | inr other ↦ let none : times number (x ∷ []) ≡ 0
+          = times_more number x ∙ ap (λ b. cond b 1 0) (ne_eqb x number other) in omega (arith, none)
+    ]
+
+or_false : (b : Bool) → (b || false) ≡ b
+or_false true = refl
+or_false false = refl
+
+-- a number more among those that there are
+pub item_more : (xs : List ℕ) (x number : ℕ) → has_item (xs ++ x ∷ []) number ≡ (has_item xs number || (x == number))
+item_more [] x number = or_false (x == number)
+item_more (y ∷ xs) x number =
+    ap (λ (b : Bool). (y == number) || b) (item_more xs x number)
+    ∙ apart (y == number) (has_item xs number) (x == number)
+  where
+    apart : (a b c : Bool) → (a || (b || c)) ≡ ((a || b) || c)
+    apart true b c = refl
+    apart false b c = refl
+
+pub marked_again : (xs : List ℕ) (x number : ℕ) → has_item xs x ≡ true → has_item xs number ≡ has_item (xs ++ x ∷ []) number
+marked_again xs x number there = sym (item_more xs x number ∙ by_case)
+  where
+    by_case : (has_item xs number || (x == number)) ≡ has_item xs number
+    by_case = elim (cases_eq x number) [
+      | inl same ↦
+          (λ i. ap (has_item xs) (sym same) i || (x == number)) ∙ (λ i. there i || (x == number)) ∙ sym there ∙ ap (has_item xs) same
+      | inr other ↦ (λ i. has_item xs number || ne_eqb x number other i) ∙ or_false (has_item xs number)
+    ]
+
+pub one_below : (bound x : ℕ) → x < bound → All (λ n. n < bound) (x ∷ [])
+one_below bound x below zero d within = below
+one_below bound x below (suc k) d within = absurd (omega (arith, within))
+
+-- a number is beyond so many times in a list where it stands there more often
+pub beyond : (least seen : ℕ) → 1 ≤ least → nat_le 1 (seen - (least - 1)) ≡ nat_le least seen
+beyond least seen some = both_ways (nat_le 1 (seen - (least - 1))) (nat_le least seen)
+    (λ told. le-leb least seen (omega (arith, leb-true 1 (seen - (least - 1)) told)))
+    (λ told. le-leb 1 (seen - (least - 1)) (omega (arith, leb-true least seen told)))
+
+-- where all are gone, none is there more often
+pub none_left : (left done less seen : ℕ) → left ≡ seen - done → left ≡ 0 → done ≤ less → left ≡ seen - less
+none_left left done less seen is none most = omega arith
+
+pub done_all : (done less : ℕ) → less ≤ done → done ≤ less → done ≡ less
+done_all done less enough most = omega arith
+
+-- not one more than the maximum is at most the maximum
+not_more : (most seen : ℕ) → not (nat_le (most + 1) seen) ≡ nat_le seen most
+not_more most seen = elim (cases_lt most seen) [
+  | inl more ↦ ap not (le-leb (most + 1) seen (omega (arith, more))) ∙ sym (lt-leb seen most more)
+  | inr most_there ↦ ap not (lt-leb (most + 1) seen (omega (arith, most_there))) ∙ sym (le-leb seen most most_there)
+]
+
+pub up_to : (count : Cardinality) (most seen : ℕ) → count.max ≡ Some most
+    → (nat_le count.min seen && not (nat_le (most + 1) seen)) ≡ lies_in count seen
+up_to count most seen is =
+    ap (λ (b : Bool). nat_le count.min seen && b) (not_more most seen ∙ ap (λ (m : Option ℕ). is_up_to m seen) (sym is))

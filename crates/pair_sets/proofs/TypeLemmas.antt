@@ -1,0 +1,82 @@
+-- The places of the types that are one of some concepts.
+use Rattle.std.proofs.Common.{ℕ, ◌≡◌, ◌<◌, ◌+◌, ◌++◌, ◌∷◌, [], ◌==◌, ◌||◌, ◌∙◌, Bool, true, false, List, length, get_or, take, inl, inr, refl, sym, ap, arith}
+use Rattle.std.specs.Prelude.{None, Option, Some, nat_eq, position}
+use Rattle.std.specs.List.{IsDistinct}
+use Rattle.std.proofs.lemmas.Bool.{cases_eq, cases_lt, eq-eqb, eqb-false, eqb-true, ne_eqb}
+use Rattle.std.proofs.lemmas.List.{take_more}
+use Rattle.std.proofs.lemmas.List.Folds.{list_any-append}
+use Rattle.std.proofs.lemmas.List.Quantifiers.{position-Some}
+use Rattle.std.proofs.lemmas.Map.Keys.{apart_from_distinct}
+use Rattle.rf2_rows.specs.Release.{Attribute}
+use Rattle.idset.specs.Sets.{has_item}
+use Rattle.postings.specs.Indexed.{types_of}
+use Rattle.pair_sets.specs.Tested.{is_one_of}
+use Rattle.pair_sets.proofs.LeafLemmas.{types_apart}
+use Rattle.pair_sets.proofs.Normal.{concept_number-None}
+use Rattle.pair_sets.proofs.TimesLemmas.{item_more}
+
+-- with the place of one more, if it has one
+abbrev pub with_place : List ℕ → Option ℕ → List ℕ
+with_place places None = places
+with_place places (Some place) = places ++ place ∷ []
+
+-- whether that is a place
+abbrev is_place : Option ℕ → ℕ → Bool
+is_place None place = false
+is_place (Some at) place = at == place
+
+or_nothing : (b : Bool) → (b || false) ≡ b
+or_nothing true = refl
+or_nothing false = refl
+
+module _ (types : List ℕ) (apart : IsDistinct nat_eq types) where
+  -- the place that an identifier is found at is the only one that it has
+  only_place : (id place : ℕ) → place < length types → (found : Option ℕ) → position (nat_eq id) types ≡ found
+      → is_place found place ≡ (id == get_or types place 0)
+  only_place id place within None at = sym (ne_eqb id (get_or types place 0) (λ same. concept_number-None types id at place within (sym same)))
+  only_place id place within (Some p) at = elim (cases_eq p place) [
+    | inl same ↦ eq-eqb p place same ∙ sym (eq-eqb id (get_or types place 0) (named ∙ ap (λ (n : ℕ). get_or types n 0) same))
+    | inr other ↦
+        ne_eqb p place other
+        ∙ sym (ne_eqb id (get_or types place 0) (λ same. elim (cases_lt p place) [
+          | inl before ↦ eqb-false (get_or types p 0) (get_or types place 0) (apart_from_distinct nat_eq types p place 0 apart before within) (sym named ∙ same)
+          | inr behind ↦ eqb-false (get_or types place 0) (get_or types p 0)
+              (apart_from_distinct nat_eq types place p 0 apart (omega (arith, behind, other)) first.0) (sym same ∙ named)
+        ]))
+  ]
+    where
+      first : (p < length types) × (nat_eq id (get_or types p 0) ≡ true)
+      first = let told = position-Some (nat_eq id) types p 0 at in (told.0, told.1)
+
+      named : id ≡ get_or types p 0
+      named = eqb-true id (get_or types p 0) first.1
+
+  -- one concept more
+  pub places_more : (concepts numbers places : List ℕ) (k : ℕ) → k < length numbers → (id : ℕ) → id ≡ get_or concepts (get_or numbers k 0) 0
+      → (found : Option ℕ) → position (nat_eq id) types ≡ found
+      → ((place : ℕ) → place < length types → has_item places place ≡ is_one_of concepts (take k numbers) (get_or types place 0))
+      → (place : ℕ) → place < length types → has_item (with_place places found) place ≡ is_one_of concepts (take (k + 1) numbers) (get_or types place 0)
+  places_more concepts numbers places k within id is found at told place inside =
+      added found
+      ∙ (λ i. told place inside i || only_place id place inside found at i)
+      ∙ sym (ap (λ (xs : List ℕ). is_one_of concepts xs (get_or types place 0)) (take_more numbers k 0 within)
+      ∙ list_any-append (λ number. get_or concepts number 0 == get_or types place 0) (take k numbers) (get_or numbers k 0 ∷ [])
+      ∙ ap (λ (b : Bool). is_one_of concepts (take k numbers) (get_or types place 0) || b)
+      (or_nothing (get_or concepts (get_or numbers k 0) 0 == get_or types place 0) ∙ ap (λ (n : ℕ). n == get_or types place 0) (sym is)))
+    where
+      added : (found : Option ℕ) → has_item (with_place places found) place ≡ (has_item places place || is_place found place)
+      added None = sym (or_nothing (has_item places place))
+      added (Some p) = item_more places p place
+
+-- the types of rows stand once each
+pub places_more_of : (rows : List Attribute) (concepts numbers places : List ℕ) (k : ℕ) → k < length numbers → (id : ℕ)
+    → id ≡ get_or concepts (get_or numbers k 0) 0
+    → (found : Option ℕ) → position (nat_eq id) (types_of rows) ≡ found
+    → ((place : ℕ) → place < length (types_of rows) → has_item places place ≡ is_one_of concepts (take k numbers) (get_or (types_of rows) place 0))
+    → (place : ℕ) → place < length (types_of rows) → has_item (with_place places found) place
+    ≡ is_one_of concepts (take (k + 1) numbers) (get_or (types_of rows) place 0)
+places_more_of rows = places_more (types_of rows) (types_apart rows)
+
+-- a place that is found is one of them
+pub place_below : (types : List ℕ) (id place : ℕ) → position (nat_eq id) types ≡ Some place → place < length types
+place_below types id place at = (position-Some (nat_eq id) types place 0 at).0

@@ -1,0 +1,50 @@
+use Rattle.std.proofs.Common.{ℕ, Bool, Vec, ◌≡◌, ◌<◌, ◌∙◌, ◌∷◌, ◌++◌, [], All, sym, ap, subst, true, false, cond, get_or, length, arith, take, append-nil}
+use Rattle.std.specs.Prelude.{filter}
+use Rattle.std.proofs.lemmas.List.{take_all}
+use Rattle.std.proofs.lemmas.List.Elements.{All-append}
+use Rattle.std.proofs.lemmas.List.Elements.{filter_more}
+use Rattle.rf2_rows.specs.Release.{Value}
+use Rattle.constraint_tree.specs.Passing.{lies_in}
+use Rattle.pair_sets.specs.Among.{pairs_of_concept}
+use Rattle.pair_sets.proofs.TimesLemmas.{one_below}
+use Rattle.pair_sets.proofs.among.concepts_among.Goals as goal
+use Rattle.pair_sets.proofs.among.concepts_among.Goals.{then-lies_in+in_ok-push, else-lies_in}
+
+pub loop-concept-preserved : goal.loop-concept-preserved
+loop-concept-preserved c =
+    let indexed = c.args.indexes.now in
+    let concepts = c.args.concepts.now in
+    let k = c.loop-concept.concept-index in
+    let concept : ℕ = get_or concepts k 0 in
+    let test : (ℕ → Bool) → (Value → Bool) → ℕ → Bool =
+    λ one passes number. lies_in c.args.count (pairs_of_concept indexed c.args.back one passes number) in
+    elim c.if-lies_in.branch [
+      | then-lies_in+in_ok-push w ↦ record {
+        within = subst (All (λ number. number < length indexed.concepts)) (sym (ap (λ (v : Vec ℕ _). v.items) w.kept-is ∙ w.in_ok-push.ensures.items))
+            (All-append (λ number. number < length indexed.concepts) c.loop-concept.kept.items (concept ∷ []) c.loop-concept.invariant.within
+            (one_below (length indexed.concepts) concept (c.requires k 0 c.loop-concept-test.true)));
+        kept = λ one passes types tells.
+            let here : test one passes concept ≡ true =
+            ap (lies_in c.args.count) (sym (c.pairs_of_concept-pairs.ensures one passes types tells)) ∙ sym c.lies_in.ensures ∙ w.if-lies_in.true in
+            ap (λ (v : Vec ℕ _). v.items) w.kept-is ∙ w.in_ok-push.ensures.items
+            ∙ (λ i. c.loop-concept.invariant.kept one passes types tells i ++ cond (sym here i) (concept ∷ []) [])
+            ∙ sym (filter_more (test one passes) concepts k 0 c.loop-concept-test.true);
+      }
+      | else-lies_in w ↦ record {
+        within = subst (All (λ number. number < length indexed.concepts)) (sym (ap (λ (v : Vec ℕ _). v.items) w.kept-is)) c.loop-concept.invariant.within;
+        kept = λ one passes types tells.
+            let here : test one passes concept ≡ false =
+            ap (lies_in c.args.count) (sym (c.pairs_of_concept-pairs.ensures one passes types tells)) ∙ sym c.lies_in.ensures ∙ w.if-lies_in.false in
+            ap (λ (v : Vec ℕ _). v.items) w.kept-is
+            ∙ c.loop-concept.invariant.kept one passes types tells
+            ∙ sym (append-nil (filter (test one passes) (take k concepts)))
+            ∙ (λ i. filter (test one passes) (take k concepts) ++ cond (sym here i) (concept ∷ []) [])
+            ∙ sym (filter_more (test one passes) concepts k 0 c.loop-concept-test.true);
+      }
+    ]
+
+pub returns-clause-kept : goal.returns-clause-kept
+returns-clause-kept c = λ one passes types tells.
+    c.loop-concept.invariant.kept one passes types tells
+    ∙ ap (filter (λ number. lies_in c.args.count (pairs_of_concept c.args.indexes.now c.args.back one passes number)))
+    (take_all c.loop-concept.concept-index c.args.concepts.now (omega arith))

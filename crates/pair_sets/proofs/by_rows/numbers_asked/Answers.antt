@@ -1,0 +1,27 @@
+use Rattle.std.proofs.Common.{ℕ, List, ◌≡◌, ◌<◌, ◌∙◌, All, true, sym, ap, subst}
+use Rattle.idset.specs.Sets.{has_item}
+use Rattle.idset.proofs.Normal.{has_item-numbers_where, numbers_where-all}
+use Rattle.idset.proofs.Rising.{range_rising}
+use Rattle.pair_sets.specs.declared.candidates.Candidates.{Candidates}
+use Rattle.pair_sets.specs.Within.{AreBelow, may_be}
+use Rattle.pair_sets.proofs.ListLemmas.{all_below}
+use Rattle.pair_sets.proofs.by_rows.numbers_asked.Goals as goal
+
+pub returns-in_ok-numbers-in-All-clause-within : goal.returns-in_ok-numbers-in-All-clause-within
+returns-in_ok-numbers-in-All-clause-within g c =
+    subst (All (λ number. number < c.args.bound)) (sym c.in_ok-numbers-in-All.ensures) (all_below c.args.bound _ (range_rising c.args.bound))
+
+pub returns-in_ok-numbers-in-All-clause-asked : goal.returns-in_ok-numbers-in-All-clause-asked
+returns-in_ok-numbers-in-All-clause-asked g c = λ number within.
+    ap (λ (numbers : List ℕ). has_item numbers number) (c.in_ok-numbers-in-All.ensures ∙ sym (numbers_where-all c.args.bound))
+    ∙ has_item-numbers_where c.args.bound (λ n. true) number within
+    ∙ ap (λ (candidates : Candidates _). may_be g.S.ConceptSet.items_of candidates number) (sym c.in-All.is)
+
+pub returns-in_ok-numbers-in-Within-clause-within : goal.returns-in_ok-numbers-in-Within-clause-within
+returns-in_ok-numbers-in-Within-clause-within g c =
+    let set = c.in-Within.set.now in
+    let same : g.S.ConceptSet.bound_of set ≡ c.args.bound =
+    subst (λ (candidates : Candidates _). AreBelow g.S.ConceptSet.bound_of c.args.bound candidates) c.in-Within.is c.requires in
+    subst (All (λ number. number < c.args.bound)) (sym c.in_ok-numbers-in-Within.ensures)
+    (subst (λ (bound : ℕ). All (λ number. number < bound) (g.S.ConceptSet.items_of set)) same
+    (all_below (g.S.ConceptSet.bound_of set) (g.S.ConceptSet.items_of set) (g.met.S.ConceptSet.rising set)))

@@ -1,0 +1,9 @@
+use Rattle.std.proofs.Common.{ℕ, List, ◌∙◌, ◌∷◌, ◌++◌, [], sym, ap}
+use Rattle.idset.proofs.Normal.{range_more}
+use Rattle.pair_sets.proofs.by_rows.numbers_below.Goals as goal
+
+pub loop-number-preserved : goal.loop-number-preserved
+loop-number-preserved c =
+    c.in_ok-push.ensures.items
+    ∙ ap (λ (numbers : List ℕ). numbers ++ c.loop-number.number ∷ []) c.loop-number.invariant
+    ∙ sym (range_more c.loop-number.number)

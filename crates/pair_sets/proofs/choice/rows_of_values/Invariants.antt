@@ -1,0 +1,8 @@
+use Rattle.std.proofs.Common.{◌≡◌, ◌-◌, ◌^◌, take}
+use Rattle.std.specs.Prelude.{min, sum_by}
+use Rattle.pair_sets.specs.Ways.{row_count_of}
+use Rattle.pair_sets.proofs.choice.rows_of_values.Given as goal
+
+-- those of the concepts so far
+abbrev pub invariant-loop-concept : goal.invariant-loop-concept
+invariant-loop-concept l = l.rows ≡ min (sum_by (row_count_of l.indexes l.back) (take l.concept-index l.concepts)) (2 ^ 64 - 1)

@@ -1,0 +1,15 @@
+use Rattle.std.proofs.Common.{ℕ, ◌≡◌, ◌<◌, ◌∙◌, All, length, sym, subst}
+use Rattle.pair_sets.specs.declared.tested.Tested.{Tested}
+use Rattle.pair_sets.specs.Tested.{IsTestBelow}
+use Rattle.pair_sets.proofs.ListLemmas.{all_below}
+use Rattle.pair_sets.proofs.choice.values_that_pass.Goals as goal
+
+pub rows_of_values-rows-requires : goal.rows_of_values-rows-requires
+rows_of_values-rows-requires g c =
+    let count : ℕ = length c.args.indexes.now.concepts in
+    let set = c.in-Within.set in
+    let same : g.S.ConceptSet.bound_of set ≡ count =
+    subst (λ (tested : Tested _). IsTestBelow g.S.ConceptSet.bound_of count tested) c.in-Within.is c.requires in
+    subst (All (λ number. number < count)) (sym (c.as_slice.ensures.value ∙ c.in_ok-numbers-in-Within.ensures))
+    (subst (λ (bound : ℕ). All (λ number. number < bound) (g.S.ConceptSet.items_of set)) same
+    (all_below (g.S.ConceptSet.bound_of set) (g.S.ConceptSet.items_of set) (g.met.S.ConceptSet.rising set)))

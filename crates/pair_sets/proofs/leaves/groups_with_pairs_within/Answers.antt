@@ -1,0 +1,14 @@
+use Rattle.std.proofs.Common.{ℕ, Bool, ◌∙◌}
+use Rattle.set_algebra.specs.Meaning.{has_pairs}
+use Rattle.pair_sets.specs.Tested.{is_one_of}
+use Rattle.pair_sets.specs.Within.{groups_within, may_be}
+use Rattle.pair_sets.proofs.leaves.groups_with_pairs_within.Goals as goal
+
+-- the values that pass in the way that is taken are those that pass the test
+pub returns-clause-items : goal.returns-clause-items
+returns-clause-items g c =
+    let release = c.args.snapshot.now.release in
+    let one : ℕ → Bool = is_one_of c.args.indexes.now.concepts (g.S.ConceptSet.items_of c.args.types.now) in
+    c.in_ok-found.ensures.items one c.in_ok-types.ensures
+    ∙ (λ i. groups_within release (may_be g.S.ConceptSet.items_of c.args.candidates.now)
+    (has_pairs c.args.count one (λ value. c.in_ok-way.ensures.passes value i)))

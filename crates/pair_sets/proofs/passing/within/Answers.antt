@@ -1,0 +1,14 @@
+use Rattle.std.proofs.Common.{ℕ, ◌<◌, ◌∙◌, subst}
+use Rattle.std.specs.Prelude.{All}
+use Rattle.std.proofs.lemmas.Result.{IfOk-weaker}
+use Rattle.pair_sets.proofs.ListLemmas.{all_below}
+use Rattle.pair_sets.proofs.PassingLemmas.{within_told}
+use Rattle.pair_sets.proofs.passing.within.Goals as goal
+
+pub returns : goal.returns
+returns g c =
+    let items = g.S.ConceptSet.items_of c.args.set.now in
+    let below = subst (λ (count : ℕ). All (λ item. item < count) items) c.requires.bound
+    (all_below (g.S.ConceptSet.bound_of c.args.set.now) items (g.met.S.ConceptSet.rising c.args.set.now)) in
+    IfOk-weaker c.marks.result _ _
+    (λ words marked n. marked.marked n ∙ within_told c.args.indexes.now c.concept_count.ensures.rising items below n) c.marks.ensures

@@ -1,0 +1,9 @@
+use Rattle.std.proofs.Common.{◌≡◌, get_or}
+use Rattle.idset.specs.Sets.{numbers_where}
+use Rattle.pair_sets.specs.Tested.{is_one_of}
+use Rattle.pair_sets.proofs.types.places_of_types.Given as goal
+
+-- those among the types so far
+abbrev pub invariant-loop-place : goal.invariant-loop-place
+invariant-loop-place g l =
+    l.places.items ≡ numbers_where l.place (λ place. is_one_of l.indexes.concepts (g.S.ConceptSet.items_of l.set) (get_or l.types place 0))

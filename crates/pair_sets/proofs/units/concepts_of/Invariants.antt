@@ -1,0 +1,11 @@
+use Rattle.std.proofs.Common.{◌≡◌, ◌<◌, All, length, map, slice_get, slice_index, take}
+use Rattle.postings.specs.Groups.{groups_in}
+use Rattle.pair_sets.specs.Groups.{concept_in}
+use Rattle.pair_sets.proofs.units.concepts_of.Given as goal
+
+abbrev pub invariant-loop-group : goal.invariant-loop-group
+invariant-loop-group l = record {
+  within : All (λ concept. concept < length l.indexes.concepts) l.found.items;
+  concepts : map (slice_index l.indexes.concepts) l.found.items
+      ≡ map (λ group. concept_in (slice_get (groups_in l.indexes) group)) (take l.group-index l.groups);
+}

@@ -1,0 +1,54 @@
+-- Types and values as a leaf tests them, by the numbers of concepts and of values.
+use Rattle.std.specs.Prelude.{ℕ, ◌≡◌, ◌==◌, ◌&&◌, ◌||◌, Bool, List, length, nat_le, nat_lt, slice_index}
+use Rattle.std.specs.List.{list_any}
+use Rattle.std.specs.declared.cmp.Ordering.{Ordering}
+use Rattle.std.specs.declared.cmp.Ordering.TheVariants as order
+use Rattle.std.specs.Ordering.{is_eq, is_ge, is_gt, is_le, is_lt, is_ne}
+use Rattle.rf2_rows.specs.Release.{Value}
+use Rattle.constraint_tree.specs.declared.operator.Compare.{Compare}
+use Rattle.constraint_tree.specs.declared.operator.Compare.TheVariants.{Equal, NotEqual, Less, LessOrEqual, Greater, GreaterOrEqual}
+use Rattle.constraint_tree.specs.Passing.{is_number_that, is_outside, is_within}
+use Rattle.pair_sets.specs.declared.tested.Tested.{Tested}
+use Rattle.pair_sets.specs.declared.tested.Tested.TheVariants as tests
+
+-- whether a concept is one of some, by their numbers
+abbrev pub is_one_of : List ℕ → List ℕ → ℕ → Bool
+is_one_of concepts numbers id = list_any (λ number. slice_index concepts number == id) numbers
+
+-- whether a value passes a test
+abbrev pub passes_of : {S : Type 0} → (S → List ℕ) → List ℕ → Tested S → Value → Bool
+passes_of items_of concepts (tests.Within set) value = is_within (is_one_of concepts (items_of set)) value
+passes_of items_of concepts (tests.Outside set) value = is_outside (is_one_of concepts (items_of set)) value
+passes_of items_of concepts (tests.Number compare number) value = is_number_that compare number.0 value
+
+-- the set of a test is one of numbers below a count
+abbrev pub IsTestBelow : {S : Type 0} → (S → ℕ) → ℕ → Tested S → Type 0
+IsTestBelow bound_of count (tests.Within set) = bound_of set ≡ count
+IsTestBelow bound_of count (tests.Outside set) = bound_of set ≡ count
+IsTestBelow bound_of count (tests.Number compare number) = Unit {0}
+
+-- how many concepts the set of a test has
+abbrev pub found_for : {S : Type 0} → (S → List ℕ) → Tested S → ℕ
+found_for items_of (tests.Within set) = length (items_of set)
+found_for items_of (tests.Outside set) = length (items_of set)
+found_for items_of (tests.Number compare number) = 0
+
+-- whether a number that stands so to another compares with it as is asked
+abbrev pub meets : Compare → Ordering → Bool
+meets Equal order = is_eq order
+meets NotEqual order = is_ne order
+meets Less order = is_lt order
+meets LessOrEqual order = is_le order
+meets Greater order = is_gt order
+meets GreaterOrEqual order = is_ge order
+
+-- whether a number is one from another on, up to a third
+abbrev pub is_from : ℕ → ℕ → ℕ → Bool
+is_from from to number = nat_le from number && nat_lt number to
+
+-- of three ranges that follow one another, of numbers that stand less, equal and more to another: whether a number is in one that
+-- compares as is asked
+abbrev pub is_asked : Compare → ℕ → ℕ → ℕ → ℕ → ℕ → Bool
+is_asked compare first equal above end number =
+    ((meets compare order.Less && is_from first equal number) || (meets compare order.Equal && is_from equal above number))
+    || (meets compare order.Greater && is_from above end number)

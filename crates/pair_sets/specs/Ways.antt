@@ -1,0 +1,38 @@
+-- The ways in which a leaf is read, which all find the same.
+use Rattle.std.specs.Prelude.{ℕ, ◌≡◌, Bool, if◌then◌else◌, List, length}
+use Rattle.rf2_rows.specs.Release.{Value}
+use Rattle.constraint_tree.specs.Passing.{is_within}
+use Rattle.idset.specs.Sets.{IsRisingBelow}
+use Rattle.postings.specs.Indexed.{Indexed, rows_by_source, rows_by_value}
+use Rattle.pair_sets.specs.Tested.{IsTestBelow, is_one_of, passes_of}
+use Rattle.pair_sets.specs.declared.tested.Tested.{Tested}
+use Rattle.pair_sets.specs.declared.ways.Way.{Way}
+use Rattle.pair_sets.specs.declared.ways.Way.TheVariants as ways
+
+-- the concepts with these numbers, which rise, are the values that pass: no other concept, no number and no other text does
+pub record AreAllThatPass (concepts : List ℕ) (passes : Value → Bool) (numbers : List ℕ) : Type 0 where
+  pub rising : IsRisingBelow (length concepts) numbers
+  pub told : (value : Value) → is_within (is_one_of concepts numbers) value ≡ passes value
+
+-- whether a value passes, where a leaf is read in a way: by value the values that pass are those whose rows are read
+abbrev pub passes_by : {S : Type 0} → (S → List ℕ) → List ℕ → Way S → Value → Bool
+passes_by items_of concepts (ways.ByCandidates test) value = passes_of items_of concepts test value
+passes_by items_of concepts (ways.ByValue values) value = is_within (is_one_of concepts values.items) value
+passes_by items_of concepts (ways.ByType test) value = passes_of items_of concepts test value
+passes_by items_of concepts (ways.Scan test) value = passes_of items_of concepts test value
+
+-- what a way has are numbers below a count
+abbrev pub IsWayBelow : {S : Type 0} → (S → ℕ) → ℕ → Way S → Type 0
+IsWayBelow bound_of count (ways.ByCandidates test) = IsTestBelow bound_of count test
+IsWayBelow bound_of count (ways.ByValue values) = IsRisingBelow count values.items
+IsWayBelow bound_of count (ways.ByType test) = IsTestBelow bound_of count test
+IsWayBelow bound_of count (ways.Scan test) = IsTestBelow bound_of count test
+
+-- in a way the values pass that pass a test
+pub record IsWayFor {S : Type 0} (items_of : S → List ℕ) (bound_of : S → ℕ) (concepts : List ℕ) (test : Tested S) (way : Way S) : Type 0 where
+  pub below : IsWayBelow bound_of (length concepts) way
+  pub passes : (value : Value) → passes_by items_of concepts way value ≡ passes_of items_of concepts test value
+
+-- how many rows have a concept as their value, or, read backwards, as their source
+abbrev pub row_count_of : Indexed → Bool → ℕ → ℕ
+row_count_of indexed back number = length (if back then rows_by_source indexed number else rows_by_value indexed number)

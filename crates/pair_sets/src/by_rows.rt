@@ -1,0 +1,203 @@
+//! The concepts and the groups with so many pairs, by the rows of some values, of some types or of the candidates.
+ghost use Rattle.std.specs.Prelude.{ℕ, ◌≡◌, ◌<◌, All, Bool, IfOk, length};
+ghost use Rattle.std.specs.List.{range_with_len};
+ghost use Rattle.rf2_rows.specs.Release.{Value};
+ghost use Rattle.constraint_tree.specs.Passing.{is_within};
+ghost use Rattle.idset.specs.Sets.{IsRisingBelow, has_item};
+ghost use Rattle.postings.specs.Groups.{all_groups};
+ghost use Rattle.postings.specs.Indexed.{IsIndexOf};
+ghost use Rattle.set_algebra.specs.Meaning.{has_pairs, pairs_of};
+ghost use Rattle.pair_sets.specs.Groups.{groups_where};
+ghost use Rattle.pair_sets.specs.Hits.{AreTypesIn, TellsPassing};
+ghost use Rattle.pair_sets.specs.Numbers.{numbers_in};
+ghost use Rattle.pair_sets.specs.Tested.{is_one_of};
+ghost use Rattle.pair_sets.specs.Within.{AreBelow, groups_within, may_be, numbers_within};
+
+use crate::among::{concepts_among, groups_among};
+use crate::candidates::Candidates;
+use crate::counts::as_often;
+use crate::hits::{group_hits_by_type, group_hits_by_value, hits_by_type, hits_by_value};
+use crate::types::TypesIn;
+use constraint_tree::Cardinality;
+use idset::ConceptSet;
+use postings::Indexes;
+use snapshot::Snapshot;
+use std::alloc::{AllocError, Global};
+
+/// By the rows of some concepts, which rise: the concepts so many of whose pairs have a type that is one of some and one of
+/// these as their value; read backwards, as their source.
+pub fn with_pairs_by_value<S: ConceptSet>(
+    alloc: Global,
+    snapshot: &Snapshot,
+    indexes: &Indexes,
+    back: bool,
+    count: Cardinality,
+    types: &TypesIn,
+    values: &[u32],
+) -> Result<S, AllocError>
+    requires index { IsIndexOf indexes.now snapshot.now.release }
+    requires values { IsRisingBelow (length indexes.now.concepts) values.now }
+    ensures items { IfOk result (λ found. (one : ℕ → Bool) → AreTypesIn indexes.now.rows one types.now
+        → S.items_of found ≡ numbers_in snapshot.now.release (λ concept. has_pairs count one (is_within (is_one_of indexes.now.concepts values.now)) (pairs_of snapshot.now.release back concept))) }
+    ensures bound { IfOk result (λ found. S.bound_of found ≡ length snapshot.now.release.concepts) }
+{
+    // all attribute rows are by source, so their sources are in force
+    snapshot.attribute_count();
+    let hits = hits_by_value(alloc, indexes, back, types, values)?;
+    as_often(alloc, hits.as_slice(), snapshot.concept_count(), count)
+}
+
+/// By the rows of some types: the concepts so many of whose pairs have one of these types and a value that passes; read
+/// backwards, a source that passes.
+pub fn with_pairs_by_type<S: ConceptSet>(
+    alloc: Global,
+    snapshot: &Snapshot,
+    indexes: &Indexes,
+    back: bool,
+    count: Cardinality,
+    types: &TypesIn,
+    passing: &[u64],
+) -> Result<S, AllocError>
+    requires index { IsIndexOf indexes.now snapshot.now.release }
+    ensures items { IfOk result (λ found. (one : ℕ → Bool) (passes : Value → Bool) → AreTypesIn indexes.now.rows one types.now → TellsPassing indexes.now passes passing.now
+        → S.items_of found ≡ numbers_in snapshot.now.release (λ concept. has_pairs count one passes (pairs_of snapshot.now.release back concept))) }
+    ensures bound { IfOk result (λ found. S.bound_of found ≡ length snapshot.now.release.concepts) }
+{
+    // all attribute rows are by source, so their sources are in force
+    snapshot.attribute_count();
+    let hits = hits_by_type(alloc, indexes, back, types, passing)?;
+    as_often(alloc, hits.as_slice(), snapshot.concept_count(), count)
+}
+
+/// By the rows of the candidates: those so many of whose pairs have a type that is one of some and a value that passes; read
+/// backwards, a source that passes. Where all are candidates, all rows are read.
+pub fn with_pairs_among<S: ConceptSet>(
+    alloc: Global,
+    snapshot: &Snapshot,
+    indexes: &Indexes,
+    back: bool,
+    count: Cardinality,
+    types: &TypesIn,
+    passing: &[u64],
+    candidates: &Candidates<'_, S>,
+) -> Result<S, AllocError>
+    requires index { IsIndexOf indexes.now snapshot.now.release }
+    requires candidates { AreBelow S.bound_of (length snapshot.now.release.concepts) candidates.now }
+    ensures items { IfOk result (λ found. (one : ℕ → Bool) (passes : Value → Bool) → AreTypesIn indexes.now.rows one types.now → TellsPassing indexes.now passes passing.now
+        → S.items_of found ≡ numbers_within snapshot.now.release (may_be S.items_of candidates.now) (λ concept. has_pairs count one passes (pairs_of snapshot.now.release back concept))) }
+    ensures bound { IfOk result (λ found. S.bound_of found ≡ length snapshot.now.release.concepts) }
+{
+    // all attribute rows are by source, so their sources are in force
+    snapshot.attribute_count();
+    let concept_count = snapshot.concept_count();
+    let asked = numbers_asked(alloc, concept_count, candidates)?;
+    let places = types.places.as_slice();
+    let kept = concepts_among(
+        alloc,
+        indexes,
+        back,
+        count,
+        asked.as_slice(),
+        places,
+        passing,
+    )?;
+    S::from_numbers(alloc, kept.as_slice(), concept_count)
+}
+
+/// By the rows of some concepts, which rise: the groups so many of whose pairs have a type that is one of some and one of these
+/// as their value.
+pub fn groups_with_pairs_by_value<S: ConceptSet>(
+    alloc: Global,
+    snapshot: &Snapshot,
+    indexes: &Indexes,
+    count: Cardinality,
+    types: &TypesIn,
+    values: &[u32],
+) -> Result<S, AllocError>
+    requires index { IsIndexOf indexes.now snapshot.now.release }
+    requires values { IsRisingBelow (length indexes.now.concepts) values.now }
+    ensures items { IfOk result (λ found. (one : ℕ → Bool) → AreTypesIn indexes.now.rows one types.now
+        → S.items_of found ≡ groups_where snapshot.now.release (has_pairs count one (is_within (is_one_of indexes.now.concepts values.now)))) }
+    ensures bound { IfOk result (λ found. S.bound_of found ≡ length (all_groups snapshot.now.release)) }
+{
+    snapshot.concept_count();
+    let hits = group_hits_by_value(alloc, indexes, types, values)?;
+    as_often(alloc, hits.as_slice(), indexes.group_count(), count)
+}
+
+/// By the rows of some types: the groups so many of whose pairs have one of these types and a value that passes.
+pub fn groups_with_pairs_by_type<S: ConceptSet>(
+    alloc: Global,
+    snapshot: &Snapshot,
+    indexes: &Indexes,
+    count: Cardinality,
+    types: &TypesIn,
+    passing: &[u64],
+) -> Result<S, AllocError>
+    requires index { IsIndexOf indexes.now snapshot.now.release }
+    ensures items { IfOk result (λ found. (one : ℕ → Bool) (passes : Value → Bool) → AreTypesIn indexes.now.rows one types.now → TellsPassing indexes.now passes passing.now
+        → S.items_of found ≡ groups_where snapshot.now.release (has_pairs count one passes)) }
+    ensures bound { IfOk result (λ found. S.bound_of found ≡ length (all_groups snapshot.now.release)) }
+{
+    snapshot.concept_count();
+    let hits = group_hits_by_type(alloc, indexes, types, passing)?;
+    as_often(alloc, hits.as_slice(), indexes.group_count(), count)
+}
+
+/// By the rows of the candidates: those of these groups so many of whose pairs have a type that is one of some and a value that
+/// passes. Where all are candidates, all rows are read.
+pub fn groups_with_pairs_among<S: ConceptSet>(
+    alloc: Global,
+    snapshot: &Snapshot,
+    indexes: &Indexes,
+    count: Cardinality,
+    types: &TypesIn,
+    passing: &[u64],
+    candidates: &Candidates<'_, S>,
+) -> Result<S, AllocError>
+    requires index { IsIndexOf indexes.now snapshot.now.release }
+    requires candidates { AreBelow S.bound_of (length (all_groups snapshot.now.release)) candidates.now }
+    ensures items { IfOk result (λ found. (one : ℕ → Bool) (passes : Value → Bool) → AreTypesIn indexes.now.rows one types.now → TellsPassing indexes.now passes passing.now
+        → S.items_of found ≡ groups_within snapshot.now.release (may_be S.items_of candidates.now) (has_pairs count one passes)) }
+    ensures bound { IfOk result (λ found. S.bound_of found ≡ length (all_groups snapshot.now.release)) }
+{
+    snapshot.concept_count();
+    let group_count = indexes.group_count();
+    let asked = numbers_asked(alloc, group_count, candidates)?;
+    let places = types.places.as_slice();
+    let kept = groups_among(alloc, indexes, count, asked.as_slice(), places, passing)?;
+    S::from_numbers(alloc, kept.as_slice(), group_count)
+}
+
+// The numbers of the candidates, which are below a bound.
+fn numbers_asked<S: ConceptSet>(
+    alloc: Global,
+    bound: u32,
+    candidates: &Candidates<'_, S>,
+) -> Result<Vec<u32>, AllocError>
+    requires { AreBelow S.bound_of bound candidates.now }
+    ensures within { IfOk result (λ numbers. All (λ number. number < bound) numbers.items) }
+    ensures asked { IfOk result (λ numbers. (number : ℕ) → number < bound → has_item numbers.items number ≡ may_be S.items_of candidates.now number) }
+{
+    match candidates {
+        Candidates::All => {
+            let numbers = numbers_below(alloc, bound)?;
+            Ok(numbers)
+        }
+        Candidates::Within(set, _) => {
+            let numbers = set.items(alloc)?;
+            Ok(numbers)
+        }
+    }
+}
+
+// All numbers below a bound.
+fn numbers_below(alloc: Global, bound: u32) -> Result<Vec<u32>, AllocError>
+    ensures { IfOk result (λ numbers. numbers.items ≡ range_with_len 0 bound) }
+{
+    let mut numbers = Vec::with_capacity(alloc, bound as usize)?;
+    for number in 0..bound {
+        numbers.push(number)?;
+    }
+    Ok(numbers)
+}

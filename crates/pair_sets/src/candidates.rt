@@ -1,0 +1,196 @@
+//! Of which concepts or groups it is asked whether they are in a set.
+ghost use Rattle.std.specs.Prelude.{ℕ, ◌≡◌, ◌<◌, All, Bool, false, true, filter, IfOk, length};
+ghost use Rattle.postings.specs.Groups.{all_groups, groups_in};
+ghost use Rattle.postings.specs.Indexed.{IsIndexOf};
+ghost use Rattle.pair_sets.specs.Within.{AreBelow, may_be};
+
+use idset::ConceptSet;
+use postings::Indexes;
+use snapshot::Snapshot;
+use std::alloc::{AllocError, Global};
+
+// A row that is looked up by its number takes about as long as so many that stand side by side.
+const LOOK_UP: u64 = 8;
+
+// To ask a concept by its own list takes about as long as to go through so many concepts, and to ask so few takes no longer
+// than to copy one list.
+const QUESTION: u64 = 32;
+
+const FEW: u64 = 16;
+
+/// The rows of more candidates than there are rows, divided by this, are not counted: to read them all is sooner done.
+pub const WIDE: u32 = 64;
+
+/// The numbers of which it is asked whether they are in a set: those of concepts, or those of groups.
+#[derive(Drop)]
+pub enum Candidates<'a, S> {
+    /// All.
+    All,
+    /// Those in a set, and what there is of them.
+    Within(&'a S, Extent),
+}
+
+/// How much there is of some concepts or groups. It tells which way is the shorter, and no answer depends on it.
+#[derive(Clone, Copy, Debug)]
+pub struct Extent {
+    /// How many they are.
+    pub items: u64,
+    /// How many attribute rows they have, or more.
+    pub rows: u64,
+    /// How many groups they have, or more.
+    pub groups: u64,
+}
+
+impl Extent {
+    /// The same of the groups that they have.
+    pub fn of_groups(self) -> Extent {
+        Extent {
+            items: self.groups,
+            rows: self.rows,
+            groups: self.groups,
+        }
+    }
+
+    /// Whether they are asked one by one sooner than a list is copied, or so many concepts are gone through.
+    pub fn are_few_beside(self, concepts: u32) -> bool {
+        self.items <= FEW || self.items.saturating_mul(QUESTION) < u64::from(concepts)
+    }
+
+    /// Whether their groups are looked up sooner than so many groups are found without them, which may be no more than
+    /// others.
+    pub fn has_few_groups(self, groups: u64, most: u64) -> bool {
+        self.groups < groups && self.items_of_groups(u32::MAX) <= most
+    }
+
+    /// How many items are read to look up their groups, and of these so many that are found.
+    pub fn items_of_groups(self, found: u32) -> u64 {
+        let own = self.items.saturating_add(self.groups);
+        own.saturating_add(self.groups.min(found as u64))
+    }
+
+    /// Whether their rows are looked up sooner than so many rows are read that stand side by side.
+    pub fn is_read_before(self, rows: u64) -> bool {
+        self.items.saturating_add(self.rows).saturating_mul(LOOK_UP) < rows
+    }
+}
+
+/// Whether there is no candidate.
+pub fn none_left<S: ConceptSet>(candidates: &Candidates<'_, S>) -> bool
+    ensures { result ≡ true → (number : ℕ) → may_be S.items_of candidates.now number ≡ false }
+{
+    match candidates {
+        Candidates::All => false,
+        Candidates::Within(set, _) => set.count() == 0,
+    }
+}
+
+/// The candidates among some numbers.
+pub fn restricted<S: ConceptSet>(
+    alloc: Global,
+    found: S,
+    candidates: &Candidates<'_, S>,
+) -> Result<S, AllocError>
+    requires bound { AreBelow S.bound_of (S.bound_of found) candidates.now }
+    ensures items { IfOk result (λ left. S.items_of left ≡ filter (may_be S.items_of candidates.now) (S.items_of found)) }
+    ensures bound { IfOk result (λ left. S.bound_of left ≡ S.bound_of found) }
+{
+    match candidates {
+        Candidates::All => Ok(found),
+        Candidates::Within(set, _) => {
+            let left = found.and(alloc, *set)?;
+            Ok(left)
+        }
+    }
+}
+
+/// How much there is of the concepts of a set.
+pub fn extent_of<S: ConceptSet>(
+    alloc: Global,
+    snapshot: &Snapshot,
+    indexes: &Indexes,
+    concepts: &S,
+) -> Result<Extent, AllocError>
+    requires index { IsIndexOf indexes.now snapshot.now.release }
+    requires bound { S.bound_of concepts.now ≡ length snapshot.now.release.concepts }
+{
+    if concepts.count() > indexes.row_count() / WIDE {
+        return Ok(uncounted(concepts.count()));
+    }
+    let own = concepts.items(alloc)?;
+    Ok(extent_among(indexes, own.as_slice()))
+}
+
+/// How much there is of the groups of a set.
+pub fn group_extent_of<S: ConceptSet>(
+    alloc: Global,
+    snapshot: &Snapshot,
+    indexes: &Indexes,
+    groups: &S,
+) -> Result<Extent, AllocError>
+    requires index { IsIndexOf indexes.now snapshot.now.release }
+    requires bound { S.bound_of groups.now ≡ length (all_groups snapshot.now.release) }
+{
+    if groups.count() > indexes.row_count() / WIDE {
+        return Ok(uncounted(groups.count()));
+    }
+    // the concepts rise, so that each has its groups once
+    snapshot.concept_count();
+    let own = groups.items(alloc)?;
+    Ok(group_extent_among(indexes, own.as_slice()))
+}
+
+/// How much there is of so many of some candidates: of rows and groups no more than these have.
+pub fn extent_left<S>(candidates: &Candidates<'_, S>, items: u32) -> Extent {
+    match candidates {
+        Candidates::All => uncounted(items),
+        Candidates::Within(_, extent) => Extent {
+            items: items as u64,
+            rows: extent.rows,
+            groups: extent.groups,
+        },
+    }
+}
+
+// What is said of so many candidates whose rows are not counted.
+fn uncounted(items: u32) -> Extent {
+    Extent {
+        items: u64::from(items),
+        rows: u64::MAX,
+        groups: u64::MAX,
+    }
+}
+
+// How much there is of some concepts.
+fn extent_among(indexes: &Indexes, concepts: &[u32]) -> Extent
+    requires { All (λ concept. concept < length indexes.now.concepts) concepts.now }
+{
+    let mut rows = 0u64;
+    let mut groups = 0u64;
+    for concept in concepts {
+        let units = indexes.units_of(*concept);
+        rows = rows.saturating_add(indexes.rows_of(*concept).len() as u64);
+        groups = groups.saturating_add(u64::from(units.end.saturating_sub(units.start)));
+    }
+    let items = concepts.len() as u64;
+    Extent {
+        items,
+        rows,
+        groups,
+    }
+}
+
+// How much there is of some groups.
+fn group_extent_among(indexes: &Indexes, groups: &[u32]) -> Extent
+    requires { All (λ group. group < length (groups_in indexes.now)) groups.now }
+{
+    let mut rows = 0u64;
+    for group in groups {
+        rows = rows.saturating_add(indexes.unit_rows(*group).len() as u64);
+    }
+    let items = groups.len() as u64;
+    Extent {
+        items,
+        rows,
+        groups: items,
+    }
+}

@@ -1,0 +1,219 @@
+//! The concepts and the groups with so many pairs of a type and a value.
+ghost use Rattle.std.specs.Prelude.{ℕ, ◌≡◌, ◌≤◌, ◌+◌, ◌-◌, ◌^◌, Bool, IfOk, length, min};
+ghost use Rattle.constraint_tree.specs.Denotation.{is_value};
+ghost use Rattle.postings.specs.Groups.{all_groups};
+ghost use Rattle.postings.specs.Indexed.{IsIndexOf};
+ghost use Rattle.set_algebra.specs.Meaning.{has_pairs, pairs_of};
+ghost use Rattle.pair_sets.specs.Hits.{AreTypesIn};
+ghost use Rattle.pair_sets.specs.Numbers.{numbers_in};
+ghost use Rattle.pair_sets.specs.Tested.{IsTestBelow, is_one_of, passes_of};
+ghost use Rattle.pair_sets.specs.Ways.{IsWayBelow, passes_by};
+ghost use Rattle.pair_sets.specs.Within.{AreBelow, groups_within, may_be, numbers_within};
+
+use crate::by_rows::{
+    groups_with_pairs_among, groups_with_pairs_by_type, groups_with_pairs_by_value,
+    with_pairs_among, with_pairs_by_type, with_pairs_by_value,
+};
+use crate::candidates::{Candidates, restricted};
+use crate::choice::{concept_way, group_way};
+use crate::passing::within;
+use crate::tested::{Tested, words_of};
+use crate::types::{TypesIn, types_in};
+use crate::visits::Visits;
+use crate::ways::Way;
+use constraint_tree::Cardinality;
+use idset::ConceptSet;
+use planner::{Choice, NodeLimits};
+use postings::Indexes;
+use snapshot::Snapshot;
+use std::alloc::{AllocError, Global};
+
+/// The candidates so many of whose distinct pairs, their own or those read backwards, have a type in a set and a value
+/// that passes (Expression Constraint Language, "Refinements", "Cardinality" and "Reverse attributes"). What is read is counted,
+/// between two limits.
+pub fn with_pairs_within<S: ConceptSet>(
+    alloc: Global,
+    snapshot: &Snapshot,
+    indexes: &Indexes,
+    choice: Choice,
+    limits: NodeLimits,
+    back: bool,
+    count: Cardinality,
+    types: &S,
+    tested: Tested<S>,
+    candidates: &Candidates<'_, S>,
+    visits: &mut Visits,
+) -> Result<S, AllocError>
+    requires index { IsIndexOf indexes.now snapshot.now.release }
+    requires bound { S.bound_of types.now ≡ length indexes.now.concepts }
+    requires limits { limits.floor ≤ limits.bound }
+    requires tested { IsTestBelow S.bound_of (length indexes.now.concepts) tested }
+    requires candidates { AreBelow S.bound_of (length snapshot.now.release.concepts) candidates.now }
+    ensures items { IfOk result (λ found. S.items_of found ≡ numbers_within snapshot.now.release (may_be S.items_of candidates.now)
+        (λ concept. has_pairs count (is_one_of indexes.now.concepts (S.items_of types.now)) (passes_of S.items_of indexes.now.concepts tested) (pairs_of snapshot.now.release back concept))) }
+    ensures bound { IfOk result (λ found. S.bound_of found ≡ length snapshot.now.release.concepts) }
+    ensures grows { visits.old.count ≤ visits.new.count }
+    ensures within { visits.new.count ≤ visits.old.count + limits.bound }
+    ensures floor { IfOk result (λ _. min (visits.old.count + limits.floor) (2 ^ 64 - 1) ≤ visits.new.count) }
+{
+    let types = types_in(alloc, snapshot, indexes, types)?;
+    let (way, read) = concept_way(alloc, indexes, choice, back, &types, tested, candidates)?;
+    visits.add_node(read, limits);
+    let found = with_pairs_by(
+        alloc, snapshot, indexes, &way, back, count, &types, candidates,
+    )?;
+    Ok(found)
+}
+
+/// The candidates among the groups so many of whose distinct pairs have a type in a set and a value that passes
+/// (Expression Constraint Language, "Attribute groups" and "Cardinality"). What is read is counted, between two limits.
+pub fn groups_with_pairs_within<S: ConceptSet>(
+    alloc: Global,
+    snapshot: &Snapshot,
+    indexes: &Indexes,
+    choice: Choice,
+    limits: NodeLimits,
+    count: Cardinality,
+    types: &S,
+    tested: Tested<S>,
+    candidates: &Candidates<'_, S>,
+    visits: &mut Visits,
+) -> Result<S, AllocError>
+    requires index { IsIndexOf indexes.now snapshot.now.release }
+    requires bound { S.bound_of types.now ≡ length indexes.now.concepts }
+    requires limits { limits.floor ≤ limits.bound }
+    requires tested { IsTestBelow S.bound_of (length indexes.now.concepts) tested }
+    requires candidates { AreBelow S.bound_of (length (all_groups snapshot.now.release)) candidates.now }
+    ensures items { IfOk result (λ found. S.items_of found ≡ groups_within snapshot.now.release (may_be S.items_of candidates.now)
+        (has_pairs count (is_one_of indexes.now.concepts (S.items_of types.now)) (passes_of S.items_of indexes.now.concepts tested))) }
+    ensures bound { IfOk result (λ found. S.bound_of found ≡ length (all_groups snapshot.now.release)) }
+    ensures grows { visits.old.count ≤ visits.new.count }
+    ensures within { visits.new.count ≤ visits.old.count + limits.bound }
+    ensures floor { IfOk result (λ _. min (visits.old.count + limits.floor) (2 ^ 64 - 1) ≤ visits.new.count) }
+{
+    let types = types_in(alloc, snapshot, indexes, types)?;
+    let (way, items) = group_way(alloc, indexes, choice, &types, tested, candidates)?;
+    visits.add_node(items, limits);
+    let found = groups_with_pairs_by(alloc, snapshot, indexes, &way, count, &types, candidates)?;
+    Ok(found)
+}
+
+/// The values of the attributes whose source is in a set and whose type is one of some (Expression Constraint Language,
+/// "Refinements", dotted attributes).
+pub fn values_of<S: ConceptSet>(
+    alloc: Global,
+    snapshot: &Snapshot,
+    indexes: &Indexes,
+    sources: &S,
+    types: &TypesIn,
+) -> Result<S, AllocError>
+    requires index { IsIndexOf indexes.now snapshot.now.release }
+    requires sources { S.bound_of sources.now ≡ length indexes.now.concepts }
+    ensures items { IfOk result (λ found. (one : ℕ → Bool) → AreTypesIn indexes.now.rows one types.now
+        → S.items_of found ≡ numbers_in snapshot.now.release (is_value snapshot.now.release (is_one_of indexes.now.concepts (S.items_of sources.now)) one)) }
+    ensures bound { IfOk result (λ found. S.bound_of found ≡ length snapshot.now.release.concepts) }
+{
+    let passing = within(alloc, indexes, sources)?;
+    let some = Cardinality { min: 1, max: None };
+    with_pairs_by_type(alloc, snapshot, indexes, true, some, types, &passing)
+}
+
+/// The candidates so many of whose distinct pairs, their own or those read backwards, have a type that is one of some and a
+/// value that passes, read in a way.
+pub fn with_pairs_by<S: ConceptSet>(
+    alloc: Global,
+    snapshot: &Snapshot,
+    indexes: &Indexes,
+    way: &Way<S>,
+    back: bool,
+    count: Cardinality,
+    types: &TypesIn,
+    candidates: &Candidates<'_, S>,
+) -> Result<S, AllocError>
+    requires index { IsIndexOf indexes.now snapshot.now.release }
+    requires way { IsWayBelow S.bound_of (length indexes.now.concepts) way.now }
+    requires candidates { AreBelow S.bound_of (length snapshot.now.release.concepts) candidates.now }
+    ensures items { IfOk result (λ found. (one : ℕ → Bool) → AreTypesIn indexes.now.rows one types.now
+        → S.items_of found ≡ numbers_within snapshot.now.release (may_be S.items_of candidates.now)
+        (λ concept. has_pairs count one (passes_by S.items_of indexes.now.concepts way.now) (pairs_of snapshot.now.release back concept))) }
+    ensures bound { IfOk result (λ found. S.bound_of found ≡ length snapshot.now.release.concepts) }
+{
+    match way {
+        Way::ByCandidates(tested) => {
+            let passing = words_of(alloc, indexes, tested)?;
+            let found = with_pairs_among(
+                alloc, snapshot, indexes, back, count, types, &passing, candidates,
+            )?;
+            Ok(found)
+        }
+        Way::ByValue(values) => {
+            let some = with_pairs_by_value(alloc, snapshot, indexes, back, count, types, values)?;
+            let found = restricted(alloc, some, candidates)?;
+            Ok(found)
+        }
+        Way::ByType(tested) => {
+            let passing = words_of(alloc, indexes, tested)?;
+            let some = with_pairs_by_type(alloc, snapshot, indexes, back, count, types, &passing)?;
+            let found = restricted(alloc, some, candidates)?;
+            Ok(found)
+        }
+        Way::Scan(tested) => {
+            let passing = words_of(alloc, indexes, tested)?;
+            let all = Candidates::All;
+            let some: S = with_pairs_among(
+                alloc, snapshot, indexes, back, count, types, &passing, &all,
+            )?;
+            let found = restricted(alloc, some, candidates)?;
+            Ok(found)
+        }
+    }
+}
+
+/// The candidates among the groups so many of whose distinct pairs have a type that is one of some and a value that passes,
+/// read in a way.
+pub fn groups_with_pairs_by<S: ConceptSet>(
+    alloc: Global,
+    snapshot: &Snapshot,
+    indexes: &Indexes,
+    way: &Way<S>,
+    count: Cardinality,
+    types: &TypesIn,
+    candidates: &Candidates<'_, S>,
+) -> Result<S, AllocError>
+    requires index { IsIndexOf indexes.now snapshot.now.release }
+    requires way { IsWayBelow S.bound_of (length indexes.now.concepts) way.now }
+    requires candidates { AreBelow S.bound_of (length (all_groups snapshot.now.release)) candidates.now }
+    ensures items { IfOk result (λ found. (one : ℕ → Bool) → AreTypesIn indexes.now.rows one types.now
+        → S.items_of found ≡ groups_within snapshot.now.release (may_be S.items_of candidates.now) (has_pairs count one (passes_by S.items_of indexes.now.concepts way.now))) }
+    ensures bound { IfOk result (λ found. S.bound_of found ≡ length (all_groups snapshot.now.release)) }
+{
+    match way {
+        Way::ByCandidates(tested) => {
+            let passing = words_of(alloc, indexes, tested)?;
+            let found = groups_with_pairs_among(
+                alloc, snapshot, indexes, count, types, &passing, candidates,
+            )?;
+            Ok(found)
+        }
+        Way::ByValue(values) => {
+            let some = groups_with_pairs_by_value(alloc, snapshot, indexes, count, types, values)?;
+            let found = restricted(alloc, some, candidates)?;
+            Ok(found)
+        }
+        Way::ByType(tested) => {
+            let passing = words_of(alloc, indexes, tested)?;
+            let some = groups_with_pairs_by_type(alloc, snapshot, indexes, count, types, &passing)?;
+            let found = restricted(alloc, some, candidates)?;
+            Ok(found)
+        }
+        Way::Scan(tested) => {
+            let passing = words_of(alloc, indexes, tested)?;
+            let all = Candidates::All;
+            let some: S = groups_with_pairs_among(
+                alloc, snapshot, indexes, count, types, &passing, &all,
+            )?;
+            let found = restricted(alloc, some, candidates)?;
+            Ok(found)
+        }
+    }
+}

@@ -1,0 +1,133 @@
+//! The types of attribute rows that are in a set.
+ghost use Rattle.std.specs.Prelude.{ℕ, ◌≡◌, ◌<◌, ◌^◌, All, Bool, IfOk, filter, length, slice_index};
+ghost use Rattle.idset.specs.Words.{is_set};
+ghost use Rattle.postings.specs.Indexed.{IsIndexOf};
+ghost use Rattle.pair_sets.specs.Hits.{ArePlacesOf, AreTypesIn};
+ghost use Rattle.pair_sets.specs.Tested.{is_one_of};
+
+use idset::{ConceptSet, is_marked, marks_of};
+use postings::Indexes;
+use sctid::SctId;
+use snapshot::Snapshot;
+use std::alloc::{AllocError, Global};
+
+/// The types of rows that are in a set.
+#[derive(Drop)]
+pub struct TypesIn {
+    /// Their identifiers, each once.
+    pub ids: Vec<u64>,
+    /// Words of bits: of each type of a row, by its place among the types of all rows, whether it is in the set.
+    pub places: Vec<u64>,
+    /// How many items were read to find them. No answer depends on it.
+    pub read: u64,
+}
+
+/// The types of rows that are in a set.
+pub fn types_in<S: ConceptSet>(
+    alloc: Global,
+    snapshot: &Snapshot,
+    indexes: &Indexes,
+    set: &S,
+) -> Result<TypesIn, AllocError>
+    requires index { IsIndexOf indexes.now snapshot.now.release }
+    requires bound { S.bound_of set.now ≡ length indexes.now.concepts }
+    ensures { IfOk result (AreTypesIn indexes.now.rows (is_one_of indexes.now.concepts (S.items_of set.now))) }
+{
+    // there are no more types than rows, so 32 bits hold the place of each
+    indexes.row_count();
+    let types = indexes.types();
+    let numbers = places_in(alloc, snapshot, indexes, set)?;
+    let places = marks_of(alloc, numbers.as_slice(), types.len() as u32)?;
+    let ids = marked_ids(alloc, types, &places)?;
+    let read = u64::from(set.count()).min(types.len() as u64);
+    Ok(TypesIn { ids, places, read })
+}
+
+// The places of the types that are in a set, by the concepts of the set or by the types, whichever are fewer.
+fn places_in<S: ConceptSet>(
+    alloc: Global,
+    snapshot: &Snapshot,
+    indexes: &Indexes,
+    set: &S,
+) -> Result<Vec<u32>, AllocError>
+    requires index { IsIndexOf indexes.now snapshot.now.release }
+    requires bound { S.bound_of set.now ≡ length indexes.now.concepts }
+    ensures { IfOk result (λ places. ArePlacesOf indexes.now (S.items_of set.now) places.items) }
+{
+    if (set.count() as usize) < indexes.types().len() {
+        let concepts = set.items(alloc)?;
+        places_of_concepts(alloc, snapshot, indexes, concepts.as_slice())
+    } else {
+        places_of_types(alloc, indexes, set)
+    }
+}
+
+// The places of those concepts that are types.
+fn places_of_concepts(
+    alloc: Global,
+    snapshot: &Snapshot,
+    indexes: &Indexes,
+    concepts: &[u32],
+) -> Result<Vec<u32>, AllocError>
+    requires index { IsIndexOf indexes.now snapshot.now.release }
+    requires below { All (λ concept. concept < length indexes.now.concepts) concepts.now }
+    ensures { IfOk result (λ places. ArePlacesOf indexes.now concepts.now places.items) }
+{
+    let mut places = Vec::new(alloc);
+    for concept in concepts {
+        match indexes.type_place(snapshot.id_at(*concept).number()) {
+            Some(place) => places.push(place)?,
+            None => {}
+        }
+    }
+    Ok(places)
+}
+
+// The places of those types that are in a set.
+fn places_of_types<S: ConceptSet>(
+    alloc: Global,
+    indexes: &Indexes,
+    set: &S,
+) -> Result<Vec<u32>, AllocError>
+    requires { S.bound_of set.now ≡ length indexes.now.concepts }
+    ensures { IfOk result (λ places. ArePlacesOf indexes.now (S.items_of set.now) places.items) }
+{
+    // there are no more types than rows, so 32 bits hold the place of each
+    indexes.row_count();
+    let types = indexes.types();
+    let mut places = Vec::new(alloc);
+    for place in 0..types.len() {
+        if is_in(indexes, types[place].number(), set) {
+            places.push(place as u32)?;
+        }
+    }
+    Ok(places)
+}
+
+// The identifiers of those types whose place is marked.
+fn marked_ids(alloc: Global, types: &[SctId], places: &[u64]) -> Result<Vec<u64>, AllocError>
+    requires { length types.now < 2 ^ 31 }
+    ensures { IfOk result (λ ids. (one : ℕ → Bool) → ((place : ℕ) → place < length types.now → is_set places.now place ≡ one (slice_index types.now place))
+        → ids.items ≡ filter one types.now) }
+{
+    let mut ids = Vec::new(alloc);
+    for place in 0..types.len() {
+        if is_marked(places, place as u32) {
+            ids.push(types[place].number())?;
+        }
+    }
+    Ok(ids)
+}
+
+// Whether a concept is in a set.
+fn is_in<S: ConceptSet>(indexes: &Indexes, id: u64, set: &S) -> bool
+    requires { S.bound_of set.now ≡ length indexes.now.concepts }
+    ensures { result ≡ is_one_of indexes.now.concepts (S.items_of set.now) id }
+{
+    // the concepts rise, so that none has two numbers
+    indexes.concept_count();
+    match indexes.index_of(id) {
+        Some(concept) => set.has(concept),
+        None => false,
+    }
+}

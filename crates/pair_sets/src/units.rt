@@ -1,0 +1,98 @@
+//! The concepts with so many groups.
+ghost use Rattle.std.specs.Prelude.{ℕ, ◌≡◌, ◌≤◌, ◌<◌, ◌+◌, ◌-◌, ◌++◌, true, All, IfOk, OnOk, length, map, slice_get, slice_index};
+ghost use Rattle.postings.specs.Groups.{all_groups, groups_before, groups_in};
+ghost use Rattle.postings.specs.Indexed.{IsIndexOf};
+ghost use Rattle.pair_sets.specs.Groups.{concept_in};
+ghost use Rattle.pair_sets.specs.Owned.{HaveGroupsOf, groups_owned};
+ghost use Rattle.constraint_tree.specs.Passing.{lies_in};
+ghost use Rattle.idset.specs.Sets.{has_item, numbers_where};
+ghost use Rattle.std.specs.List.{range_with_len};
+
+use crate::counts::as_often;
+use constraint_tree::Cardinality;
+use idset::ConceptSet;
+use postings::Indexes;
+use snapshot::Snapshot;
+use std::alloc::{AllocError, Global};
+
+/// The concepts so many of whose groups are among some (Release File Specification, "Relationship file",
+/// relationshipGroup; Expression Constraint Language, "Cardinality").
+pub fn with_groups<S: ConceptSet>(
+    alloc: Global,
+    snapshot: &Snapshot,
+    indexes: &Indexes,
+    count: Cardinality,
+    groups: &S,
+) -> Result<S, AllocError>
+    requires index { IsIndexOf indexes.now snapshot.now.release }
+    requires bound { S.bound_of groups.now ≡ length (all_groups snapshot.now.release) }
+    ensures items { IfOk result (λ found. S.items_of found ≡ numbers_where (length snapshot.now.release.concepts) (λ number. lies_in count (groups_owned snapshot.now.release (S.items_of groups.now) number))) }
+    ensures bound { IfOk result (λ found. S.bound_of found ≡ length snapshot.now.release.concepts) }
+{
+    // the concepts rise, so that each has its groups once
+    let concept_count = snapshot.concept_count();
+    let numbers = groups.items(alloc)?;
+    let concepts = concepts_of(alloc, indexes, numbers.as_slice())?;
+    as_often(alloc, concepts.as_slice(), concept_count, count)
+}
+
+// The concept of each of some groups.
+fn concepts_of(alloc: Global, indexes: &Indexes, groups: &[u32]) -> Result<Vec<u32>, AllocError>
+    requires { All (λ group. group < length (groups_in indexes.now)) groups.now }
+    ensures within { IfOk result (λ found. All (λ concept. concept < length indexes.now.concepts) found.items) }
+    ensures concepts { IfOk result (λ found. map (slice_index indexes.now.concepts) found.items ≡ map (λ group. concept_in (slice_get (groups_in indexes.now) group)) groups.now) }
+{
+    let mut found = Vec::new(alloc);
+    for group in groups {
+        found.push(indexes.unit_concept(*group))?;
+    }
+    Ok(found)
+}
+
+/// The groups of some concepts.
+pub fn groups_of<S: ConceptSet>(
+    alloc: Global,
+    snapshot: &Snapshot,
+    indexes: &Indexes,
+    concepts: &S,
+) -> Result<S, AllocError>
+    requires index { IsIndexOf indexes.now snapshot.now.release }
+    requires bound { S.bound_of concepts.now ≡ length snapshot.now.release.concepts }
+    ensures groups { IfOk result (λ groups. HaveGroupsOf snapshot.now.release (S.items_of concepts.now) (S.items_of groups)) }
+    ensures bound { IfOk result (λ groups. S.bound_of groups ≡ length (all_groups snapshot.now.release)) }
+{
+    // the concepts rise, so that each has its groups once
+    snapshot.concept_count();
+    let own = concepts.items(alloc)?;
+    let numbers = numbers_of_groups(alloc, indexes, own.as_slice())?;
+    S::from_numbers(alloc, numbers.as_slice(), indexes.group_count())
+}
+
+// The numbers of the groups of some concepts.
+fn numbers_of_groups(
+    alloc: Global,
+    indexes: &Indexes,
+    concepts: &[u32],
+) -> Result<Vec<u32>, AllocError>
+    requires { All (λ concept. concept < length indexes.now.concepts) concepts.now }
+    ensures within { IfOk result (λ found. All (λ group. group < length (groups_in indexes.now)) found.items) }
+    ensures all { IfOk result (λ found. (concept group : ℕ) → has_item concepts.now concept ≡ true → length (groups_before indexes.now concept) ≤ group
+        → group < length (groups_before indexes.now (concept + 1)) → has_item found.items group ≡ true) }
+{
+    let mut found = Vec::new(alloc);
+    for concept in concepts {
+        let units = indexes.units_of(*concept);
+        push_range(&mut found, units.start, units.end)?;
+    }
+    Ok(found)
+}
+
+// Pushes the numbers from one on, up to another.
+fn push_range(found: &mut Vec<u32>, start: u32, end: u32) -> Result<(), AllocError>
+    ensures { OnOk result (found.new.items ≡ found.old.items ++ range_with_len start (end - start)) }
+{
+    for number in start..end {
+        found.push(number)?;
+    }
+    Ok(())
+}
