@@ -1,18 +1,23 @@
-//! The text that the program writes: the answer to a query, the report of a release, and the lines that
-//! refuse a query, a release or the files of one.
+//! The text that the program writes: the answer to a query, the plan of one, the report of a release, and the
+//! lines that refuse a query, a release or the files of one.
 //!
 //! Each printer appends to a vector. Where memory is refused it answers `AllocError`, and the vector
 //! is unchanged. `specs/` says which bytes are appended.
 #![tactic(auto)]
 
 mod answer;
+mod laws;
 mod load_refusal;
 mod numbers;
+mod plan;
+mod plan_words;
 mod query_refusal;
 mod report;
 mod told_name;
 
 pub use crate::answer::print_answer;
+pub use crate::laws::worked_texts_hold;
 pub use crate::load_refusal::print_load_fault;
+pub use crate::plan::print_plan;
 pub use crate::query_refusal::print_fault;
 pub use crate::report::print_report;

@@ -1,18 +1,18 @@
 -- What a command that was named has, by the matches of the words.
-use Rattle.std.proofs.Common.{◌≡◌, ◌≢◌, ◌∙◌, ◌⊎◌, ◌||◌, Bool, true, false, if◌then◌else◌, inl, inr, ap, ap₂, List, [], Option, None, Some, Box, Global, option_map, box_value, Result, Ok, Err, IfOk, IfErr, codes, refl, subst}
+use Rattle.std.proofs.Common.{◌≡◌, ◌≢◌, ◌∙◌, ◌⊎◌, ◌||◌, Bool, true, false, if◌then◌else◌, inl, inr, ap, List, [], Option, None, Some, Box, Global, option_map, box_value, Result, Ok, Err, IfOk, IfErr, codes, refl, subst}
 use Rattle.std.specs.Borrow.{Bor}
-use Rattle.std.specs.Prelude.{bytes_eq, unwrap_or}
+use Rattle.std.specs.Prelude.{bytes_eq, string_bytes, unwrap_or}
 use Rattle.std.proofs.lemmas.Slice.Eq.{bytes_eq-Decides}
-use Rattle.clap.specs.Words.{IsAmong, Row, Text, fault_of, first_of, found_of, rows_of, subcommand_of, subcommand_rows, subcommand_rows_of}
+use Rattle.clap.specs.Words.{IsAmong, Row, Text, fault_of, found_of, rows_of, subcommand_of, subcommand_rows, subcommand_rows_of}
 use Rattle.clap.specs.Matches.{subcommand_name_of}
 use Rattle.clap.specs.declared.parser.matches.ArgMatches.{ArgMatches}
 use Rattle.clap.specs.declared.parser.matches.SubCommand.{SubCommand}
 use Rattle.clap.specs.declared.parser.matches.ArgMatches.TheViews.{out-ArgMatches, out-SubCommand}
 use Rattle.clap.specs.declared.error.kind.ErrorKind.{ErrorKind}
 use Rattle.clap.specs.declared.error.kind.ErrorKind.TheVariants.{MissingSubcommand, OutOfMemory}
-use Rattle.command_line.specs.CommandLine.{Asks, CommandAsks, IsCall, IsFaultBy, IsNoRequest, IsRefusal, IsRequest, folders_named, folders_of, program}
+use Rattle.command_line.specs.CommandLine.{AreOneToNine, Asks, AsksFolders, CommandAsks, IsCall, IsFaultBy, IsNoRequest, IsRefusal, IsRequest, default_language, folders_in, folders_named, folders_of, program}
 use Rattle.command_line.specs.declared.words.Mode.{Mode}
-use Rattle.command_line.specs.declared.words.Mode.TheVariants.{Sample, Query, Check}
+use Rattle.command_line.specs.declared.words.Mode.TheVariants.{Sample, Query, Explain, Check}
 use Rattle.command_line.specs.declared.words.Request.{Request}
 use Rattle.command_line.specs.declared.words.WordFault.{WordFault}
 use Rattle.command_line.specs.declared.words.WordFault.TheVariants.{Usage, Help, Memory}
@@ -38,10 +38,18 @@ lent_or None other (Some text) is = (cc)
 lent_or (Some lent) other None is = (cc)
 lent_or (Some lent) other (Some text) is = (cc)
 
+-- what a command of folders alone asks for, by what was read of it
+pub asks_folders : (command : Option (Text × List Row)) (name : Text) (rows : List Row) (folders : List Text) (request : Request)
+    → command ≡ Some (name, rows) → folders ≡ folders_of rows → folders_in request ≡ folders → AreOneToNine folders
+    → string_bytes request.lang ≡ default_language → AsksFolders name command request
+asks_folders command name rows folders request named folders_are in_order few lang =
+    (rows, named, (in_order ∙ folders_are, subst AreOneToNine folders_are few), lang)
+
 -- where clap finds no fault, what a command asks for the words ask for
 words_ask : (mode : Mode) (words : List Text) (request : Request) → fault_of program words ≡ [] → CommandAsks mode (subcommand_of program words) request → Asks mode words request
 words_ask Sample words request clean asked = absurd asked
 words_ask Query words request clean asked = (clean, asked)
+words_ask Explain words request clean asked = (clean, asked)
 words_ask Check words request clean asked = (clean, asked)
 
 -- where the command is that of the words, so is the request
@@ -51,11 +59,12 @@ request_is words command (Ok request) named clean asked =
     words_ask request.mode words request clean (subst (λ (c : Option (Text × List Row)). CommandAsks request.mode c request) named asked)
 request_is words command (Err fault) named clean asked = tt
 
--- the folders that a command `query` or `check` names are those of its rows
+-- the folders that a command `query`, `explain` or `check` names are those of its rows
 pub names_folders : (command : Option (Text × List Row)) (name : Text) (rows : List Row) → command ≡ Some (name, rows)
-    → (name ≡ codes "query") ⊎ (name ≡ codes "check") → folders_named command ≡ folders_of rows
+    → (name ≡ codes "query") ⊎ ((name ≡ codes "explain") ⊎ (name ≡ codes "check")) → folders_named command ≡ folders_of rows
 names_folders command name rows is (inl query) = ap folders_named is ∙ ap (λ (n : Text). folders_named (Some (n, rows))) query
-names_folders command name rows is (inr check) = ap folders_named is ∙ ap (λ (n : Text). folders_named (Some (n, rows))) check
+names_folders command name rows is (inr (inl explain)) = ap folders_named is ∙ ap (λ (n : Text). folders_named (Some (n, rows))) explain
+names_folders command name rows is (inr (inr check)) = ap folders_named is ∙ ap (λ (n : Text). folders_named (Some (n, rows))) check
 
 -- the test whether two texts are the same, of two that are not
 unlike : (one other : Text) → one ≢ other → bytes_eq one other ≡ false
@@ -67,10 +76,13 @@ unlike one other apart = by (bytes_eq one other) refl
 
 -- a command of another name names none
 pub names_no_folder : (command : Option (Text × List Row)) (name : Text) (rows : List Row) → command ≡ Some (name, rows)
-    → name ≢ codes "query" → name ≢ codes "check" → folders_named command ≡ []
-names_no_folder command name rows is other another =
+    → name ≢ codes "query" → name ≢ codes "explain" → name ≢ codes "check" → folders_named command ≡ []
+names_no_folder command name rows is no_query no_explain no_check =
+    let query_not = unlike name (codes "query") no_query in
+    let explain_not = unlike name (codes "explain") no_explain in
+    let check_not = unlike name (codes "check") no_check in
     ap folders_named is
-    ∙ ap₂ (λ (query check : Bool). if query || check then folders_of rows else []) (unlike name (codes "query") other) (unlike name (codes "check") another)
+    ∙ (λ i. if query_not i || explain_not i || check_not i then folders_of rows else [])
 
 -- where a command names no folder, it is no request, and no call for help
 pub is_no_request : (command : Option (Text × List Row)) (fault : WordFault) → IsFaultBy MissingSubcommand fault → folders_named command ≡ [] → IsNoRequest command fault

@@ -8,7 +8,7 @@ use Rattle.clap.specs.declared.builder.command.Command.TheViews.{out-Command}
 use Rattle.clap.specs.declared.error.kind.ErrorKind.{ErrorKind}
 use Rattle.clap.specs.declared.error.kind.ErrorKind.TheVariants.{DisplayHelp, DisplayVersion, OutOfMemory}
 use Rattle.command_line.specs.declared.words.Mode.{Mode}
-use Rattle.command_line.specs.declared.words.Mode.TheVariants.{Sample, Query, Check}
+use Rattle.command_line.specs.declared.words.Mode.TheVariants.{Sample, Query, Explain, Check}
 use Rattle.command_line.specs.declared.words.Request.{Request}
 use Rattle.command_line.specs.declared.words.WordFault.{WordFault}
 use Rattle.command_line.specs.declared.words.WordFault.TheVariants.{Usage, Help, Memory}
@@ -24,7 +24,10 @@ lang_rule = record (new_rule (codes "lang")) { long = Some (codes "lang"); value
 abbrev pub query_command : App
 query_command = with_rule (with_rule (new_app (codes "query")) folder_rule) lang_rule
 
--- `check`, with the folders alone
+-- `explain` and `check`, with the folders alone
+abbrev pub explain_command : App
+explain_command = with_rule (new_app (codes "explain")) folder_rule
+
 abbrev pub check_command : App
 check_command = with_rule (new_app (codes "check")) folder_rule
 
@@ -46,7 +49,8 @@ bare_program = requiring_command (having_version (new_app (codes "hosecrag")))
 
 -- the program
 abbrev pub program : App
-program = with_subcommand (with_subcommand bare_program query_command.top) check_command.top
+program =
+    with_subcommand (with_subcommand (with_subcommand bare_program query_command.top) explain_command.top) check_command.top
 
 -- the language whose names come first where none is given
 abbrev pub default_language : List ℕ
@@ -83,33 +87,45 @@ AsksQuery command request =
     × HasFoldersOf rows request
     × (unwrap_or (first_of (codes "lang") rows) default_language ≡ string_bytes request.lang)
 
--- a command `check` asks for the report of its folders
-abbrev pub AsksCheck : Option (Text × List Row) → Request → Type 0
-AsksCheck command request =
-    (rows : List Row) × (command ≡ Some (codes "check", rows))
+-- a command of another name asks for the release of its folders alone
+abbrev pub AsksFolders : Text → Option (Text × List Row) → Request → Type 0
+AsksFolders name command request =
+    (rows : List Row) × (command ≡ Some (name, rows))
     × HasFoldersOf rows request
     × (string_bytes request.lang ≡ default_language)
+
+-- `explain` for the plans of queries, and `check` for the report
+abbrev pub AsksExplain : Option (Text × List Row) → Request → Type 0
+AsksExplain command request = AsksFolders (codes "explain") command request
+
+abbrev pub AsksCheck : Option (Text × List Row) → Request → Type 0
+AsksCheck command request = AsksFolders (codes "check") command request
 
 -- what a command asks for in each mode: none asks for the built-in release
 abbrev pub CommandAsks : Mode → Option (Text × List Row) → Request → Type 0
 CommandAsks Sample command request = ⊥
 CommandAsks Query command request = AsksQuery command request
+CommandAsks Explain command request = AsksExplain command request
 CommandAsks Check command request = AsksCheck command request
 
 -- what words ask for in each mode: a command is one in which clap finds no fault
 abbrev pub Asks : Mode → List Text → Request → Type 0
 Asks Sample words request = AsksSample words request
 Asks Query words request = (fault_of program words ≡ []) × AsksQuery (subcommand_of program words) request
+Asks Explain words request = (fault_of program words ≡ []) × AsksExplain (subcommand_of program words) request
 Asks Check words request = (fault_of program words ≡ []) × AsksCheck (subcommand_of program words) request
 
 -- the request is that of the words
 abbrev pub IsRequest : List Text → Request → Type 0
 IsRequest words request = Asks request.mode words request
 
--- the folders that a command names, in the order of their words: those of `query` and of `check`
+-- the folders that a command names, in the order of their words: those of `query`, of `explain` and of `check`
 abbrev pub folders_named : Option (Text × List Row) → List Text
 folders_named None = []
-folders_named (Some command) = if bytes_eq command.0 (codes "query") || bytes_eq command.0 (codes "check") then folders_of command.1 else []
+folders_named (Some command) =
+    if bytes_eq command.0 (codes "query") || bytes_eq command.0 (codes "explain") || bytes_eq command.0 (codes "check")
+    then folders_of command.1
+    else []
 
 -- what is told of more folders than a release is read from
 abbrev pub too_many_text : Text
@@ -142,7 +158,7 @@ IsFaultBy kind (Help text) = IsCall kind
 IsFaultBy kind Memory = ⊤
 
 -- why words are refused: clap finds a fault in them that is no call for help or for the version; or it finds
--- none, and they name no folder for `query` or `check`, or more than nine; or they are such a call; or memory was
+-- none, and they name no folder for `query`, `explain` or `check`, or more than nine; or they are such a call; or memory was
 -- refused
 abbrev pub IsRefusal : List Text → WordFault → Type 0
 IsRefusal words (Usage text) =

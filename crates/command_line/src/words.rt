@@ -3,7 +3,7 @@ ghost use Rattle.std.specs.Prelude.{◌≡◌, ◌≤◌, IfErr, IfOk, false, le
 ghost use Rattle.clap.specs.Words.{app_of, found_of, kind_of, rows_of, rule_of, subcommand_rows_of};
 ghost use Rattle.clap.specs.declared.error.kind.ErrorKind.TheVariants.{MissingSubcommand};
 ghost use Rattle.rf2_rows.specs.Parts.{texts_of};
-ghost use Rattle.command_line.specs.CommandLine.{AreOneToNine, CommandAsks, HasOwnArguments, IsFaultBy, IsFaultOfFolders, IsNoRequest, IsRefusal, IsRequest, TellsTooMany, bare_program, check_command, folder_rule, folders_in, folders_of, lang_rule, program, query_command};
+ghost use Rattle.command_line.specs.CommandLine.{AreOneToNine, CommandAsks, HasOwnArguments, IsFaultBy, IsFaultOfFolders, IsNoRequest, IsRefusal, IsRequest, TellsTooMany, bare_program, check_command, explain_command, folder_rule, folders_in, folders_of, lang_rule, program, query_command};
 
 use clap::error::ErrorKind;
 use clap::{Arg, ArgAction, ArgMatches, Command, Error};
@@ -16,6 +16,8 @@ pub enum Mode {
     Sample,
     /// It answers queries over the release of folders.
     Query,
+    /// It tells how queries are executed over the release of folders, and how much each visits at most.
+    Explain,
     /// It reports what the release of folders has.
     Check,
 }
@@ -104,10 +106,11 @@ const MOST_FOLDERS: usize = 9;
 const VERSION: &str = "0.1.0";
 
 // What help tells behind the commands.
-const USES: &str = "Four ways to start it:
+const USES: &str = "Five ways to start it:
   printf '<100005\\n' | hosecrag
   printf '<<404684003\\n' | hosecrag query SnomedCT_Release/Snapshot --lang en
   printf '<<404684003\\n' | hosecrag query SnomedCT_Release/Snapshot SnomedCT_Extension/Snapshot
+  printf '<<404684003\\n' | hosecrag explain SnomedCT_Release/Snapshot
   hosecrag check SnomedCT_Release/Snapshot
 
 It ends with a status:
@@ -118,8 +121,8 @@ It ends with a status:
   4  memory was refused";
 
 /// Reads the words of a command line, of which the first is the program's name: no more words,
-/// `query FOLDER.. [--lang CODE]`, or `check FOLDER..`, each with 1 to 9 folders. `--help` and
-/// `--version` are answered as `Help`.
+/// `query FOLDER.. [--lang CODE]`, `explain FOLDER..`, or `check FOLDER..`, each with 1 to 9 folders.
+/// `--help` and `--version` are answered as `Help`.
 pub fn read_words<'a>(alloc: Global, words: &'a [&'a str]) -> Result<Request, WordFault>
     ensures asked { IfOk result (IsRequest (texts_of words.now)) }
     ensures refused { IfErr result (IsRefusal (texts_of words.now)) }
@@ -144,9 +147,11 @@ fn command_line<'a>(alloc: Global) -> Result<Command<'a>, AllocError>
     ensures { IfOk result (λ command. app_of command ≡ program) }
 {
     let query = query_command(alloc)?;
+    let explain = explain_command(alloc)?;
     let check = check_command(alloc)?;
     let with_query = bare_program(alloc)?.subcommand(query)?;
-    with_query.subcommand(check)
+    let with_explain = with_query.subcommand(explain)?;
+    with_explain.subcommand(check)
 }
 
 // The program without its commands.
@@ -174,6 +179,17 @@ fn query_command<'a>(alloc: Global) -> Result<Command<'a>, AllocError>
         .about("answers queries on the release of 1 to 9 folders")
         .arg(folder_argument(alloc))?;
     with_folder.arg(lang_argument(alloc))
+}
+
+fn explain_command<'a>(alloc: Global) -> Result<Command<'a>, AllocError>
+    ensures shape { IfOk result (λ command. app_of command ≡ explain_command) }
+    ensures own { IfOk result HasOwnArguments }
+{
+    Command::new(alloc, "explain")
+        .about(
+            "tells of each query the plan on the release of 1 to 9 folders, and how many items it visits at most",
+        )
+        .arg(folder_argument(alloc))
 }
 
 fn check_command<'a>(alloc: Global) -> Result<Command<'a>, AllocError>
@@ -221,6 +237,9 @@ fn command_request(alloc: Global, matches: &ArgMatches<'_>) -> Result<Request, W
     if name == "query" {
         let lang = arguments.get_str("lang").unwrap_or(DEFAULT_LANGUAGE);
         return Request::of_folders(alloc, Mode::Query, folders, lang);
+    }
+    if name == "explain" {
+        return Request::of_folders(alloc, Mode::Explain, folders, DEFAULT_LANGUAGE);
     }
     if name == "check" {
         return Request::of_folders(alloc, Mode::Check, folders, DEFAULT_LANGUAGE);

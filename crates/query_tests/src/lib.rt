@@ -5,6 +5,8 @@
 #![tactic(auto)]
 
 #[cfg(test)]
+mod plan_tests;
+#[cfg(test)]
 mod run_tests;
 #[cfg(test)]
 mod serve_tests;

@@ -13,6 +13,8 @@ const PIECE: usize = 4_096;
 const ANSWER: &[u8] =
     b"OK 3\n101009 |Beta (finding)|\n102002 |Gamma (finding)|\n103007 |Delta (finding)|\n";
 
+const PLAN: &[u8] = b"PLAN 4\ndescendants 4\n one 100005 0\n";
+
 const REPORT: &[u8] =
     b"FILES 5\nCONCEPTS 10\nISA 10\nATTRIBUTES 9\nMEMBERS 2\nNAMES 10\nPASSED 6\n";
 
@@ -39,6 +41,11 @@ const RELATIONSHIPS: &str = "xsct2_Relationship_Snapshot_XX.txt";
 // Ten folders behind a command.
 const TEN_FOLDERS: [&str; 12] = [
     "hosecrag", "check", "1", "2", "3", "4", "5", "6", "7", "8", "9", "10",
+];
+
+// And behind another.
+const TEN_EXPLAINED: [&str; 12] = [
+    "hosecrag", "explain", "1", "2", "3", "4", "5", "6", "7", "8", "9", "10",
 ];
 
 #[test]
@@ -69,6 +76,12 @@ fn reads_words(rt: HostRuntime) {
             Mode::Query,
             &[""],
             "",
+        ),
+        (
+            &["hosecrag", "explain", "F", "G"],
+            Mode::Explain,
+            &["F", "G"],
+            "en",
         ),
         (
             &["hosecrag", "check", "F", "G"],
@@ -102,7 +115,8 @@ fn are_texts(texts: &[String], wanted: &[&str]) -> bool {
 fn refuses_words(rt: HostRuntime) {
     let refused = [
         ["hosecrag", "query"].as_slice(),
-        &["hosecrag", "explain", "F"],
+        &["hosecrag", "explain"],
+        &["hosecrag", "explain", "F", "--lang", "da"],
         &["hosecrag", "query", "F", "--lang"],
         &["hosecrag", "query", "--lang", "da"],
         &["hosecrag", "check"],
@@ -115,6 +129,7 @@ fn refuses_words(rt: HostRuntime) {
     for words in [
         ["hosecrag", "--help"].as_slice(),
         &["hosecrag", "query", "-h"],
+        &["hosecrag", "explain", "-h"],
         &["hosecrag", "check", "-h"],
         &["hosecrag", "--version"],
         &["hosecrag", "-V"],
@@ -125,9 +140,11 @@ fn refuses_words(rt: HostRuntime) {
 
 #[test]
 fn refuses_ten_folders(rt: HostRuntime) {
-    match read_words(rt.alloc(), &TEN_FOLDERS) {
-        Err(WordFault::Usage(text)) => assert!(rt; text.as_str() == "at most 9 folders\n"),
-        _other => assert!(rt; false, "ten folders"),
+    for words in [TEN_FOLDERS, TEN_EXPLAINED] {
+        match read_words(rt.alloc(), &words) {
+            Err(WordFault::Usage(text)) => assert!(rt; text.as_str() == "at most 9 folders\n"),
+            _other => assert!(rt; false, "ten folders"),
+        }
     }
 }
 
@@ -205,6 +222,17 @@ fn check_report(
     check_served(rt, alloc, asked, files, 0, room, ended)
 }
 
+// Looks at how telling the plan of a query over files ends.
+fn check_explained(
+    rt: &impl Abort,
+    alloc: Global,
+    files: &[NamedBytes<'_>],
+    ended: Ended<'_>,
+) -> Result<(), AllocError> {
+    let asked = asked(alloc, Mode::Explain, "en");
+    check_served(rt, alloc, asked, files, 0, ROOM, ended)
+}
+
 #[test]
 fn serves_releases(rt: HostRuntime) -> Result<(), Fail> {
     let alloc = rt.alloc();
@@ -212,6 +240,8 @@ fn serves_releases(rt: HostRuntime) -> Result<(), Fail> {
     check_served(&rt, alloc, own, &[], 0, ROOM, (Status::Done, ANSWER, b""))?;
     check_query(&rt, alloc, "en", &sample(), (Status::Done, ANSWER, b""))?;
     check_query(&rt, alloc, "da", &sample(), (Status::Done, DANISH, b""))?;
+    check_explained(&rt, alloc, &sample(), (Status::Done, PLAN, b""))?;
+    check_explained(&rt, alloc, &[], NO_CONCEPT_FILE)?;
     Ok(())
 }
 
@@ -370,6 +400,7 @@ fn check_failed(
 fn check_devices(rt: &impl Abort, alloc: Global) -> Result<(), AllocError> {
     check_failed(rt, alloc, Mode::Query, 1, LISTING)?;
     check_failed(rt, alloc, Mode::Check, 1, LISTING)?;
+    check_failed(rt, alloc, Mode::Explain, 1, LISTING)?;
     check_failed(rt, alloc, Mode::Query, 2, FIRST_FILE)?;
     check_failed(rt, alloc, Mode::Query, 3, FIRST_FILE)?;
     check_failed(rt, alloc, Mode::Check, 2, FIRST_FILE)

@@ -8,15 +8,17 @@ use Rattle.constraint_tree.specs.Denotation.{denotation, denotes}
 use Rattle.answer_printer.specs.AnswerText.{refusal_text}
 use Rattle.set_algebra.specs.Meaning.{means}
 use Rattle.set_algebra.specs.Plan.{Plan}
-use Rattle.executor.specs.Numbers.{numbers_in}
-use Rattle.executor.proofs.Normal.{concepts_of, numbers_in-agree}
+use Rattle.pair_sets.specs.Numbers.{numbers_in}
+use Rattle.pair_sets.proofs.Normal.{concepts_of, numbers_in-agree}
 use Rattle.query_tool.specs.Answer.{constraint_answer, HasOneAnswer}
 
--- what the plan of a constraint means is what the constraint denotes
-pub concepts_answered : (release : Release) (tree : Tree) (plan : Plan) (found : List ℕ) → ((released : Release) (concept : ℕ) → means released plan concept ≡ denotes released tree concept)
+-- the concepts of a plan are those of a constraint that denotes what it means
+pub concepts_answered : (release : Release) (tree : Tree) (plan : Plan) (found : List ℕ)
+    → ((concept : ℕ) → means release plan concept ≡ denotes release tree concept)
     → found ≡ numbers_in release (means release plan) → map (λ n. get_or release.concepts n 0) found ≡ denotation release tree
 concepts_answered release tree plan found same found_is =
-    ap (map (λ n. get_or release.concepts n 0)) (found_is ∙ numbers_in-agree release (means release plan) (denotes release tree) (λ n _. same release (get_or release.concepts n 0)))
+    ap (map (λ n. get_or release.concepts n 0))
+    (found_is ∙ numbers_in-agree release (means release plan) (denotes release tree) (λ n _. same (get_or release.concepts n 0)))
     ∙ concepts_of release (denotes release tree)
 
 -- no line has two answers where no text is read in two ways

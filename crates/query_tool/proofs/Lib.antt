@@ -1,3 +1,4 @@
 mod AnswerLemmas
+mod ExplanationLemmas
 mod PromiseLemmas
 mod ServeLemmas

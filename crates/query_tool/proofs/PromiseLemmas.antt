@@ -107,7 +107,7 @@ promise_kept rises r w e before after files language bytes there old new task as
     let answers_from = λ (earlier : Option (List ℕ)) (known : List ℕ).
     AreWritten (IsAnswer contents) (query_lines known) earlier (w.written after.output) in
     let loads : IsLoadOf files language task.names (Ok contents) = subst (IsLoadOf files language task.names) served.loaded asked.loaded.loaded in
-    let answered : IsAnswered r w contents before after =
+    let answered : IsAnswered r w (IsAnswer contents) before after =
     subst (λ (mode : Mode). IsServed r w mode contents before after) asked.mode_is served.ended.served in
     let read : AreWritten (IsAnswer contents) (query_lines bytes) (w.written before.output) (w.written after.output) =
     subst (λ (input : Option (List ℕ)). IfSome input (answers_from (w.written before.output))) reads answered.written in

@@ -1,5 +1,5 @@
 -- What a request ends with, by the status and the faults that it met.
-use Rattle.std.proofs.Common.{ℕ, ◌≡◌, ◌<◌, ◌⊎◌, inl, inr, false, true, List, [], length, map, take, Option, None, Some, Result, Ok, Err, refl, sym, ap, subst, ◌∙◌}
+use Rattle.std.proofs.Common.{ℕ, ◌≡◌, ◌≢◌, ◌<◌, ◌⊎◌, inl, inr, false, true, List, [], length, map, take, Option, None, Some, Result, Ok, Err, refl, sym, ap, subst, ◌∙◌}
 use Rattle.std.specs.Prelude.{IfSome}
 use Rattle.std.proofs.lemmas.Bool.{true≢false}
 use Rattle.std.proofs.lemmas.List.{length-map}
@@ -16,7 +16,7 @@ use Rattle.answer_printer.specs.ReportText.{report_text}
 use Rattle.query_run.specs.Fault.{CountsTurns, HaveFailed}
 use Rattle.query_tool.specs.Report.{report_of}
 use Rattle.sample_release.specs.SampleContents.{sample_contents}
-use Rattle.query_tool.specs.Serve.{EndsWith, IsCut, IsLoadOf, IsServed, IsTask, ServesWith, Task, TellsLoadFault, fault_text, refusal_status_of, sample_task, status_of}
+use Rattle.query_tool.specs.Serve.{AnswersFiles, EndsWith, IsAskedFor, IsCut, IsLoadOf, IsLoadedFrom, IsServed, IsTask, ServesWith, Task, TellsLoadFault, fault_text, refusal_status_of, sample_task, status_of}
 use Rattle.query_tool.specs.Streams.{IsTold, Streams, streams}
 use Rattle.query_run.specs.declared.running.RunFault.{RunFault}
 use Rattle.query_run.specs.declared.running.RunFault.TheVariants.{Read, Write, Memory, Turns}
@@ -25,7 +25,7 @@ use Rattle.query_tool.specs.declared.service.Status.TheVariants.{Done, DeviceFau
 use Rattle.streams.specs.declared.output.AnswerOutput.{Ghosts as Output}
 use Rattle.streams.specs.declared.input.QueryInput.{Ghosts as Input}
 use Rattle.command_line.specs.declared.words.Mode.{Mode}
-use Rattle.command_line.specs.declared.words.Mode.TheVariants.{Sample, Query, Check}
+use Rattle.command_line.specs.declared.words.Mode.TheVariants.{Sample, Query, Explain, Check}
 
 -- a fault that came while a release was served, and was told by its line
 pub stops_with : {R W E : Type 0} (r : Input R) (w : Output W) (e : Output E) (mode : Mode) (contents : Contents) (fault : RunFault) (status : Status) (before after : Streams R W E)
@@ -65,6 +65,23 @@ serves_sample r w e contents WordsFault before after none = none
 serves_sample r w e contents ReleaseRefused before after none = none
 serves_sample r w e contents MemoryRefused before after stopped =
     record { fault = stopped.fault; ends = stopped.ends; served = stopped.served; failed = stopped.failed; turns = stopped.turns; told = stopped.told }
+
+-- a mode that answers the lines over files asks for the release of a source's files
+pub asked_of_files : {told : Option (List FileText)} {old new : ℕ} {language : List ℕ} {task : Task} (mode : Mode) → AnswersFiles mode
+    → IsLoadedFrom told old new language task → IsAskedFor told old new language mode task
+asked_of_files Sample files loaded = absurd files
+asked_of_files Query files loaded = loaded
+asked_of_files Explain files loaded = loaded
+asked_of_files Check files loaded = absurd files
+
+-- and unless it explains them it is that of queries
+pub serves_files : {R W E : Type 0} (r : Input R) (w : Output W) (e : Output E) (mode : Mode) (contents : Contents) (status : Status)
+    (before after : Streams R W E) → AnswersFiles mode → mode ≢ Explain → ServesWith r w e Query contents status before after
+    → ServesWith r w e mode contents status before after
+serves_files r w e Sample contents status before after files other served = absurd files
+serves_files r w e Query contents status before after files other served = served
+serves_files r w e Explain contents status before after files other served = absurd (other refl)
+serves_files r w e Check contents status before after files other served = absurd files
 
 -- what is loaded is one thing, and a fault of it that of what is loaded
 pub same_contents : (loaded : Result Contents LoadFault) (own contents : Contents) → loaded ≡ Ok own → loaded ≡ Ok contents → contents ≡ own

@@ -13,11 +13,15 @@ abbrev pub constraint_answer : Contents → Tree → List ℕ
 constraint_answer contents tree =
     answer_text (name_of contents.release contents.language) (denotation contents.release tree)
 
+-- a text is for a query line: it is for the constraint that the line is, or is the refusal of the line
+abbrev pub IsForLine : (Tree → List ℕ → Type 0) → List ℕ → List ℕ → Type 0
+IsForLine IsFor line text =
+    ((tree : Tree) × IsConstraint line tree × IsFor tree text)
+    ⊎ ((fault : QueryFault) × IsRefusalOf line fault × (text ≡ refusal_text fault))
+
 -- a text answers a query line: it answers the constraint that the line is, or is the refusal of the line
 abbrev pub IsAnswer : Contents → List ℕ → List ℕ → Type 0
-IsAnswer contents line text =
-    ((tree : Tree) × IsConstraint line tree × (text ≡ constraint_answer contents tree))
-    ⊎ ((fault : QueryFault) × IsRefusalOf line fault × (text ≡ refusal_text fault))
+IsAnswer contents line text = IsForLine (λ tree text. text ≡ constraint_answer contents tree) line text
 
 -- no query line has two answers
 abbrev pub HasOneAnswer : Type 0

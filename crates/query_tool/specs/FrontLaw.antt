@@ -1,4 +1,4 @@
--- Lines that begin alike are answered alike: with this an engine answers the lines of a run, which keeps no more of a line.
+-- Lines that begin alike are answered and explained alike: with this an engine answers the lines of a run, which keeps no more of a line.
 use Rattle.std.proofs.Common.{◌≡◌, ℕ, ◌<◌, List, length, inl, inr, sym, ap, ◌∙◌, subst, min, arith}
 use Rattle.std.proofs.lemmas.Bool.{cases_lt}
 use Rattle.std.proofs.lemmas.List.{length-take, take_all}
@@ -6,15 +6,17 @@ use Rattle.ecl_lexer.specs.Tokens.{most_bytes}
 use Rattle.ecl_lexer.specs.declared.fault.QueryFault.{QueryFault}
 use Rattle.ecl_lexer.specs.declared.fault.QueryFault.TheVariants.{Long, Utf8, Token, Unsupported, Limit, Depth, Syntax, Memory}
 use Rattle.constraint_tree.specs.Refusal.{IsRefusalOf}
+use Rattle.constraint_tree.specs.Tree.{Tree}
 use Rattle.snapshot.specs.Contents.{Contents}
 use Rattle.answer_printer.specs.AnswerText.{refusal_text}
 use Rattle.query_run.specs.KeptLine.{kept_of}
-use Rattle.query_tool.specs.Answer.{IsAnswer}
+use Rattle.query_tool.specs.Answer.{IsAnswer, IsForLine, constraint_answer}
+use Rattle.query_tool.specs.Explanation.{Explains, IsExplanation}
 
--- a line that is too long has no answer but that
-long_answer : (contents : Contents) (line text : List ℕ) → most_bytes < length line → IsAnswer contents line text → text ≡ refusal_text Long
-long_answer contents line text long (inl (tree, is, same)) = absurd (omega (arith, long, is.readable.0))
-long_answer contents line text long (inr (fault, is, same)) = by fault is same
+-- a line that is too long has no text but that
+long_text : (IsFor : Tree → List ℕ → Type 0) (line text : List ℕ) → most_bytes < length line → IsForLine IsFor line text → text ≡ refusal_text Long
+long_text IsFor line text long (inl (tree, is, found)) = absurd (omega (arith, long, is.readable.0))
+long_text IsFor line text long (inr (fault, is, same)) = by fault is same
   where
     by : (fault : QueryFault) → IsRefusalOf line fault → text ≡ refusal_text fault → text ≡ refusal_text Long
     by Long is same = same
@@ -27,13 +29,23 @@ long_answer contents line text long (inr (fault, is, same)) = by fault is same
     by Memory is same = absurd is
 
 -- lines with the same first bytes, one more than a line may have, are one line, or both are too long
-pub same_front : (contents : Contents) (one other text : List ℕ) → kept_of one ≡ kept_of other → IsAnswer contents one text → IsAnswer contents other text
-same_front contents one other text same answered =
+same_front_for : (IsFor : Tree → List ℕ → Type 0) (one other text : List ℕ) → kept_of one ≡ kept_of other → IsForLine IsFor one text
+    → IsForLine IsFor other text
+same_front_for IsFor one other text same answered =
     let lengths : min 65536 (length one) ≡ min 65536 (length other) =
     sym (length-take 65536 one) ∙ ap length same ∙ length-take 65536 other in
     elim (cases_lt most_bytes (length one)) [
-      | inl long ↦ inr (Long, omega (arith, lengths), long_answer contents one text long answered)
+      | inl long ↦ inr (Long, omega (arith, lengths), long_text IsFor one text long answered)
       | inr short ↦
           let whole : one ≡ other = sym (take_all 65536 one (omega arith)) ∙ same ∙ take_all 65536 other (omega (arith, lengths)) in
-          subst (λ (line : List ℕ). IsAnswer contents line text) whole answered
+          subst (λ (line : List ℕ). IsForLine IsFor line text) whole answered
     ]
+
+-- they have the same answers
+pub same_front : (contents : Contents) (one other text : List ℕ) → kept_of one ≡ kept_of other → IsAnswer contents one text → IsAnswer contents other text
+same_front contents = same_front_for (λ tree text. text ≡ constraint_answer contents tree)
+
+-- and are explained alike
+pub same_front_explained : (contents : Contents) (one other text : List ℕ) → kept_of one ≡ kept_of other → IsExplanation contents one text
+    → IsExplanation contents other text
+same_front_explained contents = same_front_for (Explains contents)

@@ -1,5 +1,6 @@
 pub mod Answer
 pub mod EngineInside
+pub mod Explanation
 pub mod FrontLaw
 pub mod Promise
 pub mod Report

@@ -1,5 +1,5 @@
 -- What a request ends with: a status, and what it says of what was read, written and told.
-use Rattle.std.specs.Prelude.{ℕ, ◌≡◌, ◌≢◌, ◌⊎◌, ◌<◌, false, true, List, [], codes, length, take, IfErr, IfSome, Option, Result, Ok, Err}
+use Rattle.std.specs.Prelude.{ℕ, ◌≡◌, ◌≢◌, ◌⊎◌, ◌<◌, false, true, List, [], codes, length, take, IfErr, IfSome, Option, Result, Ok, Err, ⊤}
 use Rattle.std.specs.Io.KnownBytes.{Appends, IsAtEnd}
 use Rattle.snapshot.specs.Contents.{Contents, load_of}
 use Rattle.release_files.specs.Source.{FileText}
@@ -11,8 +11,9 @@ use Rattle.snapshot.specs.declared.fault.LoadFault.TheVariants as load
 use Rattle.answer_printer.specs.LoadRefusal.{load_refusal}
 use Rattle.answer_printer.specs.ReportText.{report_text}
 use Rattle.query_run.specs.Fault.{CountsTurns, EndsAt, HaveFailed}
-use Rattle.query_run.specs.Lines.{AreWritten, query_lines}
+use Rattle.query_run.specs.Lines.{Answers, AreWritten, query_lines}
 use Rattle.query_tool.specs.Answer.{IsAnswer}
+use Rattle.query_tool.specs.Explanation.{IsExplanation}
 use Rattle.query_tool.specs.Report.{report_of}
 use Rattle.sample_release.specs.SampleContents.{sample_contents}
 use Rattle.query_tool.specs.Streams.{IsTold, Streams}
@@ -23,7 +24,7 @@ use Rattle.query_tool.specs.declared.service.Status.TheVariants.{Done, DeviceFau
 use Rattle.streams.specs.declared.output.AnswerOutput.{Ghosts as Output}
 use Rattle.streams.specs.declared.input.QueryInput.{Ghosts as Input}
 use Rattle.command_line.specs.declared.words.Mode.{Mode}
-use Rattle.command_line.specs.declared.words.Mode.TheVariants.{Sample, Query, Check}
+use Rattle.command_line.specs.declared.words.Mode.TheVariants.{Sample, Query, Explain, Check}
 
 -- the number that the program ends with
 abbrev pub status_code : Status → ℕ
@@ -87,7 +88,15 @@ pub record IsLoadedFrom (told : Option (List FileText)) (old new : ℕ) (languag
 abbrev pub IsAskedFor : Option (List FileText) → ℕ → ℕ → List ℕ → Mode → Task → Type 0
 IsAskedFor told old new language Sample task = task.loaded ≡ Ok sample_contents
 IsAskedFor told old new language Query task = IsLoadedFrom told old new language task
+IsAskedFor told old new language Explain task = IsLoadedFrom told old new language task
 IsAskedFor told old new language Check task = IsLoadedFrom told old new language task
+
+-- whether the lines of a mode are answered over the release of a source's files
+abbrev pub AnswersFiles : Mode → Type 0
+AnswersFiles Sample = ⊥
+AnswersFiles Query = ⊤
+AnswersFiles Explain = ⊤
+AnswersFiles Check = ⊥
 
 -- the task of a mode
 pub record IsTask (told : Option (List FileText)) (old new : ℕ) (language : List ℕ) (mode : Mode) (task : Task) : Type 0 where
@@ -98,10 +107,10 @@ pub record IsTask (told : Option (List FileText)) (old new : ℕ) (language : Li
 abbrev pub sample_task : Task
 sample_task = record { mode = Sample; loaded = Ok sample_contents; names = [] }
 
--- the query lines of an input to its end were answered
-pub record IsAnswered {R W E : Type 0} (r : Input R) (w : Output W) (contents : Contents) (before after : Streams R W E) : Type 0 where
+-- the query lines of an input to its end were answered, by what answers a line
+pub record IsAnswered {R W E : Type 0} (r : Input R) (w : Output W) (answers : Answers) (before after : Streams R W E) : Type 0 where
   pub read : IsAtEnd (r.remaining after.input)
-  pub written : IfSome (r.remaining before.input) (λ bytes. AreWritten (IsAnswer contents) (query_lines bytes) (w.written before.output) (w.written after.output))
+  pub written : IfSome (r.remaining before.input) (λ bytes. AreWritten answers (query_lines bytes) (w.written before.output) (w.written after.output))
 
 -- the report was written, and nothing was read
 pub record IsReported {R W E : Type 0} (w : Output W) (contents : Contents) (before after : Streams R W E) : Type 0 where
@@ -110,8 +119,9 @@ pub record IsReported {R W E : Type 0} (w : Output W) (contents : Contents) (bef
 
 -- what a mode asks for was done with a release
 abbrev pub IsServed : {R W E : Type 0} → Input R → Output W → Mode → Contents → Streams R W E → Streams R W E → Type 0
-IsServed r w Sample contents before after = IsAnswered r w contents before after
-IsServed r w Query contents before after = IsAnswered r w contents before after
+IsServed r w Sample contents before after = IsAnswered r w (IsAnswer contents) before after
+IsServed r w Query contents before after = IsAnswered r w (IsAnswer contents) before after
+IsServed r w Explain contents before after = IsAnswered r w (IsExplanation contents) before after
 IsServed r w Check contents before after = IsReported w contents before after
 
 -- a front of the report was written, not all of it, and nothing was read
@@ -127,6 +137,8 @@ IsCut r w Sample fault contents before after =
     EndsAt fault (IsAnswer contents) (r.remaining before.input) (r.remaining after.input) (w.written before.output) (w.written after.output)
 IsCut r w Query fault contents before after =
     EndsAt fault (IsAnswer contents) (r.remaining before.input) (r.remaining after.input) (w.written before.output) (w.written after.output)
+IsCut r w Explain fault contents before after =
+    EndsAt fault (IsExplanation contents) (r.remaining before.input) (r.remaining after.input) (w.written before.output) (w.written after.output)
 IsCut r w Check fault contents before after = IsReportCut w fault contents before after
 
 -- status 0: all was done, no stream has failed, and nothing was told

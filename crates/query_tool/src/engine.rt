@@ -4,26 +4,22 @@ ghost use Rattle.std.specs.Cmp.Lexicographic.{slice_cmp};
 ghost use Rattle.std.specs.List.Sorted.{IsSorted, IsStrictlyIncreasing};
 ghost use Rattle.std.specs.Ordering.{nat_cmp};
 ghost use Rattle.constraint_tree.specs.Denotation.{denotation};
-ghost use Rattle.constraint_tree.specs.Tree.{Tree, tree_of};
-ghost use Rattle.postings.specs.Indexed.{IsIndexOf};
+ghost use Rattle.constraint_tree.specs.Tree.{Tree};
 ghost use Rattle.snapshot.specs.Contents.{IsFaultOf, load_of};
 ghost use Rattle.snapshot.specs.Files.{name_concepts};
 ghost use Rattle.snapshot.specs.Pieces.{AreInOrder, FailsToList, IsUnlisted, has_kind_at, listed};
 ghost use Rattle.snapshot.specs.Taking.{FailsAtRead, FailsBelow, FileIs, RaisesOnlyAtDevice, is_device};
 ghost use Rattle.release_files.specs.Source.{file_text};
-ghost use Rattle.query_tool.specs.Answer.{constraint_answer, IsAnswer};
+ghost use Rattle.query_tool.specs.Answer.{IsAnswer};
+ghost use Rattle.query_tool.specs.Explanation.{IsExplanation};
 ghost use Rattle.query_tool.specs.FrontLaw.{same_front};
 
-use answer_printer::{print_answer, print_fault};
-use constraint_tree::Constraint;
-use ecl_lexer::QueryFault;
-use ecl_parser::parse;
-use executor::execute;
-use idset::MixedSet;
+use crate::answering::{answer_over, answer_over_with, explain_over};
+use planner::Choice;
 use postings::Indexes;
 use query_run::AnswerLine;
 use release_files::{FileSource, NamedBytes};
-use set_algebra::lower;
+use rewrites::Step;
 use snapshot::{Limits, LoadFault, Snapshot};
 use std::alloc::{AllocError, Global};
 use std::marker::Model;
@@ -108,6 +104,47 @@ impl Engine {
     {
         answer_over(alloc, &self.snapshot, &self.indexes, line, output)
     }
+
+    /// Appends the same answer, by another plan: that of the constraint after some steps of rewriting,
+    /// of which those that do not apply are passed over, where each leaf takes the choice at its place
+    /// among some choices, if there is one and it offers it. Where memory is refused `output` is
+    /// unchanged.
+    pub fn answer_with(
+        &self,
+        alloc: Global,
+        line: &[u8],
+        steps: &[Step<'_>],
+        choices: &[Choice],
+        output: &mut Vec<u8>,
+    ) -> Result<(), AllocError>
+        ensures ok { OnOk result ((text : List ℕ) × IsAnswer self.now line.now text × (output.new.items ≡ output.old.items ++ text)) }
+        ensures err { OnErr result (output.new.items ≡ output.old.items) }
+    {
+        answer_over_with(
+            alloc,
+            &self.snapshot,
+            &self.indexes,
+            line,
+            steps,
+            choices,
+            output,
+        )
+    }
+
+    /// Appends how a query line is answered: `PLAN` and how many items that visits at most, then a line
+    /// for each node of its plan. A line that is no constraint is refused as `answer` does. Where memory
+    /// is refused `output` is unchanged.
+    pub fn explain(
+        &self,
+        alloc: Global,
+        line: &[u8],
+        output: &mut Vec<u8>,
+    ) -> Result<(), AllocError>
+        ensures ok { OnOk result ((text : List ℕ) × IsExplanation self.now line.now text × (output.new.items ≡ output.old.items ++ text)) }
+        ensures err { OnErr result (output.new.items ≡ output.old.items) }
+    {
+        explain_over(alloc, &self.snapshot, &self.indexes, line, output)
+    }
 }
 
 impl AnswerLine for Engine {
@@ -137,40 +174,4 @@ fn with_indexes(alloc: Global, snapshot: Snapshot) -> Result<Engine, LoadFault>
         Ok(indexes) => Ok(Engine { snapshot, indexes }),
         Err(AllocError) => Err(LoadFault::Memory),
     }
-}
-
-// Appends what answers a line over a release.
-fn answer_over(
-    alloc: Global,
-    snapshot: &Snapshot,
-    indexes: &Indexes,
-    line: &[u8],
-    output: &mut Vec<u8>,
-) -> Result<(), AllocError>
-    requires { IsIndexOf indexes.now snapshot.now.release }
-    ensures ok { OnOk result ((text : List ℕ) × IsAnswer snapshot.now line.now text × (output.new.items ≡ output.old.items ++ text)) }
-    ensures err { OnErr result (output.new.items ≡ output.old.items) }
-{
-    match parse(alloc, line) {
-        Ok(constraint) => answer_constraint(alloc, snapshot, indexes, &constraint, output),
-        Err(QueryFault::Memory) => Err(AllocError),
-        Err(fault) => print_fault(alloc, fault, output),
-    }
-}
-
-// Appends what answers a constraint over a release.
-fn answer_constraint(
-    alloc: Global,
-    snapshot: &Snapshot,
-    indexes: &Indexes,
-    constraint: &Constraint,
-    output: &mut Vec<u8>,
-) -> Result<(), AllocError>
-    requires { IsIndexOf indexes.now snapshot.now.release }
-    ensures ok { OnOk result (output.new.items ≡ output.old.items ++ constraint_answer snapshot.now (tree_of constraint.now)) }
-    ensures err { OnErr result (output.new.items ≡ output.old.items) }
-{
-    let plan = lower(alloc, constraint)?;
-    let found: MixedSet = execute(alloc, &plan, snapshot, indexes)?;
-    print_answer(alloc, snapshot, &found, output)
 }

@@ -8,11 +8,12 @@ ghost use Rattle.sample_release.specs.SampleContents.{sample_contents};
 ghost use Rattle.answer_printer.specs.LoadRefusal.{load_refusal};
 ghost use Rattle.answer_printer.specs.ReportText.{report_text};
 ghost use Rattle.query_tool.specs.Report.{report_of};
-ghost use Rattle.query_tool.specs.Serve.{EndsWith, IsLoadOf, IsTask, ServesWith, Task, TellsLoadFault, fault_text, memory_text, refusal_status_of, sample_task, status_code, status_of};
+ghost use Rattle.query_tool.specs.Serve.{AnswersFiles, EndsWith, IsLoadOf, IsTask, ServesWith, Task, TellsLoadFault, fault_text, memory_text, refusal_status_of, sample_task, status_code, status_of};
 ghost use Rattle.query_tool.specs.Streams.{IsTold, outputs, streams};
 ghost use Rattle.query_tool.specs.WordRefusal.{TellsWordFault};
 
 use crate::engine::Engine;
+use crate::explaining::run_explain;
 use answer_printer::{print_load_fault, print_report};
 use command_line::{Mode, Request, WordFault};
 use query_run::{RunFault, run};
@@ -53,7 +54,8 @@ impl Status {
 }
 
 /// Does what is asked of a release: of the one that is built in, or of that of the files of a source.
-/// Answers the query lines of an input, or, at `Check`, writes what the release has, and reads nothing.
+/// Answers the query lines of an input; at `Explain` tells the plan of each; or, at `Check`, writes what
+/// the release has, and reads nothing.
 /// Nothing is written before the release is loaded. What is refused, and a fault, is told by one line on
 /// `errors`, whose own failure changes nothing.
 pub fn serve<S: FileSource, R: QueryInput, W: AnswerOutput, E: AnswerOutput>(
@@ -75,7 +77,8 @@ pub fn serve<S: FileSource, R: QueryInput, W: AnswerOutput, E: AnswerOutput>(
     let lang = request.lang.as_str();
     match request.mode {
         Mode::Sample => answer_sample(alloc, input, output, errors),
-        Mode::Query => answer_source(alloc, lang, source, input, output, errors),
+        Mode::Query => answer_source(alloc, Mode::Query, lang, source, input, output, errors),
+        Mode::Explain => answer_source(alloc, Mode::Explain, lang, source, input, output, errors),
         Mode::Check => report_source(alloc, lang, source, input, output, errors),
     }
 }
@@ -107,26 +110,50 @@ fn sample_engine(alloc: Global) -> Result<Engine, LoadFault>
     Engine::load(alloc, &sample_files(), "en", Limits::standard())
 }
 
-// Answers the query lines of an input over the release of a source's files.
+// Answers the query lines of an input over the release of a source's files, or tells their plans.
 fn answer_source<S: FileSource, R: QueryInput, W: AnswerOutput, E: AnswerOutput>(
     alloc: Global,
+    mode: Mode,
     lang: &str,
     source: &mut S,
     input: &mut R,
     output: &mut W,
     errors: &mut E,
 ) -> Status
+    requires mode { AnswersFiles mode }
     requires input { R.has_failed input.old ≡ false }
     requires output { W.has_failed output.old ≡ false }
     requires errors { E.AnswerOutput.has_failed errors.old ≡ false }
     ensures { (task : Task)
-        × IsTask (S.files source.old) (S.failure_count source.old) (S.failure_count source.new) lang.now Mode.Query task
+        × IsTask (S.files source.old) (S.failure_count source.old) (S.failure_count source.new) lang.now mode task
         × EndsWith R.QueryInput W.AnswerOutput E.AnswerOutput task result (streams input.old output.old errors.old) (streams input.new output.new errors.new) }
 {
     let mut names = Vec::new(alloc);
     match Engine::load_from(alloc, source, &mut names, lang, Limits::standard()) {
-        Ok(engine) => answer_and_drop(alloc, engine, input, output, errors),
+        Ok(engine) => answer_lines(alloc, mode, engine, input, output, errors),
         Err(fault) => refuse(alloc, fault, names.as_slice(), errors),
+    }
+}
+
+// Answers the query lines of an input over a release, or tells their plans.
+fn answer_lines<R: QueryInput, W: AnswerOutput, E: AnswerOutput>(
+    alloc: Global,
+    mode: Mode,
+    engine: Engine,
+    input: &mut R,
+    output: &mut W,
+    errors: &mut E,
+) -> Status
+    requires mode { AnswersFiles mode }
+    requires input { R.has_failed input.old ≡ false }
+    requires output { W.has_failed output.old ≡ false }
+    requires errors { E.AnswerOutput.has_failed errors.old ≡ false }
+    ensures { ServesWith R.QueryInput W.AnswerOutput E.AnswerOutput mode engine result
+        (streams input.old output.old errors.old) (streams input.new output.new errors.new) }
+{
+    match mode {
+        Mode::Explain => explain_and_drop(alloc, engine, input, output, errors),
+        _ => answer_and_drop(alloc, engine, input, output, errors),
     }
 }
 
@@ -164,6 +191,45 @@ fn answer_all<R: QueryInput, W: AnswerOutput, E: AnswerOutput>(
         (streams input.old output.old errors.old) (streams input.new output.new errors.new) }
 {
     match run(alloc, engine, input, output) {
+        Ok(_) => Status::Done,
+        Err(fault) => tell_fault(fault, errors),
+    }
+}
+
+// Tells the plans of the query lines of an input over a release, and lets the release go.
+fn explain_and_drop<R: QueryInput, W: AnswerOutput, E: AnswerOutput>(
+    alloc: Global,
+    engine: Engine,
+    input: &mut R,
+    output: &mut W,
+    errors: &mut E,
+) -> Status
+    requires input { R.has_failed input.old ≡ false }
+    requires output { W.has_failed output.old ≡ false }
+    requires errors { E.AnswerOutput.has_failed errors.old ≡ false }
+    ensures { ServesWith R.QueryInput W.AnswerOutput E.AnswerOutput Mode.Explain engine result
+        (streams input.old output.old errors.old) (streams input.new output.new errors.new) }
+{
+    let status = explain_all(alloc, &engine, input, output, errors);
+    drop(engine);
+    status
+}
+
+// Tells the plans of the query lines of an input over a release.
+fn explain_all<R: QueryInput, W: AnswerOutput, E: AnswerOutput>(
+    alloc: Global,
+    engine: &Engine,
+    input: &mut R,
+    output: &mut W,
+    errors: &mut E,
+) -> Status
+    requires input { R.has_failed input.old ≡ false }
+    requires output { W.has_failed output.old ≡ false }
+    requires errors { E.AnswerOutput.has_failed errors.old ≡ false }
+    ensures { ServesWith R.QueryInput W.AnswerOutput E.AnswerOutput Mode.Explain engine.now result
+        (streams input.old output.old errors.old) (streams input.new output.new errors.new) }
+{
+    match run_explain(alloc, engine, input, output) {
         Ok(_) => Status::Done,
         Err(fault) => tell_fault(fault, errors),
     }

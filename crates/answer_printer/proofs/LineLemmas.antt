@@ -1,0 +1,137 @@
+-- Lines behind one another, and what loops over the parts of a node keep of them.
+use Rattle.std.proofs.Common.{ℕ, suc, ◌+◌, ◌++◌, ◌∷◌, [], ◌≡◌, ◌≤◌, ◌<◌, ◌∙◌, List, drop, length, get_or, refl, sym, ap, append-nil, append_assoc, length-append}
+use Rattle.std.proofs.Math.Seq.{drop-nil}
+use Rattle.set_algebra.specs.declared.plan.ConceptPlan.{ConceptPlan}
+use Rattle.set_algebra.specs.declared.plan.UnitPlan.{UnitPlan}
+use Rattle.set_algebra.specs.Plan.{group_plan_of, group_plans_of, plan_of, plans_of}
+use Rattle.planner.specs.declared.choice.Choice.{Choice}
+use Rattle.planner.proofs.ListLemmas.{drop_further}
+use Rattle.planner.proofs.LoopLemmas.{Joined, Sort, joined_end, joined_turn, of_concepts, of_groups}
+use Rattle.answer_printer.specs.PlanLines.{before_bound, first_bound, with_bounds}
+use Rattle.answer_printer.specs.PlanText.{bound_line, group_outline, groups_outline, outline, plans_outline}
+
+-- behind the first, so many more
+pub drop_behind : {X : Type 0} (count : ℕ) (xs : List X) → drop count (drop 1 xs) ≡ drop (suc count) xs
+drop_behind count [] = drop-nil count ∙ sym (drop-nil (suc count))
+drop_behind count (x ∷ xs) = refl
+
+-- behind some, and then some more
+pub drop_both : {X Y : Type 0} (one other : List X) (ys : List Y) → drop (length other) (drop (length one) ys) ≡ drop (length (one ++ other)) ys
+drop_both one other ys = drop_further (length other) (length one) ys ∙ (λ i. drop (sym (length-append one other) i) ys)
+
+-- and those behind a first
+pub drop_both_behind : {X Y : Type 0} (one other : List X) (ys : List Y)
+    → drop (length other) (drop (length one) (drop 1 ys)) ≡ drop (suc (length (one ++ other))) ys
+drop_both_behind one other ys = drop_both one other (drop 1 ys) ∙ drop_behind (length (one ++ other)) ys
+
+-- lines in front of others take their bounds from the front
+pub with_bounds-append : (one other : List (List ℕ)) (bounds : List ℕ)
+    → with_bounds (one ++ other) bounds ≡ with_bounds one bounds ++ with_bounds other (drop (length one) bounds)
+with_bounds-append [] other bounds = refl
+with_bounds-append (before ∷ one) other bounds =
+    let line = bound_line before (first_bound bounds) in
+    ap (λ (more : List ℕ). line ++ more) (with_bounds-append one other (drop 1 bounds))
+    ∙ ap (λ (behind : List ℕ). line ++ (with_bounds one (drop 1 bounds) ++ with_bounds other behind)) (drop_behind (length one) bounds)
+    ∙ sym (append_assoc line (with_bounds one (drop 1 bounds)) (with_bounds other (drop (suc (length one)) bounds)))
+
+-- the line of a node and those of two parts behind it were written
+pub record TwoWritten (given before : List ℕ) (one other : List (List ℕ)) (bounds last rest : List ℕ) : Type 0 where
+  pub lines : last ≡ given ++ with_bounds (before ∷ (one ++ other)) bounds
+  pub behind : rest ≡ drop (suc (length (one ++ other))) bounds
+
+pub two_written : (given before : List ℕ) (one other : List (List ℕ)) (bounds : List ℕ) {line behind inner left last rest : List ℕ}
+    → line ≡ given ++ bound_line before (first_bound bounds) → behind ≡ drop 1 bounds
+    → inner ≡ line ++ with_bounds one behind → left ≡ drop (length one) behind
+    → last ≡ inner ++ with_bounds other left → rest ≡ drop (length other) left
+    → TwoWritten given before one other bounds last rest
+two_written given before one other bounds line_is behind_is inner_is left_is last_is rest_is =
+    let own = bound_line before (first_bound bounds) in
+    let first = with_bounds one (drop 1 bounds) in
+    let second = with_bounds other (drop (length one) (drop 1 bounds)) in
+    record {
+      lines =
+          last_is
+          ∙ (λ i. inner_is i ++ with_bounds other (left_is i))
+          ∙ (λ i. (line_is i ++ with_bounds one (behind_is i)) ++ with_bounds other (drop (length one) (behind_is i)))
+          ∙ append_assoc (given ++ own) first second
+          ∙ append_assoc given own (first ++ second)
+          ∙ ap (λ (more : List ℕ). given ++ (own ++ more)) (sym (with_bounds-append one other (drop 1 bounds)));
+      behind =
+          rest_is
+          ∙ ap (drop (length other)) left_is
+          ∙ ap (λ (bounds : List ℕ). drop (length other) (drop (length one) bounds)) behind_is
+          ∙ drop_both_behind one other bounds;
+    }
+
+-- what stands before the bounds of the nodes of a part, of either sort
+abbrev pub Outlines : (Part : Type 0) → Sort Part → Type 0
+Outlines Part sort = Joined Part sort (List (List ℕ)) (List (List ℕ)) [] ◌++◌
+
+abbrev pub concept_outlines : List ℕ → Outlines ConceptPlan of_concepts
+concept_outlines spaces = record {
+  of_part = λ choices part. outline before_bound spaces choices (plan_of part);
+  of_parts = λ choices parts. plans_outline before_bound spaces choices (plans_of parts);
+  none = λ choices. refl;
+  more = λ choices part parts. refl;
+}
+
+abbrev pub unit_outlines : List ℕ → Outlines UnitPlan of_groups
+unit_outlines spaces = record {
+  of_part = λ choices part. group_outline before_bound spaces choices (group_plan_of part);
+  of_parts = λ choices parts. groups_outline before_bound spaces choices (group_plans_of parts);
+  none = λ choices. refl;
+  more = λ choices part parts. refl;
+}
+
+-- behind what was written, the lines of what is left of the parts make those of all; and they leave the same bounds
+pub record LinesLeft (Part : Type 0) (sort : Sort Part) (outlines : Outlines Part sort) (given : List ℕ) (choices : List Choice) (bounds : List ℕ)
+    (parts : List Part) (place : ℕ) (so_far : List ℕ) (later : List Choice) (rest : List ℕ) : Type 0 where
+  pub lines : so_far ++ with_bounds (outlines.of_parts later (drop place parts)) rest ≡ given ++ with_bounds (outlines.of_parts choices parts) bounds
+  pub behind : drop (length (outlines.of_parts later (drop place parts))) rest ≡ drop (length (outlines.of_parts choices parts)) bounds
+
+-- the lines of all parts were written
+pub record LinesWritten (Part : Type 0) (sort : Sort Part) (outlines : Outlines Part sort) (given : List ℕ) (choices : List Choice) (bounds : List ℕ)
+    (parts : List Part) (so_far rest : List ℕ) : Type 0 where
+  pub lines : so_far ≡ given ++ with_bounds (outlines.of_parts choices parts) bounds
+  pub behind : rest ≡ drop (length (outlines.of_parts choices parts)) bounds
+
+module _ {Part : Type 0} where
+  -- a turn, and the end
+  pub lines_turn : {sort : Sort Part} {outlines : Outlines Part sort} {given : List ℕ} {choices : List Choice} {bounds : List ℕ} {parts : List Part}
+      {place : ℕ} {so_far : List ℕ} {later : List Choice} {rest : List ℕ}
+      → LinesLeft Part sort outlines given choices bounds parts place so_far later rest
+      → {part : Part} {next : List ℕ} {behind : List Choice} {left : List ℕ} → place < length parts → part ≡ get_or parts place part
+      → next ≡ so_far ++ with_bounds (outlines.of_part later part) rest → behind ≡ drop (sort.leaves_of part) later
+      → left ≡ drop (length (outlines.of_part later part)) rest
+      → LinesLeft Part sort outlines given choices bounds parts (place + 1) next behind left
+  lines_turn {sort} {outlines} {given} {choices} {bounds} {parts} {place} {so_far} {later} {rest} kept {part} within is next_is behind_is left_is =
+      let here = outlines.of_part later part in
+      let others = outlines.of_parts (drop (sort.leaves_of part) later) (drop (place + 1) parts) in
+      let all_are : outlines.of_parts later (drop place parts) ≡ here ++ others = joined_turn sort outlines parts place part later within is in
+      record {
+        lines =
+            (λ i. next_is i ++ with_bounds (outlines.of_parts (behind_is i) (drop (place + 1) parts)) (left_is i))
+            ∙ append_assoc so_far (with_bounds here rest) (with_bounds others (drop (length here) rest))
+            ∙ ap (λ (more : List ℕ). so_far ++ more) (sym (with_bounds-append here others rest))
+            ∙ ap (λ (before : List (List ℕ)). so_far ++ with_bounds before rest) (sym all_are)
+            ∙ kept.lines;
+        behind =
+            (λ i. drop (length (outlines.of_parts (behind_is i) (drop (place + 1) parts))) (left_is i))
+            ∙ drop_both here others rest
+            ∙ ap (λ (before : List (List ℕ)). drop (length before) rest) (sym all_are)
+            ∙ kept.behind;
+      }
+
+  pub lines_end : {sort : Sort Part} {outlines : Outlines Part sort} {given : List ℕ} {choices : List Choice} {bounds : List ℕ} {parts : List Part}
+      {place : ℕ} {so_far : List ℕ} {later : List Choice} {rest : List ℕ}
+      → LinesLeft Part sort outlines given choices bounds parts place so_far later rest → length parts ≤ place
+      → LinesWritten Part sort outlines given choices bounds parts so_far rest
+  lines_end {sort} {outlines} {given} {choices} {bounds} {parts} {place} {so_far} {later} {rest} kept past =
+      let none : outlines.of_parts later (drop place parts) ≡ [] = joined_end sort outlines parts place later past in
+      record {
+        lines =
+            sym (append-nil so_far)
+            ∙ ap (λ (before : List (List ℕ)). so_far ++ with_bounds before rest) (sym none)
+            ∙ kept.lines;
+        behind = ap (λ (before : List (List ℕ)). drop (length before) rest) (sym none) ∙ kept.behind;
+      }

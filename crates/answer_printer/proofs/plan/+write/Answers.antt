@@ -1,0 +1,103 @@
+use Rattle.std.proofs.Common.{ℕ, ◌≡◌, ◌∙◌, ◌++◌, ◌∷◌, List, ap, drop, length, sym}
+use Rattle.set_algebra.specs.declared.plan.ConceptPlan.{ConceptPlan}
+use Rattle.set_algebra.specs.Plan.{GroupPlan, Plan, group_plan_of, pairs_group, plan_of, plans_of, test_plan_of, values_plan}
+use Rattle.planner.specs.declared.choice.Choice.{Choice}
+use Rattle.planner.specs.Leaves.{leaves}
+use Rattle.planner.proofs.LoopLemmas.{rest_end, rest_turn}
+use Rattle.planner.proofs.PartLemmas.{values_are, values_behind}
+use Rattle.answer_printer.specs.PlanLines.{before_bound, first_bound, with_bounds}
+use Rattle.answer_printer.specs.PlanText.{bound_line, group_outline, group_words, node_words, outline, plans_outline, test_outline}
+use Rattle.answer_printer.proofs.LineLemmas.{lines_end, lines_turn, two_written}
+use Rattle.answer_printer.proofs.plan.+write.Goals as goal
+
+pub write_parts-loop-place-preserved : goal.write_parts-loop-place-preserved
+write_parts-loop-place-preserved t c =
+    let kept = c.loop-place.invariant in
+    let part = c.in_ok-left.ensures in
+    record {
+      rest = rest_turn kept.rest c.loop-place-test.true c.index-parts-place.is part.choices;
+      lines = lines_turn kept.lines c.loop-place-test.true c.index-parts-place.is part.text part.choices part.bounds;
+    }
+
+pub write_parts-returns : goal.write_parts-returns
+write_parts-returns t c =
+    let kept = c.loop-place.invariant in
+    let written = lines_end kept.lines c.loop-place-test.false in
+    record {
+      text = written.lines;
+      choices = rest_end kept.rest c.loop-place-test.false;
+      bounds = written.behind;
+    }
+
+pub write_unit_parts-loop-place-preserved : goal.write_unit_parts-loop-place-preserved
+write_unit_parts-loop-place-preserved t c =
+    let kept = c.loop-place.invariant in
+    let part = c.in_ok-left.ensures in
+    record {
+      rest = rest_turn kept.rest c.loop-place-test.true c.index-parts-place.is part.choices;
+      lines = lines_turn kept.lines c.loop-place-test.true c.index-parts-place.is part.text part.choices part.bounds;
+    }
+
+pub write_unit_parts-returns : goal.write_unit_parts-returns
+write_unit_parts-returns t c =
+    let kept = c.loop-place.invariant in
+    let written = lines_end kept.lines c.loop-place-test.false in
+    record {
+      text = written.lines;
+      choices = rest_end kept.rest c.loop-place-test.false;
+      bounds = written.behind;
+    }
+
+pub write_plan-returns-in-Values : goal.write_plan-returns-in-Values
+write_plan-returns-in-Values t c =
+    let spaces = c.args.spaces.now in
+    let choices = c.args.choices.now in
+    let bounds = c.args.bounds.now in
+    let given = c.args.text.now.items in
+    let start = plan_of c.deref-in-Values.result.now in
+    let names = plans_of c.deref-in-Values-2.result.now in
+    let is = values_are c.in-Values.start c.in-Values.names c.in-Values.is c.deref-in-Values.ensures c.deref-in-Values-2.ensures.value in
+    let deeper = c.as_slice-inner.ensures.value ∙ c.in_ok-deeper.ensures in
+    let from = c.in_ok-from-in-Values.ensures in
+    let last = c.in_ok-last-in-Values.ensures in
+    let first = λ (spaces : List ℕ). outline before_bound spaces choices start in
+    let second = λ (spaces : List ℕ) (choices : List Choice). plans_outline before_bound spaces choices names in
+    let written = two_written given (spaces ++ node_words choices (values_plan start names)) (first (32 ∷ spaces))
+    (second (32 ∷ spaces) (drop (leaves start) choices)) bounds
+    (c.in_ok-behind.ensures.text ∙ ap (λ (plan : Plan). given ++ bound_line (spaces ++ node_words choices plan) (first_bound bounds)) is)
+    c.in_ok-behind.ensures.behind
+    (from.text ∙ (λ i. c.write_line.new.text.items ++ with_bounds (first (deeper i)) c.in_ok-behind.behind.now))
+    (from.bounds ∙ (λ i. drop (length (first (deeper i))) c.in_ok-behind.behind.now))
+    (last.text ∙ (λ i. c.write_plan-in-Values.new.text.items ++ with_bounds (second (deeper i) (from.choices i)) c.in_ok-from-in-Values.from.bounds.now))
+    (last.bounds ∙ (λ i. drop (length (second (deeper i) (from.choices i))) c.in_ok-from-in-Values.from.bounds.now)) in
+    record {
+      text = written.lines ∙ sym (ap (λ (plan : Plan). given ++ with_bounds (outline before_bound spaces choices plan) bounds) is);
+      choices = values_behind start names choices is from.choices last.choices;
+      bounds = written.behind ∙ sym (ap (λ (plan : Plan). drop (length (outline before_bound spaces choices plan)) bounds) is);
+    }
+
+pub write_units-returns-clause-text : goal.write_units-returns-clause-text
+write_units-returns-clause-text t c =
+    let spaces = c.args.spaces.now in
+    let choices = c.args.choices.now in
+    let bounds = c.args.bounds.now in
+    let given = c.args.text.now.items in
+    let types = plan_of c.deref-in-Pairs.result.now in
+    let test = test_plan_of c.in-Pairs.test in
+    let is : group_plan_of c.args.plan.now ≡ pairs_group c.in-Pairs.count types test =
+    ap group_plan_of c.in-Pairs.is ∙ ap (λ (plan : ConceptPlan). pairs_group c.in-Pairs.count (plan_of plan) test) (sym c.deref-in-Pairs.ensures) in
+    let deeper = c.as_slice-inner.ensures.value ∙ c.in_ok-deeper.ensures in
+    let left = c.in_ok-left-in-Pairs.ensures in
+    let last = c.in_ok-last-in-Pairs.ensures in
+    let choices_left = left.choices ∙ ap (drop (leaves types)) c.after_first.ensures in
+    let first = λ (spaces : List ℕ) (choices : List Choice). outline before_bound spaces choices types in
+    let second = λ (spaces : List ℕ) (choices : List Choice). test_outline before_bound spaces choices test in
+    let written = two_written given (spaces ++ group_words choices (pairs_group c.in-Pairs.count types test)) (first (32 ∷ spaces) (drop 1 choices))
+    (second (32 ∷ spaces) (drop (leaves types) (drop 1 choices))) bounds
+    (c.in_ok-behind.ensures.text ∙ ap (λ (plan : GroupPlan). given ++ bound_line (spaces ++ group_words choices plan) (first_bound bounds)) is)
+    c.in_ok-behind.ensures.behind
+    (left.text ∙ (λ i. c.write_unit_line.new.text.items ++ with_bounds (first (deeper i) (c.after_first.ensures i)) c.in_ok-behind.behind.now))
+    (left.bounds ∙ (λ i. drop (length (first (deeper i) (c.after_first.ensures i))) c.in_ok-behind.behind.now))
+    (last.text ∙ (λ i. c.write_plan.new.text.items ++ with_bounds (second (deeper i) (choices_left i)) c.in_ok-left-in-Pairs.left.bounds.now))
+    (last.bounds ∙ (λ i. drop (length (second (deeper i) (choices_left i))) c.in_ok-left-in-Pairs.left.bounds.now)) in
+    written.lines ∙ sym (ap (λ (plan : GroupPlan). given ++ with_bounds (group_outline before_bound spaces choices plan) bounds) is)

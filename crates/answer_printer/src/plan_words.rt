@@ -1,0 +1,167 @@
+//! What a node of a plan is, in words.
+ghost use Rattle.std.specs.Prelude.{◌≡◌, ◌++◌, OnOk};
+ghost use Rattle.std.specs.Fmt.{signed_decimal};
+ghost use Rattle.constraint_tree.specs.Text.{compare_text, most_text};
+ghost use Rattle.set_algebra.specs.Plan.{group_plan_of, plan_of, test_plan_of};
+ghost use Rattle.answer_printer.specs.PlanText.{choice_words, count_words, group_words, leaf_words, node_words, operator_word as word_of_operator, pairs_words, test_words};
+
+use crate::numbers::append_number;
+use constraint_tree::{Cardinality, Compare, Operator};
+use planner::{Choice, first_choice};
+use rf2_rows::Decimal;
+use set_algebra::{ConceptPlan, UnitPlan, ValueTest};
+use std::alloc::AllocError;
+
+/// Adds what a node of a plan of concepts is, by the choices from its own first leaf on.
+pub fn write_node(
+    plan: &ConceptPlan,
+    choices: &[Choice],
+    text: &mut Vec<u8>,
+) -> Result<(), AllocError>
+    ensures { OnOk result (text.new.items ≡ text.old.items ++ node_words choices.now (plan_of plan.now)) }
+{
+    match plan {
+        ConceptPlan::Empty => text.extend_from_slice(b"empty"),
+        ConceptPlan::All => text.extend_from_slice(b"all"),
+        ConceptPlan::One(number) => {
+            text.extend_from_slice(b"one ")?;
+            append_number(*number, text)
+        }
+        ConceptPlan::Walk(operator, _) => text.extend_from_slice(operator_word(*operator)),
+        ConceptPlan::Members(_) => text.extend_from_slice(b"members"),
+        ConceptPlan::And(_) => text.extend_from_slice(b"and"),
+        ConceptPlan::Or(_) => text.extend_from_slice(b"or"),
+        ConceptPlan::Minus(_, _) => text.extend_from_slice(b"minus"),
+        ConceptPlan::Values(_, _) => text.extend_from_slice(b"values"),
+        ConceptPlan::Pairs {
+            back,
+            count,
+            test,
+            ..
+        } => {
+            text.extend_from_slice(direction(*back))?;
+            write_leaf(*count, test, first_choice(choices), text)
+        }
+        ConceptPlan::Units { count, .. } => {
+            text.extend_from_slice(b"units ")?;
+            write_count(*count, text)
+        }
+    }
+}
+
+/// Adds what a node of a plan of groups is.
+pub fn write_unit_node(
+    plan: &UnitPlan,
+    choices: &[Choice],
+    text: &mut Vec<u8>,
+) -> Result<(), AllocError>
+    ensures { OnOk result (text.new.items ≡ text.old.items ++ group_words choices.now (group_plan_of plan.now)) }
+{
+    match plan {
+        UnitPlan::Nothing => text.extend_from_slice(b"no-units"),
+        UnitPlan::Every => text.extend_from_slice(b"every-unit"),
+        UnitPlan::And(_) => text.extend_from_slice(b"unit-and"),
+        UnitPlan::Or(_) => text.extend_from_slice(b"unit-or"),
+        UnitPlan::Minus(_, _) => text.extend_from_slice(b"unit-minus"),
+        UnitPlan::Pairs { count, test, .. } => {
+            text.extend_from_slice(b"unit-pairs ")?;
+            write_leaf(*count, test, first_choice(choices), text)
+        }
+    }
+}
+
+// What a leaf counts, and from which rows it is answered.
+fn write_leaf(
+    count: Cardinality,
+    test: &ValueTest,
+    choice: Choice,
+    text: &mut Vec<u8>,
+) -> Result<(), AllocError>
+    ensures { OnOk result (text.new.items ≡ text.old.items ++ leaf_words count (test_plan_of test.now) choice) }
+{
+    write_count(count, text)?;
+    text.push(b' ')?;
+    write_test(test, text)?;
+    text.push(b' ')?;
+    text.extend_from_slice(choice_word(choice))
+}
+
+fn write_count(count: Cardinality, text: &mut Vec<u8>) -> Result<(), AllocError>
+    ensures { OnOk result (text.new.items ≡ text.old.items ++ count_words count) }
+{
+    append_number(count.min, text)?;
+    text.extend_from_slice(b"..")?;
+    match count.max {
+        None => text.extend_from_slice(b"*"),
+        Some(most) => append_number(most, text),
+    }
+}
+
+fn write_test(test: &ValueTest, text: &mut Vec<u8>) -> Result<(), AllocError>
+    ensures { OnOk result (text.new.items ≡ text.old.items ++ test_words (test_plan_of test.now)) }
+{
+    match test {
+        ValueTest::Within(_) => text.extend_from_slice(b"within"),
+        ValueTest::Outside(_) => text.extend_from_slice(b"outside"),
+        ValueTest::Number(compare, number) => {
+            text.extend_from_slice(compare_sign(*compare))?;
+            text.push(b' ')?;
+            write_decimal(*number, text)
+        }
+    }
+}
+
+// How many 10^-18 a number is.
+fn write_decimal(number: Decimal, text: &mut Vec<u8>) -> Result<(), AllocError>
+    ensures { OnOk result (text.new.items ≡ text.old.items ++ signed_decimal number.0) }
+{
+    let mut digits = itoa::Buffer::new();
+    text.extend_from_slice(digits.format(number.0).as_bytes())
+}
+
+// Whether rows are read from their sources or backwards.
+fn direction(back: bool) -> &'static [u8]
+    ensures { result.now ≡ pairs_words back }
+{
+    if back { b"pairs in " } else { b"pairs out " }
+}
+
+fn operator_word(operator: Operator) -> &'static [u8]
+    ensures { result.now ≡ word_of_operator operator }
+{
+    match operator {
+        Operator::Descendants => b"descendants",
+        Operator::DescendantsOrSelf => b"descendants-self",
+        Operator::Children => b"children",
+        Operator::ChildrenOrSelf => b"children-self",
+        Operator::Ancestors => b"ancestors",
+        Operator::AncestorsOrSelf => b"ancestors-self",
+        Operator::Parents => b"parents",
+        Operator::ParentsOrSelf => b"parents-self",
+        Operator::Top => b"top",
+        Operator::Bottom => b"bottom",
+    }
+}
+
+fn compare_sign(compare: Compare) -> &'static [u8]
+    ensures { result.now ≡ compare_text compare }
+{
+    match compare {
+        Compare::Equal => b"=",
+        Compare::NotEqual => b"!=",
+        Compare::Less => b"<",
+        Compare::LessOrEqual => b"<=",
+        Compare::Greater => b">",
+        Compare::GreaterOrEqual => b">=",
+    }
+}
+
+fn choice_word(choice: Choice) -> &'static [u8]
+    ensures { result.now ≡ choice_words choice }
+{
+    match choice {
+        Choice::ByValue => b"by value",
+        Choice::ByType => b"by type",
+        Choice::Scan => b"by scan",
+    }
+}

@@ -1,0 +1,9 @@
+//! The program once more, for a stored run that tells plans over the folder of a package (`data`, `args`).
+#![tactic(auto)]
+
+use query_tool::start;
+use std::process::ExitCode;
+
+fn main(rt: HostRuntime) -> ExitCode {
+    ExitCode::from(start(&rt).code())
+}

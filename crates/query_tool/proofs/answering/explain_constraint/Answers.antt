@@ -1,0 +1,20 @@
+use Rattle.std.proofs.lemmas.Result.{on_ok_weaker}
+use Rattle.constraint_tree.specs.Tree.{tree_of}
+use Rattle.set_algebra.specs.Plan.{plan_of}
+use Rattle.answer_printer.specs.PlanText.{plan_text}
+use Rattle.query_tool.proofs.ExplanationLemmas.{explains}
+use Rattle.query_tool.proofs.answering.explain_constraint.Goals as goal
+
+pub returns-clause-ok : goal.returns-clause-ok
+returns-clause-ok c =
+    let tree = tree_of c.args.constraint.now in
+    let indexed = c.args.indexes.now in
+    let physical = c.in_ok-physical.physical in
+    let chosen = c.in_ok-physical.ensures in
+    on_ok_weaker c.print_plan.result
+    (λ printed. (
+      plan_text indexed physical.choices (plan_of physical.plan),
+      explains c.args.snapshot.now tree indexed (plan_of physical.plan) physical.choices c.requires chosen.plan chosen.choices chosen.least chosen.meaning,
+      printed,
+    ))
+    c.print_plan.ensures.ok

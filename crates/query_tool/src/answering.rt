@@ -1,0 +1,181 @@
+//! What is appended for a query line over a release and its indexes: its answer, or its plan.
+ghost use Rattle.std.specs.Prelude.{ℕ, ◌≡◌, ◌++◌, List, IfOk, MatchOption, OnErr, OnOk};
+ghost use Rattle.ecl_lexer.specs.declared.fault.QueryFault.{QueryFault};
+ghost use Rattle.constraint_tree.specs.Denotation.{denotes};
+ghost use Rattle.constraint_tree.specs.Refusal.{IsConstraint, IsRefusalOf};
+ghost use Rattle.constraint_tree.specs.Tree.{Tree, tree_of};
+ghost use Rattle.set_algebra.specs.Meaning.{means};
+ghost use Rattle.set_algebra.specs.Plan.{plan_of};
+ghost use Rattle.postings.specs.Indexed.{IsIndexOf};
+ghost use Rattle.answer_printer.specs.AnswerText.{refusal_text};
+ghost use Rattle.query_tool.specs.Answer.{IsAnswer, constraint_answer};
+ghost use Rattle.query_tool.specs.Explanation.{Explains, IsExplanation};
+
+use crate::plans::{asked_plan, least_plan};
+use answer_printer::{print_answer, print_fault, print_plan};
+use constraint_tree::Constraint;
+use ecl_lexer::QueryFault;
+use ecl_parser::parse;
+use executor::{Visits, execute};
+use idset::{ConceptSet, MixedSet, SortedSet};
+use planner::{Choice, PhysicalPlan};
+use postings::Indexes;
+use rewrites::Step;
+use snapshot::Snapshot;
+use std::alloc::{AllocError, Global};
+
+/// Appends what answers a line over a release.
+pub fn answer_over(
+    alloc: Global,
+    snapshot: &Snapshot,
+    indexes: &Indexes,
+    line: &[u8],
+    output: &mut Vec<u8>,
+) -> Result<(), AllocError>
+    requires { IsIndexOf indexes.now snapshot.now.release }
+    ensures ok { OnOk result ((text : List ℕ) × IsAnswer snapshot.now line.now text × (output.new.items ≡ output.old.items ++ text)) }
+    ensures err { OnErr result (output.new.items ≡ output.old.items) }
+{
+    match constraint_of(alloc, line, output)? {
+        Some(constraint) => answer_constraint(alloc, snapshot, indexes, &constraint, output),
+        None => Ok(()),
+    }
+}
+
+/// The same by plans that are rewritten by steps, with choices that are asked for.
+pub fn answer_over_with(
+    alloc: Global,
+    snapshot: &Snapshot,
+    indexes: &Indexes,
+    line: &[u8],
+    steps: &[Step<'_>],
+    choices: &[Choice],
+    output: &mut Vec<u8>,
+) -> Result<(), AllocError>
+    requires { IsIndexOf indexes.now snapshot.now.release }
+    ensures ok { OnOk result ((text : List ℕ) × IsAnswer snapshot.now line.now text × (output.new.items ≡ output.old.items ++ text)) }
+    ensures err { OnErr result (output.new.items ≡ output.old.items) }
+{
+    match constraint_of(alloc, line, output)? {
+        Some(constraint) => {
+            answer_with(
+                alloc,
+                snapshot,
+                indexes,
+                &constraint,
+                steps,
+                choices,
+                output,
+            )
+        }
+        None => Ok(()),
+    }
+}
+
+/// Appends what explains a line over a release.
+pub fn explain_over(
+    alloc: Global,
+    snapshot: &Snapshot,
+    indexes: &Indexes,
+    line: &[u8],
+    output: &mut Vec<u8>,
+) -> Result<(), AllocError>
+    requires { IsIndexOf indexes.now snapshot.now.release }
+    ensures ok { OnOk result ((text : List ℕ) × IsExplanation snapshot.now line.now text × (output.new.items ≡ output.old.items ++ text)) }
+    ensures err { OnErr result (output.new.items ≡ output.old.items) }
+{
+    match constraint_of(alloc, line, output)? {
+        Some(constraint) => explain_constraint(alloc, snapshot, indexes, &constraint, output),
+        None => Ok(()),
+    }
+}
+
+// The constraint that a line is; of one that is none the line that refuses it is appended.
+fn constraint_of(
+    alloc: Global,
+    line: &[u8],
+    output: &mut Vec<u8>,
+) -> Result<Option<Constraint>, AllocError>
+    ensures ok { IfOk result (λ found. MatchOption found
+        ((fault : QueryFault) × IsRefusalOf line.now fault × (output.new.items ≡ output.old.items ++ refusal_text fault))
+        (λ constraint. IsConstraint line.now (tree_of constraint) × (output.new.items ≡ output.old.items))) }
+    ensures err { OnErr result (output.new.items ≡ output.old.items) }
+{
+    match parse(alloc, line) {
+        Ok(constraint) => Ok(Some(constraint)),
+        Err(QueryFault::Memory) => Err(AllocError),
+        Err(fault) => {
+            print_fault(alloc, fault, output)?;
+            Ok(None)
+        }
+    }
+}
+
+// Appends what answers a constraint over a release.
+fn answer_constraint(
+    alloc: Global,
+    snapshot: &Snapshot,
+    indexes: &Indexes,
+    constraint: &Constraint,
+    output: &mut Vec<u8>,
+) -> Result<(), AllocError>
+    requires { IsIndexOf indexes.now snapshot.now.release }
+    ensures ok { OnOk result (output.new.items ≡ output.old.items ++ constraint_answer snapshot.now (tree_of constraint.now)) }
+    ensures err { OnErr result (output.new.items ≡ output.old.items) }
+{
+    let physical = least_plan(alloc, constraint, indexes)?;
+    answer_by::<MixedSet>(alloc, &physical, snapshot, indexes, output)
+}
+
+// The same by its plan after some steps, with choices that are asked for.
+fn answer_with(
+    alloc: Global,
+    snapshot: &Snapshot,
+    indexes: &Indexes,
+    constraint: &Constraint,
+    steps: &[Step<'_>],
+    choices: &[Choice],
+    output: &mut Vec<u8>,
+) -> Result<(), AllocError>
+    requires { IsIndexOf indexes.now snapshot.now.release }
+    ensures ok { OnOk result (output.new.items ≡ output.old.items ++ constraint_answer snapshot.now (tree_of constraint.now)) }
+    ensures err { OnErr result (output.new.items ≡ output.old.items) }
+{
+    let physical = asked_plan(alloc, constraint, steps, choices, indexes)?;
+    answer_by::<SortedSet>(alloc, &physical, snapshot, indexes, output)
+}
+
+// Appends the answer that a plan gives over a release, by one form of set: that of any constraint that denotes what the plan means.
+fn answer_by<S: ConceptSet>(
+    alloc: Global,
+    physical: &PhysicalPlan,
+    snapshot: &Snapshot,
+    indexes: &Indexes,
+    output: &mut Vec<u8>,
+) -> Result<(), AllocError>
+    requires { IsIndexOf indexes.now snapshot.now.release }
+    ensures ok { (tree : Tree)
+        → ((concept : ℕ) → means snapshot.now.release (plan_of physical.now.plan) concept ≡ denotes snapshot.now.release tree concept)
+        → OnOk result (output.new.items ≡ output.old.items ++ constraint_answer snapshot.now tree) }
+    ensures err { OnErr result (output.new.items ≡ output.old.items) }
+{
+    let mut visits = Visits { count: 0 };
+    let found: S = execute(alloc, physical, snapshot, indexes, &mut visits)?;
+    print_answer(alloc, snapshot, &found, output)
+}
+
+// Appends what explains a constraint over a release.
+fn explain_constraint(
+    alloc: Global,
+    snapshot: &Snapshot,
+    indexes: &Indexes,
+    constraint: &Constraint,
+    output: &mut Vec<u8>,
+) -> Result<(), AllocError>
+    requires { IsIndexOf indexes.now snapshot.now.release }
+    ensures ok { OnOk result ((text : List ℕ) × Explains snapshot.now (tree_of constraint.now) text × (output.new.items ≡ output.old.items ++ text)) }
+    ensures err { OnErr result (output.new.items ≡ output.old.items) }
+{
+    let physical = least_plan(alloc, constraint, indexes)?;
+    print_plan(alloc, &physical, indexes, output)
+}

@@ -1,0 +1,59 @@
+//! The plans that constraints are answered by, and explained.
+ghost use Rattle.std.specs.Prelude.{ℕ, ◌≡◌, IfOk};
+ghost use Rattle.rf2_rows.specs.Release.{Release};
+ghost use Rattle.constraint_tree.specs.Denotation.{denotes};
+ghost use Rattle.constraint_tree.specs.Tree.{tree_of};
+ghost use Rattle.set_algebra.specs.Lowering.{lowered};
+ghost use Rattle.set_algebra.specs.Meaning.{means};
+ghost use Rattle.set_algebra.specs.Plan.{plan_of};
+ghost use Rattle.rewrites.specs.Steps.{all_applied};
+ghost use Rattle.planner.specs.Asked.{choices_with};
+ghost use Rattle.planner.specs.Chosen.{least_choices};
+ghost use Rattle.planner.specs.Offered.{AreLeast};
+ghost use Rattle.query_tool.specs.Explanation.{executed_plan};
+
+use constraint_tree::Constraint;
+use planner::{Choice, PhysicalPlan, choose, choose_with};
+use postings::Indexes;
+use rewrites::{Step, apply_all, simplify};
+use set_algebra::lower;
+use std::alloc::{AllocError, Global};
+
+/// The plan that a constraint is answered by, and that explains it: its own, simplified, with the choice of least bound for each leaf.
+/// It means what the constraint denotes. The error is want of memory.
+pub fn least_plan(
+    alloc: Global,
+    constraint: &Constraint,
+    indexes: &Indexes,
+) -> Result<PhysicalPlan, AllocError>
+    ensures plan { IfOk result (λ physical. plan_of physical.plan ≡ executed_plan (tree_of constraint.now)) }
+    ensures choices { IfOk result (λ physical. physical.choices ≡ least_choices indexes.now (plan_of physical.plan)) }
+    ensures least { IfOk result (λ physical. AreLeast indexes.now physical.choices (plan_of physical.plan)) }
+    ensures meaning { IfOk result (λ physical. (release : Release) (concept : ℕ)
+        → means release (plan_of physical.plan) concept ≡ denotes release (tree_of constraint.now) concept) }
+{
+    let own = lower(alloc, constraint)?;
+    let physical = choose(alloc, simplify(own), indexes)?;
+    Ok(physical)
+}
+
+/// The plan of a constraint, rewritten by steps, of which those that do not apply are passed over, with choices that are asked for: of
+/// each leaf the one at its place, where the list has one and the leaf offers it. It means what the constraint denotes, whatever the
+/// steps and the choices. The error is want of memory.
+pub fn asked_plan(
+    alloc: Global,
+    constraint: &Constraint,
+    steps: &[Step<'_>],
+    choices: &[Choice],
+    indexes: &Indexes,
+) -> Result<PhysicalPlan, AllocError>
+    ensures plan { IfOk result (λ physical. plan_of physical.plan ≡ (all_applied steps.now (lowered (tree_of constraint.now)) 0).0) }
+    ensures choices { IfOk result (λ physical. physical.choices ≡ choices_with indexes.now choices.now (plan_of physical.plan)) }
+    ensures meaning { IfOk result (λ physical. (release : Release) (concept : ℕ)
+        → means release (plan_of physical.plan) concept ≡ denotes release (tree_of constraint.now) concept) }
+{
+    let own = lower(alloc, constraint)?;
+    let (plan, _used) = apply_all(alloc, own, steps)?;
+    let physical = choose_with(alloc, plan, choices, indexes)?;
+    Ok(physical)
+}
