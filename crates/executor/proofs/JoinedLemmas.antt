@@ -1,10 +1,10 @@
 -- How the lists of some concepts are joined.
 use Rattle.std.proofs.Common.{ℕ, ◌≡◌, ◌<◌, ◌≤◌, ◌+◌, ◌++◌, ◌∷◌, [], ◌∙◌, ⊎_elim, Bool, true, false, ◌&&◌, ◌||◌, cond, List, length, get_or, take, refl, sym, ap, subst, arith, append-nil, append_assoc}
-use Rattle.std.specs.Prelude.{All, filter}
+use Rattle.std.specs.Prelude.{filter}
 use Rattle.std.specs.Bool.{beq}
 use Rattle.std.specs.List.{list_any}
 use Rattle.std.proofs.lemmas.Bool.{cases_lt, false≢true, le-ltb, lt-ltb}
-use Rattle.std.proofs.lemmas.List.{get_or_default, get_or_past}
+use Rattle.std.proofs.lemmas.List.{get_or_past}
 use Rattle.hierarchy.specs.Hierarchy.{one_row, reaches}
 use Rattle.rf2_rows.specs.Release.{Release}
 use Rattle.hierarchy.proofs.HierarchyLemmas.{chain_from_test, chain_of_two, test_from_chain}
@@ -12,7 +12,7 @@ use Rattle.constraint_tree.proofs.WalkLemmas.{passing_item, some_item_passes}
 use Rattle.idset.specs.Sets.{all_items, has_item, IsRisingBelow, numbers_where}
 use Rattle.idset.specs.Words.{is_set}
 use Rattle.idset.proofs.Normal.{has_item-numbers_where_any, numbers_where-agree}
-use Rattle.idset.proofs.Places.{filter_step, get_or-below}
+use Rattle.idset.proofs.Places.{filter_step}
 use Rattle.idset.proofs.Rising.{has_item-past_bound, numbers_where-rising, rising_is_numbers_where, rising_is_where}
 use Rattle.hierarchy.specs.KeyedLists.{list_of}
 use Rattle.ancestor_index.specs.HierarchyLists.{Hierarchy, hierarchy_of, is_child, lists_where}

@@ -1,5 +1,5 @@
 -- The components of reference sets, by the numbers of concepts and by the member rows.
-use Rattle.std.proofs.Common.{ℕ, ◌≡◌, ◌<◌, ◌∙◌, ◌∷◌, [], ◌==◌, ◌&&◌, ◌||◌, Bool, true, false, List, length, get_or, map, suc, refl, sym, ap, subst, arith}
+use Rattle.std.proofs.Common.{ℕ, ◌≡◌, ◌<◌, ◌∙◌, ◌∷◌, [], ◌==◌, ◌&&◌, ◌||◌, Bool, true, false, List, length, get_or, refl, sym, ap, subst, arith}
 use Rattle.std.specs.Prelude.{All, Contains}
 use Rattle.std.specs.List.{flat_map, list_any}
 use Rattle.std.proofs.lemmas.Bool.{eq-eqb, eqb-true}

@@ -118,3 +118,17 @@ pub fn count_units(
     let limits = units_limits(count, indexes.concept_count() as u64, groups);
     visits.add_node(items, limits);
 }
+
+/// How many items MINUS reads where the first of its parts has found so many, and what both find at most is told: what the first has
+/// found once, and what the second finds of it; and where there is room the first twice more, to see how many rows it has.
+pub fn minus_reads(left: u32, sizes: (u64, u64)) -> u64
+    requires { left ≤ sizes.0 }
+    ensures { result ≤ sizes.0 + sizes.1 }
+{
+    let thrice = left as u64 * 3;
+    if thrice <= sizes.0.saturating_add(sizes.1) {
+        thrice
+    } else {
+        left as u64 + sizes.1.min(left as u64)
+    }
+}

@@ -10,6 +10,9 @@ use set_algebra::{ConceptPlan, UnitPlan, ValueTest};
 // looked at a few times at the most.
 const DEPTH: u32 = 3;
 
+// How many rows a value may have.
+const ROWS_OF_VALUE: u64 = 16;
+
 /// The place of that part of which the least is guessed.
 pub fn lead_of(parts: &[ConceptPlan], indexes: &Indexes) -> usize {
     let mut lead = 0;
@@ -194,6 +197,13 @@ fn guess_of_rows(back: bool, types: &ConceptPlan, test: &ValueTest, indexes: &In
     match test {
         ValueTest::Within(operand) => match &**operand {
             ConceptPlan::One(id) => by_type.min(rows_of_concept(back, *id, indexes)),
+            ConceptPlan::Walk(operator, from) => match &**from {
+                ConceptPlan::One(id) => {
+                    let values = length_of_list(*operator, *id, indexes).saturating_add(1);
+                    by_type.min(values.saturating_mul(ROWS_OF_VALUE))
+                }
+                _ => by_type,
+            },
             _ => by_type,
         },
         _ => by_type,

@@ -18,23 +18,23 @@ ghost use Rattle.executor.specs.Lead.{leads_off, leads_off_groups, of_lead};
 ghost use Rattle.pair_sets.specs.Within.{AreBelow, groups_within, may_be, numbers_within};
 
 use crate::counting::{
-    concept_leaf_limits, count_members, count_units, count_walk, group_leaf_limits,
+    concept_leaf_limits, count_members, count_units, count_walk, group_leaf_limits, minus_reads,
 };
 use crate::guesses::{group_lead_of, guess_of_groups, lead_of};
 use crate::led::walk_within;
-use crate::nodes::{
-    common, each_concept, each_group, either, no_concept, no_group, one_concept,
-};
+use crate::nodes::{common, each_concept, each_group, either, no_concept, no_group, one_concept};
 use crate::reference_sets::{component_count, members};
 use crate::walk_ways::walk_way;
 use constraint_tree::Cardinality;
 use idset::ConceptSet;
 use pair_sets::{
-    Candidates, Tested, Visits, count_of_test, extent_left, extent_of, group_extent_of, groups_of,
-    groups_with_pairs_within, none_left, restricted, rows_of_types, types_in, values_of,
-    with_groups, with_pairs_within, without,
+    Candidates, Tested, Visits, count_of_test, extent_of, extent_to_take, group_extent_of,
+    group_extent_to_take, groups_of, groups_with_pairs_within, none_left, restricted, types_in,
+    values_along, with_groups, with_pairs_within, without,
 };
-use planner::{Choice, PhysicalPlan, after_first, first_choice, plan_floor, unit_floor, unit_size};
+use planner::{
+    Choice, PhysicalPlan, after_first, first_choice, plan_floor, plan_size, unit_floor, unit_size,
+};
 use postings::Indexes;
 use set_algebra::{ConceptPlan, UnitPlan, ValueTest};
 use snapshot::Snapshot;
@@ -179,11 +179,15 @@ fn execute_node<S: ConceptSet>(
             let left: S = execute_within(
                 alloc, first, choices, candidates, snapshot, indexes, visits,
             )?;
-            visits.add(left.count() as u64);
-            let still = Candidates::Within(&left, extent_left(candidates, left.count()));
             let rest = plan_floor(first, choices, indexes).rest;
+            let sizes = (
+                plan_size(first, choices, indexes),
+                plan_size(second, rest, indexes),
+            );
+            visits.add(minus_reads(left.count(), sizes));
+            let extent = extent_to_take(alloc, snapshot, indexes, candidates, &left, sizes)?;
+            let still = Candidates::Within(&left, extent);
             let right: S = execute_within(alloc, second, rest, &still, snapshot, indexes, visits)?;
-            visits.add(right.count() as u64);
             let found = without(alloc, &left, &right)?;
             Ok(found)
         }
@@ -441,16 +445,13 @@ fn led_along<S: ConceptSet>(
     snapshot.concept_count();
     snapshot.attribute_count();
     let all = Candidates::All;
-    let rows = indexes.row_count() as u64;
     let mut found = from;
     let mut rest = choices;
     for name in names {
         let behind = plan_floor(name, rest, indexes).rest;
         let named: S = execute_within(alloc, name, rest, &all, snapshot, indexes, visits)?;
         let types = types_in(alloc, snapshot, indexes, &named)?;
-        let read = rows_of_types(indexes, types.ids.as_slice()).min(rows);
-        visits.add(found.count() as u64 + read);
-        found = values_of(alloc, snapshot, indexes, &found, &types)?;
+        found = values_along(alloc, snapshot, indexes, &found, &types, visits)?;
         rest = behind;
     }
     Ok(found)
@@ -568,11 +569,15 @@ fn execute_group_node<S: ConceptSet>(
             let left: S = execute_groups(
                 alloc, first, choices, candidates, snapshot, indexes, visits,
             )?;
-            visits.add(left.count() as u64);
-            let still = Candidates::Within(&left, extent_left(candidates, left.count()));
             let rest = unit_floor(first, choices, indexes).rest;
+            let sizes = (
+                unit_size(first, choices, indexes),
+                unit_size(second, rest, indexes),
+            );
+            visits.add(minus_reads(left.count(), sizes));
+            let extent = group_extent_to_take(alloc, snapshot, indexes, candidates, &left, sizes)?;
+            let still = Candidates::Within(&left, extent);
             let right: S = execute_groups(alloc, second, rest, &still, snapshot, indexes, visits)?;
-            visits.add(right.count() as u64);
             let groups = without(alloc, &left, &right)?;
             Ok(groups)
         }

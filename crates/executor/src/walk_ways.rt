@@ -67,11 +67,12 @@ fn whole_way<S: ConceptSet>(
     if operand.count() > MANY && !is_apart {
         return Ok(without_candidates(false, all));
     }
-    let own = items_of_lists(alloc, index, family, operand)?;
     if !is_apart || operand.count() <= 1 {
+        let own = items_of_lists(alloc, index, family, operand)?;
         return Ok(without_candidates(false, own));
     }
-    let near = items_of_lists(alloc, index, family.near(), operand)?;
+    let concepts = operand.items(alloc)?;
+    let (own, near) = listed_with_near(index, family, concepts.as_slice(), operand.bound());
     let both = own.saturating_add(near);
     if both <= all {
         Ok(without_candidates(true, both))
@@ -111,6 +112,25 @@ fn listed(index: &AncestorIndex, family: Family, concepts: &[u32], count: u32) -
         items = items.saturating_add(family.list(index, *concept).len() as u64);
     }
     items
+}
+
+// The same, and how many those of the near family have.
+fn listed_with_near(
+    index: &AncestorIndex,
+    family: Family,
+    concepts: &[u32],
+    count: u32,
+) -> (u64, u64)
+    requires over { IsOver count index.now }
+    requires below { All (λ concept. concept < count) concepts.now }
+{
+    let mut own = 0u64;
+    let mut near = 0u64;
+    for concept in concepts {
+        own = own.saturating_add(family.list(index, *concept).len() as u64);
+        near = near.saturating_add(family.near().list(index, *concept).len() as u64);
+    }
+    (own, near)
 }
 
 // How many items all lists have.

@@ -139,8 +139,52 @@ pub fn group_extent_of<S: ConceptSet>(
     Ok(group_extent_among(indexes, own.as_slice()))
 }
 
-/// How much there is of so many of some candidates: of rows and groups no more than these have.
-pub fn extent_left<S>(candidates: &Candidates<'_, S>, items: u32) -> Extent {
+/// How much there is of a set of some candidates, from which something is to be taken. Its rows are counted where the set may be read
+/// thrice, by what both parts of MINUS find at most; else it has no more than the candidates.
+pub fn extent_to_take<S: ConceptSet>(
+    alloc: Global,
+    snapshot: &Snapshot,
+    indexes: &Indexes,
+    candidates: &Candidates<'_, S>,
+    concepts: &S,
+    sizes: (u64, u64),
+) -> Result<Extent, AllocError>
+    requires index { IsIndexOf indexes.now snapshot.now.release }
+    requires bound { S.bound_of concepts.now ≡ length snapshot.now.release.concepts }
+{
+    if may_be_read_thrice(concepts.count(), sizes) {
+        extent_of(alloc, snapshot, indexes, concepts)
+    } else {
+        Ok(extent_left(candidates, concepts.count()))
+    }
+}
+
+/// The same of groups.
+pub fn group_extent_to_take<S: ConceptSet>(
+    alloc: Global,
+    snapshot: &Snapshot,
+    indexes: &Indexes,
+    candidates: &Candidates<'_, S>,
+    groups: &S,
+    sizes: (u64, u64),
+) -> Result<Extent, AllocError>
+    requires index { IsIndexOf indexes.now snapshot.now.release }
+    requires bound { S.bound_of groups.now ≡ length (all_groups snapshot.now.release) }
+{
+    if may_be_read_thrice(groups.count(), sizes) {
+        group_extent_of(alloc, snapshot, indexes, groups)
+    } else {
+        Ok(extent_left(candidates, groups.count()))
+    }
+}
+
+// Whether so many items may be read three times.
+fn may_be_read_thrice(items: u32, sizes: (u64, u64)) -> bool {
+    items as u64 * 3 <= sizes.0.saturating_add(sizes.1)
+}
+
+// How much there is of so many of some candidates: of rows and groups no more than these have.
+fn extent_left<S>(candidates: &Candidates<'_, S>, items: u32) -> Extent {
     match candidates {
         Candidates::All => uncounted(items),
         Candidates::Within(_, extent) => Extent {

@@ -169,6 +169,30 @@ fn values_that_pass<S: ConceptSet>(
     }
 }
 
+/// The concepts of a set and how many rows they have, where these are looked up sooner than so many rows are read that stand side
+/// by side.
+pub fn few_sources<S: ConceptSet>(
+    alloc: Global,
+    indexes: &Indexes,
+    sources: &S,
+    rows: u64,
+) -> Result<Option<PassingValues>, AllocError>
+    requires { S.bound_of sources.now ≡ length indexes.now.concepts }
+    ensures { IfOk result (λ some. IfSome some (λ values. values.numbers.items ≡ S.items_of sources.now)) }
+{
+    if sources.count() as u64 > rows / VALUE {
+        return Ok(None);
+    }
+    let numbers = sources.items(alloc)?;
+    let own = rows_of_values(indexes, true, numbers.as_slice());
+    let values = PassingValues { numbers, rows: own };
+    if values.are_read_before(true, rows) {
+        Ok(Some(values))
+    } else {
+        Ok(None)
+    }
+}
+
 // How much there is of the candidates, where not all are.
 fn own_extent<S>(candidates: &Candidates<'_, S>) -> Option<Extent> {
     match candidates {

@@ -1,6 +1,7 @@
 //! The concepts and the groups with so many pairs of a type and a value.
 ghost use Rattle.std.specs.Prelude.{ℕ, ◌≡◌, ◌≤◌, ◌+◌, ◌-◌, ◌^◌, Bool, IfOk, length, min};
 ghost use Rattle.constraint_tree.specs.Denotation.{is_value};
+ghost use Rattle.idset.specs.Sets.{IsRisingBelow};
 ghost use Rattle.postings.specs.Groups.{all_groups};
 ghost use Rattle.postings.specs.Indexed.{IsIndexOf};
 ghost use Rattle.set_algebra.specs.Meaning.{has_pairs, pairs_of};
@@ -15,12 +16,12 @@ use crate::by_rows::{
     with_pairs_among, with_pairs_by_type, with_pairs_by_value,
 };
 use crate::candidates::{Candidates, restricted};
-use crate::choice::{concept_way, group_way};
+use crate::choice::{concept_way, few_sources, group_way, rows_of_types};
 use crate::passing::within;
 use crate::tested::{Tested, words_of};
 use crate::types::{TypesIn, types_in};
 use crate::visits::Visits;
-use crate::ways::Way;
+use crate::ways::{Way, rows_read};
 use constraint_tree::Cardinality;
 use idset::ConceptSet;
 use planner::{Choice, NodeLimits};
@@ -99,8 +100,43 @@ pub fn groups_with_pairs_within<S: ConceptSet>(
 }
 
 /// The values of the attributes whose source is in a set and whose type is one of some (Expression Constraint Language,
-/// "Refinements", dotted attributes).
-pub fn values_of<S: ConceptSet>(
+/// "Refinements", dotted attributes). The rows of the sources are read where these are fewer than those of the types. The
+/// sources and the rows are counted.
+pub fn values_along<S: ConceptSet>(
+    alloc: Global,
+    snapshot: &Snapshot,
+    indexes: &Indexes,
+    sources: &S,
+    types: &TypesIn,
+    visits: &mut Visits,
+) -> Result<S, AllocError>
+    requires index { IsIndexOf indexes.now snapshot.now.release }
+    requires sources { S.bound_of sources.now ≡ length indexes.now.concepts }
+    ensures items { IfOk result (λ found. (one : ℕ → Bool) → AreTypesIn indexes.now.rows one types.now
+        → S.items_of found ≡ numbers_in snapshot.now.release (is_value snapshot.now.release (is_one_of indexes.now.concepts (S.items_of sources.now)) one)) }
+    ensures bound { IfOk result (λ found. S.bound_of found ≡ length snapshot.now.release.concepts) }
+    ensures grows { visits.old.count ≤ visits.new.count }
+    ensures within { visits.new.count ≤ visits.old.count + (length (S.items_of sources.now) + length indexes.now.rows) }
+{
+    let typed = rows_of_types(indexes, types.ids.as_slice());
+    let few = few_sources(alloc, indexes, sources, typed)?;
+    let read = rows_read(&few, typed).min(indexes.row_count() as u64);
+    visits.add(sources.count() as u64 + read);
+    match few {
+        Some(values) => {
+            let own = values.numbers.as_slice();
+            let found = values_by_source(alloc, snapshot, indexes, own, types)?;
+            Ok(found)
+        }
+        None => {
+            let found = values_by_type(alloc, snapshot, indexes, sources, types)?;
+            Ok(found)
+        }
+    }
+}
+
+// By the rows of some types.
+fn values_by_type<S: ConceptSet>(
     alloc: Global,
     snapshot: &Snapshot,
     indexes: &Indexes,
@@ -116,6 +152,24 @@ pub fn values_of<S: ConceptSet>(
     let passing = within(alloc, indexes, sources)?;
     let some = Cardinality { min: 1, max: None };
     with_pairs_by_type(alloc, snapshot, indexes, true, some, types, &passing)
+}
+
+// By the rows of some sources.
+fn values_by_source<S: ConceptSet>(
+    alloc: Global,
+    snapshot: &Snapshot,
+    indexes: &Indexes,
+    sources: &[u32],
+    types: &TypesIn,
+) -> Result<S, AllocError>
+    requires index { IsIndexOf indexes.now snapshot.now.release }
+    requires sources { IsRisingBelow (length indexes.now.concepts) sources.now }
+    ensures items { IfOk result (λ found. (one : ℕ → Bool) → AreTypesIn indexes.now.rows one types.now
+        → S.items_of found ≡ numbers_in snapshot.now.release (is_value snapshot.now.release (is_one_of indexes.now.concepts sources.now) one)) }
+    ensures bound { IfOk result (λ found. S.bound_of found ≡ length snapshot.now.release.concepts) }
+{
+    let some = Cardinality { min: 1, max: None };
+    with_pairs_by_value(alloc, snapshot, indexes, true, some, types, sources)
 }
 
 /// The candidates so many of whose distinct pairs, their own or those read backwards, have a type that is one of some and a

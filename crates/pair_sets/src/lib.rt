@@ -20,11 +20,11 @@ mod visits;
 mod ways;
 
 pub use crate::candidates::{
-    Candidates, Extent, extent_left, extent_of, group_extent_of, none_left, restricted,
+    Candidates, Extent, extent_of, extent_to_take, group_extent_of, group_extent_to_take,
+    none_left, restricted,
 };
-pub use crate::choice::rows_of_types;
 pub use crate::difference::without;
-pub use crate::leaves::{groups_with_pairs_within, values_of, with_pairs_within};
+pub use crate::leaves::{groups_with_pairs_within, values_along, with_pairs_within};
 pub use crate::tested::{Tested, count_of_test};
 pub use crate::types::{TypesIn, types_in};
 pub use crate::units::{groups_of, with_groups};

@@ -163,3 +163,11 @@ pub fn are_read_before(candidates: Option<Extent>, rows: u64) -> bool {
         None => false,
     }
 }
+
+/// How many rows are read: those of a few values, or else so many.
+pub fn rows_read(few: &Option<PassingValues>, rows: u64) -> u64 {
+    match few {
+        Some(values) => values.rows,
+        None => rows,
+    }
+}

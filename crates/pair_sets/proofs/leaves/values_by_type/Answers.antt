@@ -4,7 +4,7 @@ use Rattle.constraint_tree.specs.Passing.{is_within}
 use Rattle.idset.specs.Words.{is_set}
 use Rattle.pair_sets.specs.Tested.{is_one_of}
 use Rattle.pair_sets.proofs.ValueStepLemmas.{some_pair_is_value}
-use Rattle.pair_sets.proofs.leaves.values_of.Goals as goal
+use Rattle.pair_sets.proofs.leaves.values_by_type.Goals as goal
 
 pub returns-clause-items : goal.returns-clause-items
 returns-clause-items g c =

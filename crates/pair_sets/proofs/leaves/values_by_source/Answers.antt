@@ -1,0 +1,12 @@
+use Rattle.std.proofs.Common.{◌∙◌}
+use Rattle.std.proofs.lemmas.Result.{IfOk-weaker}
+use Rattle.pair_sets.specs.Tested.{is_one_of}
+use Rattle.pair_sets.proofs.ValueStepLemmas.{some_pair_is_value}
+use Rattle.pair_sets.proofs.leaves.values_by_source.Goals as goal
+
+pub returns-clause-items : goal.returns-clause-items
+returns-clause-items g c =
+    IfOk-weaker c.with_pairs_by_value.result _ _
+    (λ found found_is one are.
+    found_is one are ∙ some_pair_is_value c.args.snapshot.now.release (is_one_of c.args.indexes.now.concepts c.args.sources.now) one)
+    c.with_pairs_by_value.ensures.items
