@@ -252,9 +252,9 @@ def words():
     status, out, err = run("--version")
     case("the version", (status, bool(re.fullmatch(rb"hosecrag \d+\.\d+\.\d+\n", out)), err), (0, True, b""))
     status, out, err = run("--help")
-    told = [it for it in (b"hosecrag [COMMAND]", b"hosecrag query", b"hosecrag check", b"| hosecrag\n", b"  4  ") if it not in out]
+    told = [it for it in (b"hosecrag [COMMAND]", b"hosecrag query", b"hosecrag explain", b"hosecrag check", b"| hosecrag\n", b"  4  ") if it not in out]
     case("help", (status, told, b"query_tool" in out, err), (0, [], False, b""))
-    for given in (["qery"], ["query"], ["check"], ["check", "F", "--lang", "da"], ["--lang", "en"], ["explain", "F"]):
+    for given in (["qery"], ["query"], ["check"], ["check", "F", "--lang", "da"], ["--lang", "en"], ["explain"], ["explain", "F", "--lang", "da"]):
         status, out, err = run(*given)
         case(f"words that are no command: {given}", (status, out, b"query_tool" in err, b"hosecrag" in err), (2, b"", False, True))
     case("ten folders", run("check", *"ABCDEFGHIJ"), (2, b"", b"at most 9 folders\n"))
