@@ -20,7 +20,7 @@ impl Visits {
         self.count = self.count.saturating_add(items);
     }
 
-    /// The items that a node reads, which are no more than its bound; and where they are fewer than its floor, so many.
+    /// The items that a node reads, as far as its bound goes; and where they are fewer than its floor, so many.
     pub fn add_node(&mut self, items: u64, limits: NodeLimits)
         requires ordered { limits.floor ≤ limits.bound }
         ensures grows { self.old.count ≤ self.new.count }
