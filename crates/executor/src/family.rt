@@ -7,6 +7,7 @@ ghost use Rattle.executor.specs.Joined.{back_of, is_whole as is_whole_of, near_o
 ghost use Rattle.executor.specs.Steps.{HasWords, lists_of};
 
 use ancestor_index::AncestorIndex;
+use pair_sets::ListExtent;
 
 /// A family of lists, one for each concept.
 #[derive(Clone, Copy)]
@@ -88,6 +89,16 @@ impl Family {
         match self {
             Family::Descendants => index.descendant_words(concept),
             Family::Ancestors | Family::Parents | Family::Children => None,
+        }
+    }
+
+    /// How many items the lists of this family have, of concepts of which that is known.
+    pub fn items_of(self, lists: ListExtent) -> u64 {
+        match self {
+            Family::Ancestors => lists.ancestors,
+            Family::Descendants => lists.descendants,
+            Family::Parents => lists.parents,
+            Family::Children => lists.children,
         }
     }
 }

@@ -10,22 +10,25 @@ use crate::walks::{is_apart, meets, walk};
 use ancestor_index::AncestorIndex;
 use constraint_tree::Operator;
 use idset::ConceptSet;
-use pair_sets::{Candidates, restricted};
+use pair_sets::{Candidates, RowTally, restricted};
 use snapshot::Snapshot;
 use std::alloc::{AllocError, Global};
 
 /// The candidates among the concepts that an operator leads to from those of a set (Expression Constraint Language,
-/// "Simple Expression Constraints"), found in a way.
+/// "Simple Expression Constraints"), found in a way. The operand is given as a list too, since it is read once.
 pub fn walk_within<S: ConceptSet>(
     alloc: Global,
     snapshot: &Snapshot,
     index: &AncestorIndex,
     operator: Operator,
     operand: &S,
+    concepts: &[u32],
     candidates: &Candidates<'_, S>,
     way: WalkWay,
+    tally: &mut RowTally<'_>,
 ) -> Result<S, AllocError>
     requires over { IsOf snapshot.now.release (S.bound_of operand.now) index.now }
+    requires concepts { concepts.now ≡ S.items_of operand.now }
     requires candidates { AreBelow S.bound_of (S.bound_of operand.now) candidates.now }
     ensures items { IfOk result (λ found. S.items_of found ≡ filter (may_be S.items_of candidates.now) (led_to index.now (S.bound_of operand.now) operator (S.items_of operand.now))) }
     ensures bound { IfOk result (λ found. S.bound_of found ≡ S.bound_of operand.now) }
@@ -36,7 +39,9 @@ pub fn walk_within<S: ConceptSet>(
             return Ok(found);
         }
     }
-    let led = walk(alloc, snapshot, index, operator, operand, way.near_first)?;
+    let led = walk(
+        alloc, snapshot, index, operator, operand, concepts, way.near_first, tally,
+    )?;
     let found = restricted(alloc, led, candidates)?;
     Ok(found)
 }

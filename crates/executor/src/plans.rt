@@ -6,7 +6,7 @@ ghost use Rattle.rf2_rows.specs.Release.{Value};
 ghost use Rattle.postings.specs.Groups.{all_groups};
 ghost use Rattle.postings.specs.Indexed.{IsIndexOf};
 ghost use Rattle.set_algebra.specs.Meaning.{group_means, has_groups, leads, means, value_passes};
-ghost use Rattle.set_algebra.specs.Plan.{Plan, group_plan_of, group_plans_of, plan_of, plans_of, test_plan_of, units_plan};
+ghost use Rattle.set_algebra.specs.Plan.{Plan, group_plan_of, group_plans_of, plan_of, plans_of, test_plan_of, units_plan, walk_plan};
 ghost use Rattle.planner.specs.Bounds.{bound as bound_of, own_number, values_bound};
 ghost use Rattle.planner.specs.Floors.{floor as floor_of, floor_number};
 ghost use Rattle.planner.specs.Leaves.{group_count, groups_leaves, leaves, plan_count, plans_leaves};
@@ -25,12 +25,12 @@ use crate::led::walk_within;
 use crate::nodes::{common, each_concept, each_group, either, no_concept, no_group, one_concept};
 use crate::reference_sets::{component_count, members};
 use crate::walk_ways::walk_way;
-use constraint_tree::Cardinality;
+use constraint_tree::{Cardinality, Operator};
 use idset::ConceptSet;
 use pair_sets::{
-    Candidates, Tested, Visits, count_of_test, extent_of, extent_to_take, group_extent_of,
-    group_extent_to_take, groups_of, groups_with_pairs_within, none_left, restricted, types_in,
-    values_along, with_groups, with_pairs_within, without,
+    Candidates, RowTally, Tested, Visits, count_of_test, extent_of, extent_to_take, group_extent_of,
+    group_extent_to_take, groups_of, groups_with_pairs_within, none_left, restricted, values_along,
+    with_groups, with_pairs_within, without,
 };
 use planner::{
     Choice, PhysicalPlan, after_first, first_choice, plan_floor, plan_size, unit_floor, unit_size,
@@ -142,28 +142,20 @@ fn execute_node<S: ConceptSet>(
             Ok(found)
         }
         ConceptPlan::Walk(operator, operand) => {
-            let from: S = execute_within(alloc, operand, choices, &all, snapshot, indexes, visits)?;
-            let hierarchy = indexes.hierarchy();
-            let way = walk_way(alloc, hierarchy, *operator, &from, candidates)?;
-            count_walk(
-                indexes,
-                choices,
-                *operator,
-                operand,
-                from.count(),
-                way.items,
-                visits,
-            );
-            let found = walk_within(
-                alloc, snapshot, hierarchy, *operator, &from, candidates, way,
+            let mut tally = RowTally::unasked();
+            let found = walk_from(
+                alloc, *operator, operand, choices, candidates, snapshot, indexes, visits,
+                &mut tally,
             )?;
             Ok(found)
         }
         ConceptPlan::Members(operand) => {
             let from: S = execute_within(alloc, operand, choices, &all, snapshot, indexes, visits)?;
-            let components = component_count(alloc, indexes, &from)?;
+            let numbers = from.items(alloc)?;
+            let refsets = numbers.as_slice();
+            let components = component_count(indexes, refsets);
             count_members(indexes, choices, operand, from.count(), components, visits);
-            let some = members(alloc, snapshot, indexes, &from)?;
+            let some = members(alloc, snapshot, indexes, refsets)?;
             let found = restricted(alloc, some, candidates)?;
             Ok(found)
         }
@@ -207,7 +199,10 @@ fn execute_node<S: ConceptSet>(
             let of_types = after_first(choices);
             let of_test = plan_floor(types, of_types, indexes).rest;
             let typed: S = execute_within(alloc, types, of_types, &all, snapshot, indexes, visits)?;
-            let tested: Tested<S> = tested_of(alloc, test, of_test, snapshot, indexes, visits)?;
+            let mut tally = RowTally::of(indexes, *back);
+            let tested: Tested<S> = tested_of(
+                alloc, test, of_test, snapshot, indexes, visits, &mut tally,
+            )?;
             let limits = concept_leaf_limits(
                 indexes,
                 choices,
@@ -221,7 +216,7 @@ fn execute_node<S: ConceptSet>(
             let choice = first_choice(choices);
             let found = with_pairs_within(
                 alloc, snapshot, indexes, choice, limits, *back, *count, &typed, tested,
-                candidates, visits,
+                tally.rows(), candidates, visits,
             )?;
             Ok(found)
         }
@@ -229,6 +224,82 @@ fn execute_node<S: ConceptSet>(
             let found = units_within(
                 alloc, *count, units, choices, candidates, snapshot, indexes, visits,
             )?;
+            Ok(found)
+        }
+    }
+}
+
+// The candidates among the concepts that an operator leads to from those that a plan means. The rows are counted of what is found from
+// one concept, if that is asked for.
+#[cycle(execute)]
+fn walk_from<S: ConceptSet>(
+    alloc: Global,
+    operator: Operator,
+    operand: &ConceptPlan,
+    choices: &[Choice],
+    candidates: &Candidates<'_, S>,
+    snapshot: &Snapshot,
+    indexes: &Indexes,
+    visits: &mut Visits,
+    tally: &mut RowTally<'_>,
+) -> Result<S, AllocError>
+    requires index { IsIndexOf indexes.now snapshot.now.release }
+    requires candidates { AreBelow S.bound_of (length snapshot.now.release.concepts) candidates.now }
+    ensures items { IfOk result (λ found. S.items_of found ≡ numbers_within snapshot.now.release (may_be S.items_of candidates.now) (means snapshot.now.release (walk_plan operator (plan_of operand.now)))) }
+    ensures bound { IfOk result (λ found. S.bound_of found ≡ length snapshot.now.release.concepts) }
+    ensures grows { visits.old.count ≤ visits.new.count }
+    ensures within { visits.new.count ≤ visits.old.count + node_sum (own_number indexes.now) choices.now (walk_plan operator (plan_of operand.now)) }
+    ensures floor { IfOk result (λ _. min (visits.old.count + node_sum (floor_number indexes.now) choices.now (walk_plan operator (plan_of operand.now))) (2 ^ 64 - 1) ≤ visits.new.count) }
+{
+    // the concepts rise, and the sources of all attribute rows are in force
+    snapshot.concept_count();
+    snapshot.attribute_count();
+    let all = Candidates::All;
+    let from: S = execute_within(alloc, operand, choices, &all, snapshot, indexes, visits)?;
+    let concepts = from.items(alloc)?;
+    let own = concepts.as_slice();
+    let hierarchy = indexes.hierarchy();
+    let way = walk_way(hierarchy, operator, own, from.bound(), candidates);
+    let items = way.items;
+    count_walk(indexes, choices, operator, operand, from.count(), items, visits);
+    let found = walk_within(
+        alloc, snapshot, hierarchy, operator, &from, own, candidates, way, tally,
+    )?;
+    Ok(found)
+}
+
+// The concepts that a plan means, and how many rows they have as values, where that shows as they are found.
+#[cycle(execute)]
+fn execute_tallied<S: ConceptSet>(
+    alloc: Global,
+    plan: &ConceptPlan,
+    choices: &[Choice],
+    snapshot: &Snapshot,
+    indexes: &Indexes,
+    visits: &mut Visits,
+    tally: &mut RowTally<'_>,
+) -> Result<S, AllocError>
+    requires index { IsIndexOf indexes.now snapshot.now.release }
+    ensures items { IfOk result (λ found. S.items_of found ≡ numbers_in snapshot.now.release (means snapshot.now.release (plan_of plan.now))) }
+    ensures bound { IfOk result (λ found. S.bound_of found ≡ length snapshot.now.release.concepts) }
+    ensures grows { visits.old.count ≤ visits.new.count }
+    ensures within { visits.new.count ≤ visits.old.count + node_sum (own_number indexes.now) choices.now (plan_of plan.now) }
+    ensures floor { IfOk result (λ _. min (visits.old.count + node_sum (floor_number indexes.now) choices.now (plan_of plan.now)) (2 ^ 64 - 1) ≤ visits.new.count) }
+    ensures size { IfOk result (λ found. length (S.items_of found) ≤ size_of indexes.now choices.now (plan_of plan.now)) }
+{
+    // the concepts rise, and the sources of all attribute rows are in force
+    snapshot.concept_count();
+    snapshot.attribute_count();
+    let all = Candidates::All;
+    match plan {
+        ConceptPlan::Walk(operator, operand) => {
+            let found = walk_from(
+                alloc, *operator, operand, choices, &all, snapshot, indexes, visits, tally,
+            )?;
+            Ok(found)
+        }
+        _ => {
+            let found = execute_within(alloc, plan, choices, &all, snapshot, indexes, visits)?;
             Ok(found)
         }
     }
@@ -450,14 +521,13 @@ fn led_along<S: ConceptSet>(
     for name in names {
         let behind = plan_floor(name, rest, indexes).rest;
         let named: S = execute_within(alloc, name, rest, &all, snapshot, indexes, visits)?;
-        let types = types_in(alloc, snapshot, indexes, &named)?;
-        found = values_along(alloc, snapshot, indexes, &found, &types, visits)?;
+        found = values_along(alloc, snapshot, indexes, found, &named, visits)?;
         rest = behind;
     }
     Ok(found)
 }
 
-// What a test asks of values.
+// What a test asks of values. Where it asks for what is found by a walk, the rows are counted that these values have.
 #[cycle(execute)]
 fn tested_of<S: ConceptSet>(
     alloc: Global,
@@ -466,6 +536,7 @@ fn tested_of<S: ConceptSet>(
     snapshot: &Snapshot,
     indexes: &Indexes,
     visits: &mut Visits,
+    tally: &mut RowTally<'_>,
 ) -> Result<Tested<S>, AllocError>
     requires index { IsIndexOf indexes.now snapshot.now.release }
     ensures passes { IfOk result (λ tested. (value : Value) → passes_of S.items_of indexes.now.concepts tested value ≡ value_passes snapshot.now.release (test_plan_of test.now) value) }
@@ -478,7 +549,9 @@ fn tested_of<S: ConceptSet>(
     let all = Candidates::All;
     match test {
         ValueTest::Within(operand) => {
-            let set: S = execute_within(alloc, operand, choices, &all, snapshot, indexes, visits)?;
+            let set: S = execute_tallied(
+                alloc, operand, choices, snapshot, indexes, visits, tally,
+            )?;
             Ok(Tested::Within(set))
         }
         ValueTest::Outside(operand) => {
@@ -585,7 +658,10 @@ fn execute_group_node<S: ConceptSet>(
             let of_types = after_first(choices);
             let of_test = plan_floor(types, of_types, indexes).rest;
             let typed: S = execute_within(alloc, types, of_types, &all, snapshot, indexes, visits)?;
-            let tested: Tested<S> = tested_of(alloc, test, of_test, snapshot, indexes, visits)?;
+            let mut tally = RowTally::of(indexes, false);
+            let tested: Tested<S> = tested_of(
+                alloc, test, of_test, snapshot, indexes, visits, &mut tally,
+            )?;
             let limits = group_leaf_limits(
                 indexes,
                 choices,
@@ -597,8 +673,8 @@ fn execute_group_node<S: ConceptSet>(
             );
             let choice = first_choice(choices);
             let found = groups_with_pairs_within(
-                alloc, snapshot, indexes, choice, limits, *count, &typed, tested, candidates,
-                visits,
+                alloc, snapshot, indexes, choice, limits, *count, &typed, tested, tally.rows(),
+                candidates, visits,
             )?;
             Ok(found)
         }

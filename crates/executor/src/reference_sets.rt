@@ -10,38 +10,25 @@ use postings::Indexes;
 use snapshot::Snapshot;
 use std::alloc::{AllocError, Global};
 
-/// The concepts that a member row with a reference set in a set leads to (Expression Constraint Language,
+/// The concepts that a member row with a reference set among some leads to (Expression Constraint Language,
 /// "Simple Expression Constraints", memberOf).
 pub fn members<S: ConceptSet>(
     alloc: Global,
     snapshot: &Snapshot,
     indexes: &Indexes,
-    refsets: &S,
+    refsets: &[u32],
 ) -> Result<S, AllocError>
     requires index { IsIndexOf indexes.now snapshot.now.release }
-    requires bound { S.bound_of refsets.now ≡ length snapshot.now.release.concepts }
-    ensures items { IfOk result (λ found. S.items_of found ≡ components_of snapshot.now.release (S.items_of refsets.now)) }
+    requires below { All (λ refset. refset < length indexes.now.concepts) refsets.now }
+    ensures items { IfOk result (λ found. S.items_of found ≡ components_of snapshot.now.release refsets.now) }
     ensures bound { IfOk result (λ found. S.bound_of found ≡ length snapshot.now.release.concepts) }
 {
-    let numbers = refsets.items(alloc)?;
-    let found = components(alloc, indexes, numbers.as_slice())?;
+    let found = components(alloc, indexes, refsets)?;
     S::from_numbers(alloc, found.as_slice(), snapshot.concept_count())
 }
 
-/// How many components the reference sets of a set have, one set beside the other.
-pub fn component_count<S: ConceptSet>(
-    alloc: Global,
-    indexes: &Indexes,
-    refsets: &S,
-) -> Result<u64, AllocError>
-    requires { S.bound_of refsets.now ≡ length indexes.now.concepts }
-{
-    let numbers = refsets.items(alloc)?;
-    Ok(components_among(indexes, numbers.as_slice()))
-}
-
-// The same of some reference sets.
-fn components_among(indexes: &Indexes, refsets: &[u32]) -> u64
+/// How many components some reference sets have, one set beside the other.
+pub fn component_count(indexes: &Indexes, refsets: &[u32]) -> u64
     requires { All (λ refset. refset < length indexes.now.concepts) refsets.now }
 {
     let mut components = 0u64;

@@ -1,17 +1,15 @@
 //! In which way the concepts are found that an operator leads to, and how many items that reads.
 ghost use Rattle.std.specs.Prelude.{◌<◌, All};
 ghost use Rattle.executor.specs.Steps.{IsOver};
-ghost use Rattle.pair_sets.specs.Within.{AreBelow};
 
 use crate::family::Family;
+use crate::walks::most_items;
 use ancestor_index::AncestorIndex;
 use constraint_tree::Operator;
-use idset::ConceptSet;
 use pair_sets::Candidates;
-use std::alloc::{AllocError, Global};
 
 // The lists of more concepts than these are not added up one by one: all lists stand for them.
-const MANY: u32 = 4096;
+const MANY: usize = 4096;
 
 /// A way to find them. No answer depends on it.
 #[derive(Clone, Copy, Debug)]
@@ -24,60 +22,66 @@ pub struct WalkWay {
     pub items: u64,
 }
 
-/// The way from a set. The candidates are asked where they are few and their lists have no more items than those of the set.
-pub fn walk_way<S: ConceptSet>(
-    alloc: Global,
+/// The way from some concepts. The candidates are asked where they are few and their lists have no more items than those of the
+/// concepts. Of all lists only the lengths are looked up.
+pub fn walk_way<S>(
     index: &AncestorIndex,
     operator: Operator,
-    operand: &S,
+    concepts: &[u32],
+    count: u32,
     candidates: &Candidates<'_, S>,
-) -> Result<WalkWay, AllocError>
-    requires over { IsOver (S.bound_of operand.now) index.now }
-    requires candidates { AreBelow S.bound_of (S.bound_of operand.now) candidates.now }
+) -> WalkWay
+    requires over { IsOver count index.now }
+    requires below { All (λ concept. concept < count) concepts.now }
 {
     let (family, is_apart) = family_of(operator);
-    let whole = whole_way(alloc, index, family, is_apart, operand)?;
-    if let Candidates::Within(wanted, extent) = candidates {
-        if extent.are_few_beside(operand.bound()) {
-            let asked = if is_apart { family } else { family.back() };
-            let items = items_of_lists(alloc, index, asked, *wanted)?.saturating_add(extent.items);
-            if items <= whole.items {
-                return Ok(WalkWay {
-                    asks_candidates: true,
-                    near_first: false,
-                    items,
-                });
-            }
+    let whole = whole_way(index, family, is_apart, concepts, count);
+    if let Candidates::Within(_, extent) = candidates {
+        let asked = if is_apart { family } else { family.back() };
+        let items = extent.items.saturating_add(asked.items_of(extent.lists));
+        if extent.are_few_beside(count) && items <= whole.items {
+            return WalkWay {
+                asks_candidates: true,
+                near_first: false,
+                items,
+            };
         }
     }
-    Ok(whole)
+    whole
 }
 
 // The way without the candidates.
-fn whole_way<S: ConceptSet>(
-    alloc: Global,
+fn whole_way(
     index: &AncestorIndex,
     family: Family,
     is_apart: bool,
-    operand: &S,
-) -> Result<WalkWay, AllocError>
-    requires { IsOver (S.bound_of operand.now) index.now }
+    concepts: &[u32],
+    count: u32,
+) -> WalkWay
+    requires over { IsOver count index.now }
+    requires below { All (λ concept. concept < count) concepts.now }
 {
     let all = items_of_all_lists(index, family);
-    if operand.count() > MANY && !is_apart {
-        return Ok(without_candidates(false, all));
+    if concepts.len() > MANY && !is_apart {
+        return without_candidates(false, all);
     }
-    if !is_apart || operand.count() <= 1 {
-        let own = items_of_lists(alloc, index, family, operand)?;
-        return Ok(without_candidates(false, own));
+    let (own, near) = listed_with_near(index, family, concepts, count);
+    if is_apart {
+        let both = own.saturating_add(near);
+        let near_first = concepts.len() > 1 && both <= all;
+        return without_candidates(near_first, if near_first { both } else { own });
     }
-    let concepts = operand.items(alloc)?;
-    let (own, near) = listed_with_near(index, family, concepts.as_slice(), operand.bound());
-    let both = own.saturating_add(near);
-    if both <= all {
-        Ok(without_candidates(true, both))
+    without_candidates(false, with_pass(index, family, concepts.len(), own))
+}
+
+// How many items are read where the lists of so many concepts have so many: where the lists are left for a pass over the is-a rows,
+// those of the pass too.
+fn with_pass(index: &AncestorIndex, family: Family, concepts: usize, own: u64) -> u64 {
+    let most = most_items(index);
+    if family.is_whole() && concepts > 1 && own > most {
+        most.saturating_add(index.link_count() as u64)
     } else {
-        Ok(without_candidates(false, own))
+        own
     }
 }
 
@@ -89,32 +93,7 @@ fn without_candidates(near_first: bool, items: u64) -> WalkWay {
     }
 }
 
-// How many items the lists of the concepts of a set have.
-fn items_of_lists<S: ConceptSet>(
-    alloc: Global,
-    index: &AncestorIndex,
-    family: Family,
-    set: &S,
-) -> Result<u64, AllocError>
-    requires { IsOver (S.bound_of set.now) index.now }
-{
-    let own = set.items(alloc)?;
-    Ok(listed(index, family, own.as_slice(), set.bound()))
-}
-
-// How many items the lists of some concepts have.
-fn listed(index: &AncestorIndex, family: Family, concepts: &[u32], count: u32) -> u64
-    requires over { IsOver count index.now }
-    requires below { All (λ concept. concept < count) concepts.now }
-{
-    let mut items = 0u64;
-    for concept in concepts {
-        items = items.saturating_add(family.list(index, *concept).len() as u64);
-    }
-    items
-}
-
-// The same, and how many those of the near family have.
+// How many items the lists of some concepts have, and how many those of the near family.
 fn listed_with_near(
     index: &AncestorIndex,
     family: Family,

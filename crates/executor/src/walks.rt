@@ -7,11 +7,11 @@ ghost use Rattle.executor.specs.Joined.{AreJoined, is_long as is_long_of, is_who
 ghost use Rattle.executor.specs.Steps.{apart as apart_of, IsOf, IsOver, joined, led_to, lists_of};
 
 use crate::family::Family;
-use crate::nodes::either;
 use crate::reached::reached;
 use ancestor_index::AncestorIndex;
 use constraint_tree::Operator;
 use idset::{ConceptSet, WordSet};
+use pair_sets::RowTally;
 use snapshot::Snapshot;
 use std::alloc::{AllocError, Global};
 
@@ -22,48 +22,58 @@ const LONG: usize = 64;
 const PASS: u64 = 8;
 
 /// The concepts that an operator leads to from those of a set (Expression Constraint Language, "Simple
-/// Expression Constraints").
+/// Expression Constraints"). The set is given as a list too, since it is read once. The rows are counted of what is found from one
+/// concept, if that is asked for.
 pub fn walk<S: ConceptSet>(
     alloc: Global,
     snapshot: &Snapshot,
     index: &AncestorIndex,
     operator: Operator,
     operand: &S,
+    concepts: &[u32],
     near_first: bool,
+    tally: &mut RowTally<'_>,
 ) -> Result<S, AllocError>
     requires over { IsOf snapshot.now.release (S.bound_of operand.now) index.now }
+    requires concepts { concepts.now ≡ S.items_of operand.now }
     ensures items { IfOk result (λ found. S.items_of found ≡ led_to index.now (S.bound_of operand.now) operator (S.items_of operand.now)) }
     ensures bound { IfOk result (λ found. S.bound_of found ≡ S.bound_of operand.now) }
 {
     match operator {
-        Operator::Descendants => listed(alloc, snapshot, index, Family::Descendants, operand),
-        Operator::DescendantsOrSelf => listed_or_self(
-            alloc,
-            snapshot,
-            index,
-            Family::Descendants,
-            operand,
-        ),
-        Operator::Children => listed(alloc, snapshot, index, Family::Children, operand),
-        Operator::ChildrenOrSelf => listed_or_self(
-            alloc,
-            snapshot,
-            index,
-            Family::Children,
-            operand,
-        ),
-        Operator::Ancestors => listed(alloc, snapshot, index, Family::Ancestors, operand),
-        Operator::AncestorsOrSelf => listed_or_self(
-            alloc,
-            snapshot,
-            index,
-            Family::Ancestors,
-            operand,
-        ),
-        Operator::Parents => listed(alloc, snapshot, index, Family::Parents, operand),
-        Operator::ParentsOrSelf => listed_or_self(alloc, snapshot, index, Family::Parents, operand),
-        Operator::Top => apart(alloc, index, Family::Ancestors, operand, near_first),
-        Operator::Bottom => apart(alloc, index, Family::Descendants, operand, near_first),
+        Operator::Descendants => {
+            let family = Family::Descendants;
+            listed(alloc, snapshot, index, family, operand, concepts, tally)
+        }
+        Operator::DescendantsOrSelf => {
+            let family = Family::Descendants;
+            listed_or_self(alloc, snapshot, index, family, operand, concepts, tally)
+        }
+        Operator::Children => {
+            let family = Family::Children;
+            listed(alloc, snapshot, index, family, operand, concepts, tally)
+        }
+        Operator::ChildrenOrSelf => {
+            let family = Family::Children;
+            listed_or_self(alloc, snapshot, index, family, operand, concepts, tally)
+        }
+        Operator::Ancestors => {
+            let family = Family::Ancestors;
+            listed(alloc, snapshot, index, family, operand, concepts, tally)
+        }
+        Operator::AncestorsOrSelf => {
+            let family = Family::Ancestors;
+            listed_or_self(alloc, snapshot, index, family, operand, concepts, tally)
+        }
+        Operator::Parents => {
+            let family = Family::Parents;
+            listed(alloc, snapshot, index, family, operand, concepts, tally)
+        }
+        Operator::ParentsOrSelf => {
+            let family = Family::Parents;
+            listed_or_self(alloc, snapshot, index, family, operand, concepts, tally)
+        }
+        Operator::Top => apart(alloc, index, Family::Ancestors, operand, concepts, near_first),
+        Operator::Bottom => apart(alloc, index, Family::Descendants, operand, concepts, near_first),
     }
 }
 
@@ -74,14 +84,16 @@ fn listed<S: ConceptSet>(
     index: &AncestorIndex,
     family: Family,
     operand: &S,
+    concepts: &[u32],
+    tally: &mut RowTally<'_>,
 ) -> Result<S, AllocError>
     requires over { IsOf snapshot.now.release (S.bound_of operand.now) index.now }
+    requires concepts { concepts.now ≡ S.items_of operand.now }
     ensures items { IfOk result (λ found. S.items_of found ≡ joined (S.bound_of operand.now) (lists_of index.now family) (S.items_of operand.now)) }
     ensures bound { IfOk result (λ found. S.bound_of found ≡ S.bound_of operand.now) }
 {
-    let concepts = operand.items(alloc)?;
-    match concepts.as_slice() {
-        [concept] => list_of_one(alloc, index, family, *concept, operand.bound()),
+    match concepts {
+        [concept] => list_of_one(alloc, index, family, *concept, operand.bound(), tally),
         concepts => union(alloc, snapshot, index, family, concepts, operand),
     }
 }
@@ -93,13 +105,18 @@ fn listed_or_self<S: ConceptSet>(
     index: &AncestorIndex,
     family: Family,
     operand: &S,
+    concepts: &[u32],
+    tally: &mut RowTally<'_>,
 ) -> Result<S, AllocError>
     requires over { IsOf snapshot.now.release (S.bound_of operand.now) index.now }
+    requires concepts { concepts.now ≡ S.items_of operand.now }
     ensures items { IfOk result (λ found. S.items_of found ≡ all_items (S.bound_of operand.now) (S.items_of operand.now) (joined (S.bound_of operand.now) (lists_of index.now family) (S.items_of operand.now))) }
     ensures bound { IfOk result (λ found. S.bound_of found ≡ S.bound_of operand.now) }
 {
-    let others: S = listed(alloc, snapshot, index, family, operand)?;
-    either(alloc, operand, &others)
+    let mut found: S = listed(alloc, snapshot, index, family, operand, concepts, tally)?;
+    tally.add_known(concepts);
+    found.add_all(alloc, concepts)?;
+    Ok(found)
 }
 
 // The concepts in the list of one concept.
@@ -109,6 +126,7 @@ fn list_of_one<S: ConceptSet>(
     family: Family,
     concept: u32,
     count: u32,
+    tally: &mut RowTally<'_>,
 ) -> Result<S, AllocError>
     requires over { IsOver count index.now }
     requires below { concept < count }
@@ -117,7 +135,10 @@ fn list_of_one<S: ConceptSet>(
 {
     match family.words(index, concept) {
         Some(words) => S::from_words(alloc, words, count),
-        None => S::from_items(alloc, family.list(index, concept), count),
+        None => {
+            let list = tally.read(alloc, family.list(index, concept))?;
+            S::from_items(alloc, list.as_slice(), count)
+        }
     }
 }
 
@@ -169,9 +190,9 @@ fn all_listed<S: ConceptSet>(
     Ok(found)
 }
 
-// How many items of lists are read at the most before the lists are left for a pass over the is-a rows. With those of the
-// pass they are no more than all lists have.
-fn most_items(index: &AncestorIndex) -> u64 {
+/// How many items of lists are read at the most before the lists are left for a pass over the is-a rows. With those of the
+/// pass they are no more than all lists have.
+pub fn most_items(index: &AncestorIndex) -> u64 {
     let links = index.link_count() as u64;
     let pairs = index.ancestor_count() as u64;
     links.saturating_mul(PASS).min(pairs.saturating_sub(links))
@@ -283,21 +304,15 @@ fn apart<S: ConceptSet>(
     index: &AncestorIndex,
     family: Family,
     operand: &S,
+    concepts: &[u32],
     near_first: bool,
 ) -> Result<S, AllocError>
     requires over { IsOver (S.bound_of operand.now) index.now }
+    requires concepts { concepts.now ≡ S.items_of operand.now }
     ensures items { IfOk result (λ found. S.items_of found ≡ apart_of (lists_of index.now family) (S.items_of operand.now)) }
     ensures bound { IfOk result (λ found. S.bound_of found ≡ S.bound_of operand.now) }
 {
-    let concepts = operand.items(alloc)?;
-    let kept = kept_apart(
-        alloc,
-        index,
-        family,
-        concepts.as_slice(),
-        operand,
-        near_first,
-    )?;
+    let kept = kept_apart(alloc, index, family, concepts, operand, near_first)?;
     S::from_items(alloc, kept.as_slice(), operand.bound())
 }
 

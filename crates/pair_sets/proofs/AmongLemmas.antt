@@ -9,7 +9,6 @@ use Rattle.rf2_rows.specs.Release.{Attribute, Release, Value, concept_value}
 use Rattle.constraint_tree.specs.Passing.{lies_in}
 use Rattle.constraint_tree.specs.declared.operator.Cardinality.{Cardinality}
 use Rattle.idset.specs.Sets.{has_item, numbers_where}
-use Rattle.idset.specs.Words.{is_set}
 use Rattle.idset.proofs.Normal.{numbers_where-agree}
 use Rattle.postings.specs.Entries.{Entry, entries_of}
 use Rattle.postings.specs.Groups.{ConceptGroup, groups_in, is_in_group, rows_of_group}
@@ -22,7 +21,7 @@ use Rattle.set_algebra.specs.Meaning.{has_pairs, pairs_of}
 use Rattle.hierarchy.specs.Members.{has}
 use Rattle.pair_sets.specs.Among.{at_entry, pair_counts, pairs_among, pairs_of_concept, rows_of_unit}
 use Rattle.pair_sets.specs.Groups.{some_group_in}
-use Rattle.pair_sets.specs.Hits.{TellsPassing, TellsTypes, has_pair_in, has_source_in, is_in_some}
+use Rattle.pair_sets.specs.Hits.{TellsTypes, has_pair_in, has_source_in, is_in_some, value_of}
 use Rattle.pair_sets.specs.Within.{groups_within, numbers_within}
 use Rattle.postings.specs.RowColumns.{AreRowCells}
 use Rattle.postings.specs.declared.index.RowCells.{RowCells}
@@ -30,20 +29,20 @@ use Rattle.pair_sets.proofs.HitLemmas.{count-cons}
 use Rattle.pair_sets.proofs.LeafLemmas.{count_kept, group_counted, groups_are, none_within, sources_counted, values_counted}
 
 -- what is tested of a row says whether it counts
-module _ (indexed : Indexed) (grouped : Bool) (one : ℕ → Bool) (passes : Value → Bool) (types passing : List ℕ)
-    (tells_types : TellsTypes indexed.rows one types) (tells : TellsPassing indexed passes passing) (cells : RowCells) where
+module _ (indexed : Indexed) (grouped : Bool) (one : ℕ → Bool) (passes : Value → Bool) (told : ℕ → Bool)
+    (tells : TellsTypes indexed.rows one told) (cells : RowCells) where
   tested : (entry : Entry) → AreRowCells indexed cells entry
-      → (is_set types cells.type_place && is_set passing cells.value) ≡ has_pair_in one passes entry.row
+      → (told cells.type_place && passes (value_of indexed cells.value)) ≡ has_pair_in one passes entry.row
   tested entry are =
-      λ i. (tells_types cells.type_place are.type_within ∙ ap one are.type_is) i && (tells cells.value ∙ ap passes are.value_is) i
+      λ i. (tells cells.type_place are.type_within ∙ ap one are.type_is) i && ap passes are.value_is i
 
   told_counts : (entry : Entry) → AreRowCells indexed cells entry → (b : Bool)
-      → (cond b cells.is_first_in_group cells.is_first && (is_set types cells.type_place && is_set passing cells.value)) ≡ pair_counts b one passes entry
+      → (cond b cells.is_first_in_group cells.is_first && (told cells.type_place && passes (value_of indexed cells.value))) ≡ pair_counts b one passes entry
   told_counts entry are true = λ i. are.first_in_group_is i && tested entry are i
   told_counts entry are false = λ i. are.first_is i && tested entry are i
 
   pub row_counts : (n : ℕ) → n < length indexed.rows → IfSome (slice_get (entries_of indexed.rows) n) (AreRowCells indexed cells)
-      → (cond grouped cells.is_first_in_group cells.is_first && (is_set types cells.type_place && is_set passing cells.value))
+      → (cond grouped cells.is_first_in_group cells.is_first && (told cells.type_place && passes (value_of indexed cells.value)))
       ≡ at_entry (pair_counts grouped one passes) (slice_get (entries_of indexed.rows) n)
   row_counts n within are = by_case (slice_get (entries_of indexed.rows) n) refl are
     where
@@ -52,7 +51,7 @@ module _ (indexed : Indexed) (grouped : Bool) (one : ℕ → Bool) (passes : Val
           ∙ ap (λ (rows : List Attribute). length rows) (rows_of_entries [] indexed.rows)
 
       by_case : (at : Option Entry) → slice_get (entries_of indexed.rows) n ≡ at → IfSome at (AreRowCells indexed cells)
-          → (cond grouped cells.is_first_in_group cells.is_first && (is_set types cells.type_place && is_set passing cells.value))
+          → (cond grouped cells.is_first_in_group cells.is_first && (told cells.type_place && passes (value_of indexed cells.value)))
           ≡ at_entry (pair_counts grouped one passes) at
       by_case None is are = absurd (none_within (entries_of indexed.rows) n (omega (arith, within, long)) is)
       by_case (Some entry) is are = told_counts entry are grouped

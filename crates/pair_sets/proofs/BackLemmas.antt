@@ -7,7 +7,6 @@ use Rattle.std.proofs.lemmas.Bool.{cases_eq, eq-eqb, ne_eqb}
 use Rattle.std.proofs.lemmas.List.{length-map}
 use Rattle.std.proofs.lemmas.List.Sums.{count_by_more_no, count_by_more_yes}
 use Rattle.rf2_rows.specs.Release.{Attribute}
-use Rattle.idset.specs.Words.{is_set}
 use Rattle.postings.specs.Entries.{Entry, entries_of, entries_where}
 use Rattle.postings.specs.Indexed.{Indexed, rows_by_source}
 use Rattle.postings.specs.RowColumns.{AreRowCells}
@@ -22,8 +21,8 @@ use Rattle.pair_sets.proofs.LeafLemmas.{count_kept, none_within}
 use Rattle.pair_sets.proofs.TimesLemmas.{times-append, times-cons}
 
 -- ---- the values of rows, row by row
-module _ (indexed : Indexed) (rising : IsStrictlyIncreasing indexed.concepts) (one : ℕ → Bool) (types : List ℕ)
-    (tells : TellsTypes indexed.rows one types) (bound : ℕ) (is : bound ≡ length indexed.concepts) where
+module _ (indexed : Indexed) (rising : IsStrictlyIncreasing indexed.concepts) (one told : ℕ → Bool)
+    (tells : TellsTypes indexed.rows one told) (bound : ℕ) (is : bound ≡ length indexed.concepts) where
   -- whether a row counts for the concept with a number
   abbrev pub counts_at : ℕ → ℕ → Bool
   counts_at number n = at_entry (counts_for_value indexed.concepts (λ row. one row.type_id) number) (slice_get (entries_of indexed.rows) n)
@@ -31,7 +30,7 @@ module _ (indexed : Indexed) (rising : IsStrictlyIncreasing indexed.concepts) (o
   -- what is tested of its cells tells it
   pub cells_tell : (cells : RowCells) (n number : ℕ) → n < length indexed.rows → number < length indexed.concepts
       → IfSome (slice_get (entries_of indexed.rows) n) (AreRowCells indexed cells)
-      → counts_at number n ≡ ((ltb cells.value bound && (cells.is_first && is_set types cells.type_place)) && (cells.value == number))
+      → counts_at number n ≡ ((ltb cells.value bound && (cells.is_first && told cells.type_place)) && (cells.value == number))
   cells_tell cells n number within inside are = by_case (slice_get (entries_of indexed.rows) n) refl are
     where
       long : length (entries_of indexed.rows) ≡ length indexed.rows
@@ -40,15 +39,15 @@ module _ (indexed : Indexed) (rising : IsStrictlyIncreasing indexed.concepts) (o
 
       of_entry : (entry : Entry) → AreRowCells indexed cells entry
           → counts_for_value indexed.concepts (λ row. one row.type_id) number entry
-          ≡ ((ltb cells.value bound && (cells.is_first && is_set types cells.type_place)) && (cells.value == number))
+          ≡ ((ltb cells.value bound && (cells.is_first && told cells.type_place)) && (cells.value == number))
       of_entry entry are = sym (
-          and_apart (ltb cells.value bound) (cells.is_first && is_set types cells.type_place) (cells.value == number)
+          and_apart (ltb cells.value bound) (cells.is_first && told cells.type_place) (cells.value == number)
           ∙ (λ i. value_tells indexed rising bound is cells.value entry.row.value are.value_is number inside i
           && (are.first_is i && (tells cells.type_place are.type_within ∙ ap one are.type_is) i)))
 
       by_case : (at : Option Entry) → slice_get (entries_of indexed.rows) n ≡ at → IfSome at (AreRowCells indexed cells)
           → at_entry (counts_for_value indexed.concepts (λ row. one row.type_id) number) at
-          ≡ ((ltb cells.value bound && (cells.is_first && is_set types cells.type_place)) && (cells.value == number))
+          ≡ ((ltb cells.value bound && (cells.is_first && told cells.type_place)) && (cells.value == number))
       by_case None at are = absurd (none_within (entries_of indexed.rows) n (omega (arith, within, long)) at)
       by_case (Some entry) at are = of_entry entry are
 

@@ -1,5 +1,5 @@
 -- Numbers that stand in a list once for each attribute row that counts for them.
-use Rattle.std.proofs.Common.{ℕ, ℤ, zero, suc, ◌≡◌, ◌<◌, ◌≤◌, ◌+◌, ◌-◌, ◌∙◌, ◌∷◌, ◌++◌, [], inl, inr, ⊎_elim, ltb, arith, append-nil}
+use Rattle.std.proofs.Common.{ℕ, ℤ, zero, suc, ◌≡◌, ◌<◌, ◌≤◌, ◌+◌, ◌-◌, ◌∙◌, ◌∷◌, ◌++◌, [], inl, inr, ⊎_elim, ltb, arith, append-nil, append_assoc}
 use Rattle.std.proofs.Common.{Bool, true, false, ◌&&◌, ◌==◌, cond, List, length, get_or, map, take, Some, Option, refl, sym, ap, subst}
 use Rattle.std.specs.Prelude.{All, count_by, filter, slice_get, slice_index}
 use Rattle.std.specs.List.{flat_map}
@@ -12,7 +12,6 @@ use Rattle.std.proofs.lemmas.List.Sums.{length-filter}
 use Rattle.std.proofs.lemmas.Option.{get_or_from_slice_get, slice_get-get_or, slice_get_within}
 use Rattle.rf2_rows.specs.Pairs.{value_eq}
 use Rattle.rf2_rows.specs.Release.{Attribute, Value, concept_value, number_value, text_value}
-use Rattle.idset.specs.Words.{is_set}
 use Rattle.postings.specs.Columns.{AreGroups, AreSources, AreTypes, AreValues, Mark}
 use Rattle.postings.specs.Entries.{Entry}
 use Rattle.postings.specs.Groups.{ConceptGroup, group_of, groups_in, is_in_group, rows_alone}
@@ -21,7 +20,7 @@ use Rattle.postings.proofs.KeyLemmas.{IsTold, groups_once, groups_told_apart, in
 use Rattle.postings.proofs.OnceLemmas.{IsOnce, same_place}
 use Rattle.postings.proofs.ValueLemmas.{concept_at}
 use Rattle.pair_sets.specs.Counted.{times}
-use Rattle.pair_sets.specs.Hits.{AreHits, TellsPassing, TellsTypes, counts_for_group, counts_for_source, counts_for_value}
+use Rattle.pair_sets.specs.Hits.{AreHits, TellsTypes, value_of, counts_for_group, counts_for_source, counts_for_value}
 use Rattle.pair_sets.specs.Hits.{has_source_in, is_in_some, picked}
 use Rattle.pair_sets.proofs.Normal.{same_by_number}
 use Rattle.pair_sets.proofs.TimesLemmas.{times-append, times-cons}
@@ -83,24 +82,19 @@ module _ (kept : Mark → ℕ → Bool) (number : Mark → ℕ → ℕ) (d : Mar
         | false ↦ rest
       ]
 
-  -- one place more
-  pub picked_more : (marks : List Mark) (cells : List ℕ) (k : ℕ) → k < length marks → length marks ≡ length cells
-      → kept (get_or marks k d) (get_or cells k 0) ≡ true
-      → picked kept number (take k marks) (take k cells) ++ number (get_or marks k d) (get_or cells k 0) ∷ []
-      ≡ picked kept number (take (k + 1) marks) (take (k + 1) cells)
-  picked_more marks cells k within long keeps =
-      (λ i. picked kept number (take k marks) (take k cells) ++ here marks cells k (sym keeps i))
+  -- one place more, which is kept or not
+  pub picked_next : (marks : List Mark) (cells : List ℕ) (k : ℕ) → k < length marks → length marks ≡ length cells
+      → (keep : Bool) → kept (get_or marks k d) (get_or cells k 0) ≡ keep → (before hits next : List ℕ)
+      → hits ≡ before ++ picked kept number (take k marks) (take k cells) → next ≡ hits ++ here marks cells k keep
+      → next ≡ before ++ picked kept number (take (k + 1) marks) (take (k + 1) cells)
+  picked_next marks cells k within long keep told before hits next so_far is =
+      is
+      ∙ ap (λ (xs : List ℕ). xs ++ here marks cells k keep) so_far
+      ∙ append_assoc before (picked kept number (take k marks) (take k cells)) (here marks cells k keep)
+      ∙ ap (λ (xs : List ℕ). before ++ xs)
+      ((λ i. picked kept number (take k marks) (take k cells) ++ here marks cells k (sym told i))
       ∙ sym (picked_here marks cells k within long)
-      ∙ ap (λ (m : ℕ). picked kept number (take m marks) (take m cells)) (next_place k)
-
-  pub picked_same : (marks : List Mark) (cells : List ℕ) (k : ℕ) → k < length marks → length marks ≡ length cells
-      → kept (get_or marks k d) (get_or cells k 0) ≡ false
-      → picked kept number (take k marks) (take k cells) ≡ picked kept number (take (k + 1) marks) (take (k + 1) cells)
-  picked_same marks cells k within long leaves =
-      sym (append-nil (picked kept number (take k marks) (take k cells)))
-      ∙ (λ i. picked kept number (take k marks) (take k cells) ++ here marks cells k (sym leaves i))
-      ∙ sym (picked_here marks cells k within long)
-      ∙ ap (λ (m : ℕ). picked kept number (take m marks) (take m cells)) (next_place k)
+      ∙ ap (λ (m : ℕ). picked kept number (take m marks) (take m cells)) (next_place k))
 
   -- they are below a bound where each of them is
   picked_below : (bound : ℕ) (marks : List Mark) (cells : List ℕ) → length marks ≡ length cells
@@ -272,7 +266,7 @@ group_tells groups once told m n inside row is =
       ]
     ]
 
--- ---- what the words of bits say of the cells
+-- ---- what is told of the cells
 module _ (indexed : Indexed) (entries : List Entry) (cells : List ℕ) where
   module _ (values : AreValues (values_of indexed) entries cells) where
     pub values_long : length cells ≡ length entries
@@ -282,17 +276,17 @@ module _ (indexed : Indexed) (entries : List Entry) (cells : List ℕ) where
     value_there k within =
         same_at (value_at (values_of indexed)) (λ (entry : Entry). entry.row.value) cells entries values.values k 0 an_entry within
 
-    pub values_told : (passes : Value → Bool) (words : List ℕ) → TellsPassing indexed passes words
-        → (k : ℕ) → k < length entries → is_set words (get_or cells k 0) ≡ passes (get_or entries k an_entry).row.value
-    values_told passes words tells k within = tells (get_or cells k 0) ∙ ap passes (value_there k within)
+    pub values_told : (passes : Value → Bool)
+        → (k : ℕ) → k < length entries → passes (value_of indexed (get_or cells k 0)) ≡ passes (get_or entries k an_entry).row.value
+    values_told passes k within = ap passes (value_there k within)
 
   module _ (types : AreTypes (types_of indexed.rows) entries cells) where
     pub types_long : length cells ≡ length entries
     types_long = same_length (slice_index (types_of indexed.rows)) (λ (entry : Entry). entry.row.type_id) cells entries types.types
 
-    pub types_told : (one : ℕ → Bool) (words : List ℕ) → TellsTypes indexed.rows one words
-        → (k : ℕ) → k < length entries → is_set words (get_or cells k 0) ≡ one (get_or entries k an_entry).row.type_id
-    types_told one words tells k within =
+    pub types_told : (one told : ℕ → Bool) → TellsTypes indexed.rows one told
+        → (k : ℕ) → k < length entries → told (get_or cells k 0) ≡ one (get_or entries k an_entry).row.type_id
+    types_told one told tells k within =
         tells (get_or cells k 0) (types.within k 0 (omega (arith, within, types_long)))
         ∙ ap one (same_at (slice_index (types_of indexed.rows)) (λ (entry : Entry). entry.row.type_id) cells entries types.types
         k 0 an_entry within)
@@ -314,19 +308,19 @@ module _ (concepts : List ℕ) (entries : List Entry) (marks : List Mark) (sourc
       same_at (λ (mark : Mark). get_or concepts mark.number 0) (λ (entry : Entry). entry.row.source) marks entries
       sources.sources k a_mark an_entry within
 
--- where the words say of the cell of each row whether it is kept
-module _ (kept : Attribute → Bool) (words : List ℕ) (entries : List Entry) (marks : List Mark) (cells : List ℕ)
+-- where the cell of each row tells whether it is kept
+module _ (kept : Attribute → Bool) (tells : ℕ → Bool) (entries : List Entry) (marks : List Mark) (cells : List ℕ)
     (cells_long : length cells ≡ length entries)
-    (told : (k : ℕ) → k < length entries → is_set words (get_or cells k 0) ≡ kept (get_or entries k an_entry).row) where
+    (told : (k : ℕ) → k < length entries → tells (get_or cells k 0) ≡ kept (get_or entries k an_entry).row) where
   pub source_hits : (concepts : List ℕ) → IsStrictlyIncreasing concepts → AreSources concepts entries marks
       → AreHits (length concepts) (counts_for_source concepts kept) entries
-      (picked (λ mark cell. mark.is_first && is_set words cell) (λ mark cell. mark.number) marks cells)
+      (picked (λ mark cell. mark.is_first && tells cell) (λ mark cell. mark.number) marks cells)
   source_hits concepts rising sources =
-      picked_hits (λ mark cell. mark.is_first && is_set words cell) (λ mark cell. mark.number) a_mark
+      picked_hits (λ mark cell. mark.is_first && tells cell) (λ mark cell. mark.number) a_mark
       (length concepts) (counts_for_source concepts kept) an_entry marks cells entries (sources_long concepts entries marks sources) cells_long
       (λ k within keeps. source_below concepts entries marks sources k within)
       (λ n inside k within.
-      and_turned ((get_or marks k a_mark).is_first && is_set words (get_or cells k 0)) ((get_or marks k a_mark).number == n)
+      and_turned ((get_or marks k a_mark).is_first && tells (get_or cells k 0)) ((get_or marks k a_mark).number == n)
       ∙ (λ i. by_source n inside k within i && (source_first concepts entries marks sources k within i && told k within i)))
     where
       by_source : (n : ℕ) → n < length concepts → (k : ℕ) → k < length entries
@@ -337,14 +331,14 @@ module _ (kept : Attribute → Bool) (words : List ℕ) (entries : List Entry) (
 
   pub grouped_hits : (indexed : Indexed) → IsStrictlyIncreasing indexed.concepts → AreGroups (groups_in indexed) entries marks
       → AreHits (length (groups_in indexed)) (counts_for_group (groups_in indexed) kept) entries
-      (picked (λ mark cell. mark.is_first && is_set words cell) (λ mark cell. mark.number) marks cells)
+      (picked (λ mark cell. mark.is_first && tells cell) (λ mark cell. mark.number) marks cells)
   grouped_hits indexed rising groups =
-      picked_hits (λ mark cell. mark.is_first && is_set words cell) (λ mark cell. mark.number) a_mark
+      picked_hits (λ mark cell. mark.is_first && tells cell) (λ mark cell. mark.number) a_mark
       (length (groups_in indexed)) (counts_for_group (groups_in indexed) kept) an_entry marks cells entries
       (same_length (λ (mark : Mark). mark.is_first) (λ (entry : Entry). entry.is_first_in_group) marks entries groups.firsts) cells_long
       (λ k within keeps. slice_get_within (groups_in indexed) (get_or marks k a_mark).number (group_of (get_or entries k an_entry).row) (own k within))
       (λ n inside k within.
-      and_turned ((get_or marks k a_mark).is_first && is_set words (get_or cells k 0)) ((get_or marks k a_mark).number == n)
+      and_turned ((get_or marks k a_mark).is_first && tells (get_or cells k 0)) ((get_or marks k a_mark).number == n)
       ∙ (λ i. group_tells (groups_in indexed) once all_told (get_or marks k a_mark).number n inside (get_or entries k an_entry).row (own k within) i
       && (first_there k within i && told k within i)))
     where
@@ -364,27 +358,26 @@ module _ (kept : Attribute → Bool) (words : List ℕ) (entries : List Entry) (
           same_at (λ (mark : Mark). mark.is_first) (λ (entry : Entry). entry.is_first_in_group) marks entries groups.firsts
           k a_mark an_entry within
 
--- read backwards, the words say of the source of each row whether it passes
-module _ (indexed : Indexed) (passes : Value → Bool) (words : List ℕ) (tells : TellsPassing indexed passes words)
+-- read backwards, the source of each row is tested
+module _ (indexed : Indexed) (passes : Value → Bool)
     (entries : List Entry) (marks : List Mark) (sources : AreSources indexed.concepts entries marks) where
   pub source_told : (k : ℕ) → k < length entries
-      → is_set words (get_or marks k a_mark).number ≡ passes (concept_value (get_or entries k an_entry).row.source)
+      → passes (value_of indexed (get_or marks k a_mark).number) ≡ passes (concept_value (get_or entries k an_entry).row.source)
   source_told k within =
-      tells (get_or marks k a_mark).number
-      ∙ ap passes (concept_at indexed.concepts indexed.decimals indexed.texts (get_or marks k a_mark).number (text_value [])
+      ap passes (concept_at indexed.concepts indexed.decimals indexed.texts (get_or marks k a_mark).number (text_value [])
       (source_below indexed.concepts entries marks sources k within)
       ∙ ap concept_value (source_there indexed.concepts entries marks sources k within))
 
   -- so the mark and the type of a row tell whether it counts for its value
-  pub back_told : (one : ℕ → Bool) (types cells : List ℕ) → TellsTypes indexed.rows one types → AreTypes (types_of indexed.rows) entries cells
+  pub back_told : (one told : ℕ → Bool) (cells : List ℕ) → TellsTypes indexed.rows one told → AreTypes (types_of indexed.rows) entries cells
       → (k : ℕ) → k < length entries
-      → ((get_or marks k a_mark).is_first && (is_set types (get_or cells k 0) && is_set words (get_or marks k a_mark).number))
+      → ((get_or marks k a_mark).is_first && (told (get_or cells k 0) && passes (value_of indexed (get_or marks k a_mark).number)))
       ≡ ((get_or entries k an_entry).is_first && has_source_in one passes (get_or entries k an_entry).row)
-  back_told one types cells tells_types are k within =
+  back_told one told cells tells are k within =
       λ i. source_first indexed.concepts entries marks sources k within i
-      && (types_told indexed entries cells are one types tells_types k within i && source_told k within i)
+      && (types_told indexed entries cells are one told tells k within i && source_told k within i)
 
-module _ (indexed : Indexed) (passes : Value → Bool) (words : List ℕ) (tells : TellsPassing indexed passes words)
+module _ (indexed : Indexed) (passes : Value → Bool)
     (rising : IsStrictlyIncreasing indexed.concepts) (entries : List Entry) (marks : List Mark) (cells : List ℕ)
     (values : AreValues (values_of indexed) entries cells) (sources : AreSources indexed.concepts entries marks) where
   -- what stands at a place
@@ -399,16 +392,16 @@ module _ (indexed : Indexed) (passes : Value → Bool) (words : List ℕ) (tells
 
   pub backward_hits : (bound : ℕ) → bound ≡ length indexed.concepts
       → AreHits (length indexed.concepts) (counts_for_value indexed.concepts (λ row. passes (concept_value row.source))) entries
-      (picked (λ mark cell. ltb cell bound && (mark.is_first && is_set words mark.number)) (λ mark cell. cell) marks cells)
+      (picked (λ mark cell. ltb cell bound && (mark.is_first && passes (value_of indexed mark.number))) (λ mark cell. cell) marks cells)
   backward_hits bound is =
-      picked_hits (λ mark cell. ltb cell bound && (mark.is_first && is_set words mark.number)) (λ mark cell. cell) a_mark
+      picked_hits (λ mark cell. ltb cell bound && (mark.is_first && passes (value_of indexed mark.number))) (λ mark cell. cell) a_mark
       (length indexed.concepts) (counts_for_value indexed.concepts (λ row. passes (concept_value row.source))) an_entry marks cells entries
       (sources_long indexed.concepts entries marks sources) (values_long indexed entries cells values)
       (λ k within keeps. subst (λ n. cell k < n) is (ltb-true (cell k) bound (and_parts _ _ keeps).0))
       (λ n inside k within.
-      and_apart (ltb (cell k) bound) ((mark k).is_first && is_set words (mark k).number) (cell k == n)
+      and_apart (ltb (cell k) bound) ((mark k).is_first && passes (value_of indexed (mark k).number)) (cell k == n)
       ∙ (λ i. value_tells indexed rising bound is (cell k) (entry k).row.value (value_there indexed entries cells values k within) n inside i
-      && (source_first indexed.concepts entries marks sources k within i && source_told indexed passes words tells entries marks sources k within i)))
+      && (source_first indexed.concepts entries marks sources k within i && source_told indexed passes entries marks sources k within i)))
 
 -- ---- whatever passes, the numbers are below the bound
 pub marks_below : (kept : Mark → ℕ → Bool) (bound : ℕ) (marks : List Mark) (cells : List ℕ) → All (λ (mark : Mark). mark.number < bound) marks

@@ -1,18 +1,22 @@
 -- The places of the types that are one of some concepts.
 use Rattle.std.proofs.Common.{ℕ, ◌≡◌, ◌<◌, ◌+◌, ◌++◌, ◌∷◌, [], ◌==◌, ◌||◌, ◌∙◌, Bool, true, false, List, length, get_or, take, inl, inr, refl, sym, ap, arith}
-use Rattle.std.specs.Prelude.{None, Option, Some, nat_eq, position}
+use Rattle.std.specs.Prelude.{All, None, Option, Some, nat_eq, position}
 use Rattle.std.specs.List.{IsDistinct}
+use Rattle.std.specs.List.Sorted.{IsStrictlyIncreasing}
 use Rattle.std.proofs.lemmas.Bool.{cases_eq, cases_lt, eq-eqb, eqb-false, eqb-true, ne_eqb}
 use Rattle.std.proofs.lemmas.List.{take_more}
 use Rattle.std.proofs.lemmas.List.Folds.{list_any-append}
 use Rattle.std.proofs.lemmas.List.Quantifiers.{position-Some}
 use Rattle.std.proofs.lemmas.Map.Keys.{apart_from_distinct}
+use Rattle.std.proofs.lemmas.Option.{slice_get-get_or}
 use Rattle.rf2_rows.specs.Release.{Attribute}
 use Rattle.idset.specs.Sets.{has_item}
-use Rattle.postings.specs.Indexed.{types_of}
+use Rattle.postings.specs.Indexed.{Indexed, concept_of_type, types_of}
+use Rattle.pair_sets.specs.Hits.{TellsTypes, is_one_at, is_type_in}
 use Rattle.pair_sets.specs.Tested.{is_one_of}
 use Rattle.pair_sets.proofs.LeafLemmas.{types_apart}
-use Rattle.pair_sets.proofs.Normal.{concept_number-None}
+use Rattle.pair_sets.proofs.Normal.{concept_number-None, concept_number-Some}
+use Rattle.pair_sets.proofs.PassingLemmas.{none_by_number, one_by_number}
 use Rattle.pair_sets.proofs.TimesLemmas.{item_more}
 
 -- with the place of one more, if it has one
@@ -80,3 +84,21 @@ places_more_of rows = places_more (types_of rows) (types_apart rows)
 -- a place that is found is one of them
 pub place_below : (types : List ℕ) (id place : ℕ) → position (nat_eq id) types ≡ Some place → place < length types
 place_below types id place at = (position-Some (nat_eq id) types place 0 at).0
+
+-- a type of rows is looked up by its place
+pub type_tells : (indexed : Indexed) (numbers : List ℕ) → TellsTypes indexed.rows (is_one_of indexed.concepts numbers) (is_type_in indexed numbers)
+type_tells indexed numbers place within =
+    ap (is_one_at indexed.concepts numbers) (slice_get-get_or (types_of indexed.rows) place 0 within)
+
+-- and asked for by the number of its concept, if it is one
+module _ (indexed : Indexed) (items : List ℕ) (below : All (λ item. item < length indexed.concepts) items) where
+  pub no_typed : (at : Option ℕ) → concept_of_type indexed at ≡ None → false ≡ is_one_at indexed.concepts items at
+  no_typed None none = refl
+  no_typed (Some id) none = sym (none_by_number indexed.concepts items below id none)
+
+pub typed : (indexed : Indexed) → IsStrictlyIncreasing indexed.concepts → (items : List ℕ) → All (λ item. item < length indexed.concepts) items
+    → (at : Option ℕ) (concept : ℕ) → concept_of_type indexed at ≡ Some concept → has_item items concept ≡ is_one_at indexed.concepts items at
+typed indexed rising items below None concept none = absurd cc
+typed indexed rising items below (Some id) concept is =
+    let found = concept_number-Some indexed.concepts id concept is in
+    sym (one_by_number indexed.concepts rising items below concept found.0) ∙ ap (is_one_of indexed.concepts items) found.1

@@ -1,18 +1,16 @@
 -- Which attribute rows count for what, when distinct pairs are counted (Expression Constraint Language, "Cardinality").
 use Rattle.std.specs.Prelude.{ℕ, ◌≡◌, ◌<◌, ◌==◌, ◌&&◌, Bool, true, false, if◌then◌else◌, All, List, [], ◌∷◌, Option, None, Some}
-use Rattle.std.specs.Prelude.{count_by, filter, length, slice_get, slice_index}
+use Rattle.std.specs.Prelude.{count_by, length, slice_get, slice_index}
 use Rattle.std.specs.List.{flat_map}
 use Rattle.rf2_rows.specs.Pairs.{value_eq}
 use Rattle.rf2_rows.specs.Release.{Attribute, Value, concept_value}
 use Rattle.idset.specs.Sets.{has_item}
-use Rattle.idset.specs.Words.{is_set}
 use Rattle.postings.specs.Columns.{Mark}
 use Rattle.postings.specs.Entries.{Entry, entries_where, entries_with_type, entries_with_value}
 use Rattle.postings.specs.Groups.{ConceptGroup, is_in_group}
 use Rattle.postings.specs.Indexed.{Indexed, types_of, value_at, values_of}
 use Rattle.pair_sets.specs.Counted.{times}
 use Rattle.pair_sets.specs.Tested.{is_one_of}
-use Rattle.pair_sets.specs.declared.types.TypesIn.{TypesIn}
 
 -- of marks and the cells beside them: a number for each place that is kept
 abbrev pub picked : (Mark → ℕ → Bool) → (Mark → ℕ → ℕ) → List Mark → List ℕ → List ℕ
@@ -72,19 +70,22 @@ pub record AreHits (bound : ℕ) (counts : ℕ → Entry → Bool) (entries : Li
   pub within : All (λ number. number < bound) hits
   pub times : (number : ℕ) → number < bound → times number hits ≡ count_by (counts number) entries
 
--- words of bits say of each value, by its number, whether it passes
-abbrev pub TellsPassing : Indexed → (Value → Bool) → List ℕ → Type 0
-TellsPassing indexed passes words = (number : ℕ) → is_set words number ≡ passes (value_at (values_of indexed) number)
+-- whether the type with a place among the types of all rows is one of some concepts, by their numbers
+abbrev pub is_one_at : List ℕ → List ℕ → Option ℕ → Bool
+is_one_at concepts numbers None = false
+is_one_at concepts numbers (Some id) = is_one_of concepts numbers id
 
--- words of bits say of each type of a row, by its place among the types of all rows, whether it is one of some
-abbrev pub TellsTypes : List Attribute → (ℕ → Bool) → List ℕ → Type 0
-TellsTypes rows one words =
-    (place : ℕ) → place < length (types_of rows) → is_set words place ≡ one (slice_index (types_of rows) place)
+abbrev pub is_type_in : Indexed → List ℕ → ℕ → Bool
+is_type_in indexed numbers place = is_one_at indexed.concepts numbers (slice_get (types_of indexed.rows) place)
 
--- of the types of rows some, by their identifiers and by their places
-pub record AreTypesIn (rows : List Attribute) (one : ℕ → Bool) (types : TypesIn) : Type 0 where
-  pub ids : types.ids.items ≡ filter one (types_of rows)
-  pub places : TellsTypes rows one types.places.items
+-- what is told of each type of a row, by its place among the types of all rows, is whether it is one of some
+abbrev pub TellsTypes : List Attribute → (ℕ → Bool) → (ℕ → Bool) → Type 0
+TellsTypes rows one told =
+    (place : ℕ) → place < length (types_of rows) → told place ≡ one (slice_index (types_of rows) place)
+
+-- the value with a number
+abbrev pub value_of : Indexed → ℕ → Value
+value_of indexed number = value_at (values_of indexed) number
 
 -- some places are those of the types of rows that are one of some concepts, by the numbers of these
 pub record ArePlacesOf (indexed : Indexed) (concepts places : List ℕ) : Type 0 where

@@ -1,8 +1,7 @@
 -- Types and values as a leaf tests them, by the numbers of concepts and of values.
-use Rattle.std.specs.Prelude.{ℕ, ◌≡◌, ◌==◌, ◌&&◌, ◌||◌, Bool, List, length, nat_le, nat_lt, slice_index}
+use Rattle.std.specs.Prelude.{ℕ, ◌≡◌, ◌==◌, Bool, List, length, slice_index}
 use Rattle.std.specs.List.{list_any}
 use Rattle.std.specs.declared.cmp.Ordering.{Ordering}
-use Rattle.std.specs.declared.cmp.Ordering.TheVariants as order
 use Rattle.std.specs.Ordering.{is_eq, is_ge, is_gt, is_le, is_lt, is_ne}
 use Rattle.rf2_rows.specs.Release.{Value}
 use Rattle.constraint_tree.specs.declared.operator.Compare.{Compare}
@@ -41,14 +40,3 @@ meets Less order = is_lt order
 meets LessOrEqual order = is_le order
 meets Greater order = is_gt order
 meets GreaterOrEqual order = is_ge order
-
--- whether a number is one from another on, up to a third
-abbrev pub is_from : ℕ → ℕ → ℕ → Bool
-is_from from to number = nat_le from number && nat_lt number to
-
--- of three ranges that follow one another, of numbers that stand less, equal and more to another: whether a number is in one that
--- compares as is asked
-abbrev pub is_asked : Compare → ℕ → ℕ → ℕ → ℕ → ℕ → Bool
-is_asked compare first equal above end number =
-    ((meets compare order.Less && is_from first equal number) || (meets compare order.Equal && is_from equal above number))
-    || (meets compare order.Greater && is_from above end number)

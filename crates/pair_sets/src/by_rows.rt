@@ -1,23 +1,21 @@
 //! The concepts and the groups with so many pairs, by the rows of some values, of some types or of the candidates.
-ghost use Rattle.std.specs.Prelude.{ℕ, ◌≡◌, ◌<◌, All, Bool, IfOk, length};
+ghost use Rattle.std.specs.Prelude.{ℕ, ◌≡◌, ◌<◌, All, Bool, IfOk, filter, length};
 ghost use Rattle.std.specs.List.{range_with_len};
-ghost use Rattle.rf2_rows.specs.Release.{Value};
 ghost use Rattle.constraint_tree.specs.Passing.{is_within};
 ghost use Rattle.idset.specs.Sets.{IsRisingBelow, has_item};
 ghost use Rattle.postings.specs.Groups.{all_groups};
-ghost use Rattle.postings.specs.Indexed.{IsIndexOf};
+ghost use Rattle.postings.specs.Indexed.{IsIndexOf, types_of};
 ghost use Rattle.set_algebra.specs.Meaning.{has_pairs, pairs_of};
 ghost use Rattle.pair_sets.specs.Groups.{groups_where};
-ghost use Rattle.pair_sets.specs.Hits.{AreTypesIn, TellsPassing};
 ghost use Rattle.pair_sets.specs.Numbers.{numbers_in};
-ghost use Rattle.pair_sets.specs.Tested.{is_one_of};
+ghost use Rattle.pair_sets.specs.Tested.{IsTestBelow, is_one_of, passes_of};
 ghost use Rattle.pair_sets.specs.Within.{AreBelow, groups_within, may_be, numbers_within};
 
 use crate::among::{concepts_among, groups_among};
 use crate::candidates::Candidates;
 use crate::counts::as_often;
 use crate::hits::{group_hits_by_type, group_hits_by_value, hits_by_type, hits_by_value};
-use crate::types::TypesIn;
+use crate::tested::Tested;
 use constraint_tree::Cardinality;
 use idset::ConceptSet;
 use postings::Indexes;
@@ -32,13 +30,14 @@ pub fn with_pairs_by_value<S: ConceptSet>(
     indexes: &Indexes,
     back: bool,
     count: Cardinality,
-    types: &TypesIn,
+    types: &S,
     values: &[u32],
 ) -> Result<S, AllocError>
     requires index { IsIndexOf indexes.now snapshot.now.release }
+    requires types { S.bound_of types.now ≡ length indexes.now.concepts }
     requires values { IsRisingBelow (length indexes.now.concepts) values.now }
-    ensures items { IfOk result (λ found. (one : ℕ → Bool) → AreTypesIn indexes.now.rows one types.now
-        → S.items_of found ≡ numbers_in snapshot.now.release (λ concept. has_pairs count one (is_within (is_one_of indexes.now.concepts values.now)) (pairs_of snapshot.now.release back concept))) }
+    ensures items { IfOk result (λ found. S.items_of found ≡ numbers_in snapshot.now.release
+        (λ concept. has_pairs count (is_one_of indexes.now.concepts (S.items_of types.now)) (is_within (is_one_of indexes.now.concepts values.now)) (pairs_of snapshot.now.release back concept))) }
     ensures bound { IfOk result (λ found. S.bound_of found ≡ length snapshot.now.release.concepts) }
 {
     // all attribute rows are by source, so their sources are in force
@@ -55,17 +54,18 @@ pub fn with_pairs_by_type<S: ConceptSet>(
     indexes: &Indexes,
     back: bool,
     count: Cardinality,
-    types: &TypesIn,
-    passing: &[u64],
+    ids: &[u64],
+    tested: &Tested<S>,
 ) -> Result<S, AllocError>
     requires index { IsIndexOf indexes.now snapshot.now.release }
-    ensures items { IfOk result (λ found. (one : ℕ → Bool) (passes : Value → Bool) → AreTypesIn indexes.now.rows one types.now → TellsPassing indexes.now passes passing.now
-        → S.items_of found ≡ numbers_in snapshot.now.release (λ concept. has_pairs count one passes (pairs_of snapshot.now.release back concept))) }
+    requires tested { IsTestBelow S.bound_of (length indexes.now.concepts) tested.now }
+    ensures items { IfOk result (λ found. (one : ℕ → Bool) → ids.now ≡ filter one (types_of indexes.now.rows)
+        → S.items_of found ≡ numbers_in snapshot.now.release (λ concept. has_pairs count one (passes_of S.items_of indexes.now.concepts tested.now) (pairs_of snapshot.now.release back concept))) }
     ensures bound { IfOk result (λ found. S.bound_of found ≡ length snapshot.now.release.concepts) }
 {
     // all attribute rows are by source, so their sources are in force
     snapshot.attribute_count();
-    let hits = hits_by_type(alloc, indexes, back, types, passing)?;
+    let hits = hits_by_type(alloc, indexes, back, ids, tested)?;
     as_often(alloc, hits.as_slice(), snapshot.concept_count(), count)
 }
 
@@ -77,29 +77,30 @@ pub fn with_pairs_among<S: ConceptSet>(
     indexes: &Indexes,
     back: bool,
     count: Cardinality,
-    types: &TypesIn,
-    passing: &[u64],
+    types: &S,
+    tested: &Tested<S>,
     candidates: &Candidates<'_, S>,
 ) -> Result<S, AllocError>
     requires index { IsIndexOf indexes.now snapshot.now.release }
+    requires types { S.bound_of types.now ≡ length indexes.now.concepts }
+    requires tested { IsTestBelow S.bound_of (length indexes.now.concepts) tested.now }
     requires candidates { AreBelow S.bound_of (length snapshot.now.release.concepts) candidates.now }
-    ensures items { IfOk result (λ found. (one : ℕ → Bool) (passes : Value → Bool) → AreTypesIn indexes.now.rows one types.now → TellsPassing indexes.now passes passing.now
-        → S.items_of found ≡ numbers_within snapshot.now.release (may_be S.items_of candidates.now) (λ concept. has_pairs count one passes (pairs_of snapshot.now.release back concept))) }
+    ensures items { IfOk result (λ found. S.items_of found ≡ numbers_within snapshot.now.release (may_be S.items_of candidates.now)
+        (λ concept. has_pairs count (is_one_of indexes.now.concepts (S.items_of types.now)) (passes_of S.items_of indexes.now.concepts tested.now) (pairs_of snapshot.now.release back concept))) }
     ensures bound { IfOk result (λ found. S.bound_of found ≡ length snapshot.now.release.concepts) }
 {
     // all attribute rows are by source, so their sources are in force
     snapshot.attribute_count();
     let concept_count = snapshot.concept_count();
     let asked = numbers_asked(alloc, concept_count, candidates)?;
-    let places = types.places.as_slice();
     let kept = concepts_among(
         alloc,
         indexes,
         back,
         count,
         asked.as_slice(),
-        places,
-        passing,
+        types,
+        tested,
     )?;
     S::from_numbers(alloc, kept.as_slice(), concept_count)
 }
@@ -111,13 +112,14 @@ pub fn groups_with_pairs_by_value<S: ConceptSet>(
     snapshot: &Snapshot,
     indexes: &Indexes,
     count: Cardinality,
-    types: &TypesIn,
+    types: &S,
     values: &[u32],
 ) -> Result<S, AllocError>
     requires index { IsIndexOf indexes.now snapshot.now.release }
+    requires types { S.bound_of types.now ≡ length indexes.now.concepts }
     requires values { IsRisingBelow (length indexes.now.concepts) values.now }
-    ensures items { IfOk result (λ found. (one : ℕ → Bool) → AreTypesIn indexes.now.rows one types.now
-        → S.items_of found ≡ groups_where snapshot.now.release (has_pairs count one (is_within (is_one_of indexes.now.concepts values.now)))) }
+    ensures items { IfOk result (λ found. S.items_of found ≡ groups_where snapshot.now.release
+        (has_pairs count (is_one_of indexes.now.concepts (S.items_of types.now)) (is_within (is_one_of indexes.now.concepts values.now)))) }
     ensures bound { IfOk result (λ found. S.bound_of found ≡ length (all_groups snapshot.now.release)) }
 {
     snapshot.concept_count();
@@ -131,16 +133,17 @@ pub fn groups_with_pairs_by_type<S: ConceptSet>(
     snapshot: &Snapshot,
     indexes: &Indexes,
     count: Cardinality,
-    types: &TypesIn,
-    passing: &[u64],
+    ids: &[u64],
+    tested: &Tested<S>,
 ) -> Result<S, AllocError>
     requires index { IsIndexOf indexes.now snapshot.now.release }
-    ensures items { IfOk result (λ found. (one : ℕ → Bool) (passes : Value → Bool) → AreTypesIn indexes.now.rows one types.now → TellsPassing indexes.now passes passing.now
-        → S.items_of found ≡ groups_where snapshot.now.release (has_pairs count one passes)) }
+    requires tested { IsTestBelow S.bound_of (length indexes.now.concepts) tested.now }
+    ensures items { IfOk result (λ found. (one : ℕ → Bool) → ids.now ≡ filter one (types_of indexes.now.rows)
+        → S.items_of found ≡ groups_where snapshot.now.release (has_pairs count one (passes_of S.items_of indexes.now.concepts tested.now))) }
     ensures bound { IfOk result (λ found. S.bound_of found ≡ length (all_groups snapshot.now.release)) }
 {
     snapshot.concept_count();
-    let hits = group_hits_by_type(alloc, indexes, types, passing)?;
+    let hits = group_hits_by_type(alloc, indexes, ids, tested)?;
     as_often(alloc, hits.as_slice(), indexes.group_count(), count)
 }
 
@@ -151,21 +154,22 @@ pub fn groups_with_pairs_among<S: ConceptSet>(
     snapshot: &Snapshot,
     indexes: &Indexes,
     count: Cardinality,
-    types: &TypesIn,
-    passing: &[u64],
+    types: &S,
+    tested: &Tested<S>,
     candidates: &Candidates<'_, S>,
 ) -> Result<S, AllocError>
     requires index { IsIndexOf indexes.now snapshot.now.release }
+    requires types { S.bound_of types.now ≡ length indexes.now.concepts }
+    requires tested { IsTestBelow S.bound_of (length indexes.now.concepts) tested.now }
     requires candidates { AreBelow S.bound_of (length (all_groups snapshot.now.release)) candidates.now }
-    ensures items { IfOk result (λ found. (one : ℕ → Bool) (passes : Value → Bool) → AreTypesIn indexes.now.rows one types.now → TellsPassing indexes.now passes passing.now
-        → S.items_of found ≡ groups_within snapshot.now.release (may_be S.items_of candidates.now) (has_pairs count one passes)) }
+    ensures items { IfOk result (λ found. S.items_of found ≡ groups_within snapshot.now.release (may_be S.items_of candidates.now)
+        (has_pairs count (is_one_of indexes.now.concepts (S.items_of types.now)) (passes_of S.items_of indexes.now.concepts tested.now))) }
     ensures bound { IfOk result (λ found. S.bound_of found ≡ length (all_groups snapshot.now.release)) }
 {
     snapshot.concept_count();
     let group_count = indexes.group_count();
     let asked = numbers_asked(alloc, group_count, candidates)?;
-    let places = types.places.as_slice();
-    let kept = groups_among(alloc, indexes, count, asked.as_slice(), places, passing)?;
+    let kept = groups_among(alloc, indexes, count, asked.as_slice(), types, tested)?;
     S::from_numbers(alloc, kept.as_slice(), group_count)
 }
 

@@ -9,17 +9,17 @@ use postings::Indexes;
 use snapshot::Snapshot;
 use std::alloc::{AllocError, Global};
 
-// A row that is looked up by its number takes about as long as so many that stand side by side.
-const LOOK_UP: u64 = 8;
-
 // To ask a concept by its own list takes about as long as to go through so many concepts, and to ask so few takes no longer
 // than to copy one list.
 const QUESTION: u64 = 32;
 
 const FEW: u64 = 16;
 
-/// The rows of more candidates than there are rows, divided by this, are not counted: to read them all is sooner done.
-pub const WIDE: u32 = 64;
+// The rows of more candidates than there are rows, divided by this, are not counted: to read them all is sooner done.
+const WIDE: u32 = 64;
+
+// The lists of more candidates are not counted.
+const LISTED: usize = 256;
 
 /// The numbers of which it is asked whether they are in a set: those of concepts, or those of groups.
 #[derive(Drop)]
@@ -37,9 +37,34 @@ pub struct Extent {
     pub items: u64,
     /// How many attribute rows they have, or more.
     pub rows: u64,
+    /// How many attribute rows have one of them as their value, or more.
+    pub back_rows: u64,
     /// How many groups they have, or more.
     pub groups: u64,
+    /// How many items their lists in the hierarchy have, or more.
+    pub lists: ListExtent,
 }
+
+/// How many items the lists of some concepts have in the hierarchy, or more.
+#[derive(Clone, Copy, Debug)]
+pub struct ListExtent {
+    /// Their ancestors.
+    pub ancestors: u64,
+    /// Their descendants.
+    pub descendants: u64,
+    /// Their parents.
+    pub parents: u64,
+    /// Their children.
+    pub children: u64,
+}
+
+// What is said of lists that are not counted.
+const UNLISTED: ListExtent = ListExtent {
+    ancestors: u64::MAX,
+    descendants: u64::MAX,
+    parents: u64::MAX,
+    children: u64::MAX,
+};
 
 impl Extent {
     /// The same of the groups that they have.
@@ -47,8 +72,23 @@ impl Extent {
         Extent {
             items: self.groups,
             rows: self.rows,
+            back_rows: u64::MAX,
             groups: self.groups,
+            lists: UNLISTED,
         }
+    }
+
+    /// The same, where those are their rows that have one of them as their value.
+    pub fn read_backwards(self) -> Extent {
+        Extent {
+            rows: self.back_rows,
+            ..self
+        }
+    }
+
+    /// How many items are read of them, each with its rows.
+    pub fn items_and_rows(self) -> u64 {
+        self.items.saturating_add(self.rows)
     }
 
     /// Whether they are asked one by one sooner than a list is copied, or so many concepts are gone through.
@@ -67,11 +107,6 @@ impl Extent {
         let own = self.items.saturating_add(self.groups);
         own.saturating_add(self.groups.min(found as u64))
     }
-
-    /// Whether their rows are looked up sooner than so many rows are read that stand side by side.
-    pub fn is_read_before(self, rows: u64) -> bool {
-        self.items.saturating_add(self.rows).saturating_mul(LOOK_UP) < rows
-    }
 }
 
 /// Whether there is no candidate.
@@ -81,6 +116,15 @@ pub fn none_left<S: ConceptSet>(candidates: &Candidates<'_, S>) -> bool
     match candidates {
         Candidates::All => false,
         Candidates::Within(set, _) => set.count() == 0,
+    }
+}
+
+/// How much there is of the candidates, where not all are; read backwards, with the rows that have one of them as their value.
+pub fn extent_for<S>(candidates: &Candidates<'_, S>, back: bool) -> Option<Extent> {
+    match candidates {
+        Candidates::All => None,
+        Candidates::Within(_, extent) if back => Some(extent.read_backwards()),
+        Candidates::Within(_, extent) => Some(*extent),
     }
 }
 
@@ -189,8 +233,7 @@ fn extent_left<S>(candidates: &Candidates<'_, S>, items: u32) -> Extent {
         Candidates::All => uncounted(items),
         Candidates::Within(_, extent) => Extent {
             items: items as u64,
-            rows: extent.rows,
-            groups: extent.groups,
+            ..*extent
         },
     }
 }
@@ -200,7 +243,9 @@ fn uncounted(items: u32) -> Extent {
     Extent {
         items: u64::from(items),
         rows: u64::MAX,
+        back_rows: u64::MAX,
         groups: u64::MAX,
+        lists: UNLISTED,
     }
 }
 
@@ -209,18 +254,50 @@ fn extent_among(indexes: &Indexes, concepts: &[u32]) -> Extent
     requires { All (λ concept. concept < length indexes.now.concepts) concepts.now }
 {
     let mut rows = 0u64;
+    let mut back_rows = 0u64;
     let mut groups = 0u64;
     for concept in concepts {
         let units = indexes.units_of(*concept);
         rows = rows.saturating_add(indexes.rows_of(*concept).len() as u64);
+        back_rows = back_rows.saturating_add(indexes.by_value(*concept).len() as u64);
         groups = groups.saturating_add(u64::from(units.end.saturating_sub(units.start)));
     }
-    let items = concepts.len() as u64;
     Extent {
-        items,
+        items: concepts.len() as u64,
         rows,
+        back_rows,
         groups,
+        lists: lists_among(indexes, concepts),
     }
+}
+
+// How many items the lists of some concepts have, if these are few.
+fn lists_among(indexes: &Indexes, concepts: &[u32]) -> ListExtent
+    requires { All (λ concept. concept < length indexes.now.concepts) concepts.now }
+{
+    if concepts.len() > LISTED {
+        return UNLISTED;
+    }
+    // each concept has its lists
+    indexes.stats();
+    let hierarchy = indexes.hierarchy();
+    let mut lists = ListExtent {
+        ancestors: 0,
+        descendants: 0,
+        parents: 0,
+        children: 0,
+    };
+    for concept in concepts {
+        let ancestors = hierarchy.ancestors(*concept).len() as u64;
+        lists.ancestors = lists.ancestors.saturating_add(ancestors);
+        let descendants = hierarchy.descendants(*concept).len() as u64;
+        lists.descendants = lists.descendants.saturating_add(descendants);
+        let parents = hierarchy.parents(*concept).len() as u64;
+        lists.parents = lists.parents.saturating_add(parents);
+        let children = hierarchy.children(*concept).len() as u64;
+        lists.children = lists.children.saturating_add(children);
+    }
+    lists
 }
 
 // How much there is of some groups.
@@ -235,6 +312,8 @@ fn group_extent_among(indexes: &Indexes, groups: &[u32]) -> Extent
     Extent {
         items,
         rows,
+        back_rows: u64::MAX,
         groups: items,
+        lists: UNLISTED,
     }
 }

@@ -1,166 +1,193 @@
 //! In which way a leaf is read, and how many items that reads.
-ghost use Rattle.std.specs.Prelude.{◌≡◌, ◌-◌, ◌<◌, ◌^◌, All, IfOk, IfSome, length, min, sum_by};
+//!
+//! What is read to find the way is counted too, and is read only where the bound of the leaf has room for it.
+ghost use Rattle.std.specs.Prelude.{ℕ, ◌≡◌, ◌-◌, ◌<◌, ◌^◌, All, Bool, IfOk, IfSome, length, min, sum_by};
 ghost use Rattle.planner.specs.Counts.{type_row_count};
-ghost use Rattle.pair_sets.specs.Tested.{IsTestBelow, passes_of};
-ghost use Rattle.pair_sets.specs.Ways.{AreAllThatPass, IsWayFor, row_count_of};
-ghost use Rattle.pair_sets.specs.Within.{AreBelow};
+ghost use Rattle.postings.specs.Indexed.{IsIndexOf, types_of};
+ghost use Rattle.pair_sets.specs.Tested.{IsTestBelow, is_one_of, passes_of};
+ghost use Rattle.pair_sets.specs.Ways.{AreAllThatPass, IsValuesWay, IsWayFor, row_count_of};
 
-use crate::candidates::{Candidates, Extent, WIDE};
-use crate::tested::Tested;
-use crate::types::TypesIn;
+use crate::candidates::Extent;
+use crate::tested::{Tested, count_of_test};
+use crate::types::{types_in, types_to_read};
 use crate::ways::{
-    LeafReads, PassingValues, Way, are_read_before, by_candidates, by_few_values_or_choice,
+    LeafReads, PassingValues, Way, are_read_before, items_among, look_ups, values_are_read_before,
 };
 use idset::ConceptSet;
 use planner::Choice;
 use postings::Indexes;
+use snapshot::Snapshot;
 use std::alloc::{AllocError, Global};
 
 // To look up a value takes about as long as to read so many rows that stand side by side.
 const VALUE: u64 = 4;
 
-/// The way in which the concepts are found that have so many pairs, of their own or read backwards. Beside it stands how many
-/// items are read, also to find the way.
-pub fn concept_way<S: ConceptSet>(
+/// The way in which a leaf is read. Beside it stands how many items are read, also to find the way.
+pub fn leaf_way<S: ConceptSet>(
     alloc: Global,
+    snapshot: &Snapshot,
     indexes: &Indexes,
-    choice: Choice,
-    back: bool,
-    types: &TypesIn,
+    reads: LeafReads,
+    types: &S,
     tested: Tested<S>,
-    candidates: &Candidates<'_, S>,
+    candidates: Option<Extent>,
 ) -> Result<(Way<S>, u64), AllocError>
+    requires index { IsIndexOf indexes.now snapshot.now.release }
+    requires types { S.bound_of types.now ≡ length indexes.now.concepts }
     requires tested { IsTestBelow S.bound_of (length indexes.now.concepts) tested }
-    requires candidates { AreBelow S.bound_of (length indexes.now.concepts) candidates.now }
-    ensures { IfOk result (λ made. IsWayFor S.items_of S.bound_of indexes.now.concepts tested made.0) }
+    ensures { IfOk result (λ made. IsWayFor S.items_of S.bound_of indexes.now (is_one_of indexes.now.concepts (S.items_of types.now)) tested made.0) }
 {
-    let reads = leaf_reads(
-        indexes,
-        choice,
-        back,
-        types,
-        u64::from(indexes.concept_count()),
-    );
-    let all = values_of_choice(alloc, indexes, reads, &tested)?;
-    if back {
-        let theirs = back_extent(alloc, indexes, candidates, reads.own_rows(&all))?;
-        way_of(alloc, indexes, reads, tested, all, theirs)
-    } else {
-        way_of(alloc, indexes, reads, tested, all, own_extent(candidates))
+    match reads.choice {
+        Choice::ByValue => by_value(alloc, indexes, reads, tested, candidates),
+        Choice::ByType => by_type(alloc, snapshot, indexes, reads, types, tested, candidates),
+        Choice::Scan => by_scan(alloc, indexes, reads, tested, candidates),
     }
 }
 
-/// The way in which the groups are found that have so many pairs. Beside it stands how many items are read, also to find the
-/// way.
-pub fn group_way<S: ConceptSet>(
-    alloc: Global,
-    indexes: &Indexes,
-    choice: Choice,
-    types: &TypesIn,
-    tested: Tested<S>,
-    candidates: &Candidates<'_, S>,
-) -> Result<(Way<S>, u64), AllocError>
-    requires { IsTestBelow S.bound_of (length indexes.now.concepts) tested }
-    ensures { IfOk result (λ made. IsWayFor S.items_of S.bound_of indexes.now.concepts tested made.0) }
-{
-    let reads = leaf_reads(
-        indexes,
-        choice,
-        false,
-        types,
-        u64::from(indexes.group_count()),
-    );
-    let all = values_of_choice(alloc, indexes, reads, &tested)?;
-    way_of(alloc, indexes, reads, tested, all, own_extent(candidates))
-}
-
-// What is known of a leaf among so many concepts or groups.
-fn leaf_reads(
-    indexes: &Indexes,
-    choice: Choice,
-    back: bool,
-    types: &TypesIn,
-    all: u64,
-) -> LeafReads {
-    LeafReads {
-        choice,
-        back,
-        all,
-        rows: u64::from(indexes.row_count()),
-        types: types.read,
-        type_rows: rows_of_types(indexes, types.ids.as_slice()),
-    }
-}
-
-// The way in which a leaf is read, by how many items each way reads; by value with all values that pass.
-fn way_of<S: ConceptSet>(
+// By value, or by the candidates where these are read sooner. A test that is not of the concepts of a set is read by a scan.
+fn by_value<S: ConceptSet>(
     alloc: Global,
     indexes: &Indexes,
     reads: LeafReads,
     tested: Tested<S>,
-    all: Option<PassingValues>,
     candidates: Option<Extent>,
 ) -> Result<(Way<S>, u64), AllocError>
-    requires tested { IsTestBelow S.bound_of (length indexes.now.concepts) tested }
-    requires all { IfSome all (λ values. AreAllThatPass indexes.now.concepts (passes_of S.items_of indexes.now.concepts tested) values.numbers.items) }
-    ensures { IfOk result (λ made. IsWayFor S.items_of S.bound_of indexes.now.concepts tested made.0) }
+    requires { IsTestBelow S.bound_of (length indexes.now.concepts) tested }
+    ensures { IfOk result (λ made. (one : ℕ → Bool) → IsWayFor S.items_of S.bound_of indexes.now one tested made.0) }
 {
-    let own = reads.own_rows(&all);
-    if are_read_before(candidates, own) {
-        let looked_up = count_of_values(&all);
-        return Ok(by_candidates(reads, tested, candidates, looked_up));
-    }
-    if let Some(values) = all {
-        let items = values.items();
-        return Ok((Way::ByValue(values.numbers), reads.with_types(items)));
-    }
-    let few = values_that_pass(alloc, indexes, reads.back, &tested, own / VALUE)?;
-    Ok(by_few_values_or_choice(reads, tested, few))
-}
-
-// How many values were looked up.
-fn count_of_values(all: &Option<PassingValues>) -> u64 {
+    let all = values_that_pass(alloc, indexes, reads.back, &tested)?;
     match all {
-        Some(values) => values.count(),
-        None => 0,
+        None => Ok((Way::Scan(tested), u64::from(indexes.row_count()))),
+        Some(values) => {
+            if are_read_before(candidates, values.rows) {
+                let items = values.count().saturating_add(items_among(candidates));
+                return Ok((Way::ByCandidates(tested), items));
+            }
+            let items = values.items();
+            Ok((Way::ByValue(values.numbers), items))
+        }
     }
 }
 
-// All values that pass, where the choice is by value and they are the concepts of a set.
-fn values_of_choice<S: ConceptSet>(
+// By type, or by the candidates or a few values where these are read sooner.
+fn by_type<S: ConceptSet>(
+    alloc: Global,
+    snapshot: &Snapshot,
+    indexes: &Indexes,
+    reads: LeafReads,
+    types: &S,
+    tested: Tested<S>,
+    candidates: Option<Extent>,
+) -> Result<(Way<S>, u64), AllocError>
+    requires index { IsIndexOf indexes.now snapshot.now.release }
+    requires types { S.bound_of types.now ≡ length indexes.now.concepts }
+    requires tested { IsTestBelow S.bound_of (length indexes.now.concepts) tested }
+    ensures { IfOk result (λ made. IsWayFor S.items_of S.bound_of indexes.now (is_one_of indexes.now.concepts (S.items_of types.now)) tested made.0) }
+{
+    let typed = types_in(alloc, snapshot, indexes, types)?;
+    let rows = rows_of_types(indexes, typed.ids.as_slice());
+    let whole = typed.read.saturating_add(rows);
+    if are_read_before(candidates, rows) {
+        let items = typed.read.saturating_add(items_among(candidates));
+        return Ok((Way::ByCandidates(tested), items));
+    }
+    let few = few_values(alloc, indexes, reads, &tested, rows, whole)?;
+    match few.values {
+        None => Ok((Way::ByType(typed.ids, tested), whole.saturating_add(few.looked_up))),
+        Some(values) => {
+            let items = typed.read.saturating_add(values.items());
+            Ok((Way::ByValue(values.numbers), items))
+        }
+    }
+}
+
+// By a scan, or by the candidates or a few values where these are read sooner.
+fn by_scan<S: ConceptSet>(
+    alloc: Global,
+    indexes: &Indexes,
+    reads: LeafReads,
+    tested: Tested<S>,
+    candidates: Option<Extent>,
+) -> Result<(Way<S>, u64), AllocError>
+    requires { IsTestBelow S.bound_of (length indexes.now.concepts) tested }
+    ensures { IfOk result (λ made. (one : ℕ → Bool) → IsWayFor S.items_of S.bound_of indexes.now one tested made.0) }
+{
+    let rows = u64::from(indexes.row_count());
+    if are_read_before(candidates, rows) {
+        return Ok((Way::ByCandidates(tested), items_among(candidates)));
+    }
+    let few = few_values(alloc, indexes, reads, &tested, rows, rows)?;
+    match few.values {
+        None => Ok((Way::Scan(tested), rows.saturating_add(few.looked_up))),
+        Some(values) => {
+            let items = values.items();
+            Ok((Way::ByValue(values.numbers), items))
+        }
+    }
+}
+
+// Values that pass, if they are read before other rows, and how many were looked up in vain. No answer depends on how many.
+#[derive(Drop)]
+struct FewValues {
+    values: Option<PassingValues>,
+    looked_up: u64,
+}
+
+// The values that pass, where their rows are read sooner than so many others. If it is not known how many rows they have, they are looked
+// up where they are few and may be read beside so many items.
+fn few_values<S: ConceptSet>(
     alloc: Global,
     indexes: &Indexes,
     reads: LeafReads,
     tested: &Tested<S>,
-) -> Result<Option<PassingValues>, AllocError>
+    rows: u64,
+    items: u64,
+) -> Result<FewValues, AllocError>
     requires { IsTestBelow S.bound_of (length indexes.now.concepts) tested.now }
-    ensures { IfOk result (λ some. IfSome some (λ values. AreAllThatPass indexes.now.concepts (passes_of S.items_of indexes.now.concepts tested.now) values.numbers.items)) }
+    ensures { IfOk result (λ few. IfSome few.values (λ values. AreAllThatPass indexes.now.concepts (passes_of S.items_of indexes.now.concepts tested.now) values.numbers.items)) }
 {
-    match reads.choice {
-        Choice::ByValue => {
-            let all = values_that_pass(alloc, indexes, reads.back, tested, u64::MAX)?;
-            Ok(all)
-        }
-        Choice::ByType | Choice::Scan => Ok(None),
+    let count = u64::from(count_of_test(tested));
+    let may_pay = match reads.value_rows {
+        Some(own) => values_are_read_before(reads.back, count, own, rows),
+        None => count <= rows / VALUE && count <= reads.room_beside(items),
+    };
+    if !may_pay {
+        return Ok(FewValues {
+            values: None,
+            looked_up: 0,
+        });
     }
+    let found = values_that_pass(alloc, indexes, reads.back, tested)?;
+    let Some(values) = found else {
+        return Ok(FewValues {
+            values: None,
+            looked_up: 0,
+        });
+    };
+    if values_are_read_before(reads.back, count, values.rows, rows) {
+        return Ok(FewValues {
+            values: Some(values),
+            looked_up: 0,
+        });
+    }
+    Ok(FewValues {
+        values: None,
+        looked_up: count,
+    })
 }
 
-// The values that pass, where these are the concepts of a set that has no more than so many.
+// The values that pass, where these are the concepts of a set.
 fn values_that_pass<S: ConceptSet>(
     alloc: Global,
     indexes: &Indexes,
     back: bool,
     tested: &Tested<S>,
-    most: u64,
 ) -> Result<Option<PassingValues>, AllocError>
     requires { IsTestBelow S.bound_of (length indexes.now.concepts) tested.now }
     ensures { IfOk result (λ some. IfSome some (λ values. AreAllThatPass indexes.now.concepts (passes_of S.items_of indexes.now.concepts tested.now) values.numbers.items)) }
 {
     match tested {
         Tested::Within(set) => {
-            if u64::from(set.count()) > most {
-                return Ok(None);
-            }
             let numbers = set.items(alloc)?;
             let rows = rows_of_values(indexes, back, numbers.as_slice());
             Ok(Some(PassingValues { numbers, rows }))
@@ -169,73 +196,65 @@ fn values_that_pass<S: ConceptSet>(
     }
 }
 
-/// The concepts of a set and how many rows they have, where these are looked up sooner than so many rows are read that stand side
-/// by side.
-pub fn few_sources<S: ConceptSet>(
+/// By which rows the values of some sources are read.
+#[derive(Drop)]
+pub enum ValuesWay {
+    /// By those of the sources: their numbers.
+    BySource(Vec<u32>),
+    /// By those of the types: their identifiers.
+    ByType(Vec<u64>),
+}
+
+/// By which rows the values of the sources in a set are read, along the types in another. Beside it stands how many items are
+/// read, also to find it: no more than there are sources and rows.
+pub fn values_way<S: ConceptSet>(
     alloc: Global,
+    snapshot: &Snapshot,
     indexes: &Indexes,
     sources: &S,
-    rows: u64,
-) -> Result<Option<PassingValues>, AllocError>
-    requires { S.bound_of sources.now ≡ length indexes.now.concepts }
-    ensures { IfOk result (λ some. IfSome some (λ values. values.numbers.items ≡ S.items_of sources.now)) }
+    types: &S,
+) -> Result<(ValuesWay, u64), AllocError>
+    requires index { IsIndexOf indexes.now snapshot.now.release }
+    requires sources { S.bound_of sources.now ≡ length indexes.now.concepts }
+    requires types { S.bound_of types.now ≡ length indexes.now.concepts }
+    ensures { IfOk result (λ made. IsValuesWay (types_of indexes.now.rows) (S.items_of sources.now) (is_one_of indexes.now.concepts (S.items_of types.now)) made.0) }
 {
-    if sources.count() as u64 > rows / VALUE {
-        return Ok(None);
+    let count = u64::from(sources.count());
+    if count <= types_to_read(indexes, types) {
+        let (own, items) = with_rows(alloc, indexes, sources)?;
+        return Ok((ValuesWay::BySource(own), items));
     }
-    let numbers = sources.items(alloc)?;
-    let own = rows_of_values(indexes, true, numbers.as_slice());
-    let values = PassingValues { numbers, rows: own };
-    if values.are_read_before(true, rows) {
-        Ok(Some(values))
+    let typed = types_in(alloc, snapshot, indexes, types)?;
+    let rows = rows_of_types(indexes, typed.ids.as_slice());
+    let whole = typed.read.saturating_add(rows);
+    if count > rows / VALUE || whole > u64::from(indexes.row_count()) {
+        return Ok((ValuesWay::ByType(typed.ids), whole));
+    }
+    let (own, items) = with_rows(alloc, indexes, sources)?;
+    if look_ups(items) < rows {
+        Ok((ValuesWay::BySource(own), typed.read.saturating_add(items)))
     } else {
-        Ok(None)
+        Ok((ValuesWay::ByType(typed.ids), whole.saturating_add(count)))
     }
 }
 
-// How much there is of the candidates, where not all are.
-fn own_extent<S>(candidates: &Candidates<'_, S>) -> Option<Extent> {
-    match candidates {
-        Candidates::All => None,
-        Candidates::Within(_, extent) => Some(*extent),
-    }
-}
-
-// The same, read backwards: their rows are those that have one of them as their value. These are counted where the candidates
-// are so few that they might be read before so many rows.
-fn back_extent<S: ConceptSet>(
+// The concepts of a set, and how many items these and their rows are.
+fn with_rows<S: ConceptSet>(
     alloc: Global,
     indexes: &Indexes,
-    candidates: &Candidates<'_, S>,
-    rows: u64,
-) -> Result<Option<Extent>, AllocError>
-    requires { AreBelow S.bound_of (length indexes.now.concepts) candidates.now }
+    concepts: &S,
+) -> Result<(Vec<u32>, u64), AllocError>
+    requires { S.bound_of concepts.now ≡ length indexes.now.concepts }
+    ensures { IfOk result (λ made. made.0.items ≡ S.items_of concepts.now) }
 {
-    match candidates {
-        Candidates::All => Ok(None),
-        Candidates::Within(wanted, extent) => {
-            let least = with_rows(*extent, 0);
-            if !least.is_read_before(rows) || wanted.count() > indexes.row_count() / WIDE {
-                return Ok(None);
-            }
-            let own = wanted.items(alloc)?;
-            let theirs = rows_of_values(indexes, false, own.as_slice());
-            Ok(Some(with_rows(*extent, theirs)))
-        }
-    }
+    let own = concepts.items(alloc)?;
+    let rows = rows_of_values(indexes, true, own.as_slice());
+    let items = rows.saturating_add(own.len() as u64);
+    Ok((own, items))
 }
 
-// As much of candidates, with so many rows.
-fn with_rows(extent: Extent, rows: u64) -> Extent {
-    Extent {
-        items: extent.items,
-        rows,
-        groups: extent.groups,
-    }
-}
-
-/// How many rows have one of some types, or `u64::MAX` where that is more.
-pub fn rows_of_types(indexes: &Indexes, ids: &[u64]) -> u64
+// How many rows have one of some types, or `u64::MAX` where that is more.
+fn rows_of_types(indexes: &Indexes, ids: &[u64]) -> u64
     ensures { result ≡ min (sum_by (type_row_count indexes.now) ids.now) (2 ^ 64 - 1) }
 {
     let mut rows = 0u64;
@@ -245,8 +264,8 @@ pub fn rows_of_types(indexes: &Indexes, ids: &[u64]) -> u64
     rows
 }
 
-/// How many rows have one of some concepts as their value, or, read backwards, as their source; `u64::MAX` where that is more.
-pub fn rows_of_values(indexes: &Indexes, back: bool, concepts: &[u32]) -> u64
+// How many rows have one of some concepts as their value, or, read backwards, as their source; `u64::MAX` where that is more.
+fn rows_of_values(indexes: &Indexes, back: bool, concepts: &[u32]) -> u64
     requires { All (λ number. number < length indexes.now.concepts) concepts.now }
     ensures { result ≡ min (sum_by (row_count_of indexes.now back) concepts.now) (2 ^ 64 - 1) }
 {
@@ -257,8 +276,8 @@ pub fn rows_of_values(indexes: &Indexes, back: bool, concepts: &[u32]) -> u64
     rows
 }
 
-// How many rows have a concept as their value, or, read backwards, as their source.
-fn rows_of_value(indexes: &Indexes, back: bool, concept: u32) -> u64
+/// How many rows have a concept as their value, or, read backwards, as their source.
+pub fn rows_of_value(indexes: &Indexes, back: bool, concept: u32) -> u64
     requires { concept < length indexes.now.concepts }
     ensures { result ≡ row_count_of indexes.now back concept }
 {

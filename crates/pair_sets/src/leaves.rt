@@ -1,27 +1,24 @@
 //! The concepts and the groups with so many pairs of a type and a value.
-ghost use Rattle.std.specs.Prelude.{ℕ, ◌≡◌, ◌≤◌, ◌+◌, ◌-◌, ◌^◌, Bool, IfOk, length, min};
+ghost use Rattle.std.specs.Prelude.{ℕ, ◌≡◌, ◌≤◌, ◌+◌, ◌-◌, ◌^◌, Bool, IfOk, filter, length, min};
 ghost use Rattle.constraint_tree.specs.Denotation.{is_value};
 ghost use Rattle.idset.specs.Sets.{IsRisingBelow};
 ghost use Rattle.postings.specs.Groups.{all_groups};
-ghost use Rattle.postings.specs.Indexed.{IsIndexOf};
+ghost use Rattle.postings.specs.Indexed.{IsIndexOf, types_of};
 ghost use Rattle.set_algebra.specs.Meaning.{has_pairs, pairs_of};
-ghost use Rattle.pair_sets.specs.Hits.{AreTypesIn};
 ghost use Rattle.pair_sets.specs.Numbers.{numbers_in};
 ghost use Rattle.pair_sets.specs.Tested.{IsTestBelow, is_one_of, passes_of};
-ghost use Rattle.pair_sets.specs.Ways.{IsWayBelow, passes_by};
+ghost use Rattle.pair_sets.specs.Ways.{HasTypes, IsWayBelow, passes_by};
 ghost use Rattle.pair_sets.specs.Within.{AreBelow, groups_within, may_be, numbers_within};
 
 use crate::by_rows::{
     groups_with_pairs_among, groups_with_pairs_by_type, groups_with_pairs_by_value,
     with_pairs_among, with_pairs_by_type, with_pairs_by_value,
 };
-use crate::candidates::{Candidates, restricted};
-use crate::choice::{concept_way, few_sources, group_way, rows_of_types};
-use crate::passing::within;
-use crate::tested::{Tested, words_of};
-use crate::types::{TypesIn, types_in};
+use crate::candidates::{Candidates, extent_for, restricted};
+use crate::choice::{ValuesWay, leaf_way, values_way};
+use crate::tested::Tested;
 use crate::visits::Visits;
-use crate::ways::{Way, rows_read};
+use crate::ways::{LeafReads, Way};
 use constraint_tree::Cardinality;
 use idset::ConceptSet;
 use planner::{Choice, NodeLimits};
@@ -31,7 +28,7 @@ use std::alloc::{AllocError, Global};
 
 /// The candidates so many of whose distinct pairs, their own or those read backwards, have a type in a set and a value
 /// that passes (Expression Constraint Language, "Refinements", "Cardinality" and "Reverse attributes"). What is read is counted,
-/// between two limits.
+/// between two limits. If it is known how many rows the values have that pass, that is told.
 pub fn with_pairs_within<S: ConceptSet>(
     alloc: Global,
     snapshot: &Snapshot,
@@ -42,6 +39,7 @@ pub fn with_pairs_within<S: ConceptSet>(
     count: Cardinality,
     types: &S,
     tested: Tested<S>,
+    value_rows: Option<u64>,
     candidates: &Candidates<'_, S>,
     visits: &mut Visits,
 ) -> Result<S, AllocError>
@@ -57,11 +55,17 @@ pub fn with_pairs_within<S: ConceptSet>(
     ensures within { visits.new.count ≤ visits.old.count + limits.bound }
     ensures floor { IfOk result (λ _. min (visits.old.count + limits.floor) (2 ^ 64 - 1) ≤ visits.new.count) }
 {
-    let types = types_in(alloc, snapshot, indexes, types)?;
-    let (way, read) = concept_way(alloc, indexes, choice, back, &types, tested, candidates)?;
+    let reads = LeafReads {
+        choice,
+        back,
+        bound: limits.bound,
+        value_rows,
+    };
+    let extent = extent_for(candidates, back);
+    let (way, read) = leaf_way(alloc, snapshot, indexes, reads, types, tested, extent)?;
     visits.add_node(read, limits);
     let found = with_pairs_by(
-        alloc, snapshot, indexes, &way, back, count, &types, candidates,
+        alloc, snapshot, indexes, &way, back, count, types, candidates,
     )?;
     Ok(found)
 }
@@ -77,6 +81,7 @@ pub fn groups_with_pairs_within<S: ConceptSet>(
     count: Cardinality,
     types: &S,
     tested: Tested<S>,
+    value_rows: Option<u64>,
     candidates: &Candidates<'_, S>,
     visits: &mut Visits,
 ) -> Result<S, AllocError>
@@ -92,44 +97,49 @@ pub fn groups_with_pairs_within<S: ConceptSet>(
     ensures within { visits.new.count ≤ visits.old.count + limits.bound }
     ensures floor { IfOk result (λ _. min (visits.old.count + limits.floor) (2 ^ 64 - 1) ≤ visits.new.count) }
 {
-    let types = types_in(alloc, snapshot, indexes, types)?;
-    let (way, items) = group_way(alloc, indexes, choice, &types, tested, candidates)?;
+    let reads = LeafReads {
+        choice,
+        back: false,
+        bound: limits.bound,
+        value_rows,
+    };
+    let extent = extent_for(candidates, false);
+    let (way, items) = leaf_way(alloc, snapshot, indexes, reads, types, tested, extent)?;
     visits.add_node(items, limits);
-    let found = groups_with_pairs_by(alloc, snapshot, indexes, &way, count, &types, candidates)?;
+    let found = groups_with_pairs_by(alloc, snapshot, indexes, &way, count, types, candidates)?;
     Ok(found)
 }
 
-/// The values of the attributes whose source is in a set and whose type is one of some (Expression Constraint Language,
-/// "Refinements", dotted attributes). The rows of the sources are read where these are fewer than those of the types. The
-/// sources and the rows are counted.
+/// The values of the attributes whose source is in a set and whose type is in another (Expression Constraint Language,
+/// "Refinements", dotted attributes). The rows of the sources are read where there are no more sources than types, or
+/// where these are fewer than those of the types. What is read is counted.
 pub fn values_along<S: ConceptSet>(
     alloc: Global,
     snapshot: &Snapshot,
     indexes: &Indexes,
-    sources: &S,
-    types: &TypesIn,
+    sources: S,
+    types: &S,
     visits: &mut Visits,
 ) -> Result<S, AllocError>
     requires index { IsIndexOf indexes.now snapshot.now.release }
-    requires sources { S.bound_of sources.now ≡ length indexes.now.concepts }
-    ensures items { IfOk result (λ found. (one : ℕ → Bool) → AreTypesIn indexes.now.rows one types.now
-        → S.items_of found ≡ numbers_in snapshot.now.release (is_value snapshot.now.release (is_one_of indexes.now.concepts (S.items_of sources.now)) one)) }
+    requires sources { S.bound_of sources ≡ length indexes.now.concepts }
+    requires types { S.bound_of types.now ≡ length indexes.now.concepts }
+    ensures items { IfOk result (λ found. S.items_of found ≡ numbers_in snapshot.now.release
+        (is_value snapshot.now.release (is_one_of indexes.now.concepts (S.items_of sources)) (is_one_of indexes.now.concepts (S.items_of types.now)))) }
     ensures bound { IfOk result (λ found. S.bound_of found ≡ length snapshot.now.release.concepts) }
     ensures grows { visits.old.count ≤ visits.new.count }
-    ensures within { visits.new.count ≤ visits.old.count + (length (S.items_of sources.now) + length indexes.now.rows) }
+    ensures within { visits.new.count ≤ visits.old.count + (length (S.items_of sources) + length indexes.now.rows) }
 {
-    let typed = rows_of_types(indexes, types.ids.as_slice());
-    let few = few_sources(alloc, indexes, sources, typed)?;
-    let read = rows_read(&few, typed).min(indexes.row_count() as u64);
-    visits.add(sources.count() as u64 + read);
-    match few {
-        Some(values) => {
-            let own = values.numbers.as_slice();
-            let found = values_by_source(alloc, snapshot, indexes, own, types)?;
+    let most = u64::from(sources.count()) + u64::from(indexes.row_count());
+    let (way, items) = values_way(alloc, snapshot, indexes, &sources, types)?;
+    visits.add(items.min(most));
+    match way {
+        ValuesWay::BySource(own) => {
+            let found = values_by_source(alloc, snapshot, indexes, own.as_slice(), types)?;
             Ok(found)
         }
-        None => {
-            let found = values_by_type(alloc, snapshot, indexes, sources, types)?;
+        ValuesWay::ByType(ids) => {
+            let found = values_by_type(alloc, snapshot, indexes, sources, ids.as_slice())?;
             Ok(found)
         }
     }
@@ -140,18 +150,18 @@ fn values_by_type<S: ConceptSet>(
     alloc: Global,
     snapshot: &Snapshot,
     indexes: &Indexes,
-    sources: &S,
-    types: &TypesIn,
+    sources: S,
+    ids: &[u64],
 ) -> Result<S, AllocError>
     requires index { IsIndexOf indexes.now snapshot.now.release }
-    requires sources { S.bound_of sources.now ≡ length indexes.now.concepts }
-    ensures items { IfOk result (λ found. (one : ℕ → Bool) → AreTypesIn indexes.now.rows one types.now
-        → S.items_of found ≡ numbers_in snapshot.now.release (is_value snapshot.now.release (is_one_of indexes.now.concepts (S.items_of sources.now)) one)) }
+    requires sources { S.bound_of sources ≡ length indexes.now.concepts }
+    ensures items { IfOk result (λ found. (one : ℕ → Bool) → ids.now ≡ filter one (types_of indexes.now.rows)
+        → S.items_of found ≡ numbers_in snapshot.now.release (is_value snapshot.now.release (is_one_of indexes.now.concepts (S.items_of sources)) one)) }
     ensures bound { IfOk result (λ found. S.bound_of found ≡ length snapshot.now.release.concepts) }
 {
-    let passing = within(alloc, indexes, sources)?;
     let some = Cardinality { min: 1, max: None };
-    with_pairs_by_type(alloc, snapshot, indexes, true, some, types, &passing)
+    let tested = Tested::Within(sources);
+    with_pairs_by_type(alloc, snapshot, indexes, true, some, ids, &tested)
 }
 
 // By the rows of some sources.
@@ -160,12 +170,13 @@ fn values_by_source<S: ConceptSet>(
     snapshot: &Snapshot,
     indexes: &Indexes,
     sources: &[u32],
-    types: &TypesIn,
+    types: &S,
 ) -> Result<S, AllocError>
     requires index { IsIndexOf indexes.now snapshot.now.release }
     requires sources { IsRisingBelow (length indexes.now.concepts) sources.now }
-    ensures items { IfOk result (λ found. (one : ℕ → Bool) → AreTypesIn indexes.now.rows one types.now
-        → S.items_of found ≡ numbers_in snapshot.now.release (is_value snapshot.now.release (is_one_of indexes.now.concepts sources.now) one)) }
+    requires types { S.bound_of types.now ≡ length indexes.now.concepts }
+    ensures items { IfOk result (λ found. S.items_of found ≡ numbers_in snapshot.now.release
+        (is_value snapshot.now.release (is_one_of indexes.now.concepts sources.now) (is_one_of indexes.now.concepts (S.items_of types.now)))) }
     ensures bound { IfOk result (λ found. S.bound_of found ≡ length snapshot.now.release.concepts) }
 {
     let some = Cardinality { min: 1, max: None };
@@ -181,22 +192,22 @@ pub fn with_pairs_by<S: ConceptSet>(
     way: &Way<S>,
     back: bool,
     count: Cardinality,
-    types: &TypesIn,
+    types: &S,
     candidates: &Candidates<'_, S>,
 ) -> Result<S, AllocError>
     requires index { IsIndexOf indexes.now snapshot.now.release }
     requires way { IsWayBelow S.bound_of (length indexes.now.concepts) way.now }
+    requires ids { HasTypes (types_of indexes.now.rows) (is_one_of indexes.now.concepts (S.items_of types.now)) way.now }
+    requires types { S.bound_of types.now ≡ length indexes.now.concepts }
     requires candidates { AreBelow S.bound_of (length snapshot.now.release.concepts) candidates.now }
-    ensures items { IfOk result (λ found. (one : ℕ → Bool) → AreTypesIn indexes.now.rows one types.now
-        → S.items_of found ≡ numbers_within snapshot.now.release (may_be S.items_of candidates.now)
-        (λ concept. has_pairs count one (passes_by S.items_of indexes.now.concepts way.now) (pairs_of snapshot.now.release back concept))) }
+    ensures items { IfOk result (λ found. S.items_of found ≡ numbers_within snapshot.now.release (may_be S.items_of candidates.now)
+        (λ concept. has_pairs count (is_one_of indexes.now.concepts (S.items_of types.now)) (passes_by S.items_of indexes.now.concepts way.now) (pairs_of snapshot.now.release back concept))) }
     ensures bound { IfOk result (λ found. S.bound_of found ≡ length snapshot.now.release.concepts) }
 {
     match way {
         Way::ByCandidates(tested) => {
-            let passing = words_of(alloc, indexes, tested)?;
             let found = with_pairs_among(
-                alloc, snapshot, indexes, back, count, types, &passing, candidates,
+                alloc, snapshot, indexes, back, count, types, tested, candidates,
             )?;
             Ok(found)
         }
@@ -205,17 +216,15 @@ pub fn with_pairs_by<S: ConceptSet>(
             let found = restricted(alloc, some, candidates)?;
             Ok(found)
         }
-        Way::ByType(tested) => {
-            let passing = words_of(alloc, indexes, tested)?;
-            let some = with_pairs_by_type(alloc, snapshot, indexes, back, count, types, &passing)?;
+        Way::ByType(ids, tested) => {
+            let some = with_pairs_by_type(alloc, snapshot, indexes, back, count, ids, tested)?;
             let found = restricted(alloc, some, candidates)?;
             Ok(found)
         }
         Way::Scan(tested) => {
-            let passing = words_of(alloc, indexes, tested)?;
             let all = Candidates::All;
             let some: S = with_pairs_among(
-                alloc, snapshot, indexes, back, count, types, &passing, &all,
+                alloc, snapshot, indexes, back, count, types, tested, &all,
             )?;
             let found = restricted(alloc, some, candidates)?;
             Ok(found)
@@ -231,21 +240,22 @@ pub fn groups_with_pairs_by<S: ConceptSet>(
     indexes: &Indexes,
     way: &Way<S>,
     count: Cardinality,
-    types: &TypesIn,
+    types: &S,
     candidates: &Candidates<'_, S>,
 ) -> Result<S, AllocError>
     requires index { IsIndexOf indexes.now snapshot.now.release }
     requires way { IsWayBelow S.bound_of (length indexes.now.concepts) way.now }
+    requires ids { HasTypes (types_of indexes.now.rows) (is_one_of indexes.now.concepts (S.items_of types.now)) way.now }
+    requires types { S.bound_of types.now ≡ length indexes.now.concepts }
     requires candidates { AreBelow S.bound_of (length (all_groups snapshot.now.release)) candidates.now }
-    ensures items { IfOk result (λ found. (one : ℕ → Bool) → AreTypesIn indexes.now.rows one types.now
-        → S.items_of found ≡ groups_within snapshot.now.release (may_be S.items_of candidates.now) (has_pairs count one (passes_by S.items_of indexes.now.concepts way.now))) }
+    ensures items { IfOk result (λ found. S.items_of found ≡ groups_within snapshot.now.release (may_be S.items_of candidates.now)
+        (has_pairs count (is_one_of indexes.now.concepts (S.items_of types.now)) (passes_by S.items_of indexes.now.concepts way.now))) }
     ensures bound { IfOk result (λ found. S.bound_of found ≡ length (all_groups snapshot.now.release)) }
 {
     match way {
         Way::ByCandidates(tested) => {
-            let passing = words_of(alloc, indexes, tested)?;
             let found = groups_with_pairs_among(
-                alloc, snapshot, indexes, count, types, &passing, candidates,
+                alloc, snapshot, indexes, count, types, tested, candidates,
             )?;
             Ok(found)
         }
@@ -254,17 +264,15 @@ pub fn groups_with_pairs_by<S: ConceptSet>(
             let found = restricted(alloc, some, candidates)?;
             Ok(found)
         }
-        Way::ByType(tested) => {
-            let passing = words_of(alloc, indexes, tested)?;
-            let some = groups_with_pairs_by_type(alloc, snapshot, indexes, count, types, &passing)?;
+        Way::ByType(ids, tested) => {
+            let some = groups_with_pairs_by_type(alloc, snapshot, indexes, count, ids, tested)?;
             let found = restricted(alloc, some, candidates)?;
             Ok(found)
         }
         Way::Scan(tested) => {
-            let passing = words_of(alloc, indexes, tested)?;
             let all = Candidates::All;
             let some: S = groups_with_pairs_among(
-                alloc, snapshot, indexes, count, types, &passing, &all,
+                alloc, snapshot, indexes, count, types, tested, &all,
             )?;
             let found = restricted(alloc, some, candidates)?;
             Ok(found)

@@ -1,14 +1,10 @@
 //! What a leaf asks of the values of its pairs.
-ghost use Rattle.std.specs.Prelude.{◌≡◌, IfOk, length};
-ghost use Rattle.pair_sets.specs.Hits.{TellsPassing};
-ghost use Rattle.pair_sets.specs.Tested.{IsTestBelow, found_for, passes_of};
+ghost use Rattle.std.specs.Prelude.{◌≡◌};
+ghost use Rattle.pair_sets.specs.Tested.{found_for};
 
-use crate::passing::{comparing, outside, within};
 use constraint_tree::Compare;
 use idset::ConceptSet;
-use postings::Indexes;
 use rf2_rows::Decimal;
-use std::alloc::{AllocError, Global};
 
 /// Which values pass (Expression Constraint Language, "Refinements").
 #[derive(Drop)]
@@ -29,30 +25,5 @@ pub fn count_of_test<S: ConceptSet>(tested: &Tested<S>) -> u32
         Tested::Within(set) => set.count(),
         Tested::Outside(set) => set.count(),
         Tested::Number(_, _) => 0,
-    }
-}
-
-/// Words of bits that say of each value whether it passes.
-pub fn words_of<S: ConceptSet>(
-    alloc: Global,
-    indexes: &Indexes,
-    tested: &Tested<S>,
-) -> Result<Vec<u64>, AllocError>
-    requires { IsTestBelow S.bound_of (length indexes.now.concepts) tested.now }
-    ensures { IfOk result (λ words. TellsPassing indexes.now (passes_of S.items_of indexes.now.concepts tested.now) words.items) }
-{
-    match tested {
-        Tested::Within(set) => {
-            let words = within(alloc, indexes, set)?;
-            Ok(words)
-        }
-        Tested::Outside(set) => {
-            let words = outside(alloc, indexes, set)?;
-            Ok(words)
-        }
-        Tested::Number(compare, number) => {
-            let words = comparing(alloc, indexes, *compare, *number)?;
-            Ok(words)
-        }
     }
 }

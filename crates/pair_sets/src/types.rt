@@ -1,8 +1,8 @@
 //! The types of attribute rows that are in a set.
 ghost use Rattle.std.specs.Prelude.{ℕ, ◌≡◌, ◌<◌, ◌^◌, All, Bool, IfOk, filter, length, slice_index};
 ghost use Rattle.idset.specs.Words.{is_set};
-ghost use Rattle.postings.specs.Indexed.{IsIndexOf};
-ghost use Rattle.pair_sets.specs.Hits.{ArePlacesOf, AreTypesIn};
+ghost use Rattle.postings.specs.Indexed.{IsIndexOf, types_of};
+ghost use Rattle.pair_sets.specs.Hits.{ArePlacesOf, is_type_in};
 ghost use Rattle.pair_sets.specs.Tested.{is_one_of};
 
 use idset::{ConceptSet, is_marked, marks_of};
@@ -16,13 +16,12 @@ use std::alloc::{AllocError, Global};
 pub struct TypesIn {
     /// Their identifiers, each once.
     pub ids: Vec<u64>,
-    /// Words of bits: of each type of a row, by its place among the types of all rows, whether it is in the set.
-    pub places: Vec<u64>,
     /// How many items were read to find them. No answer depends on it.
     pub read: u64,
 }
 
-/// The types of rows that are in a set.
+/// The types of rows that are in a set. As many items are read as the set has, or as many as there are types of rows where these
+/// are fewer.
 pub fn types_in<S: ConceptSet>(
     alloc: Global,
     snapshot: &Snapshot,
@@ -31,7 +30,7 @@ pub fn types_in<S: ConceptSet>(
 ) -> Result<TypesIn, AllocError>
     requires index { IsIndexOf indexes.now snapshot.now.release }
     requires bound { S.bound_of set.now ≡ length indexes.now.concepts }
-    ensures { IfOk result (AreTypesIn indexes.now.rows (is_one_of indexes.now.concepts (S.items_of set.now))) }
+    ensures { IfOk result (λ types. types.ids.items ≡ filter (is_one_of indexes.now.concepts (S.items_of set.now)) (types_of indexes.now.rows)) }
 {
     // there are no more types than rows, so 32 bits hold the place of each
     indexes.row_count();
@@ -39,8 +38,13 @@ pub fn types_in<S: ConceptSet>(
     let numbers = places_in(alloc, snapshot, indexes, set)?;
     let places = marks_of(alloc, numbers.as_slice(), types.len() as u32)?;
     let ids = marked_ids(alloc, types, &places)?;
-    let read = u64::from(set.count()).min(types.len() as u64);
-    Ok(TypesIn { ids, places, read })
+    let read = types_to_read(indexes, set);
+    Ok(TypesIn { ids, read })
+}
+
+/// How many items are read to find the types of rows that are in a set.
+pub fn types_to_read<S: ConceptSet>(indexes: &Indexes, set: &S) -> u64 {
+    u64::from(set.count()).min(indexes.types().len() as u64)
 }
 
 // The places of the types that are in a set, by the concepts of the set or by the types, whichever are fewer.
@@ -128,6 +132,20 @@ fn is_in<S: ConceptSet>(indexes: &Indexes, id: u64, set: &S) -> bool
     indexes.concept_count();
     match indexes.index_of(id) {
         Some(concept) => set.has(concept),
+        None => false,
+    }
+}
+
+/// Whether the type of a row, by its place among the types of all rows, is in a set. Of the set nothing is read: it is asked for the
+/// one concept. Any place may be asked for.
+pub fn is_typed<S: ConceptSet>(indexes: &Indexes, types: &S, place: u32) -> bool
+    requires { S.bound_of types.now ≡ length indexes.now.concepts }
+    ensures { result ≡ is_type_in indexes.now (S.items_of types.now) place }
+{
+    // the concepts rise, so that none has two numbers
+    indexes.concept_count();
+    match indexes.type_concept(place) {
+        Some(concept) => types.has(concept),
         None => false,
     }
 }

@@ -20,7 +20,8 @@ impl Visits {
         self.count = self.count.saturating_add(items);
     }
 
-    /// The items that a node reads, as far as its bound goes; and where they are fewer than its floor, so many.
+    /// The items that a node reads; and where they are fewer than its floor, so many. No node reads more than its bound: that
+    /// it counts no more is seen here.
     pub fn add_node(&mut self, items: u64, limits: NodeLimits)
         requires ordered { limits.floor ≤ limits.bound }
         ensures grows { self.old.count ≤ self.new.count }

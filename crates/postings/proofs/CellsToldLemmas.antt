@@ -6,17 +6,17 @@ use Rattle.rf2_rows.specs.Release.{Attribute}
 use Rattle.postings.specs.Columns.{Mark}
 use Rattle.postings.specs.Entries.{Entry, entries_of}
 use Rattle.postings.specs.IndexInside.{AreIndexed, indexed_in}
-use Rattle.postings.specs.Indexed.{Indexed, types_of, value_at, values_of}
+use Rattle.postings.specs.Indexed.{Indexed, value_at}
 use Rattle.postings.specs.Coded.{row_coded}
 use Rattle.postings.specs.ValueTables.{values_in}
-use Rattle.postings.specs.KeptRows.{groups_kept, mark_at, row_kept, sources_kept}
+use Rattle.postings.specs.KeptRows.{mark_at, row_kept}
 use Rattle.postings.specs.RowColumns.{AreRowCells}
 use Rattle.postings.specs.declared.index.Indexes.TheInside.{Inside}
 use Rattle.postings.specs.declared.index.RowCells.{RowCells}
 use Rattle.postings.specs.declared.rows.CodedRow.{CodedRow}
 use Rattle.postings.proofs.EntryLemmas.{rows_of_entries}
 use Rattle.postings.proofs.IndexLemmas.{if_there}
-use Rattle.postings.proofs.UnitLemmas.{length-rows, near, row_at, row_coded_within, row_there}
+use Rattle.postings.proofs.UnitLemmas.{near, row_at, row_coded_within, row_there}
 
 module _ (inside : Inside) (are : AreIndexed inside) (now : Indexed) (same : indexed_in inside ≡ now) (n : ℕ) (below : n < length now.rows)
     (row : CodedRow) (row_is : row ≡ row_kept inside.rows n) (first in_group : Bool)

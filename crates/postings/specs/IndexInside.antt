@@ -1,6 +1,7 @@
 -- What the fields of the indexes say, and what they keep.
-use Rattle.std.specs.Prelude.{◌≡◌, ◌<◌, ◌^◌, length}
+use Rattle.std.specs.Prelude.{◌≡◌, ◌<◌, ◌^◌, length, map}
 use Rattle.std.specs.List.Sorted.{IsStrictlyIncreasing}
+use Rattle.snapshot.specs.Numbering.{concept_number}
 use Rattle.postings.specs.Coded.{rows_coded}
 use Rattle.postings.specs.Indexed.{HasListsFor, Indexed}
 use Rattle.postings.specs.KeptRows.{rows_kept}
@@ -18,11 +19,12 @@ indexed_in inside = record {
   texts = texts_in inside.rows.values;
 }
 
--- the concepts rise and have numbers of less than 31 bits; the rows and their lists are those that they stand for; and each
--- concept has its lists in the hierarchy, and a list of members
+-- the concepts rise and have numbers of less than 31 bits; the rows and their lists are those that they stand for; each
+-- concept has its lists in the hierarchy, and a list of members; and each type has the number of its concept
 pub record AreIndexed (inside : Inside) : Type 0 where
   pub rising : IsStrictlyIncreasing inside.concepts.items
   pub few : length inside.concepts.items < 2 ^ 31
   pub rows : AreRowIndexes inside.concepts.items (indexed_in inside).rows inside.rows
   pub hierarchy : HasListsFor (length inside.concepts.items) inside.hierarchy
   pub members : length inside.members ≡ length inside.concepts.items
+  pub types : inside.type_concepts.items ≡ map (concept_number inside.concepts.items) inside.rows.types.ids.items

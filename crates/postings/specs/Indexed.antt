@@ -1,9 +1,10 @@
 -- What the indexes of a release hold. Concepts go by their numbers: their places, from 0, in the rising list of those in force.
 -- Attribute rows go by theirs: by source, and those of one source in the order of the files and their lines.
-use Rattle.std.specs.Prelude.{ℕ, ℤ, ◌≡◌, ◌==◌, ◌++◌, List, [], length, map, nat_eq, slice_index, slice_index_or}
+use Rattle.std.specs.Prelude.{ℕ, ℤ, ◌≡◌, ◌==◌, ◌++◌, List, [], Option, None, Some, length, map, nat_eq, slice_index, slice_index_or}
 use Rattle.rf2_rows.specs.Pairs.{distinct, value_eq}
 use Rattle.rf2_rows.specs.Release.{Attribute, Release, Value, concept_value, number_value, text_value}
 use Rattle.snapshot.specs.AttributesBySource.{attributes_by_source}
+use Rattle.snapshot.specs.Numbering.{concept_number}
 use Rattle.ancestor_index.specs.HierarchyLists.{Hierarchy, hierarchy_of, is_child, lists_where}
 use Rattle.postings.specs.Places.{places_where}
 
@@ -51,6 +52,11 @@ rows_by_source indexed concept = places_where (λ (row : Attribute). row.source 
 -- the types of the rows, each where it is first
 abbrev pub types_of : List Attribute → List ℕ
 types_of rows = distinct nat_eq (map (λ (row : Attribute). row.type_id) rows)
+
+-- the number of the concept in force that a type is, where there is such a type
+abbrev pub concept_of_type : Indexed → Option ℕ → Option ℕ
+concept_of_type indexed None = None
+concept_of_type indexed (Some id) = concept_number indexed.concepts id
 
 -- the values that rows can have, in the order of their numbers: the concepts, the decimals in rising order, and the other texts
 abbrev pub values_among : List ℕ → List ℤ → List (List ℕ) → List Value

@@ -1,5 +1,5 @@
 //! The indexes of a release, and their look-ups.
-ghost use Rattle.std.specs.Prelude.{◌≡◌, ◌<◌, ◌+◌, ◌^◌, IfOk, IfSome, Some, length, nat_eq, position, slice_get, slice_index};
+ghost use Rattle.std.specs.Prelude.{◌≡◌, ◌<◌, ◌+◌, ◌^◌, IfOk, IfSome, Some, length, map, nat_eq, position, slice_get, slice_index};
 ghost use Rattle.std.specs.List.Sorted.{IsSorted, IsStrictlyIncreasing};
 ghost use Rattle.std.specs.Ordering.{int_cmp};
 ghost use Rattle.rf2_rows.specs.Release.{Release};
@@ -9,7 +9,7 @@ ghost use Rattle.hierarchy.specs.KeyedLists.{list_of};
 ghost use Rattle.snapshot.specs.Numbering.{concept_number};
 ghost use Rattle.postings.specs.Entries.{entries_of};
 ghost use Rattle.postings.specs.Groups.{group_of, groups_before, groups_in, rows_of_group};
-ghost use Rattle.postings.specs.Indexed.{HasListsFor, IsIndexOf, rows_by_source, rows_by_type, rows_by_value, types_of, value_at, values_of};
+ghost use Rattle.postings.specs.Indexed.{HasListsFor, IsIndexOf, concept_of_type, rows_by_source, rows_by_type, rows_by_value, types_of, value_at, values_of};
 ghost use Rattle.postings.specs.RowColumns.{AreRowCells, AreTypeColumns, AreValueColumns};
 ghost use Rattle.postings.specs.Stats.{stats_in, stats_of};
 
@@ -49,6 +49,8 @@ pub struct Indexes {
     hierarchy: AncestorIndex,
     rows: RowIndexes,
     members: KeyedLists,
+    // of each type of rows, by its place, the number of the concept that it is
+    type_concepts: Vec<Option<u32>>,
 }
 
 impl Model for Indexes {
@@ -72,11 +74,14 @@ impl Indexes {
         let members = linked_lists(alloc, snapshot.concept_count(), snapshot.member_rows())?;
         let concepts = identifiers(alloc, snapshot)?;
         let rows = row_indexes(alloc, snapshot)?;
+        let types = rows.types.ids.as_slice();
+        let type_concepts = numbers_of(alloc, types, concepts.as_slice())?;
         Ok(Indexes {
             concepts,
             hierarchy,
             rows,
             members,
+            type_concepts,
         })
     }
 
@@ -117,16 +122,7 @@ impl Indexes {
     pub fn index_of(&self, id: u64) -> Option<u32>
         ensures { result ≡ concept_number self.now.concepts id }
     {
-        let place = self.concepts.binary_search_by_key(
-            &id,
-            |concept: &SctId| -> u64
-                ensures { result ≡ concept.now }
-            { concept.number() },
-        );
-        match place {
-            Ok(number) => Some(number as u32),
-            Err(_) => None,
-        }
+        number_of(id, self.concepts.as_slice())
     }
 
     /// The components of the reference set that a concept is, in rising order and once each. `concept` is below
@@ -254,6 +250,17 @@ impl Indexes {
         self.rows.types.ids.as_slice()
     }
 
+    /// The number of the concept that is a type of rows, by the place of the type among the types of all rows; `None` where it is
+    /// no concept in force. Any place may be asked for.
+    pub fn type_concept(&self, place: u32) -> Option<u32>
+        ensures { result ≡ concept_of_type self.now (slice_get (types_of self.now.rows) place) }
+    {
+        match self.type_concepts.as_slice().get(place as usize) {
+            Some(concept) => *concept,
+            None => None,
+        }
+    }
+
     /// The decimals among the values of the rows in rising order and once each, as so many times 10^-18. Their
     /// numbers as values begin at the number of concepts.
     pub fn decimals(&self) -> &[i128]
@@ -335,4 +342,39 @@ fn identifiers(alloc: Global, snapshot: &Snapshot) -> Result<Vec<SctId>, AllocEr
         concepts.push(snapshot.id_at(concept))?;
     }
     Ok(concepts)
+}
+
+// The numbers of the concepts with some identifiers, among those in force.
+fn numbers_of(
+    alloc: Global,
+    ids: &[SctId],
+    concepts: &[SctId],
+) -> Result<Vec<Option<u32>>, AllocError>
+    requires rising { IsStrictlyIncreasing concepts.now }
+    requires few { length concepts.now < 2 ^ 31 }
+    ensures { IfOk result (λ numbers. numbers.items ≡ map (concept_number concepts.now) ids.now) }
+{
+    let mut numbers = Vec::with_capacity(alloc, ids.len())?;
+    for id in ids {
+        numbers.push(number_of(id.number(), concepts))?;
+    }
+    Ok(numbers)
+}
+
+// The number of the concept with an identifier, among those in force.
+fn number_of(id: u64, concepts: &[SctId]) -> Option<u32>
+    requires rising { IsStrictlyIncreasing concepts.now }
+    requires few { length concepts.now < 2 ^ 31 }
+    ensures { result ≡ concept_number concepts.now id }
+{
+    let place = concepts.binary_search_by_key(
+        &id,
+        |concept: &SctId| -> u64
+            ensures { result ≡ concept.now }
+        { concept.number() },
+    );
+    match place {
+        Ok(number) => Some(number as u32),
+        Err(_) => None,
+    }
 }

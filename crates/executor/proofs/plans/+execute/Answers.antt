@@ -1,5 +1,5 @@
-use Rattle.std.proofs.Common.{ℕ, List, ◌+◌, ◌*◌, ◌≤◌, ◌∙◌, ◌&&◌, Bool, true, drop, length, get_or, sym, ap, refl, arith, take, mul-le-mul_right, le_of_lt, Option}
-use Rattle.std.specs.Prelude.{slice_get}
+use Rattle.std.proofs.Common.{ℕ, List, ◌<◌, subst, ◌+◌, ◌*◌, ◌≤◌, ◌∙◌, ◌&&◌, Bool, true, drop, length, get_or, sym, ap, refl, arith, take, mul-le-mul_right, le_of_lt, Option}
+use Rattle.std.specs.Prelude.{All, slice_get}
 use Rattle.std.specs.List.{list_all, list_any}
 use Rattle.std.proofs.lemmas.List.{nil_from_length, take_all}
 use Rattle.std.proofs.lemmas.Option.{slice_get_read}
@@ -15,7 +15,9 @@ use Rattle.idset.specs.Sets.{has_item, numbers_where}
 use Rattle.postings.specs.Groups.{all_groups}
 use Rattle.pair_sets.specs.Groups.{groups_where, some_group_in}
 use Rattle.pair_sets.specs.Numbers.{numbers_in}
+use Rattle.executor.specs.Members.{components_of}
 use Rattle.executor.specs.Steps.{led_to}
+use Rattle.pair_sets.proofs.ListLemmas.{all_below}
 use Rattle.executor.specs.Lead.{leads_off, leads_off_groups}
 use Rattle.pair_sets.specs.Within.{groups_within, may_be, numbers_within}
 use Rattle.rf2_rows.specs.Pairs.{Pair}
@@ -125,14 +127,40 @@ execute_node-returns-in_ok-found-in-One-clause-items g t c =
 pub execute_node-returns-in_ok-found-in-Walk-clause-items : goal.execute_node-returns-in_ok-found-in-Walk-clause-items
 execute_node-returns-in_ok-found-in-Walk-clause-items g t c =
     let release = c.args.snapshot.now.release in
-    let from = c.in_ok-from-in-Walk.from in
-    let led : List ℕ = led_to c.hierarchy-hierarchy.result.now (g.S.ConceptSet.bound_of from) c.in-Walk.operator (g.S.ConceptSet.items_of from) in
-    kept_node release (may_be g.S.ConceptSet.items_of c.args.candidates.now) (plan_of c.args.plan.now) led (g.S.ConceptSet.items_of c.in_ok-found-in-Walk.found)
-    (walk_node release (plan_of c.args.plan.now) led (plan_of c.deref.result.now) c.in-Walk.operator c.hierarchy-hierarchy.result.now
-    (g.S.ConceptSet.bound_of from) (g.S.ConceptSet.items_of from)
-    (ap plan_of c.in-Walk.is ∙ ap (λ (plan : ConceptPlan). walk_plan c.in-Walk.operator (plan_of plan)) (sym c.deref.ensures))
-    (c.hierarchy-hierarchy.ensures ∙ c.requires.index.hierarchy) c.in_ok-from-in-Walk.ensures.bound c.in_ok-from-in-Walk.ensures.items refl)
     c.in_ok-found-in-Walk.ensures.items
+    ∙ ap (λ (plan : Plan). numbers_within release (may_be g.S.ConceptSet.items_of c.args.candidates.now) (means release plan))
+    (ap (λ (plan : ConceptPlan). walk_plan c.in-Walk.operator (plan_of plan)) c.deref.ensures ∙ sym (ap plan_of c.in-Walk.is))
+
+pub walk_from-walk_way-way-requires-clause-below : goal.walk_from-walk_way-way-requires-clause-below
+walk_from-walk_way-way-requires-clause-below g t c =
+    let from = c.in_ok-from.from in
+    subst (λ (numbers : List ℕ). All (λ number. number < c.bound.result) numbers) (sym (c.as_slice-own.ensures.value ∙ c.in_ok-concepts.ensures))
+    (subst (λ (count : ℕ). All (λ number. number < count) (g.S.ConceptSet.items_of from)) (sym c.bound.ensures)
+    (all_below (g.S.ConceptSet.bound_of from) (g.S.ConceptSet.items_of from) (g.met.S.ConceptSet.rising from)))
+
+-- all are candidates
+pub execute_tallied-returns-in_ok-found-in-Walk-clause-size : goal.execute_tallied-returns-in_ok-found-in-Walk-clause-size
+execute_tallied-returns-in_ok-found-in-Walk-clause-size g t c =
+    let release = c.args.snapshot.now.release in
+    few_found release c.args.indexes.now c.requires.index c.concept_count.ensures.rising
+    (sources_known release c.concept_count.ensures.rising c.attribute_count.ensures.by_source)
+    c.args.choices.now (plan_of c.args.plan.now) (λ (number : ℕ). true)
+    (g.S.ConceptSet.items_of c.in_ok-found-in-Walk.found)
+    (c.in_ok-found-in-Walk.ensures.items
+    ∙ ap (λ (plan : Plan). numbers_within release (λ (number : ℕ). true) (means release plan))
+    (ap (λ (plan : ConceptPlan). walk_plan c.in-Walk.operator (plan_of plan)) c.deref.ensures ∙ sym (ap plan_of c.in-Walk.is)))
+
+pub walk_from-returns-clause-items : goal.walk_from-returns-clause-items
+walk_from-returns-clause-items g t c =
+    let release = c.args.snapshot.now.release in
+    let from = c.in_ok-from.from in
+    let plan : Plan = walk_plan c.args.operator (plan_of c.args.operand.now) in
+    let led : List ℕ = led_to c.hierarchy-hierarchy.result.now (g.S.ConceptSet.bound_of from) c.args.operator (g.S.ConceptSet.items_of from) in
+    kept_node release (may_be g.S.ConceptSet.items_of c.args.candidates.now) plan led (g.S.ConceptSet.items_of c.in_ok-found.found)
+    (walk_node release plan led (plan_of c.args.operand.now) c.args.operator c.hierarchy-hierarchy.result.now
+    (g.S.ConceptSet.bound_of from) (g.S.ConceptSet.items_of from) refl
+    (c.hierarchy-hierarchy.ensures ∙ c.requires.index.hierarchy) c.in_ok-from.ensures.bound c.in_ok-from.ensures.items refl)
+    c.in_ok-found.ensures.items
 
 pub execute_node-returns-in_ok-found-in-Members-clause-items : goal.execute_node-returns-in_ok-found-in-Members-clause-items
 execute_node-returns-in_ok-found-in-Members-clause-items g t c =
@@ -143,8 +171,29 @@ execute_node-returns-in_ok-found-in-Members-clause-items g t c =
     (members_node release (plan_of c.args.plan.now) (g.S.ConceptSet.items_of c.in_ok-some-in-Members.some) (plan_of c.deref-in-Members.result.now)
     (g.S.ConceptSet.items_of c.in_ok-from-in-Members.from)
     (ap plan_of c.in-Members.is ∙ ap (λ (plan : ConceptPlan). members_plan (plan_of plan)) (sym c.deref-in-Members.ensures))
-    c.in_ok-from-in-Members.ensures.items c.in_ok-some-in-Members.ensures.items)
+    c.in_ok-from-in-Members.ensures.items
+    (c.in_ok-some-in-Members.ensures.items
+    ∙ ap (components_of release) (c.as_slice-refsets.ensures.value ∙ c.in_ok-numbers-in-Members.ensures)))
     c.in_ok-found-in-Members.ensures.items
+
+-- the reference sets are concepts
+pub execute_node-component_count-components-requires : goal.execute_node-component_count-components-requires
+execute_node-component_count-components-requires g t c =
+    let from = c.in_ok-from-in-Members.from in
+    subst (λ (numbers : List ℕ). All (λ number. number < length c.args.indexes.now.concepts) numbers)
+    (sym (c.as_slice-refsets.ensures.value ∙ c.in_ok-numbers-in-Members.ensures))
+    (subst (λ (count : ℕ). All (λ number. number < count) (g.S.ConceptSet.items_of from))
+    (c.in_ok-from-in-Members.ensures.bound ∙ ap (λ (ids : List ℕ). length ids) (sym c.requires.index.concepts))
+    (all_below (g.S.ConceptSet.bound_of from) (g.S.ConceptSet.items_of from) (g.met.S.ConceptSet.rising from)))
+
+pub execute_node-members-requires-clause-below : goal.execute_node-members-requires-clause-below
+execute_node-members-requires-clause-below g t c =
+    let from = c.in_ok-from-in-Members.from in
+    subst (λ (numbers : List ℕ). All (λ number. number < length c.args.indexes.now.concepts) numbers)
+    (sym (c.as_slice-refsets.ensures.value ∙ c.in_ok-numbers-in-Members.ensures))
+    (subst (λ (count : ℕ). All (λ number. number < count) (g.S.ConceptSet.items_of from))
+    (c.in_ok-from-in-Members.ensures.bound ∙ ap (λ (ids : List ℕ). length ids) (sym c.requires.index.concepts))
+    (all_below (g.S.ConceptSet.bound_of from) (g.S.ConceptSet.items_of from) (g.met.S.ConceptSet.rising from)))
 
 pub execute_node-returns-in_ok-found-in-And-clause-items : goal.execute_node-returns-in_ok-found-in-And-clause-items
 execute_node-returns-in_ok-found-in-And-clause-items g t c =
@@ -543,13 +592,13 @@ led_along-loop-name-preserved g t c =
           name_step release plan c.args.names.now c.loop-name.name-index c.name-item.result c.loop-name-test.true c.name-item.is
           indexed.concepts (g.S.ConceptSet.items_of c.loop-name.found) (g.S.ConceptSet.items_of c.in_ok-named.named)
           (g.S.ConceptSet.items_of c.in_ok-found.found)
-          c.requires.index.concepts c.in_ok-named.ensures.items (c.in_ok-found.ensures.items one c.in_ok-types.ensures)
+          c.requires.index.concepts c.in_ok-named.ensures.items c.in_ok-found.ensures.items
           (c.loop-name.invariant.items plan from);
       bound = c.in_ok-found.ensures.bound;
       few = λ some.
           few_values release indexed c.requires.index c.concept_count.ensures.rising
           (sources_known release c.concept_count.ensures.rising c.attribute_count.ensures.by_source) sources one
-          (g.S.ConceptSet.items_of c.in_ok-found.found) (c.in_ok-found.ensures.items one c.in_ok-types.ensures);
+          (g.S.ConceptSet.items_of c.in_ok-found.found) c.in_ok-found.ensures.items;
       start = λ none. absurd (omega (arith, none));
       work = some_turn c.loop-name.invariant.work c.name-item.result c.loop-name-test.true c.name-item.is c.plan_floor.ensures.rest
           (length (g.S.ConceptSet.items_of c.loop-name.found) + length indexed.rows)
@@ -562,18 +611,6 @@ led_along-loop-name-preserved g t c =
 
 pub led_along-returns-in_err-named-clause-within : goal.led_along-returns-in_err-named-clause-within
 led_along-returns-in_err-named-clause-within g t c =
-    let indexed = c.args.indexes.now in
-    let first : ℕ = length (g.S.ConceptSet.items_of c.args.from) in
-    omega (
-      arith,
-      some_next {next = c.execute_within.new.visits.count} c.loop-name.invariant.work c.name-item.result c.loop-name-test.true c.name-item.is 0
-          (omega (arith, along_le indexed c.loop-name.name-index (length c.args.names.now) first (le_of_lt c.loop-name-test.true)))
-          (omega (arith, c.execute_within.ensures.within)),
-      ap (λ (count : ℕ). values_bound indexed count first) (plan_count-parts c.args.names.now),
-    )
-
-pub led_along-returns-in_err-types-clause-within : goal.led_along-returns-in_err-types-clause-within
-led_along-returns-in_err-types-clause-within g t c =
     let indexed = c.args.indexes.now in
     let first : ℕ = length (g.S.ConceptSet.items_of c.args.from) in
     omega (

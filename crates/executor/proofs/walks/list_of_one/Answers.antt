@@ -18,18 +18,19 @@ list-requires g c = omega (arith, c.requires.below, over_length c.args.count c.a
 
 pub from_items-requires : goal.from_items-requires
 from_items-requires g c =
-    subst (λ (list : List ℕ). IsRisingBelow c.args.count list) (sym c.list.ensures) (over_rising c.args.count c.args.index.now c.requires.over c.args.family c.args.concept c.requires.below)
+    subst (λ (list : List ℕ). IsRisingBelow c.args.count list) (sym (c.as_slice.ensures.value ∙ c.in_ok-list-in-None.ensures ∙ c.list.ensures))
+    (over_rising c.args.count c.args.index.now c.requires.over c.args.family c.args.concept c.requires.below)
 
 pub returns-in-Some-clause-items : goal.returns-in-Some-clause-items
 returns-in-Some-clause-items g c = IfOk-weaker c.from_words.result _ _
     (λ found items. items ∙ words_joined c.args.count (lists_of c.args.index.now c.args.family) c.args.concept c.in-Some.words.now c.in-Some.ensures.some.marked)
     c.from_words.ensures.items
 
-pub returns-in-None-clause-items : goal.returns-in-None-clause-items
-returns-in-None-clause-items g c = IfOk-weaker c.from_items.result _ _
+pub returns-in_ok-list-in-None-clause-items : goal.returns-in_ok-list-in-None-clause-items
+returns-in_ok-list-in-None-clause-items g c = IfOk-weaker c.from_items.result _ _
     (λ found items.
     items
-    ∙ list_joined c.args.count (lists_of c.args.index.now c.args.family) c.args.concept c.list.result.now
-    (subst (λ (list : List ℕ). IsRisingBelow c.args.count list) (sym c.list.ensures) (over_rising c.args.count c.args.index.now c.requires.over c.args.family c.args.concept c.requires.below))
-    c.list.ensures)
+    ∙ list_joined c.args.count (lists_of c.args.index.now c.args.family) c.args.concept c.as_slice.result.now
+    (subst (λ (list : List ℕ). IsRisingBelow c.args.count list) (sym (c.as_slice.ensures.value ∙ c.in_ok-list-in-None.ensures ∙ c.list.ensures)) (over_rising c.args.count c.args.index.now c.requires.over c.args.family c.args.concept c.requires.below))
+    (c.as_slice.ensures.value ∙ c.in_ok-list-in-None.ensures ∙ c.list.ensures))
     c.from_items.ensures.items

@@ -7,44 +7,50 @@ use Rattle.rf2_rows.specs.Release.{Value}
 use Rattle.constraint_tree.specs.Passing.{lies_in}
 use Rattle.pair_sets.specs.Among.{pairs_of_concept}
 use Rattle.pair_sets.proofs.TimesLemmas.{one_below}
+use Rattle.pair_sets.specs.Tested.{is_one_of, passes_of}
 use Rattle.pair_sets.proofs.among.concepts_among.Goals as goal
 use Rattle.pair_sets.proofs.among.concepts_among.Goals.{then-lies_in+in_ok-push, else-lies_in}
 
 pub loop-concept-preserved : goal.loop-concept-preserved
-loop-concept-preserved c =
+loop-concept-preserved g c =
     let indexed = c.args.indexes.now in
+    let one : ℕ → Bool = is_one_of indexed.concepts (g.S.ConceptSet.items_of c.args.types.now) in
+    let passes : Value → Bool = passes_of g.S.ConceptSet.items_of indexed.concepts c.args.tested.now in
     let concepts = c.args.concepts.now in
     let k = c.loop-concept.concept-index in
     let concept : ℕ = get_or concepts k 0 in
-    let test : (ℕ → Bool) → (Value → Bool) → ℕ → Bool =
-    λ one passes number. lies_in c.args.count (pairs_of_concept indexed c.args.back one passes number) in
+    let test : ℕ → Bool =
+    λ number. lies_in c.args.count (pairs_of_concept indexed c.args.back one passes number) in
     elim c.if-lies_in.branch [
       | then-lies_in+in_ok-push w ↦ record {
         within = subst (All (λ number. number < length indexed.concepts)) (sym (ap (λ (v : Vec ℕ _). v.items) w.kept-is ∙ w.in_ok-push.ensures.items))
             (All-append (λ number. number < length indexed.concepts) c.loop-concept.kept.items (concept ∷ []) c.loop-concept.invariant.within
-            (one_below (length indexed.concepts) concept (c.requires k 0 c.loop-concept-test.true)));
-        kept = λ one passes types tells.
-            let here : test one passes concept ≡ true =
-            ap (lies_in c.args.count) (sym (c.pairs_of_concept-pairs.ensures one passes types tells)) ∙ sym c.lies_in.ensures ∙ w.if-lies_in.true in
+            (one_below (length indexed.concepts) concept (c.requires.concepts k 0 c.loop-concept-test.true)));
+        kept =
+            let here : test concept ≡ true =
+            ap (lies_in c.args.count) (sym c.pairs_of_concept-pairs.ensures) ∙ sym c.lies_in.ensures ∙ w.if-lies_in.true in
             ap (λ (v : Vec ℕ _). v.items) w.kept-is ∙ w.in_ok-push.ensures.items
-            ∙ (λ i. c.loop-concept.invariant.kept one passes types tells i ++ cond (sym here i) (concept ∷ []) [])
-            ∙ sym (filter_more (test one passes) concepts k 0 c.loop-concept-test.true);
+            ∙ (λ i. c.loop-concept.invariant.kept i ++ cond (sym here i) (concept ∷ []) [])
+            ∙ sym (filter_more test concepts k 0 c.loop-concept-test.true);
       }
       | else-lies_in w ↦ record {
         within = subst (All (λ number. number < length indexed.concepts)) (sym (ap (λ (v : Vec ℕ _). v.items) w.kept-is)) c.loop-concept.invariant.within;
-        kept = λ one passes types tells.
-            let here : test one passes concept ≡ false =
-            ap (lies_in c.args.count) (sym (c.pairs_of_concept-pairs.ensures one passes types tells)) ∙ sym c.lies_in.ensures ∙ w.if-lies_in.false in
+        kept =
+            let here : test concept ≡ false =
+            ap (lies_in c.args.count) (sym c.pairs_of_concept-pairs.ensures) ∙ sym c.lies_in.ensures ∙ w.if-lies_in.false in
             ap (λ (v : Vec ℕ _). v.items) w.kept-is
-            ∙ c.loop-concept.invariant.kept one passes types tells
-            ∙ sym (append-nil (filter (test one passes) (take k concepts)))
-            ∙ (λ i. filter (test one passes) (take k concepts) ++ cond (sym here i) (concept ∷ []) [])
-            ∙ sym (filter_more (test one passes) concepts k 0 c.loop-concept-test.true);
+            ∙ c.loop-concept.invariant.kept
+            ∙ sym (append-nil (filter test (take k concepts)))
+            ∙ (λ i. filter test (take k concepts) ++ cond (sym here i) (concept ∷ []) [])
+            ∙ sym (filter_more test concepts k 0 c.loop-concept-test.true);
       }
     ]
 
 pub returns-clause-kept : goal.returns-clause-kept
-returns-clause-kept c = λ one passes types tells.
-    c.loop-concept.invariant.kept one passes types tells
+returns-clause-kept g c =
+    let indexed = c.args.indexes.now in
+    let one : ℕ → Bool = is_one_of indexed.concepts (g.S.ConceptSet.items_of c.args.types.now) in
+    let passes : Value → Bool = passes_of g.S.ConceptSet.items_of indexed.concepts c.args.tested.now in
+    c.loop-concept.invariant.kept
     ∙ ap (filter (λ number. lies_in c.args.count (pairs_of_concept c.args.indexes.now c.args.back one passes number)))
     (take_all c.loop-concept.concept-index c.args.concepts.now (omega arith))

@@ -1,12 +1,12 @@
-use Rattle.std.proofs.Common.{ℕ, Bool, ◌≡◌, ◌≤◌, take}
-use Rattle.rf2_rows.specs.Release.{Value}
+use Rattle.std.proofs.Common.{◌≡◌, ◌≤◌, take}
 use Rattle.pair_sets.specs.Among.{pairs_among}
-use Rattle.pair_sets.specs.Hits.{TellsPassing, TellsTypes}
+use Rattle.pair_sets.specs.Tested.{is_one_of, passes_of}
 use Rattle.pair_sets.proofs.among.pairs_among.Given as goal
 
+-- those of the rows so far
 abbrev pub invariant-loop-n : goal.invariant-loop-n
-invariant-loop-n l = record {
+invariant-loop-n g l = record {
   few : l.pairs ≤ l.n-index;
-  pairs : (one : ℕ → Bool) (passes : Value → Bool) → TellsTypes l.indexes.rows one l.types → TellsPassing l.indexes passes l.passing
-      → l.pairs ≡ pairs_among l.indexes l.grouped one passes (take l.n-index l.rows);
+  pairs : l.pairs ≡ pairs_among l.indexes l.grouped (is_one_of l.indexes.concepts (g.S.ConceptSet.items_of l.types))
+      (passes_of g.S.ConceptSet.items_of l.indexes.concepts l.tested) (take l.n-index l.rows);
 }

@@ -1,24 +1,31 @@
-use Rattle.std.proofs.Common.{Bool, ◌<◌, ◌==◌, ◌∙◌, All, length, get_or, sym, ap, subst}
+use Rattle.std.proofs.Common.{ℕ, Bool, ◌<◌, ◌==◌, ◌∙◌, All, length, get_or, sym, ap, subst}
 use Rattle.std.specs.Prelude.{false}
-use Rattle.rf2_rows.specs.Release.{Attribute}
+use Rattle.rf2_rows.specs.Release.{Attribute, Value}
 use Rattle.postings.specs.Entries.{entries_with_value}
 use Rattle.postings.proofs.PlaceLemmas.{places_where-within}
 use Rattle.pair_sets.specs.Among.{pairs_among, pairs_of_concept}
+use Rattle.pair_sets.specs.Tested.{is_one_of, passes_of}
 use Rattle.pair_sets.proofs.among.pairs_of_concept.Goals as goal
 
-pub pairs_among-requires : goal.pairs_among-requires
-pairs_among-requires c =
+pub pairs_among-requires-clause-rows : goal.pairs_among-requires-clause-rows
+pairs_among-requires-clause-rows g c =
     subst (All (λ n. n < length c.args.indexes.now.rows)) (sym c.rows_of.ensures)
     (places_where-within (λ (row : Attribute). row.source == get_or c.args.indexes.now.concepts c.args.concept 0) c.args.indexes.now.rows)
 
 pub returns-then-back : goal.returns-then-back
-returns-then-back c = λ one passes types tells.
-    c.back_pairs_among.ensures one passes (entries_with_value c.args.indexes.now.rows (get_or c.args.indexes.now.concepts c.args.concept 0)) types tells
+returns-then-back g c =
+    let indexed = c.args.indexes.now in
+    let one : ℕ → Bool = is_one_of indexed.concepts (g.S.ConceptSet.items_of c.args.types.now) in
+    let passes : Value → Bool = passes_of g.S.ConceptSet.items_of indexed.concepts c.args.tested.now in
+    c.back_pairs_among.ensures (entries_with_value indexed.rows (get_or indexed.concepts c.args.concept 0))
     c.value_columns-columns.ensures.sources c.value_columns-columns.ensures.types
-    ∙ ap (λ (back : Bool). pairs_of_concept c.args.indexes.now back one passes c.args.concept) (sym c.if-back.true)
+    ∙ ap (λ (back : Bool). pairs_of_concept indexed back one passes c.args.concept) (sym c.if-back.true)
 
 pub returns-else-back : goal.returns-else-back
-returns-else-back c = λ one passes types tells.
-    c.pairs_among.ensures one passes types tells
-    ∙ ap (pairs_among c.args.indexes.now false one passes) c.rows_of.ensures
-    ∙ ap (λ (back : Bool). pairs_of_concept c.args.indexes.now back one passes c.args.concept) (sym c.if-back.false)
+returns-else-back g c =
+    let indexed = c.args.indexes.now in
+    let one : ℕ → Bool = is_one_of indexed.concepts (g.S.ConceptSet.items_of c.args.types.now) in
+    let passes : Value → Bool = passes_of g.S.ConceptSet.items_of indexed.concepts c.args.tested.now in
+    c.pairs_among.ensures
+    ∙ ap (pairs_among indexed false one passes) c.rows_of.ensures
+    ∙ ap (λ (back : Bool). pairs_of_concept indexed back one passes c.args.concept) (sym c.if-back.false)

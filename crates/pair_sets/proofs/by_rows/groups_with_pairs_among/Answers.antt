@@ -1,8 +1,9 @@
-use Rattle.std.proofs.Common.{ℕ, List, ◌<◌, ◌∙◌, All, length, sym, ap, subst}
+use Rattle.std.proofs.Common.{ℕ, Bool, List, ◌<◌, ◌∙◌, All, length, sym, ap, subst}
 use Rattle.std.proofs.lemmas.Result.{IfOk-weaker}
 use Rattle.idset.specs.Sets.{has_item}
 use Rattle.postings.specs.Groups.{ConceptGroup, groups_in}
-use Rattle.pair_sets.specs.Hits.{TellsTypes}
+use Rattle.rf2_rows.specs.Release.{Value}
+use Rattle.pair_sets.specs.Tested.{is_one_of, passes_of}
 use Rattle.pair_sets.specs.Within.{AreBelow, may_be}
 use Rattle.pair_sets.proofs.AmongLemmas.{groups_among_within}
 use Rattle.pair_sets.proofs.LeafLemmas.{groups_are}
@@ -16,8 +17,8 @@ numbers_asked-requires g c =
     (groups_are c.args.indexes.now c.args.snapshot.now.release c.requires.index c.concept_count.ensures.rising)))
     c.requires.candidates
 
-pub groups_among-requires : goal.groups_among-requires
-groups_among-requires g c =
+pub groups_among-requires-clause-groups : goal.groups_among-requires-clause-groups
+groups_among-requires-clause-groups g c =
     subst (All (λ number. number < length (groups_in c.args.indexes.now))) (sym c.as_slice.ensures.value)
     (subst (λ (bound : ℕ). All (λ number. number < bound) c.in_ok-asked.asked.items)
     c.group_count-group_count.ensures.count c.in_ok-asked.ensures.within)
@@ -26,14 +27,16 @@ pub returns-clause-items : goal.returns-clause-items
 returns-clause-items g c =
     let release = c.args.snapshot.now.release in
     let indexed = c.args.indexes.now in
+    let one : ℕ → Bool = is_one_of indexed.concepts (g.S.ConceptSet.items_of c.args.types.now) in
+    let passes : Value → Bool = passes_of g.S.ConceptSet.items_of indexed.concepts c.args.tested.now in
     IfOk-weaker c.from_numbers.result _ _
-    (λ found found_is one passes are tells.
+    (λ found found_is.
     groups_among_within indexed release c.requires.index c.concept_count.ensures.rising c.args.count one passes
     c.group_count-group_count.result c.group_count-group_count.ensures.count (may_be g.S.ConceptSet.items_of c.args.candidates.now)
     c.as_slice.result.now c.as_slice-2.result.now (g.S.ConceptSet.items_of found)
     (λ n within. ap (λ (asked : List ℕ). has_item asked n) c.as_slice.ensures.value ∙ c.in_ok-asked.ensures.asked n within)
     (c.as_slice-2.ensures.value
-    ∙ c.in_ok-kept.ensures.kept one passes (subst (TellsTypes indexed.rows one) (sym c.as_slice-places.ensures.value) are.places) tells)
+    ∙ c.in_ok-kept.ensures.kept)
     found_is)
     c.from_numbers.ensures.items
 

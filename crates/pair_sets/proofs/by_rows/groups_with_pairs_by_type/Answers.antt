@@ -1,7 +1,9 @@
-use Rattle.std.proofs.Common.{List, ◌∙◌, length, ap, arith}
+use Rattle.std.proofs.Common.{Bool, List, ◌∙◌, length, ap, arith}
 use Rattle.std.proofs.lemmas.Result.{IfOk-weaker}
 use Rattle.postings.specs.Groups.{ConceptGroup}
 use Rattle.pair_sets.specs.Counted.{times}
+use Rattle.rf2_rows.specs.Release.{Value}
+use Rattle.pair_sets.specs.Tested.{passes_of}
 use Rattle.pair_sets.proofs.LeafLemmas.{groups_are, groups_found}
 use Rattle.pair_sets.proofs.by_rows.groups_with_pairs_by_type.Goals as goal
 
@@ -9,14 +11,15 @@ pub returns-clause-items : goal.returns-clause-items
 returns-clause-items g c =
     let release = c.args.snapshot.now.release in
     let indexed = c.args.indexes.now in
+    let passes : Value → Bool = passes_of g.S.ConceptSet.items_of indexed.concepts c.args.tested.now in
     IfOk-weaker c.as_often.result _ _
-    (λ found found_is one passes are tells.
+    (λ found found_is one ids.
     groups_found indexed release c.requires.index c.concept_count.ensures.rising one passes
     c.args.count c.group_count.result c.group_count.ensures.count
     c.as_slice.result.now (g.S.ConceptSet.items_of found)
     (λ n within.
     ap (times n) c.as_slice.ensures.value
-    ∙ (c.in_ok-hits.ensures.hits one passes are tells).times n (omega (arith, within, c.group_count.ensures.count)))
+    ∙ (c.in_ok-hits.ensures.hits one ids).times n (omega (arith, within, c.group_count.ensures.count)))
     found_is)
     c.as_often.ensures.items
 

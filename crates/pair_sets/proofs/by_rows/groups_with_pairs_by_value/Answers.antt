@@ -1,4 +1,4 @@
-use Rattle.std.proofs.Common.{List, ◌∙◌, length, ap, arith}
+use Rattle.std.proofs.Common.{ℕ, Bool, List, ◌∙◌, length, ap, arith}
 use Rattle.std.proofs.lemmas.Result.{IfOk-weaker}
 use Rattle.constraint_tree.specs.Passing.{is_within}
 use Rattle.postings.specs.Groups.{ConceptGroup}
@@ -11,14 +11,15 @@ pub returns-clause-items : goal.returns-clause-items
 returns-clause-items g c =
     let release = c.args.snapshot.now.release in
     let indexed = c.args.indexes.now in
+    let one : ℕ → Bool = is_one_of indexed.concepts (g.S.ConceptSet.items_of c.args.types.now) in
     IfOk-weaker c.as_often.result _ _
-    (λ found found_is one are.
+    (λ found found_is.
     groups_found indexed release c.requires.index c.concept_count.ensures.rising one (is_within (is_one_of indexed.concepts c.args.values.now))
     c.args.count c.group_count.result c.group_count.ensures.count
     c.as_slice.result.now (g.S.ConceptSet.items_of found)
     (λ n within.
     ap (times n) c.as_slice.ensures.value
-    ∙ (c.in_ok-hits.ensures.hits one are).times n (omega (arith, within, c.group_count.ensures.count)))
+    ∙ c.in_ok-hits.ensures.hits.times n (omega (arith, within, c.group_count.ensures.count)))
     found_is)
     c.as_often.ensures.items
 

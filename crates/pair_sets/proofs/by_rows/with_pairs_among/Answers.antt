@@ -1,14 +1,15 @@
-use Rattle.std.proofs.Common.{ℕ, List, ◌<◌, ◌∙◌, All, length, sym, ap, subst}
+use Rattle.std.proofs.Common.{ℕ, Bool, List, ◌<◌, ◌∙◌, All, length, sym, ap, subst}
 use Rattle.std.proofs.lemmas.Result.{IfOk-weaker}
 use Rattle.idset.specs.Sets.{has_item}
-use Rattle.pair_sets.specs.Hits.{TellsTypes}
+use Rattle.rf2_rows.specs.Release.{Value}
+use Rattle.pair_sets.specs.Tested.{is_one_of, passes_of}
 use Rattle.pair_sets.specs.Within.{may_be}
 use Rattle.pair_sets.proofs.AmongLemmas.{among_within}
 use Rattle.pair_sets.proofs.LeafLemmas.{sources_known}
 use Rattle.pair_sets.proofs.by_rows.with_pairs_among.Goals as goal
 
-pub concepts_among-requires : goal.concepts_among-requires
-concepts_among-requires g c =
+pub concepts_among-requires-clause-concepts : goal.concepts_among-requires-clause-concepts
+concepts_among-requires-clause-concepts g c =
     subst (All (λ number. number < length c.args.indexes.now.concepts)) (sym c.as_slice.ensures.value)
     (subst (λ (bound : ℕ). All (λ number. number < bound) c.in_ok-asked.asked.items)
     (c.concept_count-concept_count.ensures.count ∙ ap (λ (ids : List ℕ). length ids) (sym c.requires.index.concepts))
@@ -18,15 +19,17 @@ pub returns-clause-items : goal.returns-clause-items
 returns-clause-items g c =
     let release = c.args.snapshot.now.release in
     let indexed = c.args.indexes.now in
+    let one : ℕ → Bool = is_one_of indexed.concepts (g.S.ConceptSet.items_of c.args.types.now) in
+    let passes : Value → Bool = passes_of g.S.ConceptSet.items_of indexed.concepts c.args.tested.now in
     let rising = c.concept_count-concept_count.ensures.rising in
     IfOk-weaker c.from_numbers.result _ _
-    (λ found found_is one passes are tells.
+    (λ found found_is.
     among_within indexed release c.requires.index rising c.args.count one passes
     (sources_known release rising c.attribute_count.ensures.by_source) c.args.back
     c.concept_count-concept_count.result c.concept_count-concept_count.ensures.count (may_be g.S.ConceptSet.items_of c.args.candidates.now)
     c.as_slice.result.now c.as_slice-2.result.now (g.S.ConceptSet.items_of found)
     (λ n within. ap (λ (asked : List ℕ). has_item asked n) c.as_slice.ensures.value ∙ c.in_ok-asked.ensures.asked n within)
     (c.as_slice-2.ensures.value
-    ∙ c.in_ok-kept.ensures.kept one passes (subst (TellsTypes indexed.rows one) (sym c.as_slice-places.ensures.value) are.places) tells)
+    ∙ c.in_ok-kept.ensures.kept)
     found_is)
     c.from_numbers.ensures.items

@@ -1,14 +1,13 @@
-use Rattle.std.proofs.Common.{◌<◌, All, Bool, length, take}
-use Rattle.rf2_rows.specs.Release.{Value}
+use Rattle.std.proofs.Common.{◌<◌, All, length, take}
 use Rattle.postings.specs.Groups.{groups_in}
-use Rattle.pair_sets.specs.Hits.{AreHits, TellsPassing, counts_for_group, entries_with_types}
+use Rattle.pair_sets.specs.Hits.{AreHits, counts_for_group, entries_with_types}
+use Rattle.pair_sets.specs.Tested.{passes_of}
 use Rattle.pair_sets.proofs.hits.groups_by_type.Given as goal
 
 -- the numbers so far are those of the types so far
 abbrev pub invariant-loop-id : goal.invariant-loop-id
-invariant-loop-id l = record {
+invariant-loop-id g l = record {
   within : All (λ number. number < length (groups_in l.indexes)) l.hits.items;
-  hits : (passes : Value → Bool) → TellsPassing l.indexes passes l.passing
-      → AreHits (length (groups_in l.indexes)) (counts_for_group (groups_in l.indexes) (λ row. passes row.value))
+  hits : AreHits (length (groups_in l.indexes)) (counts_for_group (groups_in l.indexes) (λ row. passes_of g.S.ConceptSet.items_of l.indexes.concepts l.tested row.value))
       (entries_with_types l.indexes.rows (take l.id-index l.ids)) l.hits.items;
 }

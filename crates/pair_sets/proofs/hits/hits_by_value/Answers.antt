@@ -4,40 +4,42 @@ use Rattle.rf2_rows.specs.Pairs.{value_eq}
 use Rattle.rf2_rows.specs.Release.{concept_value}
 use Rattle.constraint_tree.specs.Passing.{is_within}
 use Rattle.postings.specs.Entries.{Entry, entries_of}
-use Rattle.pair_sets.specs.Hits.{AreHits, TellsTypes, counts_for_concept}
+use Rattle.pair_sets.specs.Hits.{AreHits, counts_for_concept}
 use Rattle.pair_sets.specs.Tested.{is_one_of}
 use Rattle.pair_sets.proofs.ChoiceLemmas.{of_sources, of_values}
 use Rattle.pair_sets.proofs.ListLemmas.{all_below}
 use Rattle.pair_sets.proofs.hits.hits_by_value.Goals as goal
 
-pub values_by_source-requires : goal.values_by_source-requires
-values_by_source-requires c = all_below (length c.args.indexes.now.concepts) c.args.values.now c.requires
+pub values_by_source-requires-clause-sources : goal.values_by_source-requires-clause-sources
+values_by_source-requires-clause-sources g c = all_below (length c.args.indexes.now.concepts) c.args.values.now c.requires.values
 
-pub sources_by_value-requires : goal.sources_by_value-requires
-sources_by_value-requires c = all_below (length c.args.indexes.now.concepts) c.args.values.now c.requires
+pub sources_by_value-requires-clause-values : goal.sources_by_value-requires-clause-values
+sources_by_value-requires-clause-values g c = all_below (length c.args.indexes.now.concepts) c.args.values.now c.requires.values
 
 pub returns-then-back-clause-hits : goal.returns-then-back-clause-hits
-returns-then-back-clause-hits c =
+returns-then-back-clause-hits g c =
     let indexed = c.args.indexes.now in
     let count : ℕ = length indexed.concepts in
+    let one : ℕ → Bool = is_one_of indexed.concepts (g.S.ConceptSet.items_of c.args.types.now) in
     IfOk-weaker c.values_by_source.result _ _
-    (λ hits are one types.
+    (λ hits are.
     subst (λ (back : Bool). AreHits count (counts_for_concept back indexed.concepts one (is_within (is_one_of indexed.concepts c.args.values.now)))
     (entries_of indexed.rows) hits.items) (sym c.if-back.true)
     (of_sources count (λ number (entry : Entry). value_eq entry.row.value (concept_value (get_or indexed.concepts number 0)))
-    (λ (entry : Entry). entry.is_first) indexed c.concept_count.ensures.rising one hits.items c.args.values.now c.requires
-    (are one (subst (TellsTypes indexed.rows one) (sym c.as_slice.ensures.value) types.places))))
+    (λ (entry : Entry). entry.is_first) indexed c.concept_count.ensures.rising one hits.items c.args.values.now c.requires.values
+    are))
     c.values_by_source.ensures.hits
 
 pub returns-else-back-clause-hits : goal.returns-else-back-clause-hits
-returns-else-back-clause-hits c =
+returns-else-back-clause-hits g c =
     let indexed = c.args.indexes.now in
     let count : ℕ = length indexed.concepts in
+    let one : ℕ → Bool = is_one_of indexed.concepts (g.S.ConceptSet.items_of c.args.types.now) in
     IfOk-weaker c.sources_by_value.result _ _
-    (λ hits are one types.
+    (λ hits are.
     subst (λ (back : Bool). AreHits count (counts_for_concept back indexed.concepts one (is_within (is_one_of indexed.concepts c.args.values.now)))
     (entries_of indexed.rows) hits.items) (sym c.if-back.false)
     (of_values count (λ number (entry : Entry). entry.row.source == get_or indexed.concepts number 0)
-    (λ (entry : Entry). entry.is_first) indexed c.concept_count.ensures.rising one hits.items c.args.values.now c.requires
-    (are one (subst (TellsTypes indexed.rows one) (sym c.as_slice-else-back.ensures.value) types.places))))
+    (λ (entry : Entry). entry.is_first) indexed c.concept_count.ensures.rising one hits.items c.args.values.now c.requires.values
+    are))
     c.sources_by_value.ensures.hits

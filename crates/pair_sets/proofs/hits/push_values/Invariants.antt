@@ -1,18 +1,20 @@
-use Rattle.std.proofs.Common.{ℕ, Bool, ◌≡◌, ◌<◌, ◌+◌, All, length, take}
+use Rattle.std.proofs.Common.{ℕ, ◌≡◌, ◌<◌, ◌+◌, All, length, take}
 use Rattle.std.specs.Prelude.{count_by, slice_get}
 use Rattle.postings.specs.Entries.{entries_of}
 use Rattle.pair_sets.specs.Among.{at_entry}
 use Rattle.pair_sets.specs.Counted.{times}
-use Rattle.pair_sets.specs.Hits.{TellsTypes, counts_for_value}
+use Rattle.pair_sets.specs.Hits.{counts_for_value}
+use Rattle.pair_sets.specs.Tested.{is_one_of}
 use Rattle.pair_sets.proofs.hits.push_values.Given as goal
 
 -- the numbers pushed so far are those of the rows so far
 abbrev pub invariant-loop-n : goal.invariant-loop-n
-invariant-loop-n l = record {
+invariant-loop-n g l = record {
   within : All (λ number. number < length l.indexes.concepts) l.fn.hits.items → All (λ number. number < length l.indexes.concepts) l.hits.items;
-  times : (one : ℕ → Bool) → TellsTypes l.indexes.rows one l.types → (number : ℕ) → number < length l.indexes.concepts
+  times : (number : ℕ) → number < length l.indexes.concepts
       → times number l.hits.items
       ≡ times number l.fn.hits.items
-      + count_by (λ n. at_entry (counts_for_value l.indexes.concepts (λ row. one row.type_id) number) (slice_get (entries_of l.indexes.rows) n))
+      + count_by (λ n. at_entry (counts_for_value l.indexes.concepts (λ row. is_one_of l.indexes.concepts (g.S.ConceptSet.items_of l.types) row.type_id) number)
+      (slice_get (entries_of l.indexes.rows) n))
       (take l.n-index l.rows);
 }

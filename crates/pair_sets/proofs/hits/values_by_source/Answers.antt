@@ -1,4 +1,4 @@
-use Rattle.std.proofs.Common.{ℕ, List, ◌<◌, ◌+◌, ◌==◌, ◌∙◌, All, [], length, get_or, sym, ap, subst, arith}
+use Rattle.std.proofs.Common.{ℕ, Bool, List, ◌<◌, ◌+◌, ◌==◌, ◌∙◌, All, [], length, get_or, sym, ap, subst, arith}
 use Rattle.std.specs.Prelude.{count_by, slice_get, slice_index}
 use Rattle.std.proofs.lemmas.List.{take_all}
 use Rattle.rf2_rows.specs.Release.{Attribute}
@@ -8,50 +8,54 @@ use Rattle.pair_sets.specs.Among.{at_entry}
 use Rattle.pair_sets.specs.Counted.{times}
 use Rattle.pair_sets.specs.Hits.{AreHits, counts_for_value, entries_with_sources}
 use Rattle.pair_sets.proofs.BackLemmas.{source_counted}
+use Rattle.pair_sets.specs.Tested.{is_one_of}
 use Rattle.pair_sets.proofs.HitLemmas.{hits_counted, no_hits}
 use Rattle.pair_sets.proofs.hits.values_by_source.Goals as goal
 
 pub loop-source-init : goal.loop-source-init
-loop-source-init c = record {
+loop-source-init g c = record {
   within = subst (All (λ number. number < length c.args.indexes.now.concepts)) (sym c.new-hits.ensures.items) (λ k d within. absurd (omega (arith, within)));
-  hits = λ one tells.
+  hits =
+      let one : ℕ → Bool = is_one_of c.args.indexes.now.concepts (g.S.ConceptSet.items_of c.args.types.now) in
       subst (AreHits (length c.args.indexes.now.concepts) (counts_for_value c.args.indexes.now.concepts (λ row. one row.type_id)) [])
       (sym c.new-hits.ensures.items)
       (no_hits (length c.args.indexes.now.concepts) (counts_for_value c.args.indexes.now.concepts (λ row. one row.type_id)));
 }
 
-pub push_values-requires : goal.push_values-requires
-push_values-requires c =
+pub push_values-requires-clause-rows : goal.push_values-requires-clause-rows
+push_values-requires-clause-rows g c =
     subst (All (λ n. n < length c.args.indexes.now.rows)) (sym c.rows_of.ensures)
     (places_where-within (λ (row : Attribute). row.source == get_or c.args.indexes.now.concepts
     (get_or c.args.sources.now c.loop-source.source-index 0) 0) c.args.indexes.now.rows)
 
 pub loop-source-preserved : goal.loop-source-preserved
-loop-source-preserved c =
+loop-source-preserved g c =
     let indexed = c.args.indexes.now in
     let source : ℕ = get_or c.args.sources.now c.loop-source.source-index 0 in
     let below = c.in_ok-push_values.ensures.within c.loop-source.invariant.within in
     record {
       within = below;
-      hits = λ one tells.
+      hits =
+      let one : ℕ → Bool = is_one_of c.args.indexes.now.concepts (g.S.ConceptSet.items_of c.args.types.now) in
           hits_counted (λ number. entries_where (λ row. row.source == slice_index indexed.concepts number) indexed.rows) c.args.sources.now
           c.loop-source.source-index c.loop-source-test.true
           (length indexed.concepts) (counts_for_value indexed.concepts (λ row. one row.type_id))
           c.loop-source.hits.items c.push_values.new.hits.items below
           (λ number inside.
-          c.in_ok-push_values.ensures.times one tells number inside
+          c.in_ok-push_values.ensures.times number inside
           ∙ ap (λ (rows : List ℕ). times number c.loop-source.hits.items
           + count_by (λ n. at_entry (counts_for_value indexed.concepts (λ row. one row.type_id) number) (slice_get (entries_of indexed.rows) n)) rows)
           c.rows_of.ensures
           ∙ ap (λ (more : ℕ). times number c.loop-source.hits.items + more) (source_counted indexed one source number))
-          (c.loop-source.invariant.hits one tells);
+          c.loop-source.invariant.hits;
     }
 
 pub returns-clause-within : goal.returns-clause-within
-returns-clause-within c = c.loop-source.invariant.within
+returns-clause-within g c = c.loop-source.invariant.within
 
 pub returns-clause-hits : goal.returns-clause-hits
-returns-clause-hits c = λ one tells.
+returns-clause-hits g c =
+    let one : ℕ → Bool = is_one_of c.args.indexes.now.concepts (g.S.ConceptSet.items_of c.args.types.now) in
     subst (λ (sources : List ℕ). AreHits (length c.args.indexes.now.concepts) (counts_for_value c.args.indexes.now.concepts (λ row. one row.type_id))
     (entries_with_sources c.args.indexes.now sources) c.loop-source.hits.items)
-    (take_all c.loop-source.source-index c.args.sources.now (omega arith)) (c.loop-source.invariant.hits one tells)
+    (take_all c.loop-source.source-index c.args.sources.now (omega arith)) c.loop-source.invariant.hits

@@ -1,42 +1,46 @@
-use Rattle.std.proofs.Common.{ℕ, ◌<◌, All, List, [], length, sym, subst, arith}
+use Rattle.std.proofs.Common.{ℕ, Bool, refl, ◌<◌, All, List, [], length, sym, subst, arith}
 use Rattle.std.proofs.lemmas.List.{take_all}
 use Rattle.postings.specs.Entries.{entries_with_type}
 use Rattle.rf2_rows.specs.Release.{concept_value}
+use Rattle.rf2_rows.specs.Release.{Value}
 use Rattle.pair_sets.specs.Hits.{AreHits, counts_for_value, entries_with_types}
+use Rattle.pair_sets.specs.Tested.{passes_of}
 use Rattle.pair_sets.proofs.HitLemmas.{cells_below, pushed_below, backward_hits, hits_pushed, no_hits}
 use Rattle.pair_sets.proofs.hits.values_by_type.Goals as goal
 
 pub loop-id-init : goal.loop-id-init
-loop-id-init c = record {
+loop-id-init g c = record {
   within = subst (All (λ number. number < length c.args.indexes.now.concepts)) (sym c.new-hits.ensures.items) (λ k d within. absurd (omega (arith, within)));
-  hits = λ passes tells.
+  hits =
+      let passes : Value → Bool = passes_of g.S.ConceptSet.items_of c.args.indexes.now.concepts c.args.tested.now in
       subst (AreHits (length c.args.indexes.now.concepts) (counts_for_value c.args.indexes.now.concepts (λ row. passes (concept_value row.source))) [])
       (sym c.new-hits.ensures.items)
       (no_hits (length c.args.indexes.now.concepts) (counts_for_value c.args.indexes.now.concepts (λ row. passes (concept_value row.source))));
 }
 
 pub loop-id-preserved : goal.loop-id-preserved
-loop-id-preserved c = record {
-  within = subst (λ (bound : ℕ). All (λ number. number < bound) c.push_cells.new.hits.items) c.concept_count-bound.ensures.count
-      (pushed_below c.concept_count-bound.result c.loop-id.hits.items c.push_cells.new.hits.items _ c.in_ok-push_cells.ensures
-      (subst (λ (bound : ℕ). All (λ number. number < bound) c.loop-id.hits.items) (sym c.concept_count-bound.ensures.count) c.loop-id.invariant.within)
-      (cells_below _ _ c.type_columns-columns.result.sources.now c.type_columns-columns.result.values.now));
-  hits = λ passes tells.
+loop-id-preserved g c = record {
+  within = pushed_below (length c.args.indexes.now.concepts) c.loop-id.hits.items c.push_cells.new.hits.items _ c.in_ok-push_cells.ensures
+      c.loop-id.invariant.within
+      (cells_below _ _ c.type_columns-columns.result.sources.now c.type_columns-columns.result.values.now);
+  hits =
+      let passes : Value → Bool = passes_of g.S.ConceptSet.items_of c.args.indexes.now.concepts c.args.tested.now in
       let indexed = c.args.indexes.now in
       let columns = c.type_columns-columns in
       hits_pushed (entries_with_type indexed.rows) c.args.ids.now c.loop-id.id-index c.loop-id-test.true
       (length indexed.concepts) (counts_for_value indexed.concepts (λ row. passes (concept_value row.source)))
-      c.loop-id.hits.items c.push_cells.new.hits.items _ c.in_ok-push_cells.ensures (c.loop-id.invariant.hits passes tells)
-      (backward_hits indexed passes c.args.passing.now tells c.concept_count-bound.ensures.rising _ columns.result.sources.now
-      columns.result.values.now columns.ensures.values columns.ensures.sources c.concept_count-bound.result c.concept_count-bound.ensures.count);
+      c.loop-id.hits.items c.push_cells.new.hits.items _ c.in_ok-push_cells.ensures c.loop-id.invariant.hits
+      (backward_hits indexed passes c.concept_count.ensures.rising _ columns.result.sources.now
+      columns.result.values.now columns.ensures.values columns.ensures.sources (length indexed.concepts) refl);
 }
 
 pub returns-clause-within : goal.returns-clause-within
-returns-clause-within c = c.loop-id.invariant.within
+returns-clause-within g c = c.loop-id.invariant.within
 
 pub returns-clause-hits : goal.returns-clause-hits
-returns-clause-hits c = λ passes tells.
+returns-clause-hits g c =
+    let passes : Value → Bool = passes_of g.S.ConceptSet.items_of c.args.indexes.now.concepts c.args.tested.now in
     subst (λ (ids : List ℕ). AreHits (length c.args.indexes.now.concepts)
     (counts_for_value c.args.indexes.now.concepts (λ row. passes (concept_value row.source)))
     (entries_with_types c.args.indexes.now.rows ids) c.loop-id.hits.items)
-    (take_all c.loop-id.id-index c.args.ids.now (omega arith)) (c.loop-id.invariant.hits passes tells)
+    (take_all c.loop-id.id-index c.args.ids.now (omega arith)) c.loop-id.invariant.hits

@@ -1,13 +1,13 @@
-use Rattle.std.proofs.Common.{◌<◌, All, Bool, length, take}
-use Rattle.rf2_rows.specs.Release.{Value, concept_value}
-use Rattle.pair_sets.specs.Hits.{AreHits, TellsPassing, counts_for_value, entries_with_types}
+use Rattle.std.proofs.Common.{◌<◌, All, length, take}
+use Rattle.rf2_rows.specs.Release.{concept_value}
+use Rattle.pair_sets.specs.Hits.{AreHits, counts_for_value, entries_with_types}
+use Rattle.pair_sets.specs.Tested.{passes_of}
 use Rattle.pair_sets.proofs.hits.values_by_type.Given as goal
 
 -- the numbers so far are those of the types so far
 abbrev pub invariant-loop-id : goal.invariant-loop-id
-invariant-loop-id l = record {
+invariant-loop-id g l = record {
   within : All (λ number. number < length l.indexes.concepts) l.hits.items;
-  hits : (passes : Value → Bool) → TellsPassing l.indexes passes l.passing
-      → AreHits (length l.indexes.concepts) (counts_for_value l.indexes.concepts (λ row. passes (concept_value row.source)))
+  hits : AreHits (length l.indexes.concepts) (counts_for_value l.indexes.concepts (λ row. passes_of g.S.ConceptSet.items_of l.indexes.concepts l.tested (concept_value row.source)))
       (entries_with_types l.indexes.rows (take l.id-index l.ids)) l.hits.items;
 }

@@ -9,6 +9,12 @@ pub returns-clause-items : goal.returns-clause-items
 returns-clause-items g c =
     let release = c.args.snapshot.now.release in
     let one : ℕ → Bool = is_one_of c.args.indexes.now.concepts (g.S.ConceptSet.items_of c.args.types.now) in
-    c.in_ok-found.ensures.items one c.in_ok-types.ensures
+    c.in_ok-found.ensures.items
     ∙ (λ i. groups_within release (may_be g.S.ConceptSet.items_of c.args.candidates.now)
     (has_pairs c.args.count one (λ value. c.in_ok-way.ensures.passes value i)))
+
+pub groups_with_pairs_by-requires-clause-way : goal.groups_with_pairs_by-requires-clause-way
+groups_with_pairs_by-requires-clause-way g c = c.in_ok-way.ensures.below
+
+pub groups_with_pairs_by-requires-clause-ids : goal.groups_with_pairs_by-requires-clause-ids
+groups_with_pairs_by-requires-clause-ids g c = c.in_ok-way.ensures.types

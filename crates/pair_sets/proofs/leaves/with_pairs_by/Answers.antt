@@ -1,53 +1,57 @@
-use Rattle.std.proofs.Common.{ℕ, Bool, List, ◌∙◌, sym, ap}
+use Rattle.std.proofs.Common.{ℕ, Bool, List, ◌≡◌, ◌∙◌, sym, ap, subst}
+use Rattle.std.specs.Prelude.{filter}
 use Rattle.constraint_tree.specs.Passing.{is_within}
-use Rattle.idset.specs.Words.{is_set}
 use Rattle.set_algebra.specs.Meaning.{has_pairs, pairs_of}
 use Rattle.pair_sets.specs.Numbers.{numbers_in}
 use Rattle.pair_sets.specs.Tested.{is_one_of, passes_of}
-use Rattle.pair_sets.specs.Ways.{passes_by}
+use Rattle.postings.specs.Indexed.{types_of}
+use Rattle.pair_sets.specs.Ways.{HasTypes, passes_by}
 use Rattle.pair_sets.specs.Within.{may_be, numbers_within}
 use Rattle.pair_sets.specs.declared.ways.Way.{Way}
 use Rattle.pair_sets.proofs.WithinLemmas.{kept_set}
 use Rattle.pair_sets.proofs.leaves.with_pairs_by.Goals as goal
 
 pub returns-in_ok-found-in-ByCandidates-clause-items : goal.returns-in_ok-found-in-ByCandidates-clause-items
-returns-in_ok-found-in-ByCandidates-clause-items g c = λ one are.
+returns-in_ok-found-in-ByCandidates-clause-items g c =
     let release = c.args.snapshot.now.release in
     let concepts = c.args.indexes.now.concepts in
+    let one : ℕ → Bool = is_one_of concepts (g.S.ConceptSet.items_of c.args.types.now) in
     let may : ℕ → Bool = may_be g.S.ConceptSet.items_of c.args.candidates.now in
-    c.in_ok-found-in-ByCandidates.ensures.items one (passes_of g.S.ConceptSet.items_of concepts c.in-ByCandidates.tested) are
-    (λ number. ap (λ (words : List ℕ). is_set words number) c.deref.ensures.value ∙ c.in_ok-passing-in-ByCandidates.ensures number)
+    c.in_ok-found-in-ByCandidates.ensures.items
     ∙ ap (λ (way : Way _). numbers_within release may
     (λ concept. has_pairs c.args.count one (passes_by g.S.ConceptSet.items_of concepts way) (pairs_of release c.args.back concept)))
     (sym c.in-ByCandidates.is)
 
 pub returns-in_ok-found-in-ByValue-clause-items : goal.returns-in_ok-found-in-ByValue-clause-items
-returns-in_ok-found-in-ByValue-clause-items g c = λ one are.
+returns-in_ok-found-in-ByValue-clause-items g c =
     let release = c.args.snapshot.now.release in
     let concepts = c.args.indexes.now.concepts in
+    let one : ℕ → Bool = is_one_of concepts (g.S.ConceptSet.items_of c.args.types.now) in
     let may : ℕ → Bool = may_be g.S.ConceptSet.items_of c.args.candidates.now in
     kept_set release may
     (λ concept. has_pairs c.args.count one (is_within (is_one_of concepts c.in-ByValue.values.items)) (pairs_of release c.args.back concept))
     (g.S.ConceptSet.items_of c.in_ok-some-in-ByValue.some) (g.S.ConceptSet.items_of c.in_ok-found-in-ByValue.found)
-    (c.in_ok-some-in-ByValue.ensures.items one are
+    (c.in_ok-some-in-ByValue.ensures.items
     ∙ ap (λ (values : List ℕ). numbers_in release
     (λ concept. has_pairs c.args.count one (is_within (is_one_of concepts values)) (pairs_of release c.args.back concept)))
-    c.deref-in-ByValue.ensures.value)
+    c.deref.ensures.value)
     c.in_ok-found-in-ByValue.ensures.items
     ∙ ap (λ (way : Way _). numbers_within release may
     (λ concept. has_pairs c.args.count one (passes_by g.S.ConceptSet.items_of concepts way) (pairs_of release c.args.back concept)))
     (sym c.in-ByValue.is)
 
 pub returns-in_ok-found-in-ByType-clause-items : goal.returns-in_ok-found-in-ByType-clause-items
-returns-in_ok-found-in-ByType-clause-items g c = λ one are.
+returns-in_ok-found-in-ByType-clause-items g c =
     let release = c.args.snapshot.now.release in
     let concepts = c.args.indexes.now.concepts in
+    let one : ℕ → Bool = is_one_of concepts (g.S.ConceptSet.items_of c.args.types.now) in
     let may : ℕ → Bool = may_be g.S.ConceptSet.items_of c.args.candidates.now in
+    let ids : c.deref-in-ByType.result.now ≡ filter one (types_of c.args.indexes.now.rows) =
+    c.deref-in-ByType.ensures.value ∙ subst (λ (way : Way _). HasTypes (types_of c.args.indexes.now.rows) one way) c.in-ByType.is c.requires.ids in
     let passes = passes_of g.S.ConceptSet.items_of concepts c.in-ByType.tested in
     kept_set release may (λ concept. has_pairs c.args.count one passes (pairs_of release c.args.back concept))
     (g.S.ConceptSet.items_of c.in_ok-some-in-ByType.some) (g.S.ConceptSet.items_of c.in_ok-found-in-ByType.found)
-    (c.in_ok-some-in-ByType.ensures.items one passes are
-    (λ number. ap (λ (words : List ℕ). is_set words number) c.deref-in-ByType.ensures.value ∙ c.in_ok-passing-in-ByType.ensures number))
+    (c.in_ok-some-in-ByType.ensures.items one ids)
     c.in_ok-found-in-ByType.ensures.items
     ∙ ap (λ (way : Way _). numbers_within release may
     (λ concept. has_pairs c.args.count one (passes_by g.S.ConceptSet.items_of concepts way) (pairs_of release c.args.back concept)))
@@ -55,15 +59,15 @@ returns-in_ok-found-in-ByType-clause-items g c = λ one are.
 
 -- all are candidates, so the scan finds each concept
 pub returns-in_ok-found-in-Scan-clause-items : goal.returns-in_ok-found-in-Scan-clause-items
-returns-in_ok-found-in-Scan-clause-items g c = λ one are.
+returns-in_ok-found-in-Scan-clause-items g c =
     let release = c.args.snapshot.now.release in
     let concepts = c.args.indexes.now.concepts in
+    let one : ℕ → Bool = is_one_of concepts (g.S.ConceptSet.items_of c.args.types.now) in
     let may : ℕ → Bool = may_be g.S.ConceptSet.items_of c.args.candidates.now in
     let passes = passes_of g.S.ConceptSet.items_of concepts c.in-Scan.tested in
     kept_set release may (λ concept. has_pairs c.args.count one passes (pairs_of release c.args.back concept))
     (g.S.ConceptSet.items_of c.in_ok-some-in-Scan.some) (g.S.ConceptSet.items_of c.in_ok-found-in-Scan.found)
-    (c.in_ok-some-in-Scan.ensures.items one passes are
-    (λ number. ap (λ (words : List ℕ). is_set words number) c.deref-in-Scan.ensures.value ∙ c.in_ok-passing-in-Scan.ensures number))
+    c.in_ok-some-in-Scan.ensures.items
     c.in_ok-found-in-Scan.ensures.items
     ∙ ap (λ (way : Way _). numbers_within release may
     (λ concept. has_pairs c.args.count one (passes_by g.S.ConceptSet.items_of concepts way) (pairs_of release c.args.back concept)))

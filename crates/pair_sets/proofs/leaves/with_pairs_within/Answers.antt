@@ -9,6 +9,12 @@ pub returns-clause-items : goal.returns-clause-items
 returns-clause-items g c =
     let release = c.args.snapshot.now.release in
     let one : ℕ → Bool = is_one_of c.args.indexes.now.concepts (g.S.ConceptSet.items_of c.args.types.now) in
-    c.in_ok-found.ensures.items one c.in_ok-types.ensures
+    c.in_ok-found.ensures.items
     ∙ (λ i. numbers_within release (may_be g.S.ConceptSet.items_of c.args.candidates.now)
     (λ concept. has_pairs c.args.count one (λ value. c.in_ok-way.ensures.passes value i) (pairs_of release c.args.back concept)))
+
+pub with_pairs_by-requires-clause-way : goal.with_pairs_by-requires-clause-way
+with_pairs_by-requires-clause-way g c = c.in_ok-way.ensures.below
+
+pub with_pairs_by-requires-clause-ids : goal.with_pairs_by-requires-clause-ids
+with_pairs_by-requires-clause-ids g c = c.in_ok-way.ensures.types

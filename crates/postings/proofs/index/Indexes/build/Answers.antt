@@ -1,9 +1,18 @@
-use Rattle.std.proofs.Common.{ℕ, ◌≡◌, ◌<◌, ◌^◌, List, length, subst, sym}
+use Rattle.std.proofs.Common.{ℕ, ◌≡◌, ◌<◌, ◌^◌, ◌∙◌, List, length, map, subst, sym}
 use Rattle.std.specs.List.Sorted.{IsStrictlyIncreasing}
 use Rattle.snapshot.specs.AttributesBySource.{attributes_by_source}
+use Rattle.snapshot.specs.Numbering.{concept_number}
 use Rattle.postings.proofs.BuildLemmas.{indexes_of_own, length-members, members_told, rows_told}
 use Rattle.postings.proofs.StatsLemmas.{lists_for}
 use Rattle.postings.proofs.index.Indexes.build.Goals as goal
+
+pub numbers_of-requires-clause-rising : goal.numbers_of-requires-clause-rising
+numbers_of-requires-clause-rising c =
+    subst (λ (ids : List ℕ). IsStrictlyIncreasing ids) (sym (c.as_slice.ensures.value ∙ c.in_ok-concepts.ensures)) c.concept_count.ensures.rising
+
+pub numbers_of-requires-clause-few : goal.numbers_of-requires-clause-few
+numbers_of-requires-clause-few c =
+    subst (λ (ids : List ℕ). length ids < 2 ^ 31) (sym (c.as_slice.ensures.value ∙ c.in_ok-concepts.ensures)) c.concept_count.ensures.few
 
 pub invariant_of-result : goal.invariant_of-result
 invariant_of-result c =
@@ -16,6 +25,8 @@ invariant_of-result c =
       hierarchy = lists_for all release c.in_ok-hierarchy.hierarchy same c.in_ok-hierarchy.ensures.hierarchy;
       members = length-members release.concepts all c.concept_count.result c.member_rows.result.now c.in_ok-members.members same
           c.concept_count.ensures.count c.in_ok-members.ensures;
+      types = c.in_ok-type_concepts.ensures
+          ∙ (λ i. map (concept_number (c.as_slice.ensures.value i)) (c.as_slice-types.ensures.value i));
     }
 
 pub returns : goal.returns

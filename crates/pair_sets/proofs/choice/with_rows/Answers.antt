@@ -1,11 +1,11 @@
 use Rattle.std.proofs.Common.{ℕ, ◌<◌, ◌∙◌, All, length, sym, subst}
 use Rattle.pair_sets.proofs.ListLemmas.{all_below}
-use Rattle.pair_sets.proofs.choice.few_sources.Goals as goal
+use Rattle.pair_sets.proofs.choice.with_rows.Goals as goal
 
-pub rows_of_values-own-requires : goal.rows_of_values-own-requires
-rows_of_values-own-requires g c =
+pub rows_of_values-rows-requires : goal.rows_of_values-rows-requires
+rows_of_values-rows-requires g c =
     let count : ℕ = length c.args.indexes.now.concepts in
-    let set = c.args.sources.now in
-    subst (All (λ number. number < count)) (sym (c.as_slice.ensures.value ∙ c.in_ok-numbers.ensures))
+    let set = c.args.concepts.now in
+    subst (All (λ number. number < count)) (sym (c.as_slice.ensures.value ∙ c.in_ok-own.ensures))
     (subst (λ (bound : ℕ). All (λ number. number < bound) (g.S.ConceptSet.items_of set)) c.requires
     (all_below (g.S.ConceptSet.bound_of set) (g.S.ConceptSet.items_of set) (g.met.S.ConceptSet.rising set)))

@@ -1,0 +1,12 @@
+use Rattle.std.proofs.Common.{◌≡◌, ◌++◌, ◌&&◌, take}
+use Rattle.pair_sets.specs.Hits.{value_of, picked}
+use Rattle.pair_sets.specs.Tested.{passes_of}
+use Rattle.pair_sets.proofs.hits.push_passing.Given as goal
+
+-- those of the places so far
+abbrev pub invariant-loop-place : goal.invariant-loop-place
+invariant-loop-place g l =
+    l.hits.items
+    ≡ l.fn.hits.items
+    ++ picked (λ mark cell. mark.is_first && passes_of g.S.ConceptSet.items_of l.indexes.concepts l.tested (value_of l.indexes cell)) (λ mark cell. mark.number)
+    (take l.place l.marks) (take l.place l.cells)
