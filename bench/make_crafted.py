@@ -15,16 +15,19 @@ import uuid
 
 from make_release import INFERRED, IS_A, MODULE, ROOT, SOME, identifier, write_concepts
 
-# 2^64 by the golden ratio: what multiplying hashes multiply by
-HALF = 0x9E3779B97F4A7C15
+# The hash of the toolchain's tables multiplies the two halves of 16 bytes, the low one after an exclusive or with what it
+# begins at, the high one after one with 2^64 by the golden ratio. A half that is that very number makes the product 0,
+# whatever the other is.
+LOW = 0x243F6A8885A308D3 + 16
+HIGH = 0x9E3779B97F4A7C15
 ROWS = 200_000
 
 
 def crafted(count):
     """Numbers of 128 bits of which one half is the same, half of them in the one half and half in the other."""
     for number in range(count // 2):
-        yield HALF << 64 | number
-        yield number << 64 | HALF
+        yield HIGH << 64 | number
+        yield number << 64 | LOW
 
 
 def write_is_a(path, concepts, pairs):
@@ -66,8 +69,8 @@ def write_decimals(folder, ordinary):
     source = random.Random(1)
     concepts = concepts_of(100)
     write_concepts(folder / "sct2_Concept_Snapshot_INT_20240101.txt", concepts)
-    # so many times 10^-18, below 10^36: the number on the left of the halves stays small
-    numbers = (source.randrange(10**36) for _ in range(ROWS)) if ordinary else (number << 64 | HALF for number in range(ROWS))
+    # so many times 10^-18, below 10^36: the high half stays small
+    numbers = (source.randrange(10**36) for _ in range(ROWS)) if ordinary else (number << 64 | LOW for number in range(ROWS))
     with open(folder / "sct2_RelationshipConcreteValues_Snapshot_INT_20240101.txt", "w", newline="") as file:
         file.write("id\teffectiveTime\tactive\tmoduleId\tsourceId\tvalue\trelationshipGroup\ttypeId\tcharacteristicTypeId\tmodifierId\r\n")
         for row, number in enumerate(numbers):

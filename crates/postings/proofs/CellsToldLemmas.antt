@@ -38,7 +38,7 @@ module _ (inside : Inside) (are : AreIndexed inside) (now : Indexed) (same : ind
   kept = row_kept inside.rows n
 
   abbrev keys : List ℕ
-  keys = inside.rows.types.numbers.keys
+  keys = inside.rows.types.numbers
 
   module _ (d : Entry) where
     abbrev entry : Entry

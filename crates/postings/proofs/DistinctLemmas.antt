@@ -7,7 +7,6 @@ use Rattle.std.specs.List.{filter, list_any, position_or_len}
 use Rattle.std.proofs.lemmas.List.{map_more}
 use Rattle.std.proofs.lemmas.List.Elements.{All-cons, All-filter, All-head, All-tail, All-weaker, filter-append, filter_agree}
 use Rattle.std.proofs.lemmas.List.Sums.{count_by-le-length, length-filter}
-use Rattle.indexmap.specs.IndexSet.{insert_key}
 use Rattle.rf2_rows.specs.Pairs.{distinct}
 use Rattle.rf2_rows.proofs.DistinctLemmas.{any_distinct}
 use Rattle.postings.proofs.BlockLemmas.{filter-twice}
@@ -48,6 +47,10 @@ All-distinct same P [] all = all
 All-distinct same P (x ∷ xs) all =
     All-cons P x (filter (λ y. not (same x y)) (distinct same xs)) (All-head P x xs all)
     (All-filter (λ y. not (same x y)) P (distinct same xs) (All-distinct same P xs (All-tail P x xs all)))
+
+-- items and one more behind them, unless it is the same as one of them
+abbrev pub insert_key : {X : Type 0} → (X → X → Bool) → List X → X → List X
+insert_key same items item = cond (list_any (same item) items) items (items ++ item ∷ [])
 
 -- ---- distinct items
 module _ {X : Type 0} (same : X → X → Bool) where

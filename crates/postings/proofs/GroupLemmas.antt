@@ -1,22 +1,21 @@
 -- The groups of the rows of one source: how many there are, and the place of a row's group among them.
-use Rattle.std.proofs.Common.{ℕ, ◌+◌, ◌==◌, ◌≡◌, ◌≢◌, ◌≤◌, ◌^◌, ◌++◌, ◌∷◌, [], ◌∙◌, Bool}
+use Rattle.std.proofs.Common.{ℕ, ◌+◌, ◌==◌, ◌≡◌, ◌≢◌, ◌≤◌, ◌^◌, ◌++◌, ◌∷◌, ◌∙◌, Bool}
 use Rattle.std.proofs.Common.{true, false, cond, eqb, ltb, not, List, length, get_or, map, refl, sym, ap, arith, length-append}
 use Rattle.std.specs.List.{filter, list_any, position_or_len}
 use Rattle.std.proofs.lemmas.Bool.{and_parts, eq-eqb, eqb-true, ne_eqb, or_left, or_right}
-use Rattle.std.proofs.lemmas.List.{append-nil, length-map, map-append}
+use Rattle.std.proofs.lemmas.List.{length-map, map-append}
 use Rattle.std.proofs.lemmas.List.Elements.{filter-append}
 use Rattle.std.proofs.lemmas.List.Filters.{length-filter_both}
 use Rattle.std.proofs.lemmas.List.Folds.{list_any-append}
 use Rattle.std.proofs.lemmas.List.Sums.{position_or_len_is, prefix_len-le-length}
 use Rattle.std.proofs.lemmas.Map.Views.{any-filter_same}
-use Rattle.indexmap.specs.IndexSet.{insert_key}
 use Rattle.rf2_rows.specs.Pairs.{distinct}
 use Rattle.idset.specs.Sets.{IsRising, has_item, place_of}
 use Rattle.idset.proofs.Places.{below_place, has_item-place, place_le}
 use Rattle.snapshot.proofs.FinishLemmas.{length-rising}
 use Rattle.postings.specs.Coded.{code_eq, group_codes, ungrouped_pairs, numbers_of_groups, pair_code, place_in_source}
 use Rattle.postings.specs.declared.rows.CodedRow.{CodedRow}
-use Rattle.postings.proofs.DistinctLemmas.{distinct-more, filter-map_agree, length-distinct, position-distinct}
+use Rattle.postings.proofs.DistinctLemmas.{filter-map_agree, length-distinct, position-distinct}
 use Rattle.postings.proofs.MarkLemmas.{code_eq_equiv}
 use Rattle.postings.proofs.RisingLemmas.{has_item-rising}
 
@@ -119,16 +118,6 @@ numbered_place before row behind numbers numbered rises are =
     ∙ ap (position_or_len (λ group. row.group == group)) are
     ∙ ap (λ (is_ungrouped : Bool). place_by is_ungrouped rows row) (sym (ne_eqb row.group 0 numbered))
 
--- a row with the number of a group leaves the pairs without one
-pub ungrouped_pairs-numbered : (before : List CodedRow) (row : CodedRow) → row.group ≢ 0
-    → ungrouped_pairs (before ++ row ∷ []) ≡ ungrouped_pairs before
-ungrouped_pairs-numbered before row numbered =
-    let same : ungrouped_rows (before ++ row ∷ []) ≡ ungrouped_rows before =
-    filter-append (λ (row : CodedRow). row.group == 0) before (row ∷ [])
-    ∙ (λ j. ungrouped_rows before ++ cond (ne_eqb row.group 0 numbered j) (row ∷ []) [])
-    ∙ append-nil (ungrouped_rows before) in
-    ap (λ (own : List CodedRow). distinct code_eq (map pair_code own)) same
-
 -- ---- a row without one
 
 -- the pairs of the rows without a group, with that of a row, and of rows behind it
@@ -141,12 +130,6 @@ ungrouped_behind before row behind is_zero =
     ∙ (λ j. ungrouped_rows before ++ cond (eq-eqb row.group 0 is_zero j) (row ∷ ungrouped_rows behind) (ungrouped_rows behind)) in
     ap (λ (own : List CodedRow). distinct code_eq (map pair_code own)) more
     ∙ ap (distinct code_eq) (map-append pair_code (ungrouped_rows before) (row ∷ ungrouped_rows behind))
-
--- the pair of a row without a group is put at the end, unless it is there
-pub ungrouped_pairs-more : (before : List CodedRow) (row : CodedRow) → row.group ≡ 0
-    → ungrouped_pairs (before ++ row ∷ []) ≡ insert_key code_eq (ungrouped_pairs before) (pair_code row)
-ungrouped_pairs-more before row is_zero = ungrouped_behind before row [] is_zero
-    ∙ distinct-more code_eq code_eq_equiv (map pair_code (ungrouped_rows before)) (pair_code row)
 
 -- the place of its pair among those so far is its place among all
 pub ungrouped_place : (before : List CodedRow) (row : CodedRow) (behind : List CodedRow) (numbers : List ℕ) (pairs : List (ℕ × ℕ))

@@ -145,7 +145,7 @@ module _ (release : Release) (rises : IsStrictlyIncreasing release.concepts) (co
   -- there are no more groups than the last of the starts
   pub units_below : All (λ (mark : Mark). mark.number < get_or marks.starts.items (length marks.starts.items - 1) 0) marks.groups.items
   units_below n mark inside =
-      let row : Attribute = row_coded release.concepts coded.types.numbers.keys (values_in release.concepts coded.values) a_row in
+      let row : Attribute = row_coded release.concepts coded.types.numbers (values_in release.concepts coded.values) a_row in
       omega (
         arith,
         slice_get_within groups (get_or marks.groups.items n mark).number (group_of (get_or rows n row))
@@ -156,7 +156,7 @@ module _ (release : Release) (rises : IsStrictlyIncreasing release.concepts) (co
   -- and rows of one group have one number
   pub one_number : HaveOneNumber marks.groups.items codes
   one_number m n mark row near far same =
-      let stands : CodedRow → Attribute = row_coded release.concepts coded.types.numbers.keys (values_in release.concepts coded.values) in
+      let stands : CodedRow → Attribute = row_coded release.concepts coded.types.numbers (values_in release.concepts coded.values) in
       let at : (k : ℕ) → k < length codes → get_or rows k (stands row) ≡ stands (get_or codes k row) =
       λ k below. ap (λ (xs : List Attribute). get_or xs k (stands row)) (sym are.stand_for) ∙ get_or-map stands codes k row (stands row) below in
       let alike : Some (group_of (get_or rows m (stands row))) ≡ Some (group_of (get_or rows n (stands row))) =
@@ -265,7 +265,7 @@ module _ (release : Release) (rises : IsStrictlyIncreasing release.concepts) (co
     unfolding a_mark
     each_kept n within =
         let below : n < length codes = omega (arith, within, length-codes release rises coded are) in
-        let row : Attribute = row_coded release.concepts coded.types.numbers.keys (values_in release.concepts coded.values) a_row in
+        let row : Attribute = row_coded release.concepts coded.types.numbers (values_in release.concepts coded.values) a_row in
         record {
           type_place = omega (arith, below, long);
           place = omega (arith, below, places_len);

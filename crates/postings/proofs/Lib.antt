@@ -8,6 +8,7 @@ pub mod ColumnLemmas
 pub mod CountLemmas
 pub mod DistinctLemmas
 pub mod EntryLemmas
+pub mod FirstKeyLemmas
 pub mod FirstLemmas
 pub mod FlagLemmas
 pub mod GroupKeyLemmas
@@ -23,6 +24,7 @@ pub mod LookUpLemmas
 pub mod MarkLemmas
 pub mod NumberLemmas
 pub mod OnceLemmas
+pub mod PairKeyLemmas
 pub mod PlaceLemmas
 pub mod RisingLemmas
 pub mod RowIndexLemmas
@@ -33,5 +35,6 @@ pub mod SourceRowLemmas
 pub mod SourcesToldLemmas
 pub mod SpanLemmas
 pub mod StatsLemmas
+pub mod TableLemmas
 pub mod UnitLemmas
 pub mod ValueLemmas

@@ -39,12 +39,12 @@ module _ (inside : Inside) (are : AreIndexed inside) (now : Indexed) (same : ind
   by_value = inside.rows.by_value
 
   -- ---- a type that rows have
-  module _ (id place : ℕ) (found : position (nat_eq id) inside.rows.types.numbers.keys ≡ Some place) where
+  module _ (id place : ℕ) (found : position (nat_eq id) inside.rows.types.numbers ≡ Some place) where
     below : place < length types
-    below = type_place_below inside.rows.types.numbers.keys rows id place are.rows.coded.types found
+    below = type_place_below inside.rows.types.numbers rows id place are.rows.coded.types found
 
     named : slice_index types place ≡ id
-    named = type_there inside.rows.types.numbers.keys rows id place are.rows.coded.types found
+    named = type_there inside.rows.types.numbers rows id place are.rows.coded.types found
 
     pub few_places : place < 2 ^ 31
     few_places = omega (arith, below, few_types rows, are.rows.coded.few)
@@ -79,7 +79,7 @@ module _ (inside : Inside) (are : AreIndexed inside) (now : Indexed) (same : ind
         })
 
   -- ---- a type that no row has
-  module _ (id : ℕ) (missing : list_any (nat_eq id) inside.rows.types.numbers.keys ≡ false) where
+  module _ (id : ℕ) (missing : list_any (nat_eq id) inside.rows.types.numbers ≡ false) where
     none : list_any (nat_eq id) types ≡ false
     none = ap (λ (types : List ℕ). list_any (nat_eq id) types) (sym are.rows.coded.types) ∙ missing
 

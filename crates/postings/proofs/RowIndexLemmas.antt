@@ -39,7 +39,7 @@ module _ (release : Release) (rises : IsStrictlyIncreasing release.concepts) (co
   codes = coded.rows.items
 
   abbrev pub types : List ℕ
-  types = coded.types.numbers.keys
+  types = coded.types.numbers
 
   abbrev pub all : List Value
   all = values_in release.concepts coded.values
@@ -49,7 +49,7 @@ module _ (release : Release) (rises : IsStrictlyIncreasing release.concepts) (co
       (keeps_each_number_once (map (λ (row : Attribute). row.type_id) rows)).0
 
   exact : (v w : ℕ) → v < length all → w < length all → value_eq (value_at all v) (value_at all w) ≡ (v == w)
-  exact = values_exact release.concepts coded.values rises are.tables
+  exact = values_exact release.concepts coded.values rises are.tables.rising
 
   -- the rows stand source by source
   pub is_sorted : IsBySource (length release.concepts) codes

@@ -38,7 +38,7 @@ module _ (release : Release) (rises : IsStrictlyIncreasing release.concepts) (co
   codes = coded.rows.items
 
   abbrev types : List ℕ
-  types = coded.types.numbers.keys
+  types = coded.types.numbers
 
   abbrev all : List Value
   all = values_in release.concepts coded.values

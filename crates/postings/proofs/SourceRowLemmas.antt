@@ -121,7 +121,7 @@ module _ (release : Release) (rises : IsStrictlyIncreasing release.concepts) (co
   id k = get_or release.concepts k 0
 
   abbrev stands : CodedRow → Attribute
-  stands = row_coded release.concepts coded.types.numbers.keys (values_in release.concepts coded.values)
+  stands = row_coded release.concepts coded.types.numbers (values_in release.concepts coded.values)
 
   -- a concept that is among some is so at its number
   same_number : (i j : ℕ) → i < length release.concepts → j < length release.concepts → id i ≡ id j → i ≡ j

@@ -28,7 +28,7 @@ module _ (inside : Inside) (are : AreIndexed inside) (now : Indexed) (same : ind
   groups = groups_in (indexed_in inside)
 
   abbrev stands : CodedRow → Attribute
-  stands = row_coded inside.concepts.items inside.rows.types.numbers.keys (values_in inside.concepts.items inside.rows.values)
+  stands = row_coded inside.concepts.items inside.rows.types.numbers (values_in inside.concepts.items inside.rows.values)
 
   pub length-rows : length rows ≡ length inside.rows.type_places.items
   length-rows = length-map (rows_kept inside.rows) stands ∙ length-kept inside.rows
@@ -63,11 +63,11 @@ module _ (inside : Inside) (are : AreIndexed inside) (now : Indexed) (same : ind
       ∙ ap stands (kept_at inside.rows n row (omega (arith, below, length-rows)))
 
   pub row_coded_within : (n : ℕ) → n < length rows
-      → IsCoded inside.concepts.items inside.rows.types.numbers.keys (values_in inside.concepts.items inside.rows.values)
+      → IsCoded inside.concepts.items inside.rows.types.numbers (values_in inside.concepts.items inside.rows.values)
       (row_kept inside.rows n)
   row_coded_within n below =
       let row : CodedRow = row_kept inside.rows n in
-      subst (IsCoded inside.concepts.items inside.rows.types.numbers.keys (values_in inside.concepts.items inside.rows.values))
+      subst (IsCoded inside.concepts.items inside.rows.types.numbers (values_in inside.concepts.items inside.rows.values))
       (kept_at inside.rows n row (omega (arith, below, length-rows)))
       (are.rows.coded.within n row (omega (arith, below, length-rows, length-kept inside.rows)))
 

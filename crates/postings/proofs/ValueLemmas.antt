@@ -1,33 +1,31 @@
 -- The values of attribute rows by their numbers: the concepts, the decimals and the other texts.
-use Rattle.std.proofs.Common.{ℕ, ℤ, zero, suc, ◌+◌, ◌-◌, ◌==◌, ◌≡◌, ◌<◌, ◌++◌, ◌∷◌, [], ◌∙◌}
-use Rattle.std.proofs.Common.{◌⊎◌, inl, inr, Bool, true, false, cond, List, length, get_or, map, nat_eq, Some, Vec, Global, refl, sym}
-use Rattle.std.proofs.Common.{ap, slice_index, subst, arith, length-append}
-use Rattle.std.specs.Prelude.{All, Contains, bytes_eq, is_some, position}
-use Rattle.std.specs.List.{AllByRecursion, IsDistinct, list_any, slice_get}
-use Rattle.std.specs.List.Sorted.{IsStrictlyIncreasing}
-use Rattle.std.specs.Ordering.{int_eq}
+use Rattle.std.proofs.Common.{ℕ, ℤ, zero, suc, ◌+◌, ◌-◌, ◌==◌, ◌≡◌, ◌≤◌, ◌<◌, ◌++◌, ◌∷◌, [], ◌∙◌}
+use Rattle.std.proofs.Common.{◌⊎◌, inl, inr, Bool, true, false, List, length, get_or, map, nat_eq, Some, refl, sym}
+use Rattle.std.proofs.Common.{ap, filter, slice_index, subst, take, arith, length-append}
+use Rattle.std.specs.Prelude.{All, Contains, bytes_eq, is_some}
+use Rattle.std.specs.List.{AllByRecursion, IsDistinct, flat_map, slice_get}
+use Rattle.std.specs.List.Sorted.{IsStrictlyIncreasing, IsStrictlySortedBy}
+use Rattle.std.specs.Cmp.Lexicographic.{texts_ties}
+use Rattle.std.specs.Ordering.{int_cmp, int_eq}
 use Rattle.std.proofs.lemmas.Bool.{cases_lt, cases_order, eq-eqb, eqb-true, false_from_ne_true, ne_eqb, true≢false}
-use Rattle.std.proofs.lemmas.Bool.Decides.{Decides-int_eq}
-use Rattle.std.proofs.lemmas.Cmp.{int_eq_equiv}
-use Rattle.std.proofs.lemmas.List.{get_or-append-add, get_or_append_left, get_or-map, get_or_default, length-map}
-use Rattle.std.proofs.lemmas.List.Elements.{All-append, All-map, Contains-append_left, Contains-append_right, Contains-append_cases}
-use Rattle.std.proofs.lemmas.List.Elements.{Contains-push, recursion_from_All}
-use Rattle.std.proofs.lemmas.List.Folds.{Any-from_list_any, list_any-from_Any}
+use Rattle.std.proofs.lemmas.List.{get_or-append-add, get_or_append_left, get_or-map, get_or_default, flat_map_more, length-map, take_more}
+use Rattle.std.proofs.lemmas.List.Elements.{All-append, All-cons, All-filter, All-head, All-map}
+use Rattle.std.proofs.lemmas.List.Elements.{All-nil, All-tail, Contains-append_left, Contains-append_right, Contains-append_cases}
+use Rattle.std.proofs.lemmas.List.Elements.{recursion_from_All}
 use Rattle.std.proofs.lemmas.List.Quantifiers.{position-Some}
-use Rattle.std.proofs.lemmas.Map.Keys.{IsDistinct-from_apart, apart_from_distinct}
-use Rattle.std.proofs.lemmas.Map.Views.{list_any-from_Contains}
-use Rattle.std.proofs.lemmas.Option.{slice_get-get_or}
-use Rattle.std.proofs.lemmas.Slice.Eq.{bytes_eq-Decides}
-use Rattle.indexmap.specs.IndexSet.{insert_key}
+use Rattle.std.proofs.lemmas.Map.Keys.{IsDistinct-from_sorted, IsDistinct-from_apart, apart_from_distinct}
+use Rattle.std.proofs.lemmas.Option.{get_or_from_slice_get, slice_get-get_or, slice_get_within}
 use Rattle.rf2_rows.specs.Pairs.{value_eq}
-use Rattle.rf2_rows.specs.Release.{Value, concept_value, number_value, text_value}
+use Rattle.rf2_rows.specs.Release.{Attribute, Value, concept_value, number_value, text_value}
 use Rattle.rf2_rows.proofs.PairLemmas.{tells_same_value}
 use Rattle.snapshot.specs.Numbering.{concept_number}
 use Rattle.snapshot.proofs.NumberingLemmas.{contains_map, concept_number-has}
-use Rattle.hierarchy.proofs.ReleaseLemmas.{had_contained}
+use Rattle.snapshot.specs.Kept.{is_value_among}
+use Rattle.hierarchy.proofs.ReleaseLemmas.{contains_had, had_contained}
 use Rattle.snapshot.proofs.RisingLemmas.{earlier_below}
 use Rattle.postings.specs.Indexed.{value_at, values_among}
-use Rattle.postings.specs.ValueTables.{AreTables, texts_in, values_in}
+use Rattle.postings.specs.RowValues.{AreTables, decimals_at, decimals_of, text_cmp, texts_at, texts_of}
+use Rattle.postings.specs.ValueTables.{values_in}
 use Rattle.postings.specs.declared.values.Values.{Values}
 
 -- an item of a list of what a function gives is given for an item
@@ -157,18 +155,6 @@ module _ (concepts : List ℕ) (decimals : List ℤ) (texts : List (List ℕ)) w
     | inr (inr found) ↦ let same : found.0 ≡ text = cc (found.2) in subst (Contains texts) same found.1
   ]
 
--- values stay where their decimals and texts stay
-pub values_stay : (concepts : List ℕ) (decimals others : List ℤ) (texts more : List (List ℕ))
-    → ((decimal : ℤ) → Contains decimals decimal → Contains others decimal)
-    → ((text : List ℕ) → Contains texts text → Contains more text)
-    → (value : Value) → Contains (values_among concepts decimals texts) value → Contains (values_among concepts others more) value
-values_stay concepts decimals others texts more decimals_stay texts_stay (concept_value concept) there =
-    concept_there concepts others more concept (had_concept concepts decimals texts concept there)
-values_stay concepts decimals others texts more decimals_stay texts_stay (number_value decimal) there =
-    decimal_there concepts others more decimal (decimals_stay decimal (had_decimal concepts decimals texts decimal there))
-values_stay concepts decimals others texts more decimals_stay texts_stay (text_value text) there =
-    text_there concepts others more text (texts_stay text (had_text concepts decimals texts text there))
-
 -- ---- the places of values in their tables
 
 -- a concept that is among the values has a place among the concepts
@@ -189,95 +175,94 @@ concept_placed concepts decimals texts concept place found =
     ∙ ap (λ (value : Value). Some value) (concept_at concepts decimals texts place (concept_value concept) at.0
     ∙ ap concept_value (sym same))
 
--- a decimal that is among the values is found among the decimals
-pub decimal_found : (concepts : List ℕ) (decimals : List ℤ) (texts : List (List ℕ)) (decimal : ℤ)
-    → Contains (values_among concepts decimals texts) (number_value decimal) → list_any (int_eq decimal) decimals ≡ true
-decimal_found concepts decimals texts decimal there =
-    list_any-from_Contains int_eq_equiv decimal decimals (had_decimal concepts decimals texts decimal there)
-
--- and behind the concepts its place leads to it
+-- behind the concepts the place of a decimal among the decimals leads to it
 pub decimal_placed : (concepts : List ℕ) (decimals : List ℤ) (texts : List (List ℕ)) (decimal : ℤ) (place : ℕ)
-    → position (int_eq decimal) decimals ≡ Some place
+    → slice_get decimals place ≡ Some decimal
     → slice_get (values_among concepts decimals texts) (length concepts + place) ≡ Some (number_value decimal)
 decimal_placed concepts decimals texts decimal place found =
-    let at = position-Some (int_eq decimal) decimals place decimal found in
-    let same : decimal ≡ get_or decimals place decimal = (Decides-int_eq decimal (get_or decimals place decimal)).0 at.1 in
+    let below : place < length decimals = slice_get_within decimals place decimal found in
     slice_get-get_or (values_among concepts decimals texts) (length concepts + place) (number_value decimal)
-    (omega (arith, at.0, length-values concepts decimals texts))
-    ∙ ap (λ (value : Value). Some value) (decimal_at concepts decimals texts place (number_value decimal) decimal at.0
-    ∙ ap number_value (sym same))
+    (omega (arith, below, length-values concepts decimals texts))
+    ∙ ap (λ (value : Value). Some value) (decimal_at concepts decimals texts place (number_value decimal) decimal below
+    ∙ ap number_value (get_or_from_slice_get decimals place decimal decimal found))
 
--- the bytes of texts that are owned
-abbrev pub bytes_of : List (Vec ℕ Global) → List (List ℕ)
-bytes_of owned = map (λ (text : Vec ℕ Global). text.items) owned
+-- and behind the decimals that of a text among the texts
+pub text_placed : (concepts : List ℕ) (decimals : List ℤ) (texts : List (List ℕ)) (text : List ℕ) (place : ℕ)
+    → slice_get texts place ≡ Some text
+    → slice_get (values_among concepts decimals texts) (length concepts + (length decimals + place)) ≡ Some (text_value text)
+text_placed concepts decimals texts text place found =
+    let below : place < length texts = slice_get_within texts place text found in
+    slice_get-get_or (values_among concepts decimals texts) (length concepts + (length decimals + place)) (text_value text)
+    (omega (arith, below, length-values concepts decimals texts))
+    ∙ ap (λ (value : Value). Some value) (text_at concepts decimals texts place (text_value text) below
+    ∙ ap text_value (get_or_from_slice_get texts place text [] found))
 
--- texts are the same where their bytes are
-abbrev pub same_text : Vec ℕ Global → Vec ℕ Global → Bool
-same_text one other = bytes_eq one.items other.items
+-- ---- the values of rows
+-- what rows by source are is what all rows are
+pub all_by_source : (P : Attribute → Type 0) (concepts : List ℕ) (rows : List Attribute) → All P rows
+    → All P (flat_map (λ concept. filter (λ (row : Attribute). row.source == concept) rows) concepts)
+all_by_source P [] rows all = All-nil P
+all_by_source P (concept ∷ concepts) rows all =
+    let own : Attribute → Bool = λ row. row.source == concept in
+    All-append P (filter own rows) (flat_map (λ concept. filter (λ (row : Attribute). row.source == concept) rows) concepts)
+    (All-filter own P rows all) (all_by_source P concepts rows all)
 
--- a text that is found among others is among them
-pub text_had : (owned : List (Vec ℕ Global)) (text : List ℕ)
-    → list_any (λ (key : Vec ℕ Global). bytes_eq text key.items) owned ≡ true → Contains (bytes_of owned) text
-text_had owned text found =
-    let at = Any-from_list_any (λ (key : Vec ℕ Global). bytes_eq text key.items) owned found in
-    let same : at.1.items ≡ text = sym ((bytes_eq-Decides text at.1.items).0 at.4) in
-    subst (Contains (bytes_of owned)) same (contains_map (λ (text : Vec ℕ Global). text.items) owned at.1 (at.0, at.2, at.3))
-
--- a text that is among the values is found among the texts
-pub text_found : (concepts : List ℕ) (decimals : List ℤ) (owned : List (Vec ℕ Global)) (text : List ℕ)
-    → Contains (values_among concepts decimals (bytes_of owned)) (text_value text)
-    → list_any (λ (key : Vec ℕ Global). bytes_eq text key.items) owned ≡ true
-text_found concepts decimals owned text there =
-    let from = from_map (λ (text : Vec ℕ Global). text.items) owned text (had_text concepts decimals (bytes_of owned) text there) in
-    list_any-from_Any (λ (key : Vec ℕ Global). bytes_eq text key.items) owned
-    (from.1.0, from.0, from.1.1, from.1.2, (bytes_eq-Decides text from.0.items).1 (sym from.2))
-
--- and behind the concepts and the decimals its place leads to it
-pub text_placed : (concepts : List ℕ) (decimals : List ℤ) (owned : List (Vec ℕ Global)) (text : List ℕ) (place : ℕ)
-    → Contains (values_among concepts decimals (bytes_of owned)) (text_value text)
-    → position (λ (key : Vec ℕ Global). bytes_eq text key.items) owned ≡ Some place
-    → slice_get (values_among concepts decimals (bytes_of owned)) (length concepts + (length decimals + place)) ≡ Some (text_value text)
-text_placed concepts decimals owned text place there found =
-    let from = from_map (λ (text : Vec ℕ Global). text.items) owned text (had_text concepts decimals (bytes_of owned) text there) in
-    let at = position-Some (λ (key : Vec ℕ Global). bytes_eq text key.items) owned place from.0 found in
-    let same : text ≡ (get_or owned place from.0).items = (bytes_eq-Decides text (get_or owned place from.0).items).0 at.1 in
-    let below : place < length (bytes_of owned) = omega (arith, at.0, length-map owned (λ (text : Vec ℕ Global). text.items)) in
-    slice_get-get_or (values_among concepts decimals (bytes_of owned)) (length concepts + (length decimals + place)) (text_value text)
-    (omega (arith, below, length-values concepts decimals (bytes_of owned)))
-    ∙ ap (λ (value : Value). Some value) (
-    text_at concepts decimals (bytes_of owned) place (text_value text) below
-    ∙ ap text_value (get_or-map (λ (text : Vec ℕ Global). text.items) owned place from.0 [] at.0 ∙ sym same)
+-- each row has at most one decimal or text
+pub few_values : (rows : List Attribute) → length (decimals_of rows) + length (texts_of rows) ≤ length rows
+few_values [] = omega arith
+few_values (row ∷ rows) =
+    omega (
+      arith,
+      length-append (decimals_at row.value) (decimals_of rows),
+      length-append (texts_at row.value) (texts_of rows),
+      one row.value,
+      few_values rows,
     )
-
--- ---- tables that grow by one
-
--- what is among keys stays there when one more key is put to them
-pub stays : {X : Type 0} (same : X → X → Bool) (keys : List X) (key x : X) → Contains keys x → Contains (insert_key same keys key) x
-stays same keys key x there = by (list_any (same key) keys)
   where
-    by : (known : Bool) → Contains (cond known keys (keys ++ key ∷ [])) x
-    by true = there
-    by false = Contains-append_left keys (key ∷ []) x there
+    one : (value : Value) → length (decimals_at value) + length (texts_at value) ≤ 1
+    one (concept_value concept) = omega arith
+    one (number_value decimal) = omega arith
+    one (text_value text) = omega arith
 
--- the same of the bytes of texts
-pub bytes_stay : (owned : List (Vec ℕ Global)) (key : Vec ℕ Global) (text : List ℕ) → Contains (bytes_of owned) text
-    → Contains (bytes_of (insert_key same_text owned key)) text
-bytes_stay owned key text there =
-    let from = from_map (λ (text : Vec ℕ Global). text.items) owned text there in
-    subst (Contains (bytes_of (insert_key same_text owned key))) from.2
-    (contains_map (λ (text : Vec ℕ Global). text.items) (insert_key same_text owned key) from.0
-    (stays same_text owned key from.0 from.1))
+-- the value of each row is among the values where the concepts, the decimals and the texts that rows have are
+module _ (concepts : List ℕ) (decimals : List ℤ) (texts : List (List ℕ)) where
+  value_there : (value : Value) → is_value_among concepts value ≡ true
+      → ((decimal : ℤ) → Contains (decimals_at value) decimal → Contains decimals decimal)
+      → ((text : List ℕ) → Contains (texts_at value) text → Contains texts text)
+      → Contains (values_among concepts decimals texts) value
+  value_there (concept_value concept) among had_decimals had_texts =
+      concept_there concepts decimals texts concept (contains_had concepts concept among)
+  value_there (number_value decimal) among had_decimals had_texts =
+      decimal_there concepts decimals texts decimal (had_decimals decimal (0, omega arith, refl))
+  value_there (text_value text) among had_decimals had_texts =
+      text_there concepts decimals texts text (had_texts text (0, omega arith, refl))
 
--- the bytes of a text that is put to texts are among theirs
-pub bytes_added : (owned : List (Vec ℕ Global)) (key : Vec ℕ Global) (text : List ℕ) → key.items ≡ text
-    → Contains (bytes_of (insert_key same_text owned key)) text
-bytes_added owned key text is = by (list_any (same_text key) owned) refl
-  where
-    by : (known : Bool) → list_any (same_text key) owned ≡ known → Contains (bytes_of (cond known owned (owned ++ key ∷ []))) text
-    by true found = subst (Contains (bytes_of owned)) is (text_had owned key.items found)
-    by false other =
-        subst (Contains (bytes_of (owned ++ key ∷ []))) is
-        (contains_map (λ (text : Vec ℕ Global). text.items) (owned ++ key ∷ []) key (Contains-push owned key))
+  pub values_there : (rows : List Attribute) → All (λ (row : Attribute). is_value_among concepts row.value ≡ true) rows
+      → ((decimal : ℤ) → Contains (decimals_of rows) decimal → Contains decimals decimal)
+      → ((text : List ℕ) → Contains (texts_of rows) text → Contains texts text)
+      → All (λ (row : Attribute). Contains (values_among concepts decimals texts) row.value) rows
+  values_there [] among had_decimals had_texts = All-nil (λ row. Contains (values_among concepts decimals texts) row.value)
+  values_there (row ∷ rows) among had_decimals had_texts =
+      All-cons (λ row. Contains (values_among concepts decimals texts) row.value) row rows
+      (value_there row.value (All-head (λ (row : Attribute). is_value_among concepts row.value ≡ true) row rows among)
+      (λ decimal there. had_decimals decimal (Contains-append_left (decimals_at row.value) (decimals_of rows) decimal there))
+      (λ text there. had_texts text (Contains-append_left (texts_at row.value) (texts_of rows) text there)))
+      (values_there rows (All-tail (λ (row : Attribute). is_value_among concepts row.value ≡ true) row rows among)
+      (λ decimal there. had_decimals decimal (Contains-append_right (decimals_at row.value) (decimals_of rows) decimal there))
+      (λ text there. had_texts text (Contains-append_right (texts_at row.value) (texts_of rows) text there)))
+
+-- the decimals and the texts of the rows up to behind a place
+module _ (rows : List Attribute) (n : ℕ) (row : Attribute) (here : slice_get rows n ≡ Some row) where
+  read_next : take (n + 1) rows ≡ take n rows ++ row ∷ []
+  read_next =
+      take_more rows n row (slice_get_within rows n row here)
+      ∙ ap (λ (next : Attribute). take n rows ++ next ∷ []) (get_or_from_slice_get rows n row row here)
+
+  pub decimals_more : decimals_of (take (n + 1) rows) ≡ decimals_of (take n rows) ++ decimals_at row.value
+  decimals_more = ap decimals_of read_next ∙ sym (flat_map_more (λ (row : Attribute). decimals_at row.value) [] (take n rows) row)
+
+  pub texts_more : texts_of (take (n + 1) rows) ≡ texts_of (take n rows) ++ texts_at row.value
+  texts_more = ap texts_of read_next ∙ sym (flat_map_more (λ (row : Attribute). texts_at row.value) [] (take n rows) row)
 
 -- ---- no value is there twice
 
@@ -317,59 +302,68 @@ apart_both {X} same (x ∷ xs) ys first later cross = (all_both xs first.0, apar
     all_both [] all = cross.0
     all_both (z ∷ zs) all = (all.0, all_both zs all.1)
 
+-- decimals and texts that rise differ
+decimals_differ : (decimals : List ℤ) → IsStrictlySortedBy int_cmp decimals → IsDistinct int_eq decimals
+decimals_differ decimals rises = IsDistinct-from_sorted int_cmp decimals rises
+
+texts_differ : (texts : List (List ℕ)) → IsStrictlySortedBy text_cmp texts → IsDistinct bytes_eq texts
+texts_differ texts rises = subst (λ (same : List ℕ → List ℕ → Bool). IsDistinct same texts) (λ i one other. sym (texts_ties one other) i)
+    (IsDistinct-from_sorted text_cmp texts rises)
+
 module _ (concepts : List ℕ) (values : Values) (rising : IsStrictlyIncreasing concepts) where
   abbrev all : List Value
   all = values_in concepts values
 
   abbrev numbers : List ℤ
-  numbers = values.decimals.keys
+  numbers = values.decimals.items
 
   -- what is behind the concepts is no concept
   no_concept : (concept : ℕ) → All (λ value. value_eq value (concept_value concept) ≡ false)
-      (values_behind numbers (texts_in values))
+      (values_behind numbers values.texts)
   no_concept concept =
-      All-append (λ value. value_eq value (concept_value concept) ≡ false) (map number_value numbers) (map text_value (texts_in values))
+      All-append (λ value. value_eq value (concept_value concept) ≡ false) (map number_value numbers) (map text_value values.texts)
       (All-map (λ value. value_eq value (concept_value concept) ≡ false) number_value numbers (λ k d below. refl))
-      (All-map (λ value. value_eq value (concept_value concept) ≡ false) text_value (texts_in values) (λ k d below. refl))
+      (All-map (λ value. value_eq value (concept_value concept) ≡ false) text_value values.texts (λ k d below. refl))
 
   -- a concept is no decimal and no text
   concepts_apart : AllByRecursion (λ one. AllByRecursion (λ other. value_eq one other ≡ false)
-      (values_behind numbers (texts_in values))) (map concept_value concepts)
+      (values_behind numbers values.texts)) (map concept_value concepts)
   concepts_apart =
       let apart : Value → Type 0 = λ one. AllByRecursion (λ other. value_eq one other ≡ false)
-      (values_behind numbers (texts_in values)) in
+      (values_behind numbers values.texts) in
       recursion_from_All apart (map concept_value concepts) (All-map apart concept_value concepts (λ k d below.
       let other_than : Value → Type 0 = λ other. value_eq (concept_value (get_or concepts k d)) other ≡ false in
-      recursion_from_All other_than (values_behind numbers (texts_in values))
-      (All-append other_than (map number_value numbers) (map text_value (texts_in values))
+      recursion_from_All other_than (values_behind numbers values.texts)
+      (All-append other_than (map number_value numbers) (map text_value values.texts)
       (All-map other_than number_value numbers (λ j e inside. refl))
-      (All-map other_than text_value (texts_in values) (λ j e inside. refl)))))
+      (All-map other_than text_value values.texts (λ j e inside. refl)))))
 
   -- a decimal is no text
-  decimals_apart : AllByRecursion (λ one. AllByRecursion (λ other. value_eq one other ≡ false) (map text_value (texts_in values)))
+  decimals_apart : AllByRecursion (λ one. AllByRecursion (λ other. value_eq one other ≡ false) (map text_value values.texts))
       (map number_value numbers)
   decimals_apart =
-      let apart : Value → Type 0 = λ one. AllByRecursion (λ other. value_eq one other ≡ false) (map text_value (texts_in values)) in
+      let apart : Value → Type 0 = λ one. AllByRecursion (λ other. value_eq one other ≡ false) (map text_value values.texts) in
       recursion_from_All apart (map number_value numbers) (All-map apart number_value numbers (λ k d below.
       let other_than : Value → Type 0 = λ other. value_eq (number_value (get_or numbers k d)) other ≡ false in
-      recursion_from_All other_than (map text_value (texts_in values))
-      (All-map other_than text_value (texts_in values) (λ j e inside. refl))))
+      recursion_from_All other_than (map text_value values.texts)
+      (All-map other_than text_value values.texts (λ j e inside. refl))))
 
   -- no value is there twice
-  pub values_apart : AreTables values → IsDistinct value_eq all
+  pub values_apart : AreTables numbers values.texts → IsDistinct value_eq all
   values_apart tables =
-      apart_both value_eq (map concept_value concepts) (values_behind numbers (texts_in values))
+      apart_both value_eq (map concept_value concepts) (values_behind numbers values.texts)
       (distinct_map value_eq concept_value concepts (IsDistinct-from_apart nat_eq concepts (λ i j d before below.
       let rises = earlier_below concepts rising i j before below in
       ne_eqb (get_or concepts i d) (get_or concepts j d)
       (λ is. omega (arith, get_or_default concepts i d 0 (omega arith), get_or_default concepts j d 0 below)))))
-      (apart_both value_eq (map number_value numbers) (map text_value (texts_in values))
-      (distinct_map value_eq number_value numbers tables.decimals) (distinct_map value_eq text_value (texts_in values) tables.texts)
+      (apart_both value_eq (map number_value numbers) (map text_value values.texts)
+      (distinct_map value_eq number_value numbers (decimals_differ numbers tables.decimals_rise))
+      (distinct_map value_eq text_value values.texts (texts_differ values.texts tables.texts_rise))
       decimals_apart)
       concepts_apart
 
   -- two values are the same exactly where their numbers are
-  pub values_exact : AreTables values → (v w : ℕ) → v < length all → w < length all
+  pub values_exact : AreTables numbers values.texts → (v w : ℕ) → v < length all → w < length all
       → value_eq (value_at all v) (value_at all w) ≡ (v == w)
   values_exact tables v w in' there = elim (cases_order v w) [
     | inl same ↦ (tells_same_value (value_at all v) (value_at all w)).1 (ap (value_at all) same) ∙ sym (eq-eqb v w same)
@@ -391,14 +385,14 @@ module _ (concepts : List ℕ) (values : Values) (rising : IsStrictlyIncreasing 
   value_of_concept v c in' there = elim (cases_lt v (length concepts)) [
     | inl below ↦
         ap (λ (value : Value). value_eq value (concept_value (get_or concepts c 0)))
-        (concept_at concepts numbers (texts_in values) v (text_value []) below)
+        (concept_at concepts numbers values.texts v (text_value []) below)
         ∙ rising_apart concepts rising v c below there
     | inr past ↦
         let at : length concepts + (v - length concepts) ≡ v = omega arith in
-        let inside : v - length concepts < length (values_behind numbers (texts_in values)) =
-        omega (arith, in', length-values concepts numbers (texts_in values), length-values_behind numbers (texts_in values)) in
+        let inside : v - length concepts < length (values_behind numbers values.texts) =
+        omega (arith, in', length-values concepts numbers values.texts, length-values_behind numbers values.texts) in
         ap (λ (value : Value). value_eq value (concept_value (get_or concepts c 0)))
-        (ap (value_at all) (sym at) ∙ value_behind concepts numbers (texts_in values) (v - length concepts) (text_value []))
+        (ap (value_at all) (sym at) ∙ value_behind concepts numbers values.texts (v - length concepts) (text_value []))
         ∙ no_concept (get_or concepts c 0) (v - length concepts) (text_value []) inside
         ∙ sym (ne_eqb v c (λ is. omega arith))
   ]

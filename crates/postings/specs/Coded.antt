@@ -8,7 +8,8 @@ use Rattle.rf2_rows.specs.Release.{Attribute, Value}
 use Rattle.snapshot.specs.InForce.{rising}
 use Rattle.postings.specs.Columns.{Mark}
 use Rattle.postings.specs.Indexed.{types_of, value_at}
-use Rattle.postings.specs.ValueTables.{AreTables, values_in}
+use Rattle.postings.specs.RowValues.{AreTablesOf}
+use Rattle.postings.specs.ValueTables.{values_in}
 use Rattle.postings.specs.declared.groups.RowMarks.{RowMarks}
 use Rattle.postings.specs.declared.rows.CodedRow.{CodedRow}
 use Rattle.postings.specs.declared.rows.CodedRows.{CodedRows}
@@ -32,16 +33,16 @@ pub record IsCoded (concepts types : List ℕ) (values : List Value) (row : Code
 
 -- the rows that numbers stand for by their tables
 abbrev pub rows_coded : List ℕ → Types → Values → List CodedRow → List Attribute
-rows_coded concepts types values rows = map (row_coded concepts types.numbers.keys (values_in concepts values)) rows
+rows_coded concepts types values rows = map (row_coded concepts types.numbers (values_in concepts values)) rows
 
 -- the numbers and their tables are those of some attribute rows of some concepts
 pub record AreCoded (concepts : List ℕ) (rows : List Attribute) (type_table : Types) (value_table : Values) (coded : List CodedRow) :
     Type 0 where
   pub stand_for : rows_coded concepts type_table value_table coded ≡ rows
-  pub within : All (IsCoded concepts type_table.numbers.keys (values_in concepts value_table)) coded
-  pub types : type_table.numbers.keys ≡ types_of rows
-  pub ids : type_table.ids.items ≡ type_table.numbers.keys
-  pub tables : AreTables value_table
+  pub within : All (IsCoded concepts type_table.numbers (values_in concepts value_table)) coded
+  pub types : type_table.numbers ≡ types_of rows
+  pub ids : type_table.ids.items ≡ type_table.numbers
+  pub tables : AreTablesOf rows value_table.decimals.items value_table.texts
   pub few : length rows < 2 ^ 31
   pub few_values : length (values_in concepts value_table) < 2 ^ 32
 

@@ -6,7 +6,6 @@ use Rattle.postings.specs.Coded.{rows_coded}
 use Rattle.postings.specs.Indexed.{HasListsFor, Indexed}
 use Rattle.postings.specs.KeptRows.{rows_kept}
 use Rattle.postings.specs.RowIndexes.{AreRowIndexes}
-use Rattle.postings.specs.ValueTables.{texts_in}
 use Rattle.postings.specs.declared.index.Indexes.TheInside.{Inside}
 
 abbrev pub indexed_in : Inside → Indexed
@@ -15,8 +14,8 @@ indexed_in inside = record {
   hierarchy = inside.hierarchy;
   rows = rows_coded inside.concepts.items inside.rows.types inside.rows.values (rows_kept inside.rows);
   members = inside.members;
-  decimals = inside.rows.values.decimals.keys;
-  texts = texts_in inside.rows.values;
+  decimals = inside.rows.values.decimals.items;
+  texts = inside.rows.values.texts;
 }
 
 -- the concepts rise and have numbers of less than 31 bits; the rows and their lists are those that they stand for; each

@@ -7,9 +7,10 @@ use Rattle.snapshot.specs.AttributesBySource.{attributes_by_source}
 use Rattle.snapshot.specs.Numbering.{concept_number}
 use Rattle.ancestor_index.specs.HierarchyLists.{Hierarchy, hierarchy_of, is_child, lists_where}
 use Rattle.postings.specs.Places.{places_where}
+use Rattle.postings.specs.RowValues.{AreTablesOf}
 
 -- the concepts in force; their hierarchy; the attribute rows; for each concept the components of the reference set that it is;
--- and of the values of the rows the decimals, as so many times 10^-18, and the other texts, each once
+-- and of the values of the rows the decimals, as so many times 10^-18, and the other texts, rising and each once
 pub record Indexed : Type 0 where
   pub concepts : List ℕ
   pub hierarchy : Hierarchy
@@ -30,6 +31,7 @@ pub record IsIndexOf (indexed : Indexed) (release : Release) : Type 0 where
   pub hierarchy : indexed.hierarchy ≡ hierarchy_of release
   pub rows : indexed.rows ≡ attributes_by_source release
   pub members : indexed.members ≡ members_of release
+  pub values : AreTablesOf (attributes_by_source release) indexed.decimals indexed.texts
 
 -- each concept below a count has a list in each of the four families of a hierarchy
 pub record HasListsFor (count : ℕ) (hierarchy : Hierarchy) : Type 0 where
@@ -58,7 +60,7 @@ abbrev pub concept_of_type : Indexed → Option ℕ → Option ℕ
 concept_of_type indexed None = None
 concept_of_type indexed (Some id) = concept_number indexed.concepts id
 
--- the values that rows can have, in the order of their numbers: the concepts, the decimals in rising order, and the other texts
+-- the values that rows can have, in the order of their numbers: the concepts, the decimals, and the other texts
 abbrev pub values_among : List ℕ → List ℤ → List (List ℕ) → List Value
 values_among concepts decimals texts = map concept_value concepts ++ (map number_value decimals ++ map text_value texts)
 

@@ -2,6 +2,7 @@ pub mod Cells
 pub mod Coded
 pub mod Columns
 pub mod Entries
+pub mod FirstKeysInside
 pub mod Groups
 pub mod IndexInside
 pub mod Indexed
@@ -9,8 +10,11 @@ pub mod KeptRows
 pub mod KeyedPlaces
 pub mod Laws
 pub mod Packed
+pub mod PairKeys
 pub mod Places
 pub mod RowColumns
 pub mod RowIndexes
+pub mod RowValues
 pub mod Stats
+pub mod TextsInside
 pub mod ValueTables

@@ -3,14 +3,15 @@ ghost use Rattle.std.specs.Prelude.{◌≡◌, ◌+◌, ◌≤◌, ◌<◌, ◌^
 ghost use Rattle.std.specs.Prelude.{length, map, nat_lt, slice_index_or};
 ghost use Rattle.idset.specs.Sets.{IsRising, place_of};
 ghost use Rattle.postings.specs.Coded.{AreRowMarks, IsBySource, group_codes, group_marks, numbers_of_groups};
-ghost use Rattle.postings.specs.Coded.{place_in_source, source_marks, ungrouped_pairs};
+ghost use Rattle.postings.specs.Coded.{pair_code, place_in_source, source_marks};
+ghost use Rattle.postings.specs.PairKeys.{IsShort, ungrouped_keys};
 ghost use Rattle.postings.specs.Places.{places_by};
 
+use crate::first_keys::FirstKeys;
 use crate::mark::Mark;
 use crate::rows::CodedRow;
 use ancestor_index::keep_rising;
 use hierarchy::KeyedLists;
-use indexmap::IndexSet;
 use std::alloc::{AllocError, Global};
 
 /// For each attribute row the number of its source and that of its group, and for each source how many groups
@@ -25,6 +26,25 @@ pub struct RowMarks {
     pub starts: Vec<u32>,
 }
 
+// What one source after another is looked at in, so that none asks for memory of its own.
+#[derive(Drop)]
+struct Room {
+    // the rows of the source
+    own: Vec<CodedRow>,
+    tables: Tables,
+}
+
+// What tells the groups of a source apart.
+#[derive(Drop)]
+struct Tables {
+    // the numbers of its groups, rising
+    numbers: Vec<u32>,
+    // the pairs of the rows so far, with or without the numbers of their groups
+    seen: FirstKeys,
+    // the pairs of the rows so far that have no group
+    ungrouped: FirstKeys,
+}
+
 /// The marks of rows that stand source by source. `by_source` has for each source the places of its rows.
 pub fn row_marks(
     alloc: Global,
@@ -37,18 +57,44 @@ pub fn row_marks(
     requires sorted { IsBySource (length by_source.now) rows.now }
     ensures { IfOk result (AreRowMarks (length by_source.now) rows.now) }
 {
+    let mut room = Room {
+        own: Vec::new(alloc),
+        tables: Tables {
+            numbers: Vec::new(alloc),
+            seen: FirstKeys::new(alloc),
+            ungrouped: FirstKeys::new(alloc),
+        },
+    };
+    let marks = marks_in(alloc, rows, by_source, &mut room);
+    drop(room);
+    marks
+}
+
+// These marks, with room for the rows of a source.
+fn marks_in(
+    alloc: Global,
+    rows: &[CodedRow],
+    by_source: &KeyedLists,
+    room: &mut Room,
+) -> Result<RowMarks, AllocError>
+    requires few { length rows.now < 2 ^ 31 }
+    requires few_sources { length by_source.now < 2 ^ 31 }
+    requires lists { by_source.now ≡ places_by (length by_source.now) (map (λ (row : CodedRow). row.source) rows.now) }
+    requires sorted { IsBySource (length by_source.now) rows.now }
+    ensures { IfOk result (AreRowMarks (length by_source.now) rows.now) }
+{
     let mut marks = RowMarks {
         sources: Vec::with_capacity(alloc, rows.len())?,
         groups: Vec::with_capacity(alloc, rows.len())?,
         starts: Vec::with_capacity(alloc, by_source.len() as usize + 1)?,
     };
-    let mut own = Vec::new(alloc);
     let mut ahead = 0u32;
     marks.starts.push(ahead)?;
     for source in 0..by_source.len() {
-        gather(rows, by_source.of(source), &mut own)?;
-        push_sources(alloc, own.as_slice(), &mut marks.sources)?;
-        ahead += push_groups(alloc, own.as_slice(), ahead, &mut marks.groups)?;
+        gather(rows, by_source.of(source), &mut room.own)?;
+        let own = room.own.as_slice();
+        push_sources(alloc, own, &mut room.tables.seen, &mut marks.sources)?;
+        ahead += push_groups(alloc, own, ahead, &mut room.tables, &mut marks.groups)?;
         marks.starts.push(ahead)?;
     }
     Ok(marks)
@@ -67,13 +113,18 @@ fn gather(rows: &[CodedRow], places: &[u32], own: &mut Vec<CodedRow>) -> Result<
 }
 
 // Adds the marks of the rows of a source with the source.
-fn push_sources(alloc: Global, rows: &[CodedRow], sources: &mut Vec<Mark>) -> Result<(), AllocError>
+fn push_sources(
+    alloc: Global,
+    rows: &[CodedRow],
+    seen: &mut FirstKeys,
+    sources: &mut Vec<Mark>,
+) -> Result<(), AllocError>
     requires { All (λ (row : CodedRow). row.source < 2 ^ 31) rows.now }
     ensures { OnOk result (sources.new.items ≡ sources.old.items ++ source_marks rows.now) }
 {
-    let mut seen = IndexSet::new(alloc);
+    seen.clear(alloc);
     for row in rows {
-        let is_first = seen.insert((row.type_place, row.value))?;
+        let (_, is_first) = seen.meet(row.pair_key())?;
         sources.push(Mark::new(row.source, is_first))?;
     }
     Ok(())
@@ -84,6 +135,7 @@ fn push_groups(
     alloc: Global,
     rows: &[CodedRow],
     ahead: u32,
+    tables: &mut Tables,
     groups: &mut Vec<Mark>,
 ) -> Result<u32, AllocError>
     requires { ahead + length rows.now < 2 ^ 31 }
@@ -91,52 +143,53 @@ fn push_groups(
     ensures count { IfOk result (λ count. count ≡ length (group_codes rows.now)) }
     ensures few { IfOk result (λ count. count ≤ length rows.now) }
 {
-    let numbers = group_numbers(alloc, rows)?;
-    let mut ungrouped = IndexSet::new(alloc);
-    let mut seen = IndexSet::new(alloc);
+    put_group_numbers(rows, &mut tables.numbers)?;
+    tables.seen.clear(alloc);
+    tables.ungrouped.clear(alloc);
     for row in rows {
-        let is_first = seen.insert((row.group, row.type_place, row.value))?;
-        let place = group_place(numbers.as_slice(), &mut ungrouped, row)?;
+        let (_, is_first) = tables.seen.meet(row.grouped_key())?;
+        let place = group_place(tables.numbers.as_slice(), &mut tables.ungrouped, row)?;
         groups.push(Mark::new(ahead + place as u32, is_first))?;
     }
-    Ok((numbers.len() + ungrouped.len()) as u32)
+    Ok((tables.numbers.len() + tables.ungrouped.len()) as u32)
 }
 
 // The place of a row's group among those of its source. `numbers` has the numbers of these groups, and `ungrouped` the
 // pairs of the rows before it that have no group; its own pair is added if it has none.
 fn group_place(
     numbers: &[u32],
-    ungrouped: &mut IndexSet<(u32, u32)>,
+    ungrouped: &mut FirstKeys,
     row: &CodedRow,
 ) -> Result<usize, AllocError>
     requires rising { IsRising numbers.now }
-    requires few { length ungrouped.old.keys < 2 ^ 32 }
+    requires few { length ungrouped.old < 2 ^ 32 }
     ensures place { IfOk result (λ place. (before behind : List CodedRow)
+        → All (λ (row : CodedRow). IsShort (pair_code row)) before
         → numbers.now ≡ numbers_of_groups (before ++ row.now ∷ behind)
-        → ungrouped.old.keys ≡ ungrouped_pairs before → place ≡ place_in_source (before ++ row.now ∷ behind) row.now) }
-    ensures ungrouped { OnOk result ((before : List CodedRow) → ungrouped.old.keys ≡ ungrouped_pairs before
-        → ungrouped.new.keys ≡ ungrouped_pairs (before ++ row.now ∷ [])) }
+        → ungrouped.old ≡ ungrouped_keys before → place ≡ place_in_source (before ++ row.now ∷ behind) row.now) }
+    ensures ungrouped { OnOk result ((before : List CodedRow) → ungrouped.old ≡ ungrouped_keys before
+        → ungrouped.new ≡ ungrouped_keys (before ++ row.now ∷ [])) }
 {
     if row.group != 0 {
         return Ok(place_of(numbers, row.group));
     }
-    let (place, _) = ungrouped.insert_full((row.type_place, row.value))?;
+    let (place, _) = ungrouped.meet(row.pair_key())?;
     Ok(numbers.len() + place)
 }
 
-// The numbers of the groups of some rows, rising and once each, without 0.
-fn group_numbers(alloc: Global, rows: &[CodedRow]) -> Result<Vec<u32>, AllocError>
-    ensures numbers { IfOk result (λ numbers. numbers.items ≡ numbers_of_groups rows.now) }
-    ensures rising { IfOk result (λ numbers. IsRising numbers.items) }
+// Puts the numbers of the groups of some rows, rising and once each, without 0, in place of those that were there.
+fn put_group_numbers(rows: &[CodedRow], numbers: &mut Vec<u32>) -> Result<(), AllocError>
+    ensures numbers { OnOk result (numbers.new.items ≡ numbers_of_groups rows.now) }
+    ensures rising { OnOk result (IsRising numbers.new.items) }
 {
-    let mut numbers = Vec::new(alloc);
+    numbers.clear();
     for row in rows {
         if row.group != 0 {
             numbers.push(row.group)?;
         }
     }
-    keep_rising(&mut numbers);
-    Ok(numbers)
+    keep_rising(numbers);
+    Ok(())
 }
 
 // How many of some rising numbers are below one.

@@ -176,7 +176,7 @@ impl Indexes {
     pub fn by_type(&self, id: u64) -> &[u32]
         ensures { result.now ≡ rows_by_type self.now id }
     {
-        match self.rows.types.numbers.get_index_of(&id) {
+        match self.rows.types.numbers.place_of(id as u128) {
             Some(type_place) => self.rows.by_type.rows.of(type_place as u32),
             None => &[],
         }
@@ -186,7 +186,7 @@ impl Indexes {
     pub fn type_columns(&self, id: u64) -> TypeColumns<'_>
         ensures { AreTypeColumns self.now id result }
     {
-        match self.rows.types.numbers.get_index_of(&id) {
+        match self.rows.types.numbers.place_of(id as u128) {
             Some(type_place) => {
                 let columns = self.rows.by_type.columns(type_place as u32);
                 TypeColumns {
@@ -237,7 +237,7 @@ impl Indexes {
     pub fn type_place(&self, id: u64) -> Option<u32>
         ensures { result ≡ position (nat_eq id) (types_of self.now.rows) }
     {
-        match self.rows.types.numbers.get_index_of(&id) {
+        match self.rows.types.numbers.place_of(id as u128) {
             Some(type_place) => Some(type_place as u32),
             None => None,
         }

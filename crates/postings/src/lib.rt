@@ -6,6 +6,7 @@
 #![tactic(auto)]
 
 mod columns;
+mod first_keys;
 mod groups;
 mod index;
 mod laws;
@@ -14,6 +15,7 @@ mod mark;
 mod row_indexes;
 mod rows;
 mod stats;
+mod texts;
 mod values;
 
 pub use crate::columns::{TypeColumns, ValueColumns};

@@ -1,11 +1,12 @@
 //! Attribute rows by numbers.
-ghost use Rattle.std.specs.Prelude.{◌≡◌, ◌-◌, ◌<◌, ◌^◌, IfOk, OnOk, Some, length, nat_eq, slice_get};
+ghost use Rattle.std.specs.Prelude.{◌≡◌, ◌-◌, ◌<◌, ◌^◌, IfOk, OnOk, Some, length, slice_get};
 ghost use Rattle.snapshot.specs.AttributesBySource.{attributes_by_source};
-ghost use Rattle.indexmap.specs.IndexSet.{insert_key};
-ghost use Rattle.postings.specs.Coded.{AreCodedRows};
+ghost use Rattle.first_met.specs.FirstMet.{keys_behind};
+ghost use Rattle.postings.specs.Coded.{AreCodedRows, pair_code};
+ghost use Rattle.postings.specs.PairKeys.{IsShort, grouped_key, pair_key};
 
 use crate::values::{Values, row_values};
-use indexmap::IndexSet;
+use first_met::FirstMet;
 use sctid::SctId;
 use snapshot::Snapshot;
 use std::alloc::{AllocError, Global};
@@ -30,7 +31,7 @@ pub struct CodedRows {
 /// The types of attribute rows, each where it is first.
 #[derive(Drop)]
 pub struct Types {
-    pub numbers: IndexSet<u64>,
+    pub numbers: FirstMet,
     pub ids: Vec<SctId>,
 }
 
@@ -40,7 +41,7 @@ pub fn coded_rows(alloc: Global, snapshot: &Snapshot) -> Result<CodedRows, Alloc
 {
     let values = row_values(alloc, snapshot)?;
     let mut types = Types {
-        numbers: IndexSet::new(alloc),
+        numbers: FirstMet::new(alloc),
         ids: Vec::new(alloc),
     };
     let mut rows = Vec::with_capacity(alloc, snapshot.attribute_count() as usize)?;
@@ -62,6 +63,24 @@ pub fn coded_rows(alloc: Global, snapshot: &Snapshot) -> Result<CodedRows, Alloc
     })
 }
 
+impl CodedRow {
+    /// The pair of the row, of the place of its type and the number of its value, as one number.
+    pub fn pair_key(&self) -> u128
+        ensures key { result ≡ pair_key self.now }
+        ensures short { IsShort (pair_code self.now) }
+    {
+        self.type_place as u128 * 2u128.pow(32) + self.value as u128
+    }
+
+    /// The same with the number of its group.
+    pub fn grouped_key(&self) -> u128
+        ensures key { result ≡ grouped_key self.now }
+        ensures short { IsShort (pair_code self.now) }
+    {
+        self.group as u128 * 2u128.pow(64) + self.pair_key()
+    }
+}
+
 impl CodedRows {
     /// The tables without the rows, whose memory is given back.
     pub fn into_tables(self) -> (Types, Values)
@@ -80,13 +99,13 @@ impl CodedRows {
 impl Types {
     // The place of a type, which is added if it is new.
     fn place_of(&mut self, id: SctId) -> Result<u32, AllocError>
-        requires few { length self.old.numbers.keys < 2 ^ 32 - 1 }
-        requires ids { self.old.ids.items ≡ self.old.numbers.keys }
-        ensures place { IfOk result (λ place. slice_get self.new.numbers.keys place ≡ Some id) }
-        ensures numbers { OnOk result (self.new.numbers.keys ≡ insert_key nat_eq self.old.numbers.keys id) }
-        ensures ids { OnOk result (self.new.ids.items ≡ self.new.numbers.keys) }
+        requires few { length self.old.numbers < 2 ^ 32 - 1 }
+        requires ids { self.old.ids.items ≡ self.old.numbers }
+        ensures place { IfOk result (λ place. slice_get self.new.numbers place ≡ Some id) }
+        ensures numbers { OnOk result (self.new.numbers ≡ keys_behind self.old.numbers id) }
+        ensures ids { OnOk result (self.new.ids.items ≡ self.new.numbers) }
     {
-        let (place, is_new) = self.numbers.insert_full(id.number())?;
+        let (place, is_new) = self.numbers.meet(id.number() as u128)?;
         if is_new {
             self.ids.push(id)?;
         }

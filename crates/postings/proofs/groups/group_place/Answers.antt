@@ -1,24 +1,43 @@
-use Rattle.std.proofs.Common.{◌+◌, ◌∙◌, ap, length, sym}
-use Rattle.indexmap.specs.IndexSet.{insert_key}
-use Rattle.postings.specs.Coded.{code_eq, pair_code}
-use Rattle.postings.proofs.GroupLemmas.{ungrouped_pairs-more, ungrouped_pairs-numbered, ungrouped_place, numbered_place}
+use Rattle.std.proofs.Common.{◌+◌, ◌∙◌, ap, arith, length, nat_eq, refl, sym}
+use Rattle.std.specs.List.{position_or_len}
+use Rattle.first_met.specs.FirstMet.{keys_behind}
+use Rattle.postings.specs.Coded.{ungrouped_pairs}
+use Rattle.postings.proofs.FirstKeyLemmas.{place_near}
+use Rattle.postings.proofs.GroupLemmas.{numbered_place, ungrouped_place}
+use Rattle.postings.proofs.PairKeyLemmas.{place-ungrouped_keys, ungrouped_keys-more, ungrouped_keys-numbered}
 use Rattle.postings.proofs.groups.group_place.Goals as goal
 
 pub returns-then-row-ne0-clause-place : goal.returns-then-row-ne0-clause-place
-returns-then-row-ne0-clause-place c = λ before behind are so_far.
+returns-then-row-ne0-clause-place c = λ before behind short are so_far.
     c.place_of.ensures ∙ numbered_place before c.args.row.now behind c.args.numbers.now c.if-row-ne0.true c.requires.rising are
 
 pub returns-then-row-ne0-clause-ungrouped : goal.returns-then-row-ne0-clause-ungrouped
 returns-then-row-ne0-clause-ungrouped c = λ before so_far. so_far
-    ∙ sym (ungrouped_pairs-numbered before c.args.row.now c.if-row-ne0.true)
+    ∙ sym (ungrouped_keys-numbered before c.args.row.now c.if-row-ne0.true)
+
+pub overflow_add-result : goal.overflow_add-result
+overflow_add-result c =
+    record {
+      fits = omega (
+        arith,
+        c.in_ok-place.ensures.place,
+        place_near c.args.ungrouped.now c.pair_key.result,
+        c.requires.few,
+      );
+    }
 
 pub returns-clause-place : goal.returns-clause-place
-returns-clause-place c = λ before behind are so_far.
-    ap (λ place. length c.args.numbers.now + place) c.in_ok-place.ensures.index
-    ∙ ungrouped_place before c.args.row.now behind c.args.numbers.now c.args.ungrouped.now.keys c.if-row-ne0.false are so_far
+returns-clause-place c = λ before behind short are so_far.
+    let row = c.args.row.now in
+    ap (λ place. length c.args.numbers.now + place) (
+    c.in_ok-place.ensures.place
+    ∙ (λ i. position_or_len (nat_eq (c.pair_key.ensures.key i)) (so_far i))
+    ∙ place-ungrouped_keys before short row c.pair_key.ensures.short
+    )
+    ∙ ungrouped_place before row behind c.args.numbers.now (ungrouped_pairs before) c.if-row-ne0.false are refl
 
 pub returns-clause-ungrouped : goal.returns-clause-ungrouped
 returns-clause-ungrouped c = λ before so_far.
     c.in_ok-place.ensures.keys
-    ∙ ap (λ keys. insert_key code_eq keys (pair_code c.args.row.now)) so_far
-    ∙ sym (ungrouped_pairs-more before c.args.row.now c.if-row-ne0.false)
+    ∙ (λ i. keys_behind (so_far i) (c.pair_key.ensures.key i))
+    ∙ sym (ungrouped_keys-more before c.args.row.now c.if-row-ne0.false)

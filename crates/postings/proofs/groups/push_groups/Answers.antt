@@ -1,14 +1,18 @@
-use Rattle.std.proofs.Common.{ℕ, ◌+◌, ◌≡◌, ◌≤◌, ◌++◌, ◌∷◌, [], ◌∙◌, List, ap, append_assoc, arith, drop}
-use Rattle.std.proofs.Common.{get_or, length, length-take, not, sym, take}
+use Rattle.std.proofs.Common.{ℕ, ◌+◌, ◌≡◌, ◌≤◌, ◌++◌, ◌∷◌, [], ◌∙◌, List, ap, append_assoc, arith, drop, nat_eq}
+use Rattle.std.proofs.Common.{get_or, length, length-take, not, subst, sym, take}
 use Rattle.std.specs.List.{list_any}
+use Rattle.std.proofs.lemmas.Cmp.{nat_eq_equiv}
 use Rattle.std.proofs.lemmas.List.{take_all, take_more}
-use Rattle.indexmap.specs.IndexSet.{insert_key}
+use Rattle.std.proofs.lemmas.List.Elements.{All-more}
+use Rattle.first_met.specs.FirstMet.{keys_behind}
 use Rattle.hierarchy.proofs.KeyedLemmas.{split_at}
-use Rattle.postings.specs.Coded.{group_codes, has_same_in_group, ungrouped_pairs, marks_after, numbers_of_groups, place_in_source}
+use Rattle.postings.specs.Coded.{group_codes, has_same_in_group, marks_after, numbers_of_groups, pair_code, place_in_source}
+use Rattle.postings.specs.PairKeys.{IsShort, grouped_key, ungrouped_keys}
 use Rattle.postings.specs.declared.rows.CodedRow.{CodedRow}
 use Rattle.postings.proofs.DistinctLemmas.{distinct-map_more}
 use Rattle.postings.proofs.GroupLemmas.{length-group_codes, length-group_codes-le, place_in_source-le}
-use Rattle.postings.proofs.MarkLemmas.{any-keys, grouped_code, grouped_eq, grouped_eq_equiv, marks_more, same_grouped}
+use Rattle.postings.proofs.MarkLemmas.{marks_more}
+use Rattle.postings.proofs.PairKeyLemmas.{HaveShort, any-key, length-ungrouped_keys, same_in_group}
 use Rattle.postings.proofs.groups.push_groups.Goals as goal
 use Rattle.postings.proofs.groups.push_groups.Goals.{After-len-2, In_ok-place}
 
@@ -24,8 +28,8 @@ placed c =
     let at : ℕ = c.loop-row.row-index in
     let row : CodedRow = get_or rows at none in
     let split : rows ≡ take at rows ++ row ∷ drop (at + 1) rows = split_at rows at none c.loop-row-test.true in
-    c.in_ok-place.ensures.place (take at rows) (drop (at + 1) rows)
-    (c.as_slice.ensures.value ∙ c.in_ok-numbers.ensures.numbers ∙ ap numbers_of_groups split) c.loop-row.invariant.ungrouped
+    c.in_ok-place.ensures.place (take at rows) (drop (at + 1) rows) c.loop-row.invariant.short
+    (c.as_slice.ensures.value ∙ c.loop-row.invariant.numbers ∙ ap numbers_of_groups split) c.loop-row.invariant.ungrouped
     ∙ ap (λ (rows : List CodedRow). place_in_source rows row) (sym split)
 
 -- it is no further than there are rows
@@ -40,7 +44,8 @@ group_place-requires-clause-few c =
     omega (
       arith,
       c.requires,
-      ap (λ (keys : List (ℕ × ℕ)). length keys) c.loop-row.invariant.ungrouped,
+      ap (λ (keys : List ℕ). length keys) c.loop-row.invariant.ungrouped,
+      length-ungrouped_keys before c.loop-row.invariant.short,
       length-group_codes before,
       length-group_codes-le before,
       length-take c.loop-row.row-index c.args.rows.now,
@@ -64,34 +69,51 @@ loop-row-preserved c =
     let within = c.loop-row-test.true in
     let number : CodedRow → ℕ = λ row. c.args.ahead + place_in_source rows row in
     record {
+      numbers = c.loop-row.invariant.numbers;
+      rising = c.loop-row.invariant.rising;
+      short = All-more (λ (row : CodedRow). IsShort (pair_code row)) rows at none within c.loop-row.invariant.short
+          c.grouped_key.ensures.short;
       ungrouped = c.in_ok-place.ensures.ungrouped (take at rows) c.loop-row.invariant.ungrouped
-          ∙ ap ungrouped_pairs (sym (take_more rows at none within));
+          ∙ ap ungrouped_keys (sym (take_more rows at none within));
       seen = c.in_ok-is_first.ensures.keys
-          ∙ ap (λ keys. insert_key grouped_eq keys (grouped_code row)) c.loop-row.invariant.seen
-          ∙ sym (distinct-map_more grouped_eq grouped_eq_equiv grouped_code rows at none within);
+          ∙ (λ i. keys_behind (c.loop-row.invariant.seen i) (c.grouped_key.ensures.key i))
+          ∙ sym (distinct-map_more nat_eq nat_eq_equiv grouped_key rows at none within);
       marks = c.in_ok-push.ensures.items
           ∙ (λ i. c.loop-row.invariant.marks i ++ c.new.result ∷ [])
           ∙ append_assoc c.args.groups.now.items (marks_after has_same_in_group number [] (take at rows)) (c.new.result ∷ [])
           ∙ ap (λ marks. c.args.groups.now.items ++ marks) (marks_more has_same_in_group number rows at none c.new.result within
           (c.new.ensures.number ∙ ap (λ (place : ℕ). c.args.ahead + place) (placed (goal.at.loop-row-preserved c).In_ok-place))
-          (c.new.ensures.first ∙ c.in_ok-is_first.ensures.added
-          ∙ (λ i. not (list_any (grouped_eq (grouped_code row)) (c.loop-row.invariant.seen i)))
-          ∙ ap not (any-keys has_same_in_group grouped_eq grouped_eq_equiv grouped_code same_grouped (take at rows) row)));
+          (c.new.ensures.first ∙ c.in_ok-is_first.ensures.new
+          ∙ (λ i. not (list_any (nat_eq (c.grouped_key.ensures.key i)) (c.loop-row.invariant.seen i)))
+          ∙ ap not (any-key has_same_in_group grouped_key same_in_group (take at rows) row c.loop-row.invariant.short
+          c.grouped_key.ensures.short)));
     }
 
 -- there are as many groups as numbers and pairs without one
 counted : (c : After-len-2) → c.len.result + c.len-2.result ≡ length (group_codes c.args.rows.now)
 counted c =
     let rows : List CodedRow = c.args.rows.now in
+    let all : take c.loop-row.row-index rows ≡ rows = take_all c.loop-row.row-index rows c.loop-row-test.false in
     omega (
       arith,
       c.len.ensures,
-      c.len-2.ensures.len,
-      ap (λ (numbers : List ℕ). length numbers) c.in_ok-numbers.ensures.numbers,
-      ap (λ (keys : List (ℕ × ℕ)). length keys) (c.loop-row.invariant.ungrouped
-          ∙ ap ungrouped_pairs (take_all c.loop-row.row-index rows c.loop-row-test.false)),
+      c.len-2.ensures,
+      ap (λ (numbers : List ℕ). length numbers) c.loop-row.invariant.numbers,
+      ap (λ (keys : List ℕ). length keys) (c.loop-row.invariant.ungrouped ∙ ap ungrouped_keys all),
+      length-ungrouped_keys rows (subst HaveShort all c.loop-row.invariant.short),
       length-group_codes rows,
     )
+
+pub overflow_add-result : goal.overflow_add-result
+overflow_add-result c =
+    record {
+      fits = omega (
+        arith,
+        c.requires,
+        counted (goal.at.overflow_add-result c).After-len-2,
+        length-group_codes-le c.args.rows.now,
+      );
+    }
 
 pub overflow_cast-result : goal.overflow_cast-result
 overflow_cast-result c = omega (arith, c.requires, counted c, length-group_codes-le c.args.rows.now)

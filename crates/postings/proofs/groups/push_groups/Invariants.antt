@@ -1,13 +1,17 @@
-use Rattle.std.proofs.Common.{◌+◌, ◌≡◌, ◌++◌, [], map, take}
-use Rattle.rf2_rows.specs.Pairs.{distinct}
-use Rattle.postings.specs.Coded.{has_same_in_group, ungrouped_pairs, marks_after, place_in_source}
-use Rattle.postings.proofs.MarkLemmas.{grouped_code, grouped_eq}
+use Rattle.std.proofs.Common.{◌+◌, ◌≡◌, ◌++◌, [], take}
+use Rattle.idset.specs.Sets.{IsRising}
+use Rattle.postings.specs.Coded.{has_same_in_group, marks_after, numbers_of_groups, place_in_source}
+use Rattle.postings.specs.PairKeys.{grouped_keys, ungrouped_keys}
+use Rattle.postings.proofs.PairKeyLemmas.{HaveShort}
 use Rattle.postings.proofs.groups.push_groups.Given as goal
 
 abbrev pub invariant-loop-row : goal.invariant-loop-row
 invariant-loop-row l = record {
-  ungrouped : l.ungrouped.keys ≡ ungrouped_pairs (take l.row-index l.rows);
-  seen : l.seen.keys ≡ distinct grouped_eq (map grouped_code (take l.row-index l.rows));
+  numbers : l.tables.numbers.items ≡ numbers_of_groups l.rows;
+  rising : IsRising l.tables.numbers.items;
+  short : HaveShort (take l.row-index l.rows);
+  ungrouped : l.tables.ungrouped ≡ ungrouped_keys (take l.row-index l.rows);
+  seen : l.tables.seen ≡ grouped_keys (take l.row-index l.rows);
   marks : l.groups.items ≡ l.fn.groups.items ++ marks_after has_same_in_group (λ row. l.ahead + place_in_source l.rows row) []
       (take l.row-index l.rows);
 }

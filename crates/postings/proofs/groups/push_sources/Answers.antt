@@ -1,12 +1,16 @@
-use Rattle.std.proofs.Common.{ℕ, ◌≡◌, ◌++◌, ◌∷◌, [], ◌∙◌, List, ap, append_assoc, get_or, not, refl, sym, take}
+use Rattle.std.proofs.Common.{ℕ, ◌≡◌, ◌++◌, ◌∷◌, [], ◌∙◌, List, ap, append_assoc, get_or, nat_eq, not, sym, take}
 use Rattle.std.specs.List.{list_any}
+use Rattle.std.proofs.lemmas.Cmp.{nat_eq_equiv}
 use Rattle.std.proofs.lemmas.List.{take_all}
-use Rattle.indexmap.specs.IndexSet.{insert_key}
-use Rattle.postings.specs.Coded.{code_eq, has_same_pair, pair_code, source_marks}
+use Rattle.std.proofs.lemmas.List.Elements.{All-more}
+use Rattle.first_met.specs.FirstMet.{keys_behind}
+use Rattle.postings.specs.Coded.{has_same_pair, pair_code, source_marks}
 use Rattle.postings.specs.Columns.{Mark}
+use Rattle.postings.specs.PairKeys.{IsShort, pair_key}
 use Rattle.postings.specs.declared.rows.CodedRow.{CodedRow}
 use Rattle.postings.proofs.DistinctLemmas.{distinct-map_more}
-use Rattle.postings.proofs.MarkLemmas.{any-keys, code_eq_equiv, marks_more}
+use Rattle.postings.proofs.MarkLemmas.{marks_more}
+use Rattle.postings.proofs.PairKeyLemmas.{any-key, same_pair}
 use Rattle.postings.proofs.groups.push_sources.Goals as goal
 
 pub loop-row-preserved : goal.loop-row-preserved
@@ -20,16 +24,18 @@ loop-row-preserved c =
     let mark : Mark = c.new.result in
     let pushed : c.push.new.self.items ≡ c.loop-row.sources.items ++ mark ∷ [] = c.in_ok-push.ensures.items in
     record {
+      short = All-more (λ (row : CodedRow). IsShort (pair_code row)) rows at none within c.loop-row.invariant.short
+          c.pair_key.ensures.short;
       seen = c.in_ok-is_first.ensures.keys
-          ∙ ap (λ keys. insert_key code_eq keys (pair_code row)) c.loop-row.invariant.seen
-          ∙ sym (distinct-map_more code_eq code_eq_equiv pair_code rows at none within);
+          ∙ (λ i. keys_behind (c.loop-row.invariant.seen i) (c.pair_key.ensures.key i))
+          ∙ sym (distinct-map_more nat_eq nat_eq_equiv pair_key rows at none within);
       marks = pushed
           ∙ (λ i. c.loop-row.invariant.marks i ++ mark ∷ [])
           ∙ append_assoc before (source_marks (take at rows)) (mark ∷ [])
           ∙ ap (λ marks. before ++ marks) (marks_more has_same_pair (λ row. row.source) rows at none mark within c.new.ensures.number
-          (c.new.ensures.first ∙ c.in_ok-is_first.ensures.added
-          ∙ (λ i. not (list_any (code_eq (pair_code row)) (c.loop-row.invariant.seen i)))
-          ∙ ap not (any-keys has_same_pair code_eq code_eq_equiv pair_code (λ one other. refl) (take at rows) row)));
+          (c.new.ensures.first ∙ c.in_ok-is_first.ensures.new
+          ∙ (λ i. not (list_any (nat_eq (c.pair_key.ensures.key i)) (c.loop-row.invariant.seen i)))
+          ∙ ap not (any-key has_same_pair pair_key same_pair (take at rows) row c.loop-row.invariant.short c.pair_key.ensures.short)));
     }
 
 pub returns : goal.returns

@@ -4,7 +4,7 @@ use Rattle.std.specs.Prelude.{All, Contains}
 use Rattle.std.specs.List.{slice_get}
 use Rattle.std.proofs.lemmas.List.{take_all}
 use Rattle.std.proofs.lemmas.Option.{get_or_from_slice_get, slice_get_within}
-use Rattle.indexmap.specs.IndexSet.{insert_key}
+use Rattle.postings.proofs.DistinctLemmas.{insert_key}
 use Rattle.rf2_rows.specs.Release.{Attribute, text_value}
 use Rattle.rf2_rows.specs.Rows.{value_lent}
 use Rattle.snapshot.specs.AttributesBySource.{attribute_of, attributes_by_source, with_source}
@@ -20,12 +20,12 @@ loop-n-init c =
     let concepts = c.args.snapshot.now.release.concepts in
     let values = values_in concepts c.in_ok-values.values in
     record {
-      rows = ap (map (row_coded concepts c.new.result.keys values)) c.in_ok-rows.ensures.items;
-      within = subst (All (IsCoded concepts c.new.result.keys values)) (sym c.in_ok-rows.ensures.items)
+      rows = ap (map (row_coded concepts c.new.result values)) c.in_ok-rows.ensures.items;
+      within = subst (All (IsCoded concepts c.new.result values)) (sym c.in_ok-rows.ensures.items)
           (λ k d below. absurd (omega arith));
-      types = c.new.ensures.empty;
-      ids = c.new-2.ensures.items ∙ sym c.new.ensures.empty;
-      few = omega (arith, c.new.ensures.len);
+      types = c.new.ensures;
+      ids = c.new-2.ensures.items ∙ sym c.new.ensures;
+      few = omega (arith, ap (λ (keys : List ℕ). length keys) c.new.ensures);
     }
 
 pub number-value-requires-clause-there : goal.number-value-requires-clause-there
@@ -47,9 +47,9 @@ loop-n-preserved c =
     let read = c.attribute_row-row.result in
     let row = with_source concepts (attribute_of read) in
     let here : slice_get rows n ≡ Some row = c.attribute_row-row.ensures.row in
-    let types = c.loop-n.types.numbers.keys in
+    let types = c.loop-n.types.numbers in
     let more = insert_key nat_eq types read.type_id in
-    let grown : c.place_of.new.self.numbers.keys ≡ more = c.in_ok-type_place.ensures.numbers in
+    let grown : c.place_of.new.self.numbers ≡ more = c.in_ok-type_place.ensures.numbers in
     let placed : slice_get more c.in_ok-type_place.type_place ≡ Some read.type_id =
     ap (λ (keys : List ℕ). slice_get keys c.in_ok-type_place.type_place) (sym grown) ∙ c.in_ok-type_place.ensures.place in
     let coded : CodedRow = record {

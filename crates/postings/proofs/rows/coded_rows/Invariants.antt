@@ -12,9 +12,9 @@ invariant-loop-n l =
     let done = take l.n (attributes_by_source release) in
     let all_values = values_in release.concepts l.values in
     record {
-      rows : map (row_coded release.concepts l.types.numbers.keys all_values) l.rows.items ≡ done;
-      within : All (IsCoded release.concepts l.types.numbers.keys all_values) l.rows.items;
-      types : l.types.numbers.keys ≡ types_of done;
-      ids : l.types.ids.items ≡ l.types.numbers.keys;
-      few : length l.types.numbers.keys ≤ l.n;
+      rows : map (row_coded release.concepts l.types.numbers all_values) l.rows.items ≡ done;
+      within : All (IsCoded release.concepts l.types.numbers all_values) l.rows.items;
+      types : l.types.numbers ≡ types_of done;
+      ids : l.types.ids.items ≡ l.types.numbers;
+      few : length l.types.numbers ≤ l.n;
     }

@@ -40,4 +40,5 @@ returns c =
       members = members_told release.concepts c.concept_count.result c.member_rows.result.now release.members c.in_ok-members.members
           c.concept_count.ensures.rising c.concept_count.ensures.count c.member_rows.ensures.within c.member_rows.ensures.rows
           c.in_ok-members.ensures;
+      values = c.in_ok-rows.ensures.coded.tables;
     }

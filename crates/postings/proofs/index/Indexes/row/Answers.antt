@@ -13,10 +13,10 @@ use Rattle.postings.proofs.index.Indexes.row.Goals.{After-row-row}
 
 -- the numbers of the row are within their tables
 within : (c : After-row-row)
-    → IsCoded c.self.inside.concepts.items c.self.inside.rows.types.numbers.keys
+    → IsCoded c.self.inside.concepts.items c.self.inside.rows.types.numbers
     (values_in c.self.inside.concepts.items c.self.inside.rows.values) c.row-row.result
 within c =
-    subst (IsCoded c.self.inside.concepts.items c.self.inside.rows.types.numbers.keys
+    subst (IsCoded c.self.inside.concepts.items c.self.inside.rows.types.numbers
     (values_in c.self.inside.concepts.items c.self.inside.rows.values)) (sym c.row-row.ensures)
     (row_coded_within c.self.inside c.self.invariant c.args.self.now c.self.view_is c.args.n
     (near c.self.inside c.self.invariant c.args.self.now c.self.view_is c.args.n c.requires))
@@ -40,7 +40,7 @@ value-requires c =
 pub returns-clause-row : goal.returns-clause-row
 returns-clause-row c =
     let concepts = c.self.inside.concepts.items in
-    let types = c.self.inside.rows.types.numbers.keys in
+    let types = c.self.inside.rows.types.numbers in
     let ids = c.self.inside.rows.types.ids.items in
     let values = values_in c.self.inside.concepts.items c.self.inside.rows.values in
     let row = c.row-row.result in

@@ -1,12 +1,85 @@
-use Rattle.std.proofs.Common.{ℕ, ◌+◌, ◌∙◌, Some, ap, subst, sym}
+use Rattle.std.proofs.Common.{ℕ, ℤ, ◌≡◌, ◌+◌, ◌<◌, ◌^◌, ◌∙◌, Some, ap, arith, length, List, subst, sym}
 use Rattle.std.specs.Prelude.{Contains, is_some}
 use Rattle.std.specs.List.{slice_get}
+use Rattle.std.specs.List.Sorted.{IsStrictlySortedBy}
+use Rattle.std.specs.Ordering.{int_cmp}
+use Rattle.std.proofs.lemmas.Option.{slice_get_within}
 use Rattle.rf2_rows.specs.Rows.{value_lent}
 use Rattle.rf2_rows.specs.declared.value.Value.{Value as LentValue}
 use Rattle.snapshot.specs.Numbering.{concept_number}
-use Rattle.postings.specs.ValueTables.{texts_in, values_in}
-use Rattle.postings.proofs.ValueLemmas.{concept_found, concept_placed, decimal_found, decimal_placed, text_found, text_placed}
+use Rattle.postings.specs.ValueTables.{values_in}
+use Rattle.postings.proofs.ValueLemmas.{concept_found, concept_placed, decimal_placed, had_decimal, had_text, length-values, text_placed}
 use Rattle.postings.proofs.values.Values.number.Goals as goal
+use Rattle.postings.proofs.values.Values.number.Goals.{After-place_of, After-place_of-place}
+
+-- the place of a decimal, and that of a text, have numbers
+near_decimal : (c : After-place_of)
+    → length c.args.snapshot.now.release.concepts + c.place_of.result < 2 ^ 32
+near_decimal c =
+    let tables = c.args.self.now in
+    omega (
+      arith,
+      c.requires.few,
+      length-values c.args.snapshot.now.release.concepts tables.decimals.items tables.texts,
+      slice_get_within c.as_slice.result.now c.place_of.result c.in-Decimal.decimal.0 c.place_of.ensures,
+      ap length c.as_slice.ensures.value,
+    )
+
+near_text : (c : After-place_of-place)
+    → length c.args.snapshot.now.release.concepts + (length c.args.self.now.decimals.items + c.place_of-place.result) < 2 ^ 32
+near_text c =
+    let tables = c.args.self.now in
+    omega (
+      arith,
+      c.requires.few,
+      length-values c.args.snapshot.now.release.concepts tables.decimals.items tables.texts,
+      slice_get_within tables.texts c.place_of-place.result c.in-Other.text.now c.place_of-place.ensures,
+    )
+
+pub place_of-requires-clause-rising : goal.place_of-requires-clause-rising
+place_of-requires-clause-rising c =
+    subst (IsStrictlySortedBy int_cmp) (sym c.as_slice.ensures.value) c.requires.rising.decimals_rise
+
+pub place_of-requires-clause-there : goal.place_of-requires-clause-there
+place_of-requires-clause-there c =
+    let concepts = c.args.snapshot.now.release.concepts in
+    let tables = c.args.self.now in
+    let there = subst (λ (value : LentValue). Contains (values_in concepts tables) (value_lent value)) c.in-Decimal.is c.requires.there in
+    subst (λ (decimals : List ℤ). Contains decimals c.in-Decimal.decimal.0) (sym c.as_slice.ensures.value)
+    (had_decimal concepts tables.decimals.items tables.texts c.in-Decimal.decimal.0 there)
+
+pub place_of-place-requires-clause-there : goal.place_of-place-requires-clause-there
+place_of-place-requires-clause-there c =
+    let concepts = c.args.snapshot.now.release.concepts in
+    let tables = c.args.self.now in
+    let there = subst (λ (value : LentValue). Contains (values_in concepts tables) (value_lent value)) c.in-Other.is c.requires.there in
+    had_text concepts tables.decimals.items tables.texts c.in-Other.text.now there
+
+pub overflow_cast-result : goal.overflow_cast-result
+overflow_cast-result c = record { fits = omega (arith, near_decimal (goal.at.overflow_cast-result c).After-place_of) }
+
+pub overflow_add-result : goal.overflow_add-result
+overflow_add-result c =
+    record { fits = omega (arith, near_decimal (goal.at.overflow_add-result c).After-place_of, c.concept_count-concepts.ensures.count) }
+
+pub overflow_add-result-in-Other : goal.overflow_add-result-in-Other
+overflow_add-result-in-Other c =
+    record { fits = omega (arith, near_text (goal.at.overflow_add-result-in-Other c).After-place_of-place, c.len.ensures) }
+
+pub overflow_cast-result-in-Other : goal.overflow_cast-result-in-Other
+overflow_cast-result-in-Other c =
+    record { fits = omega (arith, near_text (goal.at.overflow_cast-result-in-Other c).After-place_of-place, c.len.ensures) }
+
+pub overflow_add-result-in-Other-2 : goal.overflow_add-result-in-Other-2
+overflow_add-result-in-Other-2 c =
+    record {
+      fits = omega (
+        arith,
+        near_text (goal.at.overflow_add-result-in-Other-2 c).After-place_of-place,
+        c.len.ensures,
+        c.concept_count-concepts.ensures.count,
+      );
+    }
 
 pub unwrap-requires : goal.unwrap-requires
 unwrap-requires c =
@@ -14,27 +87,13 @@ unwrap-requires c =
     let tables = c.args.self.now in
     let there = subst (λ (value : LentValue). Contains (values_in concepts tables) (value_lent value)) c.in-Concept.is c.requires.there in
     ap is_some (c.index_of.ensures ∙ ap (concept_number concepts) c.number.ensures.number)
-    ∙ concept_found concepts tables.decimals.keys (texts_in tables) c.in-Concept.concept there
-
-pub unwrap-requires-in-Decimal : goal.unwrap-requires-in-Decimal
-unwrap-requires-in-Decimal c =
-    let concepts = c.args.snapshot.now.release.concepts in
-    let tables = c.args.self.now in
-    let there = subst (λ (value : LentValue). Contains (values_in concepts tables) (value_lent value)) c.in-Decimal.is c.requires.there in
-    c.get_index_of.ensures.found ∙ decimal_found concepts tables.decimals.keys (texts_in tables) c.in-Decimal.decimal.0 there
-
-pub unwrap-place-requires : goal.unwrap-place-requires
-unwrap-place-requires c =
-    let concepts = c.args.snapshot.now.release.concepts in
-    let tables = c.args.self.now in
-    let there = subst (λ (value : LentValue). Contains (values_in concepts tables) (value_lent value)) c.in-Other.is c.requires.there in
-    c.get_index_of-in-Other.ensures.found ∙ text_found concepts tables.decimals.keys tables.texts.keys c.in-Other.text.now there
+    ∙ concept_found concepts tables.decimals.items tables.texts c.in-Concept.concept there
 
 pub returns-in-Concept : goal.returns-in-Concept
 returns-in-Concept c =
     let concepts = c.args.snapshot.now.release.concepts in
     let tables = c.args.self.now in
-    concept_placed concepts tables.decimals.keys (texts_in tables) c.in-Concept.concept c.unwrap.result
+    concept_placed concepts tables.decimals.items tables.texts c.in-Concept.concept c.unwrap.result
     (ap (concept_number concepts) (sym c.number.ensures.number) ∙ sym c.index_of.ensures ∙ c.unwrap.ensures)
     ∙ ap (λ (value : LentValue). Some (value_lent value)) (sym c.in-Concept.is)
 
@@ -42,17 +101,16 @@ pub returns-in-Decimal : goal.returns-in-Decimal
 returns-in-Decimal c =
     let concepts = c.args.snapshot.now.release.concepts in
     let tables = c.args.self.now in
-    ap (λ (count : ℕ). slice_get (values_in concepts tables) (count + c.unwrap-in-Decimal.result)) c.concept_count-concepts.ensures.count
-    ∙ decimal_placed concepts tables.decimals.keys (texts_in tables) c.in-Decimal.decimal.0 c.unwrap-in-Decimal.result
-    (sym c.get_index_of.ensures.index ∙ c.unwrap-in-Decimal.ensures)
+    ap (λ (count : ℕ). slice_get (values_in concepts tables) (count + c.place_of.result)) c.concept_count-concepts.ensures.count
+    ∙ decimal_placed concepts tables.decimals.items tables.texts c.in-Decimal.decimal.0 c.place_of.result
+    (ap (λ (decimals : List ℤ). slice_get decimals c.place_of.result) (sym c.as_slice.ensures.value) ∙ c.place_of.ensures)
     ∙ ap (λ (value : LentValue). Some (value_lent value)) (sym c.in-Decimal.is)
 
 pub returns-in-Other : goal.returns-in-Other
 returns-in-Other c =
     let concepts = c.args.snapshot.now.release.concepts in
     let tables = c.args.self.now in
-    let there = subst (λ (value : LentValue). Contains (values_in concepts tables) (value_lent value)) c.in-Other.is c.requires.there in
-    (λ i. slice_get (values_in concepts tables) (c.concept_count-concepts.ensures.count i + (c.len.ensures.len i + c.unwrap-place.result)))
-    ∙ text_placed concepts tables.decimals.keys tables.texts.keys c.in-Other.text.now c.unwrap-place.result there
-    (sym c.get_index_of-in-Other.ensures.index ∙ c.unwrap-place.ensures)
+    let long : c.len.result ≡ length tables.decimals.items = omega (arith, c.len.ensures) in
+    (λ i. slice_get (values_in concepts tables) (c.concept_count-concepts.ensures.count i + (long i + c.place_of-place.result)))
+    ∙ text_placed concepts tables.decimals.items tables.texts c.in-Other.text.now c.place_of-place.result c.place_of-place.ensures
     ∙ ap (λ (value : LentValue). Some (value_lent value)) (sym c.in-Other.is)

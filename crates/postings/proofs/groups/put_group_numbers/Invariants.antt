@@ -2,7 +2,7 @@ use Rattle.std.proofs.Common.{◌==◌, ◌≡◌, ◌<◌, ◌^◌, map, not, t
 use Rattle.std.specs.Prelude.{All}
 use Rattle.std.specs.List.{filter}
 use Rattle.postings.specs.declared.rows.CodedRow.{CodedRow}
-use Rattle.postings.proofs.groups.group_numbers.Given as goal
+use Rattle.postings.proofs.groups.put_group_numbers.Given as goal
 
 abbrev pub invariant-loop-row : goal.invariant-loop-row
 invariant-loop-row l = record {

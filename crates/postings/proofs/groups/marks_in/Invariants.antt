@@ -1,6 +1,6 @@
 use Rattle.std.proofs.Common.{◌≡◌}
 use Rattle.postings.specs.Coded.{AreRowMarks, groups_ahead}
-use Rattle.postings.proofs.groups.row_marks.Given as goal
+use Rattle.postings.proofs.groups.marks_in.Given as goal
 
 abbrev pub invariant-loop-source : goal.invariant-loop-source
 invariant-loop-source l = record {

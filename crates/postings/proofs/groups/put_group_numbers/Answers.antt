@@ -4,7 +4,7 @@ use Rattle.idset.specs.Sets.{IsRising}
 use Rattle.snapshot.specs.InForce.{rising}
 use Rattle.postings.specs.Coded.{numbers_of_groups}
 use Rattle.postings.proofs.RisingLemmas.{listed_is_rising, rising-rises}
-use Rattle.postings.proofs.groups.group_numbers.Goals as goal
+use Rattle.postings.proofs.groups.put_group_numbers.Goals as goal
 
 pub returns : goal.returns
 returns c =

@@ -8,8 +8,8 @@ use Rattle.postings.specs.Coded.{group_codes, group_marks, groups_ahead, of_sour
 use Rattle.postings.specs.declared.rows.CodedRow.{CodedRow}
 use Rattle.postings.proofs.PlaceLemmas.{list_of-places_by-within, rows_of_source}
 use Rattle.postings.proofs.SourceLemmas.{groups_ahead-more, of_source-own, rows_left, starts_more}
-use Rattle.postings.proofs.groups.row_marks.Goals as goal
-use Rattle.postings.proofs.groups.row_marks.Goals.{In_ok-gather}
+use Rattle.postings.proofs.groups.marks_in.Goals as goal
+use Rattle.postings.proofs.groups.marks_in.Goals.{In_ok-gather}
 
 -- the places that are asked for are those of the source
 pub gather-requires : goal.gather-requires
@@ -53,7 +53,7 @@ push_sources-requires c =
     let source : ℕ = c.loop-source.source in
     let turn = gathered (goal.at.push_sources-requires c).In_ok-gather in
     let own = subst (λ (own : List CodedRow). All (λ (row : CodedRow). row.source ≡ source) own)
-    (sym (c.as_slice.ensures.value ∙ turn.own)) (of_source-own rows source) in
+    (sym (c.as_slice-own.ensures.value ∙ turn.own)) (of_source-own rows source) in
     λ k d inside. omega (arith, own k d inside, turn.below, c.requires.few_sources)
 
 pub push_groups-requires : goal.push_groups-requires
@@ -64,7 +64,7 @@ push_groups-requires c =
       c.requires.few,
       c.loop-source.invariant.ahead,
       turn.left,
-      ap (λ (own : List CodedRow). length own) c.as_slice-in-loop-source.ensures.value,
+      ap (λ (own : List CodedRow). length own) c.as_slice-own.ensures.value,
     )
 
 pub overflow_add-ahead : goal.overflow_add-ahead
@@ -76,7 +76,7 @@ overflow_add-ahead c =
       c.loop-source.invariant.ahead,
       c.in_ok-ahead.ensures.few,
       turn.left,
-      ap (λ (own : List CodedRow). length own) c.as_slice-in-loop-source.ensures.value,
+      ap (λ (own : List CodedRow). length own) c.as_slice-own.ensures.value,
     )
 
 pub loop-source-preserved : goal.loop-source-preserved
@@ -85,15 +85,14 @@ loop-source-preserved c =
     let source : ℕ = c.loop-source.source in
     let so_far = c.loop-source.invariant in
     let turn = gathered (goal.at.loop-source-preserved c).In_ok-gather in
-    let first = c.as_slice.ensures.value ∙ turn.own in
-    let own = c.as_slice-in-loop-source.ensures.value ∙ turn.own in
+    let own = c.as_slice-own.ensures.value ∙ turn.own in
     let ahead : c.loop-source.ahead + c.in_ok-ahead.field-0 ≡ groups_ahead rows (source + 1) =
     (λ i. so_far.ahead i + (c.in_ok-ahead.ensures.count ∙ ap (λ (own : List CodedRow). length (group_codes own)) own) i)
     ∙ sym (groups_ahead-more rows source) in
     record {
       marks = record {
         sources = c.in_ok-push_sources.ensures
-            ∙ (λ i. so_far.marks.sources i ++ source_marks (first i))
+            ∙ (λ i. so_far.marks.sources i ++ source_marks (own i))
             ∙ sym (flat_map-more (λ source. source_marks (of_source rows source)) source);
         groups = c.in_ok-ahead.ensures.groups
             ∙ (λ i. so_far.marks.groups i ++ group_marks (so_far.ahead i) (own i))

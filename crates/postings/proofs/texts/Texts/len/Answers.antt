@@ -1,0 +1,12 @@
+use Rattle.std.proofs.Common.{ℕ, List, length, ap, arith}
+use Rattle.hierarchy.proofs.CutLemmas.{length-cut}
+use Rattle.postings.proofs.texts.Texts.len.Goals as goal
+
+pub returns : goal.returns
+returns c =
+    omega (
+      arith,
+      c.len.ensures,
+      ap (λ (xs : List (List ℕ)). length xs) c.self.view_is,
+      length-cut c.self.inside.starts.items c.self.inside.bytes.items,
+    )

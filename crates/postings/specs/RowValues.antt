@@ -1,0 +1,40 @@
+-- The values that attribute rows have beside concepts: decimals, as so many times 10^-18, and other texts.
+use Rattle.std.specs.Prelude.{ℕ, ℤ, ◌↔◌, List, [], ◌∷◌, Contains}
+use Rattle.std.specs.Cmp.Lexicographic.{slice_cmp}
+use Rattle.std.specs.List.{flat_map}
+use Rattle.std.specs.List.Sorted.{IsStrictlySortedBy}
+use Rattle.std.specs.Ordering.{int_cmp, nat_cmp}
+use Rattle.std.specs.declared.cmp.Ordering.{Ordering}
+use Rattle.rf2_rows.specs.Release.{Attribute, Value, concept_value, number_value, text_value}
+
+-- those of some rows, row by row
+abbrev pub decimals_at : Value → List ℤ
+decimals_at (concept_value concept) = []
+decimals_at (number_value decimal) = decimal ∷ []
+decimals_at (text_value text) = []
+
+abbrev pub texts_at : Value → List (List ℕ)
+texts_at (concept_value concept) = []
+texts_at (number_value decimal) = []
+texts_at (text_value text) = text ∷ []
+
+abbrev pub decimals_of : List Attribute → List ℤ
+decimals_of rows = flat_map (λ (row : Attribute). decimals_at row.value) rows
+
+abbrev pub texts_of : List Attribute → List (List ℕ)
+texts_of rows = flat_map (λ (row : Attribute). texts_at row.value) rows
+
+-- the order of texts by their bytes
+abbrev pub text_cmp : List ℕ → List ℕ → Ordering
+text_cmp = slice_cmp nat_cmp
+
+-- decimals and texts that rise, so that none is there twice
+pub record AreTables (decimals : List ℤ) (texts : List (List ℕ)) : Type 0 where
+  pub decimals_rise : IsStrictlySortedBy int_cmp decimals
+  pub texts_rise : IsStrictlySortedBy text_cmp texts
+
+-- they are those that some rows have
+pub record AreTablesOf (rows : List Attribute) (decimals : List ℤ) (texts : List (List ℕ)) : Type 0 where
+  pub rising : AreTables decimals texts
+  pub decimals_are : (decimal : ℤ) → Contains decimals decimal ↔ Contains (decimals_of rows) decimal
+  pub texts_are : (text : List ℕ) → Contains texts text ↔ Contains (texts_of rows) text

@@ -1,0 +1,133 @@
+//! Texts, all in one vector.
+ghost use Rattle.std.specs.Prelude.{ℕ, ◌≡◌, ◌↔◌, ◌≤◌, ◌<◌, ◌+◌, ◌++◌, ◌∷◌, [], List, Contains, IfOk, Some, length, map, slice_get, slice_index_or};
+ghost use Rattle.std.specs.List.Sorted.{IsStrictlySortedBy};
+ghost use Rattle.snapshot.specs.AttributesBySource.{attributes_by_source};
+ghost use Rattle.postings.specs.RowValues.{text_cmp, texts_of};
+
+use rf2_rows::Value;
+use snapshot::Snapshot;
+use std::alloc::{AllocError, Global};
+use std::marker::Model;
+
+/// Texts, one behind the other. Contracts see the list of them.
+#[derive(Drop)]
+pub struct Texts {
+    // where each text starts, and where the last one ends
+    starts: Vec<usize>,
+    bytes: Vec<u8>,
+}
+
+impl Model for Texts {
+    ghost use Rattle.std.specs.Prelude.{List, ℕ};
+
+    ghost Value = { List (List ℕ) };
+
+    ghost use Rattle.postings.specs.TextsInside.{AreStarted, texts_in};
+
+    ghost view = { texts_in };
+
+    ghost invariant = { AreStarted };
+}
+
+impl Texts {
+    // Some texts.
+    fn new(alloc: Global, texts: &[&[u8]]) -> Result<Texts, AllocError>
+        ensures { IfOk result (λ own. own ≡ map (λ text. text.now) texts.now) }
+    {
+        let mut own = Texts::none(alloc, texts.len())?;
+        for text in texts {
+            own = own.push(text)?;
+        }
+        Ok(own)
+    }
+
+    // No text, with room for where so many start.
+    fn none(alloc: Global, count: usize) -> Result<Texts, AllocError>
+        ensures { IfOk result (λ texts. texts ≡ []) }
+    {
+        let mut starts = Vec::with_capacity(alloc, count.saturating_add(1))?;
+        starts.push(0)?;
+        let bytes = Vec::new(alloc);
+        Ok(Texts { starts, bytes })
+    }
+
+    // The texts and one more.
+    fn push(self, text: &[u8]) -> Result<Texts, AllocError>
+        ensures { IfOk result (λ texts. texts ≡ self ++ text.now ∷ []) }
+    {
+        let Texts {
+            mut starts,
+            mut bytes,
+        } = self;
+        bytes.extend_from_slice(text)?;
+        let end = bytes.len();
+        starts.push(end)?;
+        Ok(Texts { starts, bytes })
+    }
+
+    /// How many there are.
+    pub fn len(&self) -> usize
+        ensures { result ≡ length self.now }
+    {
+        self.starts.len() - 1
+    }
+
+    /// The text at a place, which is below their number.
+    pub fn of(&self, place: usize) -> &[u8]
+        requires { place < length self.now }
+        ensures { result.now ≡ slice_index_or self.now place [] }
+    {
+        let from = self.starts[place];
+        let to = self.starts[place + 1];
+        &self.bytes[from..to]
+    }
+
+    /// The place of a text that is among them, where they rise by their bytes.
+    pub fn place_of(&self, text: &[u8]) -> usize
+        requires rising { IsStrictlySortedBy text_cmp self.now }
+        requires there { Contains self.now text.now }
+        ensures { slice_get self.now result ≡ Some text.now }
+    {
+        let mut from = 0;
+        let mut to = self.len();
+        while from < to {
+            let middle = from + (to - from) / 2;
+            if self.of(middle).cmp(text).is_lt() {
+                from = middle + 1;
+            } else {
+                to = middle;
+            }
+        }
+        from
+    }
+}
+
+/// The other texts among the values of the attribute rows of a release, rising by their bytes and each once.
+pub fn texts_among(alloc: Global, snapshot: &Snapshot) -> Result<Texts, AllocError>
+    ensures rising { IfOk result (λ texts. IsStrictlySortedBy text_cmp texts) }
+    ensures members { IfOk result (λ texts. (text : List ℕ)
+        → Contains texts text ↔ Contains (texts_of (attributes_by_source snapshot.now.release)) text) }
+    ensures few { IfOk result (λ texts. length texts ≤ length (texts_of (attributes_by_source snapshot.now.release))) }
+{
+    let mut texts = lent_texts(alloc, snapshot)?;
+    texts.sort_unstable();
+    texts.dedup();
+    let texts = Texts::new(alloc, texts.as_slice())?;
+    Ok(texts)
+}
+
+// These texts row by row, lent from the snapshot.
+fn lent_texts(alloc: Global, snapshot: &Snapshot) -> Result<Vec<&[u8]>, AllocError>
+    ensures { IfOk result (λ texts. map (λ text. text.now) texts.items ≡ texts_of (attributes_by_source snapshot.now.release)) }
+{
+    let mut texts = Vec::new(alloc);
+    for n in 0..snapshot.attribute_count() {
+        let row = snapshot.attribute_row(n);
+        match row.value {
+            Value::Other(text) => texts.push(text)?,
+            Value::Concept(_) => {}
+            Value::Decimal(_) => {}
+        }
+    }
+    Ok(texts)
+}
