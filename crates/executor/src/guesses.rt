@@ -188,12 +188,17 @@ fn guess_of_members(operand: &ConceptPlan, indexes: &Indexes) -> u64 {
     }
 }
 
-// How many rows have one of the types and a value that may pass, or read backwards a source that may.
-fn guess_of_rows(back: bool, types: &ConceptPlan, test: &ValueTest, indexes: &Indexes) -> u64 {
-    let by_type = match types {
+/// How many rows have one of the types that a plan means, or more.
+pub fn rows_of_types(types: &ConceptPlan, indexes: &Indexes) -> u64 {
+    match types {
         ConceptPlan::One(id) => indexes.by_type(*id).len() as u64,
         _ => u64::from(indexes.row_count()),
-    };
+    }
+}
+
+// How many rows have one of the types and a value that may pass, or read backwards a source that may.
+fn guess_of_rows(back: bool, types: &ConceptPlan, test: &ValueTest, indexes: &Indexes) -> u64 {
+    let by_type = rows_of_types(types, indexes);
     match test {
         ValueTest::Within(operand) => match &**operand {
             ConceptPlan::One(id) => by_type.min(rows_of_concept(back, *id, indexes)),

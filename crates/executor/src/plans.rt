@@ -20,7 +20,7 @@ ghost use Rattle.pair_sets.specs.Within.{AreBelow, groups_within, may_be, number
 use crate::counting::{
     concept_leaf_limits, count_members, count_units, count_walk, group_leaf_limits, minus_reads,
 };
-use crate::guesses::{group_lead_of, guess_of_groups, lead_of};
+use crate::guesses::{group_lead_of, guess_of_groups, lead_of, rows_of_types};
 use crate::led::walk_within;
 use crate::nodes::{common, each_concept, each_group, either, no_concept, no_group, one_concept};
 use crate::reference_sets::{component_count, members};
@@ -164,7 +164,10 @@ fn execute_node<S: ConceptSet>(
             Ok(found)
         }
         ConceptPlan::Or(parts) => {
-            let found = in_some(alloc, parts, choices, candidates, snapshot, indexes, visits)?;
+            let mut tally = RowTally::unasked();
+            let found = in_some(
+                alloc, parts, choices, candidates, snapshot, indexes, visits, &mut tally,
+            )?;
             Ok(found)
         }
         ConceptPlan::Minus(first, second) => {
@@ -199,7 +202,7 @@ fn execute_node<S: ConceptSet>(
             let of_types = after_first(choices);
             let of_test = plan_floor(types, of_types, indexes).rest;
             let typed: S = execute_within(alloc, types, of_types, &all, snapshot, indexes, visits)?;
-            let mut tally = RowTally::of(indexes, *back);
+            let mut tally = RowTally::of(indexes, *back, rows_of_types(types, indexes));
             let tested: Tested<S> = tested_of(
                 alloc, test, of_test, snapshot, indexes, visits, &mut tally,
             )?;
@@ -260,6 +263,9 @@ fn walk_from<S: ConceptSet>(
     let own = concepts.as_slice();
     let hierarchy = indexes.hierarchy();
     let way = walk_way(hierarchy, operator, own, from.bound(), candidates);
+    if own.len() != 1 || way.asks_candidates || is_apart(operator) {
+        tally.leave();
+    }
     let items = way.items;
     count_walk(indexes, choices, operator, operand, from.count(), items, visits);
     let found = walk_within(
@@ -268,19 +274,23 @@ fn walk_from<S: ConceptSet>(
     Ok(found)
 }
 
-// The concepts that a plan means, and how many rows they have as values, where that shows as they are found.
+// The candidates among the concepts that a plan means, and how many rows they have as values, where that shows as they are
+// found.
 #[cycle(execute)]
+#[tactic(auto, using(crate::proofs::Rules::node_parts))]
 fn execute_tallied<S: ConceptSet>(
     alloc: Global,
     plan: &ConceptPlan,
     choices: &[Choice],
+    candidates: &Candidates<'_, S>,
     snapshot: &Snapshot,
     indexes: &Indexes,
     visits: &mut Visits,
     tally: &mut RowTally<'_>,
 ) -> Result<S, AllocError>
     requires index { IsIndexOf indexes.now snapshot.now.release }
-    ensures items { IfOk result (λ found. S.items_of found ≡ numbers_in snapshot.now.release (means snapshot.now.release (plan_of plan.now))) }
+    requires candidates { AreBelow S.bound_of (length snapshot.now.release.concepts) candidates.now }
+    ensures items { IfOk result (λ found. S.items_of found ≡ numbers_within snapshot.now.release (may_be S.items_of candidates.now) (means snapshot.now.release (plan_of plan.now))) }
     ensures bound { IfOk result (λ found. S.bound_of found ≡ length snapshot.now.release.concepts) }
     ensures grows { visits.old.count ≤ visits.new.count }
     ensures within { visits.new.count ≤ visits.old.count + node_sum (own_number indexes.now) choices.now (plan_of plan.now) }
@@ -290,19 +300,44 @@ fn execute_tallied<S: ConceptSet>(
     // the concepts rise, and the sources of all attribute rows are in force
     snapshot.concept_count();
     snapshot.attribute_count();
-    let all = Candidates::All;
     match plan {
         ConceptPlan::Walk(operator, operand) => {
             let found = walk_from(
-                alloc, *operator, operand, choices, &all, snapshot, indexes, visits, tally,
+                alloc, *operator, operand, choices, candidates, snapshot, indexes, visits, tally,
+            )?;
+            Ok(found)
+        }
+        ConceptPlan::Or(parts) => {
+            let found = in_some(
+                alloc, parts, choices, candidates, snapshot, indexes, visits, tally,
             )?;
             Ok(found)
         }
         _ => {
-            let found = execute_within(alloc, plan, choices, &all, snapshot, indexes, visits)?;
+            tally_one(plan, snapshot, tally);
+            let found = execute_within(
+                alloc, plan, choices, candidates, snapshot, indexes, visits,
+            )?;
             Ok(found)
         }
     }
+}
+
+// Adds the rows of the concept that a plan names, if it is such a plan.
+fn tally_one(plan: &ConceptPlan, snapshot: &Snapshot, tally: &mut RowTally<'_>) {
+    match plan {
+        ConceptPlan::One(id) => {
+            if let Some(concept) = snapshot.index_of(*id) {
+                tally.add(&[concept]);
+            }
+        }
+        _ => tally.leave(),
+    }
+}
+
+// Whether an operator keeps those of a set that lead to no other of it.
+fn is_apart(operator: Operator) -> bool {
+    matches!(operator, Operator::Top | Operator::Bottom)
 }
 
 // The candidates among the concepts so many of whose groups are among those that a plan means.
@@ -467,6 +502,7 @@ fn in_some<S: ConceptSet>(
     snapshot: &Snapshot,
     indexes: &Indexes,
     visits: &mut Visits,
+    tally: &mut RowTally<'_>,
 ) -> Result<S, AllocError>
     requires index { IsIndexOf indexes.now snapshot.now.release }
     requires candidates { AreBelow S.bound_of (length snapshot.now.release.concepts) candidates.now }
@@ -483,7 +519,9 @@ fn in_some<S: ConceptSet>(
     let mut rest = choices;
     for part in parts {
         let behind = plan_floor(part, rest, indexes).rest;
-        let next: S = execute_within(alloc, part, rest, candidates, snapshot, indexes, visits)?;
+        let next: S = execute_tallied(
+            alloc, part, rest, candidates, snapshot, indexes, visits, tally,
+        )?;
         visits.add(found.count() as u64 + next.count() as u64);
         found = either(alloc, &found, &next)?;
         rest = behind;
@@ -550,7 +588,7 @@ fn tested_of<S: ConceptSet>(
     match test {
         ValueTest::Within(operand) => {
             let set: S = execute_tallied(
-                alloc, operand, choices, snapshot, indexes, visits, tally,
+                alloc, operand, choices, &all, snapshot, indexes, visits, tally,
             )?;
             Ok(Tested::Within(set))
         }
@@ -658,7 +696,7 @@ fn execute_group_node<S: ConceptSet>(
             let of_types = after_first(choices);
             let of_test = plan_floor(types, of_types, indexes).rest;
             let typed: S = execute_within(alloc, types, of_types, &all, snapshot, indexes, visits)?;
-            let mut tally = RowTally::of(indexes, false);
+            let mut tally = RowTally::of(indexes, false, rows_of_types(types, indexes));
             let tested: Tested<S> = tested_of(
                 alloc, test, of_test, snapshot, indexes, visits, &mut tally,
             )?;

@@ -114,7 +114,7 @@ fn listed_or_self<S: ConceptSet>(
     ensures bound { IfOk result (λ found. S.bound_of found ≡ S.bound_of operand.now) }
 {
     let mut found: S = listed(alloc, snapshot, index, family, operand, concepts, tally)?;
-    tally.add_known(concepts);
+    tally.add(concepts);
     found.add_all(alloc, concepts)?;
     Ok(found)
 }
@@ -133,12 +133,15 @@ fn list_of_one<S: ConceptSet>(
     ensures items { IfOk result (λ found. S.items_of found ≡ joined count (lists_of index.now family) (concept ∷ [])) }
     ensures bound { IfOk result (λ found. S.bound_of found ≡ count) }
 {
+    let list = family.list(index, concept);
+    if tally.asks_for(list.len()) {
+        let own = tally.read(alloc, list)?;
+        return S::from_items(alloc, own.as_slice(), count);
+    }
+    tally.leave();
     match family.words(index, concept) {
         Some(words) => S::from_words(alloc, words, count),
-        None => {
-            let list = tally.read(alloc, family.list(index, concept))?;
-            S::from_items(alloc, list.as_slice(), count)
-        }
+        None => S::from_items(alloc, list, count),
     }
 }
 

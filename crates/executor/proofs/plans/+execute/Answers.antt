@@ -138,17 +138,37 @@ walk_from-walk_way-way-requires-clause-below g t c =
     (subst (λ (count : ℕ). All (λ number. number < count) (g.S.ConceptSet.items_of from)) (sym c.bound.ensures)
     (all_below (g.S.ConceptSet.bound_of from) (g.S.ConceptSet.items_of from) (g.met.S.ConceptSet.rising from)))
 
--- all are candidates
+pub execute_tallied-returns-in_ok-found-in-Walk-clause-items : goal.execute_tallied-returns-in_ok-found-in-Walk-clause-items
+execute_tallied-returns-in_ok-found-in-Walk-clause-items g t c =
+    let release = c.args.snapshot.now.release in
+    c.in_ok-found-in-Walk.ensures.items
+    ∙ ap (λ (plan : Plan). numbers_within release (may_be g.S.ConceptSet.items_of c.args.candidates.now) (means release plan))
+    (ap (λ (plan : ConceptPlan). walk_plan c.in-Walk.operator (plan_of plan)) c.deref.ensures ∙ sym (ap plan_of c.in-Walk.is))
+
+pub execute_tallied-returns-in_ok-found-in-Or-clause-items : goal.execute_tallied-returns-in_ok-found-in-Or-clause-items
+execute_tallied-returns-in_ok-found-in-Or-clause-items g t c =
+    let release = c.args.snapshot.now.release in
+    let may : ℕ → Bool = may_be g.S.ConceptSet.items_of c.args.candidates.now in
+    let some : ℕ → Bool = λ concept. list_any (λ part. means release (plan_of part) concept) c.deref-in-Or.result.now in
+    c.in_ok-found-in-Or.ensures.items
+    ∙ within_same release may some (means release (plan_of c.args.plan.now))
+    (or_node release (plan_of c.args.plan.now) (numbers_in release some) c.deref-in-Or.result.now
+    (ap plan_of c.in-Or.is ∙ plan_of-Or c.in-Or.parts ∙ ap (λ (parts : List ConceptPlan). or_plan (plans_of parts)) (sym c.deref-in-Or.ensures.value)) refl)
 pub execute_tallied-returns-in_ok-found-in-Walk-clause-size : goal.execute_tallied-returns-in_ok-found-in-Walk-clause-size
 execute_tallied-returns-in_ok-found-in-Walk-clause-size g t c =
-    let release = c.args.snapshot.now.release in
-    few_found release c.args.indexes.now c.requires.index c.concept_count.ensures.rising
-    (sources_known release c.concept_count.ensures.rising c.attribute_count.ensures.by_source)
-    c.args.choices.now (plan_of c.args.plan.now) (λ (number : ℕ). true)
+    few_found c.args.snapshot.now.release c.args.indexes.now c.requires.index c.concept_count.ensures.rising
+    (sources_known c.args.snapshot.now.release c.concept_count.ensures.rising c.attribute_count.ensures.by_source)
+    c.args.choices.now (plan_of c.args.plan.now) (may_be g.S.ConceptSet.items_of c.args.candidates.now)
     (g.S.ConceptSet.items_of c.in_ok-found-in-Walk.found)
-    (c.in_ok-found-in-Walk.ensures.items
-    ∙ ap (λ (plan : Plan). numbers_within release (λ (number : ℕ). true) (means release plan))
-    (ap (λ (plan : ConceptPlan). walk_plan c.in-Walk.operator (plan_of plan)) c.deref.ensures ∙ sym (ap plan_of c.in-Walk.is)))
+    (execute_tallied-returns-in_ok-found-in-Walk-clause-items g t c)
+
+pub execute_tallied-returns-in_ok-found-in-Or-clause-size : goal.execute_tallied-returns-in_ok-found-in-Or-clause-size
+execute_tallied-returns-in_ok-found-in-Or-clause-size g t c =
+    few_found c.args.snapshot.now.release c.args.indexes.now c.requires.index c.concept_count.ensures.rising
+    (sources_known c.args.snapshot.now.release c.concept_count.ensures.rising c.attribute_count.ensures.by_source)
+    c.args.choices.now (plan_of c.args.plan.now) (may_be g.S.ConceptSet.items_of c.args.candidates.now)
+    (g.S.ConceptSet.items_of c.in_ok-found-in-Or.found)
+    (execute_tallied-returns-in_ok-found-in-Or-clause-items g t c)
 
 pub walk_from-returns-clause-items : goal.walk_from-returns-clause-items
 walk_from-returns-clause-items g t c =
@@ -508,8 +528,8 @@ in_some-loop-part-preserved g t c =
           (sources_known release c.concept_count.ensures.rising c.attribute_count.ensures.by_source) c.args.choices.now
           (take c.loop-part.part-index c.args.parts.now) may (g.S.ConceptSet.items_of c.loop-part.found) c.loop-part.invariant.items)
           c.in_ok-next.ensures.size)
-          (omega (arith, c.execute_within.ensures.grows, c.add.ensures.grows))
-          (omega (arith, c.execute_within.ensures.within, c.add.ensures.count))
+          (omega (arith, c.execute_tallied.ensures.grows, c.add.ensures.grows))
+          (omega (arith, c.execute_tallied.ensures.within, c.add.ensures.count))
           (omega (arith, c.in_ok-next.ensures.floor, c.add.ensures.grows));
     }
 
@@ -518,13 +538,13 @@ in_some-returns-in_err-next-clause-within g t c =
     let indexed = c.args.indexes.now in
     omega (
       arith,
-      some_next {next = c.execute_within.new.visits.count} c.loop-part.invariant.work c.part-item.result c.loop-part-test.true c.part-item.is 0
+      some_next {next = c.execute_tallied.new.visits.count} c.loop-part.invariant.work c.part-item.result c.loop-part-test.true c.part-item.is 0
           (omega (
             arith,
             mul-le-mul_right {m = c.loop-part.part-index} (total (sizes indexed c.args.choices.now (plans_of c.args.parts.now)))
                 (le_of_lt c.loop-part-test.true),
           ))
-          (omega (arith, c.execute_within.ensures.within)),
+          (omega (arith, c.execute_tallied.ensures.within)),
       ap (λ (count : ℕ). count * total (sizes indexed c.args.choices.now (plans_of c.args.parts.now))) (plan_count-parts c.args.parts.now),
     )
 
@@ -548,7 +568,7 @@ in_some-returns-in_err-found-2-clause-within g t c =
       some_next {next = c.add.new.self.count} c.loop-part.invariant.work c.part-item.result c.loop-part-test.true c.part-item.is
           (length (g.S.ConceptSet.items_of c.loop-part.found) + length (g.S.ConceptSet.items_of c.in_ok-next.next))
           (omega (arith, reads, more))
-          (omega (arith, c.execute_within.ensures.within, c.add.ensures.count)),
+          (omega (arith, c.execute_tallied.ensures.within, c.add.ensures.count)),
       ap (λ (count : ℕ). count * all) (plan_count-parts c.args.parts.now),
     )
 
