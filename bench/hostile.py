@@ -5,8 +5,13 @@
 
 PROGRAM is the built program, crates/hosecrag/out/hosecrag where it is left out. A line is printed for each case,
 and at the end `N passed, M failed`. The folders are made below a new temporary folder, which is removed.
+
+To refuse allocations takes gcc, and to do so in calls of the libraries that the program does not make takes rt and the
+proved libraries (refusals.sh). Where these are not there, a line says what was left out.
 """
+import concurrent.futures
 import contextlib
+import itertools
 import os
 import random
 import re
@@ -31,6 +36,65 @@ CAUSES = "fields|id-length|id-digit|id-zero|id-part|id-check|time|active|group|v
 REFUSALS = re.compile(
     rf"REFUSED (no-concept-file|header \S+|row \S+ \d+ \d+ ({CAUSES})|conflict \S+ \d+|too-many \S+ \d+|cycle \d+)\n"
 )
+# The lines of the sample's concepts, and queries of each form with the concepts that answer them, or what refuses them.
+LINES = {
+    "A": b"100005 |Alpha (finding)|\n",
+    "B": b"101009 |Beta (finding)|\n",
+    "C": b"102002 |Gamma (finding)|\n",
+    "D": b"103007 |Delta (finding)|\n",
+    "T": b"104001 |Type T (attribute)|\n",
+    "U": b"105000 |Type U (attribute)|\n",
+    "X": b"106004 |Value X (value)|\n",
+    "Y": b"107008 |Value Y (value)|\n",
+    "Q": b"108003\n",
+    "R": b"138875005 |Root (test)|\n",
+}
+FORMS = (
+    (b"*", "ABCDTUXYQR"),
+    (b"<100005", "BCD"),
+    (b"109006", ""),
+    (b"!!>(<100005)", "BC"),
+    (b"!!<(<<100005)", "D"),
+    (b">103007", "ABCR"),
+    (b">!103007", "BC"),
+    (b"<!138875005", "ATUXQ"),
+    (b">>!107008", "XY"),
+    (b"<<(101009 AND 102002)", ""),
+    (b"<<101009 AND <<102002", "D"),
+    (b"101009 OR 107008 OR 100005", "ABY"),
+    (b"<100005 MINUS 101009", "CD"),
+    (b"< 100005 |Alpha| /* c */ and 101009", "B"),
+    (b"<^108003", "D"),
+    (b"^*", "BD"),
+    (b"<100005.104001", "XY"),
+    (b"<100005 . 104001 . 105000", ""),
+    (b"<100005:104001=106004", "BC"),
+    (b"<100005:104001=<<106004,105000=*", "BCD"),
+    (b"<100005:105000=#3 OR 104001=106004", "BCD"),
+    (b"<100005:{104001=<<106004,105000=*}", "B"),
+    (b"<100005:[2..*]{104001=* OR 105000=*}", "CD"),
+    (b"<100005:[1..1]{105000=*}", "BC"),
+    (b"<100005:{[0..0]105000=*}", "CD"),
+    (b"<<100005:[0..0]105000=*", "A"),
+    (b"<<100005:[0..0]{105000=*}", "A"),
+    (b"<100005:[3..1]105000=*", ""),
+    (b"<100005:[0..*]105000=*", "BCD"),
+    (b"<<106004:[3..3] R 105000=<100005", "Y"),
+    (b"<100005:104001!=106004", "D"),
+    (b"<100005:105000!=#3", "C"),
+    (b"*:105000>#2", "CD"),
+    (b"*:105000<#+2.6", "C"),
+    (b"", b"ERR syntax\n"),
+    (b"100005 AND 101009 OR 102002", b"ERR syntax\n"),
+    (b"100005 XOR 101009", b"ERR token 7\n"),
+    (b"1234567890123456789", b"ERR limit 0\n"),
+    (b"\xff", b"ERR utf8\n"),
+    (b"(" * 65 + b"*" + b")" * 65, b"ERR depth\n"),
+    (b"*{{C active=1}}", b"ERR unsupported 1 filter\n"),
+)
+EXAMPLES = f"{ROOT}/examples"
+EDITION = f"{EXAMPLES}/SnomedCT_SampleEdition_20240101"
+EXTENSION = f"{EXAMPLES}/SnomedCT_SampleExtension_20240601"
 passed, failed = 0, 0
 
 
@@ -308,6 +372,85 @@ def memory():
     case("one of them is enough", (0, b"") in told, True)
 
 
+def text_of(answer):
+    """The text of an answer: its concepts by their letters, or what refuses the query."""
+    if isinstance(answer, bytes):
+        return answer
+    return b"OK %d\n" % len(answer) + b"".join(LINES[it] for it in answer)
+
+
+def refuse_one(shim, number, words, stdin):
+    """Runs the program with one allocation refused. Returns how it ended, and whether it met that."""
+    told, tells = os.pipe()
+    environment = {**os.environ, "LD_PRELOAD": shim, "REFUSE": str(number), "REFUSE_TOLD": str(tells)}
+    ended = run(*words, stdin=stdin, env=environment, pass_fds=(tells,))
+    os.close(tells)
+    has_met = os.read(told, 1) == b"x"
+    os.close(told)
+    return ended, has_met
+
+
+def refuse_each(name, shim, words, stdin, whole):
+    """Refuses each allocation of a run in turn, up to the first that the run does not come to. A run that met its refusal
+    ends for want of memory, behind whole answers; or, where it can do without, as a run that met none."""
+    answers = re.findall(rb"(?m)^(?:OK|ERR|PLAN) .*\n(?:(?!OK |ERR |PLAN ).*\n)*", whole[1])
+    fronts = {b"".join(answers[:count]) for count in range(len(answers) + 1)}
+    refusals, count, odd = (b"REFUSED memory\n", b"FAULT memory\n"), 0, []
+    with concurrent.futures.ThreadPoolExecutor(os.cpu_count()) as pool:
+        for first in itertools.count(1, 100):
+            runs = list(pool.map(lambda number: refuse_one(shim, number, words, stdin), range(first, first + 100)))
+            for number, ((status, out, err), has_met) in enumerate(runs, first):
+                count += has_met
+                is_refusal = has_met and status == 4 and out in fronts and err in refusals
+                if not is_refusal and (status, out, err) != whole:
+                    odd.append((number, status, out, err))
+            if not runs[-1][1]:
+                break
+    case(f"{name}: {count} allocations refused in turn", odd[:3], [])
+
+
+def allocations():
+    """The program with each of its allocations refused in turn, over the examples: every form of query, and words."""
+    if not shutil.which("gcc"):
+        print("left out: allocations refused in turn, since gcc is not here")
+        return
+    stdin = b"".join(query + b"\n" for query, _ in FORMS)
+    whole = (0, b"".join(text_of(answer) for _, answer in FORMS), b"")
+    with folder() as room:
+        shim = f"{room}/refuse.so"
+        subprocess.run(["gcc", "-O2", "-shared", "-fPIC", "-o", shim, f"{ROOT}/bench/refuse.c"], check=True)
+        case("every form of query", run("query", EDITION, stdin=stdin), whole)
+        refuse_each("query", shim, ["query", EDITION], stdin, whole)
+        refuse_each("queries without words", shim, [], QUERY, (0, ANSWER, b""))
+        refuse_each("explain", shim, ["explain", EDITION], stdin, run("explain", EDITION, stdin=stdin))
+        refuse_each("check", shim, ["check", EDITION], b"", (0, REPORT, b""))
+        refuse_each("check of two folders", shim, ["check", EDITION, EXTENSION], b"", run("check", EDITION, EXTENSION))
+        for name, words in (
+            ("help", ["--help"]),
+            ("no command", ["qery"]),
+            ("no folder", ["check", "/nowhere"]),
+            ("no Concept file", ["check", f"{EDITION}/Snapshot/Refset"]),
+        ):
+            refuse_each(name, shim, words, b"", run(*words))
+
+
+def calls():
+    """Calls of the libraries with their allocations refused in turn."""
+    if not shutil.which("gcc") or not shutil.which("rt") or not os.path.isdir(f"{ROOT}/crates/query_tool/out/rlib"):
+        print("left out: allocations refused in calls of the libraries, since gcc, rt or the proved libraries are not here")
+        return
+    global passed, failed
+    print("the program that makes the calls of the libraries is proved first, which takes some minutes", flush=True)
+    with folder() as room:
+        ran = subprocess.run([f"{ROOT}/bench/refusals.sh", room], stdin=subprocess.DEVNULL, stdout=subprocess.PIPE)
+    lines = ran.stdout.decode().splitlines()
+    print("\n".join(lines[:-1]))
+    told = re.fullmatch(r"(\d+) passed, (\d+) failed", lines[-1] if lines else "")
+    case("the calls of the libraries are made", (ran.returncode, bool(told)), (0, True))
+    if told:
+        passed, failed = passed + int(told[1]), failed + int(told[2])
+
+
 def seconds_of(*words):
     """The least time of three runs, each of which must end well."""
     times = []
@@ -341,7 +484,7 @@ if __name__ == "__main__":
         os.chmod(at, 0o755)
         PROGRAM = shutil.copy(given, f"{at}/hosecrag")
         os.chmod(PROGRAM, 0o755)
-        for part in (words, streams, links, several, names, kinds_of_file, long_lines, memory, spoiled, crafted):
+        for part in (words, streams, links, several, names, kinds_of_file, long_lines, memory, allocations, spoiled, crafted, calls):
             part()
     print(f"{passed} passed, {failed} failed")
     sys.exit(1 if failed else 0)

@@ -10,8 +10,12 @@ crates=$3
 release=$(cd "$4" && pwd)
 work=${5:-$(mktemp -d)}
 mkdir -p "$work/crates"
+# (by links where these can be made: what was made of a crate is replaced and never changed)
 for crate in $crates; do
-    [ -d "$work/crates/$crate" ] || cp -r "$here/../crates/$crate" "$work/crates/"
+    [ -d "$work/crates/$crate" ] || cp -al "$here/../crates/$crate" "$work/crates/" 2> /dev/null || {
+        rm -rf "$work/crates/$crate"
+        cp -r "$here/../crates/$crate" "$work/crates/"
+    }
 done
 cd "$work"
 if [ ! -d "crates/$name" ]; then
@@ -22,7 +26,11 @@ if [ ! -d "crates/$name" ]; then
 fi
 grep -E "^($(echo $crates | tr ' ' '|')):" "$here/../crates.txt" > crates.txt
 echo "$name: $crates anyhow" >> crates.txt
-cp "$here/$main" "crates/$name/src/main.rt"
+# what stands beside `X_main.rt.in` as `X_part.rt.in` is a part of the program
+for file in "$here/${main%main.rt.in}"*.rt.in; do
+    part=${file#"$here/${main%main.rt.in}"}
+    cp "$file" "crates/$name/src/${part%.in}"
+done
 find "$release" -name 'sct2_Concept_*.txt' -exec cp {} concepts.txt \;
 find "$release" -name 'sct2_Relationship_*.txt' -exec cp {} relationships.txt \;
 find "$release" -name 'sct2_RelationshipConcreteValues_*.txt' -exec cp {} values.txt \;

@@ -1,7 +1,4 @@
 //! Lines from outside, of bytes and of files that are read in pieces.
-//!
-//! Where memory was refused a check of files is made once more, so that it holds with every allocation
-//! failing in its turn.
 ghost use Rattle.std.specs.Prelude.{◌≤◌};
 
 use release_files::{FileSource, Line, Lines, MemoryFiles, NamedBytes, PieceLines, SourceFault};
@@ -186,22 +183,9 @@ fn check_pieces(
     requires { 1 ≤ piece }
 {
     let mut source = MemoryFiles::new(alloc, files, piece, 0);
-    check_twice(rt, alloc, &mut source, bytes)?;
+    but_for_memory(rt, check_file(rt, alloc, &mut source, NAME, bytes))?;
     assert!(rt; source.failures() == 0);
     Ok(())
-}
-
-// Where memory was refused the file is checked once more.
-fn check_twice(
-    rt: &impl Abort,
-    alloc: Global,
-    source: &mut MemoryFiles<'_>,
-    bytes: &[u8],
-) -> Result<(), AllocError> {
-    match but_for_memory(rt, check_file(rt, alloc, source, NAME, bytes)) {
-        Ok(()) => Ok(()),
-        Err(AllocError) => but_for_memory(rt, check_file(rt, alloc, source, NAME, bytes)),
-    }
 }
 
 #[test]
@@ -238,10 +222,7 @@ fn check_limit(rt: &impl Abort, alloc: Global, limit: usize) -> Result<(), Alloc
 #[test]
 fn reads_no_more_than_the_limit(rt: HostRuntime) -> Result<(), AllocError> {
     for limit in 0..TEXT.len() + 2 {
-        match check_limit(&rt, rt.alloc(), limit) {
-            Ok(()) => {}
-            Err(AllocError) => check_limit(&rt, rt.alloc(), limit)?,
-        }
+        check_limit(&rt, rt.alloc(), limit)?;
     }
     Ok(())
 }
@@ -257,10 +238,7 @@ fn long_text(alloc: Global, count: usize) -> Result<Vec<u8>, AllocError> {
 #[test]
 fn reads_a_line_longer_than_a_piece(rt: HostRuntime) -> Result<(), AllocError> {
     let alloc = rt.alloc();
-    let text = match long_text(alloc, 200_000) {
-        Ok(text) => text,
-        Err(AllocError) => long_text(alloc, 200_000)?,
-    };
+    let text = long_text(alloc, 200_000)?;
     check_long(&rt, alloc, text.as_slice())
 }
 
@@ -296,11 +274,7 @@ fn check_failure(rt: &impl Abort, alloc: Global, fail_at: u64) -> Result<bool, A
 fn answers_each_failure(rt: HostRuntime) -> Result<(), AllocError> {
     let mut failed = 0u64;
     for fail_at in 1..100 {
-        let whole = match check_failure(&rt, rt.alloc(), fail_at) {
-            Ok(whole) => whole,
-            Err(AllocError) => check_failure(&rt, rt.alloc(), fail_at)?,
-        };
-        if whole {
+        if check_failure(&rt, rt.alloc(), fail_at)? {
             break;
         }
         failed = fail_at;
@@ -325,19 +299,11 @@ fn check_names(rt: &impl Abort, source: &mut MemoryFiles<'_>) -> Result<(), Sour
     Ok(())
 }
 
-// The same once more where memory was refused.
-fn check_names_twice(rt: &impl Abort, source: &mut MemoryFiles<'_>) -> Result<(), AllocError> {
-    match but_for_memory(rt, check_names(rt, source)) {
-        Ok(()) => Ok(()),
-        Err(AllocError) => but_for_memory(rt, check_names(rt, source)),
-    }
-}
-
 #[test]
 fn lists_names(rt: HostRuntime) -> Result<(), AllocError> {
     let files = files();
     let mut source = MemoryFiles::new(rt.alloc(), &files, 1, 0);
-    check_names_twice(&rt, &mut source)?;
+    but_for_memory(&rt, check_names(&rt, &mut source))?;
     assert!(&rt; source.failures() == 0);
     Ok(())
 }

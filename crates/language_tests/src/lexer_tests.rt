@@ -253,18 +253,9 @@ const REFUSALS: &[(&[u8], QueryFault)] = &[
     (b"|\xff|", QueryFault::Utf8),
 ];
 
-// What a text is read to. Where memory was refused it is read once more: one refusal is answered by
-// `Memory` alone, and leaves nothing behind.
-fn read(alloc: Global, text: &[u8]) -> Result<Vec<Token<'_>>, QueryFault> {
-    match lex(alloc, text) {
-        Err(QueryFault::Memory) => lex(alloc, text),
-        answer => answer,
-    }
-}
-
 // The token of a text that has no other.
 fn only_token(alloc: Global, text: &[u8]) -> Option<Token<'_>> {
-    match read(alloc, text) {
+    match lex(alloc, text) {
         Ok(tokens) => sole(&tokens),
         Err(_) => None,
     }
@@ -313,7 +304,7 @@ fn stand_at(tokens: &[Token<'_>], places: &[(TokenKind, usize, usize)]) -> bool 
 }
 
 fn has_tokens(alloc: Global, text: &[u8], places: &[(TokenKind, usize, usize)]) -> bool {
-    match read(alloc, text) {
+    match lex(alloc, text) {
         Ok(tokens) => stand_at(&tokens, places),
         Err(_) => false,
     }
@@ -332,7 +323,7 @@ fn tokens(rt: HostRuntime) {
 
 // How many tokens a text has, or its refusal.
 fn count(alloc: Global, text: &[u8]) -> Result<usize, QueryFault> {
-    match read(alloc, text) {
+    match lex(alloc, text) {
         Ok(tokens) => Ok(tokens.len()),
         Err(fault) => Err(fault),
     }
@@ -365,7 +356,7 @@ fn repeated(
     Ok(text)
 }
 
-// Whether a text that is made first is answered so. Memory that is refused to the test itself tells nothing.
+// Whether a text that is made first is answered so.
 fn is_counted(
     alloc: Global,
     (front, bytes, times, back): (&[u8], &[u8], usize, &[u8]),
@@ -373,7 +364,7 @@ fn is_counted(
 ) -> bool {
     match repeated(alloc, front, bytes, times, back) {
         Ok(text) => count(alloc, &text) == want,
-        Err(AllocError) => true,
+        Err(AllocError) => false,
     }
 }
 
@@ -414,11 +405,11 @@ fn long_texts(rt: HostRuntime) {
     );
 }
 
-// Whether a fault is told in these words, unless memory is refused.
+// Whether a fault is told in these words.
 fn is_told(alloc: Global, fault: QueryFault, words: &str) -> bool {
     match format!(in alloc; "{fault}") {
         Ok(text) => text.as_str() == words,
-        Err(AllocError) => true,
+        Err(AllocError) => false,
     }
 }
 

@@ -9,11 +9,11 @@ use rf2_rows::Decimal;
 use std::alloc::{AllocError, Global};
 use std::process::Abort;
 
-// Whether a text is answered by the tree, unless memory is refused.
+// Whether a text is answered by the tree.
 fn is_answered(alloc: Global, text: &[u8], tree: &Constraint) -> bool {
     match parse(alloc, text) {
         Ok(found) => found == *tree,
-        Err(fault) => fault == QueryFault::Memory,
+        Err(_) => false,
     }
 }
 
@@ -36,13 +36,10 @@ fn refusal(alloc: Global, text: &[u8]) -> Option<QueryFault> {
     parse(alloc, text).err()
 }
 
-// Checks that a text is refused, unless memory is refused.
+// Checks that a text is refused.
 fn check_refused(rt: &impl Abort, alloc: Global, text: &[u8], fault: QueryFault) {
     let found = refusal(alloc, text);
-    assert!(rt;
-        found == Some(fault) || found == Some(QueryFault::Memory),
-        "{found:?}"
-    );
+    assert!(rt; found == Some(fault), "{found:?}");
 }
 
 fn check_all_refused(rt: &impl Abort, alloc: Global, rows: &[(&[u8], QueryFault)]) {
@@ -247,14 +244,11 @@ fn reads_refinements(rt: HostRuntime) -> Result<(), AllocError> {
     )
 }
 
-// Checks that each text is a constraint, unless memory is refused.
+// Checks that each text is a constraint.
 fn check_read(rt: &impl Abort, alloc: Global, texts: &[&[u8]]) {
     for text in texts {
         let fault = refusal(alloc, text);
-        assert!(rt;
-            matches!(fault, None | Some(QueryFault::Memory)),
-            "{fault:?}"
-        );
+        assert!(rt; fault.is_none(), "{fault:?}");
     }
 }
 

@@ -1,7 +1,4 @@
 //! The plans of worked queries, their depth and their copies, and plans that are not equal.
-//!
-//! Each check runs again where an allocation failed, so that it holds with every allocation failing in
-//! its turn.
 use crate::trees::{
     SOME, attribute, boxed as boxed_query, by_value as query_by_value, either, members, pair_of,
     refined, walk,
@@ -352,99 +349,54 @@ fn others_differ(alloc: Global) -> Result<bool, AllocError> {
 
 #[test]
 fn plan_by_value(rt: HostRuntime) -> Result<(), AllocError> {
-    let alloc = rt.alloc();
-    let holds = match lowers_by_value(alloc) {
-        Ok(holds) => holds,
-        Err(AllocError) => lowers_by_value(alloc)?,
-    };
-    assert!(rt; holds);
+    assert!(rt; lowers_by_value(rt.alloc())?);
     Ok(())
 }
 
 #[test]
 fn plan_by_type(rt: HostRuntime) -> Result<(), AllocError> {
-    let alloc = rt.alloc();
-    let holds = match lowers_by_type(alloc) {
-        Ok(holds) => holds,
-        Err(AllocError) => lowers_by_type(alloc)?,
-    };
-    assert!(rt; holds);
+    assert!(rt; lowers_by_type(rt.alloc())?);
     Ok(())
 }
 
 #[test]
 fn plan_in_braces(rt: HostRuntime) -> Result<(), AllocError> {
-    let alloc = rt.alloc();
-    let holds = match lowers_in_braces(alloc) {
-        Ok(holds) => holds,
-        Err(AllocError) => lowers_in_braces(alloc)?,
-    };
-    assert!(rt; holds);
+    assert!(rt; lowers_in_braces(rt.alloc())?);
     Ok(())
 }
 
 #[test]
 fn plan_of_twice_the_same(rt: HostRuntime) -> Result<(), AllocError> {
-    let alloc = rt.alloc();
-    let holds = match lowers_twice_the_same(alloc) {
-        Ok(holds) => holds,
-        Err(AllocError) => lowers_twice_the_same(alloc)?,
-    };
-    assert!(rt; holds);
+    assert!(rt; lowers_twice_the_same(rt.alloc())?);
     Ok(())
 }
 
 #[test]
 fn plan_backwards(rt: HostRuntime) -> Result<(), AllocError> {
-    let alloc = rt.alloc();
-    let holds = match lowers_backwards(alloc) {
-        Ok(holds) => holds,
-        Err(AllocError) => lowers_backwards(alloc)?,
-    };
-    assert!(rt; holds);
+    assert!(rt; lowers_backwards(rt.alloc())?);
     Ok(())
 }
 
 #[test]
 fn plan_along_names(rt: HostRuntime) -> Result<(), AllocError> {
-    let alloc = rt.alloc();
-    let holds = match lowers_along_names(alloc) {
-        Ok(holds) => holds,
-        Err(AllocError) => lowers_along_names(alloc)?,
-    };
-    assert!(rt; holds);
+    assert!(rt; lowers_along_names(rt.alloc())?);
     Ok(())
 }
 
 #[test]
 fn depth_of_plans(rt: HostRuntime) -> Result<(), AllocError> {
-    let alloc = rt.alloc();
-    let holds = match depths_hold(alloc) {
-        Ok(holds) => holds,
-        Err(AllocError) => depths_hold(alloc)?,
-    };
-    assert!(rt; holds);
+    assert!(rt; depths_hold(rt.alloc())?);
     Ok(())
 }
 
 #[test]
 fn copy_of_plans(rt: HostRuntime) -> Result<(), AllocError> {
-    let alloc = rt.alloc();
-    let holds = match copies_are_equal(alloc) {
-        Ok(holds) => holds,
-        Err(AllocError) => copies_are_equal(alloc)?,
-    };
-    assert!(rt; holds);
+    assert!(rt; copies_are_equal(rt.alloc())?);
     Ok(())
 }
 
 #[test]
 fn plans_that_differ(rt: HostRuntime) -> Result<(), AllocError> {
-    let alloc = rt.alloc();
-    let holds = match others_differ(alloc) {
-        Ok(holds) => holds,
-        Err(AllocError) => others_differ(alloc)?,
-    };
-    assert!(rt; holds);
+    assert!(rt; others_differ(rt.alloc())?);
     Ok(())
 }

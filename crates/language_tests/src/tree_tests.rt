@@ -69,11 +69,11 @@ fn depth_of_lists(rt: HostRuntime) -> Result<(), AllocError> {
     Ok(())
 }
 
-// Whether a tree has this text behind a `|` that stands there before. Where memory is refused, the `|` alone is left.
+// Whether a tree has this text behind a `|` that stands there before.
 fn is_printed(alloc: Global, tree: &Constraint, text: &[u8]) -> Result<bool, AllocError> {
     let mut output = Vec::from_slice(alloc, b"|")?;
-    let is_whole = tree.print(alloc, &mut output).is_ok();
-    Ok(output.as_slice() == if is_whole { text } else { b"|".as_slice() })
+    tree.print(alloc, &mut output)?;
+    Ok(output.as_slice() == text)
 }
 
 fn is_built(
@@ -84,9 +84,9 @@ fn is_built(
     is_printed(alloc, &built?, text)
 }
 
-// Checks the text of a tree, unless memory is refused.
+// Checks the text of a tree.
 fn check_text(rt: &impl Abort, alloc: Global, built: Result<Constraint, AllocError>, text: &[u8]) {
-    assert!(rt; is_built(alloc, built, text) != Ok(false), "{text:?}");
+    assert!(rt; is_built(alloc, built, text) == Ok(true), "{text:?}");
 }
 
 fn dotted(alloc: Global, start: Constraint, name: u64) -> Result<Constraint, AllocError> {

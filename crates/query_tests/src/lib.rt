@@ -11,6 +11,8 @@ mod run_tests;
 #[cfg(test)]
 mod serve_tests;
 #[cfg(test)]
+mod source_tests;
+#[cfg(test)]
 mod stream_tests;
 #[cfg(test)]
 mod test_release;

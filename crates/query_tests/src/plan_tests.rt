@@ -114,18 +114,10 @@ fn at_second(rule: Rule) -> Step<'static> {
     Step { rule, place: &[1] }
 }
 
-// What an engine tells of a line, behind what the vector holds before; or just that, where memory is refused.
-fn explained_by(
-    rt: &impl Abort,
-    alloc: Global,
-    engine: &Engine,
-    line: &[u8],
-) -> Result<Vec<u8>, AllocError> {
+// What an engine tells of a line, behind what the vector holds before.
+fn explained_by(alloc: Global, engine: &Engine, line: &[u8]) -> Result<Vec<u8>, AllocError> {
     let mut output = Vec::from_slice(alloc, b"before\n")?;
-    if engine.explain(alloc, line, &mut output).is_err() {
-        assert!(rt; output.as_slice() == b"before\n".as_slice());
-        engine.explain(alloc, line, &mut output)?;
-    }
+    engine.explain(alloc, line, &mut output)?;
     Ok(output)
 }
 
@@ -138,7 +130,6 @@ fn answered_by(alloc: Global, engine: &Engine, line: &[u8]) -> Result<Vec<u8>, A
 
 // What it answers by another plan.
 fn answered_with(
-    rt: &impl Abort,
     alloc: Global,
     engine: &Engine,
     line: &[u8],
@@ -146,13 +137,7 @@ fn answered_with(
     choices: &[Choice],
 ) -> Result<Vec<u8>, AllocError> {
     let mut output = Vec::from_slice(alloc, b"before\n")?;
-    if engine
-        .answer_with(alloc, line, steps, choices, &mut output)
-        .is_err()
-    {
-        assert!(rt; output.as_slice() == b"before\n".as_slice());
-        engine.answer_with(alloc, line, steps, choices, &mut output)?;
-    }
+    engine.answer_with(alloc, line, steps, choices, &mut output)?;
     Ok(output)
 }
 
@@ -164,7 +149,7 @@ fn look_at_plans(
     rows: &[Row],
 ) -> Result<(), AllocError> {
     for (line, text) in rows {
-        let output = explained_by(rt, alloc, engine, line)?;
+        let output = explained_by(alloc, engine, line)?;
         assert!(rt; output.as_slice().strip_prefix(b"before\n".as_slice()) == Some(*text));
     }
     Ok(())
@@ -178,7 +163,7 @@ fn look_at_refusals(
     lines: &[&[u8]],
 ) -> Result<(), AllocError> {
     for line in lines {
-        let output = explained_by(rt, alloc, engine, line)?;
+        let output = explained_by(alloc, engine, line)?;
         assert!(rt; output.as_slice() == answered_by(alloc, engine, line)?.as_slice());
     }
     Ok(())
@@ -194,7 +179,7 @@ fn look_at_choices(
     for line in lines {
         let answer = answered_by(alloc, engine, line)?;
         for choice in [Choice::ByValue, Choice::ByType, Choice::Scan] {
-            let output = answered_with(rt, alloc, engine, line, &[], &[choice; 4])?;
+            let output = answered_with(alloc, engine, line, &[], &[choice; 4])?;
             assert!(rt; output.as_slice() == answer.as_slice());
         }
     }
@@ -209,7 +194,7 @@ fn look_at_steps(rt: &impl Abort, alloc: Global, engine: &Engine) -> Result<(), 
         at_second(Rule::RangeTurn),
     ];
     let line = b"<100005:{104001=<<106004,105000=*}";
-    let output = answered_with(rt, alloc, engine, line, &steps, &[Choice::Scan; 3])?;
+    let output = answered_with(alloc, engine, line, &steps, &[Choice::Scan; 3])?;
     assert!(rt; output.as_slice() == b"before\nOK 1\n101009 |Beta (finding)|\n".as_slice());
     Ok(())
 }
@@ -236,17 +221,9 @@ fn look_at_sample(rt: &impl Abort, alloc: Global) -> Result<(), LoadFault> {
     }
 }
 
-// Once more where memory was refused.
-fn look_at_sample_again(rt: &impl Abort, alloc: Global) -> Result<(), LoadFault> {
-    match look_at_sample(rt, alloc) {
-        Ok(()) => Ok(()),
-        Err(_) => look_at_sample(rt, alloc),
-    }
-}
-
 #[test]
 fn tells_plans_and_answers_by_others(rt: HostRuntime) -> Result<(), Fail> {
-    look_at_sample_again(&rt, rt.alloc())?;
+    look_at_sample(&rt, rt.alloc())?;
     Ok(())
 }
 
@@ -272,15 +249,9 @@ fn is_written(alloc: Global, most: usize) -> bool {
     }
 }
 
-// Where an allocation failed the run is tried once more, so that it holds with every allocation failing in its turn.
-fn assert_written(rt: &impl Abort, alloc: Global, most: usize) {
-    assert!(rt; is_written(alloc, most) || is_written(alloc, most));
-}
-
 #[test]
-fn writes_the_plans_of_each_line(rt: HostRuntime) -> Result<(), Fail> {
+fn writes_the_plans_of_each_line(rt: HostRuntime) {
     for most in [1, 3, ROOM] {
-        assert_written(&rt, rt.alloc(), most);
+        assert!(rt; is_written(rt.alloc(), most), "{most}");
     }
-    Ok(())
 }

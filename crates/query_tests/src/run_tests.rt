@@ -3,7 +3,9 @@ ghost use Rattle.std.specs.Prelude.{◌≡◌, false};
 
 use crate::test_release::sample;
 use crate::test_streams::{PieceInput, PieceOutput, ROOM};
-use query_tool::{AnswerOutput, Engine, QueryInput, RunFault, StreamInput, StreamOutput, run};
+use query_tool::{
+    AnswerOutput, Engine, QueryInput, RunFault, StreamInput, StreamOutput, run, run_explain,
+};
 use snapshot::{Limits, LoadFault};
 use std::alloc::{AllocError, Global};
 use std::process::Abort;
@@ -18,6 +20,19 @@ const ANSWER_AND_REFUSAL: &[u8] =
 const LONG_AND_ANSWER: &[u8] =
     b"ERR long\nOK 3\n101009 |Beta (finding)|\n102002 |Gamma (finding)|\n103007 |Delta (finding)|\n";
 
+// The plan of the same query.
+const PLAN: &[u8] = b"PLAN 4\ndescendants 4\n one 100005 0\n";
+
+// The query twice, what answers both, and what explains both.
+const TWICE: &[u8] = b"<100005\n<100005\n";
+
+const ANSWERS: &[u8] =
+    b"OK 3\n101009 |Beta (finding)|\n102002 |Gamma (finding)|\n103007 |Delta (finding)|\n\
+OK 3\n101009 |Beta (finding)|\n102002 |Gamma (finding)|\n103007 |Delta (finding)|\n";
+
+const PLANS: &[u8] =
+    b"PLAN 4\ndescendants 4\n one 100005 0\nPLAN 4\ndescendants 4\n one 100005 0\n";
+
 // What an input gives, how many bytes of it at once, and how many before it fails.
 type Given<'a> = (&'a [u8], usize, usize);
 
@@ -27,24 +42,7 @@ type Taken = (usize, usize);
 // What a run answers, and what it writes.
 type Ended<'a> = (Result<u64, RunFault>, &'a [u8]);
 
-// Whether a run of an engine over an input and an output ends so.
-fn is_run(
-    alloc: Global,
-    engine: &Engine,
-    given: Given<'_>,
-    taken: Taken,
-    ended: Ended<'_>,
-) -> bool {
-    let mut input = PieceInput::new(given.0, given.1, given.2);
-    let mut output = PieceOutput::new(alloc, taken.0, taken.1);
-    let answer = run(alloc, engine, &mut input, &mut output);
-    answer == ended.0
-        && output.bytes.as_slice() == ended.1
-        && input.failed() == matches!(ended.0, Err(RunFault::Read(_)))
-        && output.failed() == matches!(ended.0, Err(RunFault::Write(_)))
-}
-
-// The same, of an engine that is dropped: a function that owns one and has several ends is dear to prove.
+// Whether a run of an engine ends so, and the engine is dropped: a function that owns one and has several ends is dear to prove.
 fn is_run_and_drop(
     alloc: Global,
     engine: Engine,
@@ -52,7 +50,7 @@ fn is_run_and_drop(
     taken: Taken,
     ended: Ended<'_>,
 ) -> bool {
-    let is_run = is_run(alloc, &engine, given, taken, ended);
+    let is_run = is_run(alloc, &engine, Task::Answer, given, taken, ended);
     drop(engine);
     is_run
 }
@@ -140,52 +138,151 @@ fn refuses_lines_longer_than_are_kept(rt: HostRuntime) -> Result<(), Fail> {
     Ok(())
 }
 
-// Runs over an output that fails once it has taken so many bytes, where so many answers are whole.
+// Whether a run answers its lines, or tells their plans.
+#[derive(Clone, Copy)]
+enum Task {
+    Answer,
+    Explain,
+}
+
+// Between two numbers of bytes, the second left out, what a run over the query twice answers where a stream fails behind
+// so many.
+type Stretch = (usize, usize, Result<u64, RunFault>);
+
+// By the bytes that the output takes: an answer has 79, and a plan 35.
+const BY_ANSWERS: [Stretch; 3] = [
+    (0, 79, Err(RunFault::Write(0))),
+    (79, 158, Err(RunFault::Write(1))),
+    (158, 160, Ok(2)),
+];
+
+const BY_PLANS: [Stretch; 3] = [
+    (0, 35, Err(RunFault::Write(0))),
+    (35, 70, Err(RunFault::Write(1))),
+    (70, 72, Ok(2)),
+];
+
+// By the bytes that the input gives: a line has 8.
+const BY_INPUT: [Stretch; 3] = [
+    (0, 8, Err(RunFault::Read(0))),
+    (8, 16, Err(RunFault::Read(1))),
+    (16, 17, Err(RunFault::Read(2))),
+];
+
+// Whether a run of an engine over an input and an output ends so.
+fn is_run(
+    alloc: Global,
+    engine: &Engine,
+    task: Task,
+    given: Given<'_>,
+    taken: Taken,
+    ended: Ended<'_>,
+) -> bool {
+    let mut input = PieceInput::new(given.0, given.1, given.2);
+    let mut output = PieceOutput::new(alloc, taken.0, taken.1);
+    let answer = match task {
+        Task::Answer => run(alloc, engine, &mut input, &mut output),
+        Task::Explain => run_explain(alloc, engine, &mut input, &mut output),
+    };
+    answer == ended.0
+        && output.bytes.as_slice() == ended.1
+        && input.failed() == matches!(ended.0, Err(RunFault::Read(_)))
+        && output.failed() == matches!(ended.0, Err(RunFault::Write(_)))
+}
+
+// Whether all runs of a stretch of the output end so. The bytes that were taken are a front of both texts.
+fn end_by_output(
+    alloc: Global,
+    engine: &Engine,
+    task: Task,
+    texts: &[u8],
+    stretch: &Stretch,
+    most: usize,
+) -> bool {
+    for sound in stretch.0..stretch.1 {
+        let front = texts.get(..sound).unwrap_or(texts);
+        let given = (TWICE, ROOM, ROOM);
+        if !is_run(
+            alloc,
+            engine,
+            task,
+            given,
+            (most, sound),
+            (stretch.2, front),
+        ) {
+            return false;
+        }
+    }
+    true
+}
+
+// The same of the input, where what was written are so many texts.
+fn end_by_input(
+    alloc: Global,
+    engine: &Engine,
+    task: Task,
+    texts: &[u8],
+    stretch: &Stretch,
+    most: usize,
+) -> bool {
+    for sound in stretch.0..stretch.1 {
+        let given = (TWICE, most, sound);
+        if !is_run(alloc, engine, task, given, (ROOM, ROOM), (stretch.2, texts)) {
+            return false;
+        }
+    }
+    true
+}
+
+// Looks at all stretches of the output.
 fn check_output(
     rt: &impl Abort,
     alloc: Global,
-    sound: usize,
-    answered: u64,
-    written: &[u8],
-) -> Result<(), LoadFault> {
-    let ended = (Err(RunFault::Write(answered)), written);
-    for most in [1, 3, ROOM] {
-        let given = (b"<100005\n<100005\n".as_slice(), ROOM, ROOM);
-        check_run(rt, alloc, given, (most, sound), ended)?;
+    engine: &Engine,
+    task: Task,
+    texts: &[u8],
+    stretches: &[Stretch],
+) {
+    for stretch in stretches {
+        assert!(rt; end_by_output(alloc, engine, task, texts, stretch, 1));
+        assert!(rt; end_by_output(alloc, engine, task, texts, stretch, ROOM));
     }
-    Ok(())
 }
 
-#[test]
-fn stops_where_the_output_fails(rt: HostRuntime) -> Result<(), Fail> {
-    check_output(&rt, rt.alloc(), 10, 0, b"OK 3\n10100")?;
-    check_output(&rt, rt.alloc(), 0, 0, b"")?;
-    check_output(&rt, rt.alloc(), ANSWER.len(), 1, ANSWER)?;
-    Ok(())
-}
-
-// Runs over an input that fails once it has given so many bytes, where so many answers are whole.
-fn check_input(
-    rt: &impl Abort,
-    alloc: Global,
-    sound: usize,
-    answered: u64,
-    written: &[u8],
-) -> Result<(), LoadFault> {
-    let ended = (Err(RunFault::Read(answered)), written);
-    for most in [1, 3, ROOM] {
-        let given = (b"<100005\n<100005\n".as_slice(), most, sound);
-        check_run(rt, alloc, given, (ROOM, ROOM), ended)?;
+// Looks at all stretches of the input, at each of which one text more was written.
+fn check_input(rt: &impl Abort, alloc: Global, engine: &Engine, task: Task, fronts: &[&[u8]]) {
+    for (stretch, texts) in BY_INPUT.iter().zip(fronts) {
+        assert!(rt; end_by_input(alloc, engine, task, texts, stretch, 1));
+        assert!(rt; end_by_input(alloc, engine, task, texts, stretch, ROOM));
     }
-    Ok(())
 }
 
+fn check_ends(rt: &impl Abort, alloc: Global, engine: &Engine) {
+    check_output(rt, alloc, engine, Task::Answer, ANSWERS, &BY_ANSWERS);
+    check_output(rt, alloc, engine, Task::Explain, PLANS, &BY_PLANS);
+    check_input(rt, alloc, engine, Task::Answer, &[b"", ANSWER, ANSWERS]);
+    check_input(rt, alloc, engine, Task::Explain, &[b"", PLAN, PLANS]);
+}
+
+fn check_ends_and_drop(rt: &impl Abort, alloc: Global, engine: Engine) {
+    check_ends(rt, alloc, &engine);
+    drop(engine);
+}
+
+fn check_sample_ends(rt: &impl Abort, alloc: Global) -> Result<(), LoadFault> {
+    match Engine::load(alloc, &sample(), "en", Limits::standard()) {
+        Ok(engine) => {
+            check_ends_and_drop(rt, alloc, engine);
+            Ok(())
+        }
+        Err(fault) => Err(fault),
+    }
+}
+
+// A stream fails behind each number of bytes.
 #[test]
-fn stops_where_the_input_fails(rt: HostRuntime) -> Result<(), Fail> {
-    check_input(&rt, rt.alloc(), 5, 0, b"")?;
-    check_input(&rt, rt.alloc(), 7, 0, b"")?;
-    check_input(&rt, rt.alloc(), 8, 1, ANSWER)?;
-    check_input(&rt, rt.alloc(), 13, 1, ANSWER)?;
+fn stops_where_a_stream_fails(rt: HostRuntime) -> Result<(), Fail> {
+    check_sample_ends(&rt, rt.alloc())?;
     Ok(())
 }
 

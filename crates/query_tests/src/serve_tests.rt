@@ -1,5 +1,5 @@
 //! What the program answers to its words, and to releases that are refused.
-use crate::test_release::{sample, sample_and};
+use crate::test_release::{sample, sample_and, sample_with};
 use crate::test_streams::{PieceInput, PieceOutput, ROOM};
 use query_tool::{Mode, QueryInput, Request, Status, WordFault, read_words, refuse_words, serve};
 use release_files::{MemoryFiles, NamedBytes};
@@ -9,6 +9,8 @@ use std::test::Fail;
 
 // How many bytes a source reads at once.
 const PIECE: usize = 4_096;
+
+const QUERY: &[u8] = b"<100005\n";
 
 const ANSWER: &[u8] =
     b"OK 3\n101009 |Beta (finding)|\n102002 |Gamma (finding)|\n103007 |Delta (finding)|\n";
@@ -20,6 +22,10 @@ const REPORT: &[u8] =
 
 const DANISH: &[u8] =
     b"OK 3\n101009 |Beta (finding)|\n102002 |Gamma (finding)|\n103007 |Delta (fund)|\n";
+
+// The report where a row stands twice.
+const LONGER_REPORT: &[u8] =
+    b"FILES 5\nCONCEPTS 10\nISA 10\nATTRIBUTES 9\nMEMBERS 2\nNAMES 10\nPASSED 7\n";
 
 // The report without the files of relationships and concrete values.
 const SHORT_REPORT: &[u8] =
@@ -151,15 +157,16 @@ fn refuses_ten_folders(rt: HostRuntime) {
 // The status that serving ends with, and what it writes as answers and as errors.
 type Ended<'a> = (Status, &'a [u8], &'a [u8]);
 
-// Whether serving a line ends so, where the output has room for so many bytes. At `check` no query is read.
+// Whether serving lines ends so, where the output has room for so many bytes. At `check` no query is read.
 fn is_served(
     alloc: Global,
     request: &Request,
     source: &mut MemoryFiles<'_>,
+    lines: &[u8],
     room: usize,
     ended: Ended<'_>,
 ) -> bool {
-    let mut input = PieceInput::new(b"<100005\n", ROOM, ROOM);
+    let mut input = PieceInput::new(lines, ROOM, usize::MAX);
     let mut output = PieceOutput::new(alloc, ROOM, room);
     let mut errors = PieceOutput::new(alloc, ROOM, ROOM);
     let status = serve(alloc, request, source, &mut input, &mut output, &mut errors);
@@ -191,7 +198,7 @@ fn check_served(
     match asked {
         Ok(request) => {
             let mut source = MemoryFiles::new(alloc, files, PIECE, fail_at);
-            assert!(rt; is_served(alloc, &request, &mut source, room, ended));
+            assert!(rt; is_served(alloc, &request, &mut source, QUERY, room, ended));
             Ok(())
         }
         Err(AllocError) => Err(AllocError),
@@ -266,6 +273,134 @@ fn reports_releases(rt: HostRuntime) -> Result<(), Fail> {
     Ok(())
 }
 
+// How many bytes are cut from the end of the sample's concept file, and how the report of what is left ends.
+const CUTS: [(usize, Ended<'static>); 4] = [
+    (
+        usize::MAX,
+        (
+            Status::ReleaseRefused,
+            b"",
+            b"REFUSED header sct2_Concept_Snapshot_INT_20240101.txt\n",
+        ),
+    ),
+    // its last LF, and the CR before it
+    (1, (Status::Done, REPORT, b"")),
+    (2, (Status::Done, REPORT, b"")),
+    (
+        3,
+        (
+            Status::ReleaseRefused,
+            b"",
+            b"REFUSED row sct2_Concept_Snapshot_INT_20240101.txt 12 5 id-part\n",
+        ),
+    ),
+];
+
+// Looks at how the report of the sample with other bytes for the file at a place ends.
+fn check_changed(
+    rt: &impl Abort,
+    alloc: Global,
+    place: usize,
+    bytes: &[u8],
+    ended: Ended<'_>,
+) -> Result<(), AllocError> {
+    match sample_with(alloc, place, bytes) {
+        Ok(files) => check_report(rt, alloc, files.as_slice(), ROOM, ended),
+        Err(AllocError) => Err(AllocError),
+    }
+}
+
+fn check_cuts(
+    rt: &impl Abort,
+    alloc: Global,
+    whole: &[u8],
+    cuts: &[(usize, Ended<'_>)],
+) -> Result<(), AllocError> {
+    for (count, ended) in cuts {
+        let left = whole.len().saturating_sub(*count);
+        check_changed(rt, alloc, 1, &whole[..left], *ended)?;
+    }
+    Ok(())
+}
+
+// The report of the sample with a row once more behind its relationships.
+fn check_repeated(rt: &impl Abort, alloc: Global, whole: &[u8]) -> Result<(), AllocError> {
+    let ended = (Status::Done, LONGER_REPORT, b"".as_slice());
+    match with_repeated_row(alloc, whole) {
+        Ok(repeated) => check_changed(rt, alloc, 4, repeated.as_slice(), ended),
+        Err(AllocError) => Err(AllocError),
+    }
+}
+
+// The first of the sample's relationships, behind the others.
+fn with_repeated_row(alloc: Global, whole: &[u8]) -> Result<Vec<u8>, AllocError> {
+    let mut bytes = Vec::from_slice(alloc, whole)?;
+    bytes.extend_from_slice(REPEATED)?;
+    Ok(bytes)
+}
+
+const REPEATED: &[u8] =
+    b"100022\t20240101\t1\t900000000000207008\t100005\t138875005\t0\t116680003\t\
+900000000000011006\t900000000000451002\r\n";
+
+// A file that is cut, and one with a row twice, which counts once.
+#[test]
+fn reports_cut_and_repeated_rows(rt: HostRuntime) -> Result<(), Fail> {
+    let [_, concepts, _, _, relationships] = sample();
+    check_cuts(&rt, rt.alloc(), concepts.bytes, &CUTS)?;
+    check_repeated(&rt, rt.alloc(), relationships.bytes)?;
+    Ok(())
+}
+
+// Adds a text so many times.
+fn push_times(lines: &mut Vec<u8>, text: &[u8], count: usize) -> Result<(), AllocError> {
+    for _ in 0..count {
+        lines.extend_from_slice(text)?;
+    }
+    Ok(())
+}
+
+// Adds lines that an attacker would send: braces and brackets as deep as may be and deeper, a line that is refused for
+// more than one reason, one that is long and no text, and numbers that are too long.
+fn push_hostile_lines(lines: &mut Vec<u8>) -> Result<(), AllocError> {
+    lines.extend_from_slice(b"*:")?;
+    push_times(lines, b"{ ", 64)?;
+    lines.extend_from_slice(b"\n*:")?;
+    push_times(lines, b"{ ", 65)?;
+    lines.push(b'\n')?;
+    push_times(lines, b"(", 65)?;
+    lines.extend_from_slice(b"?\n?\xff\n")?;
+    push_times(lines, b"\xff", 65_536)?;
+    lines.extend_from_slice(
+        b"\n*:105000=#1234567890123456789\n*:105000=#0.0000000000000000001\n*:105000=#-02\n",
+    )
+}
+
+const REFUSALS: &[u8] = b"ERR syntax\nERR depth\nERR token 65\nERR utf8\nERR long\n\
+ERR limit 9\nERR limit 9\nERR token 9\n";
+
+// Looks at what is answered to lines of which each is refused.
+fn check_hostile(rt: &impl Abort, alloc: Global, lines: &[u8]) -> Result<(), AllocError> {
+    match asked(alloc, Mode::Query, "en") {
+        Ok(request) => {
+            let files = sample();
+            let mut source = MemoryFiles::new(alloc, &files, PIECE, 0);
+            let ended = (Status::Done, REFUSALS, b"".as_slice());
+            assert!(rt; is_served(alloc, &request, &mut source, lines, ROOM, ended));
+            Ok(())
+        }
+        Err(AllocError) => Err(AllocError),
+    }
+}
+
+#[test]
+fn refuses_hostile_lines(rt: HostRuntime) -> Result<(), Fail> {
+    let mut lines = Vec::new(rt.alloc());
+    push_hostile_lines(&mut lines)?;
+    check_hostile(&rt, rt.alloc(), lines.as_slice())?;
+    Ok(())
+}
+
 // The sample release with one file more is refused by a line.
 fn check_refused(
     rt: &impl Abort,
@@ -287,7 +422,7 @@ fn check_refused(
 }
 
 // What stands in the file more, and the line that refuses it.
-const REFUSED: [(&str, &[u8], &[u8]); 5] = [
+const REFUSED: [(&str, &[u8], &[u8]); 7] = [
     (
         CONCEPTS,
         b"id\teffectiveTime\tactive\tmoduleId\tdefinitionStatusId\r\n100006\t20240101\t1\t900000000000207008\t900000000000074008\r\n",
@@ -312,6 +447,17 @@ const REFUSED: [(&str, &[u8], &[u8]); 5] = [
         RELATIONSHIPS,
         b"id\teffectiveTime\tactive\tmoduleId\tsourceId\tdestinationId\trelationshipGroup\ttypeId\tcharacteristicTypeId\tmodifierId\r\n122026\t20240101\t1\t900000000000207008\t100005\t103007\t0\t116680003\t900000000000011006\t900000000000451002\r\n",
         b"REFUSED cycle 100005\n",
+    ),
+    (
+        RELATIONSHIPS,
+        b"id\teffectiveTime\tactive\tmoduleId\tsourceId\tdestinationId\trelationshipGroup\ttypeId\tcharacteristicTypeId\tmodifierId\r\n122026\t20240101\t1\t900000000000207008\t100005\t100005\t0\t116680003\t900000000000011006\t900000000000451002\r\n",
+        b"REFUSED cycle 100005\n",
+    ),
+    // the descendants of the root reach it, and do not reach themselves
+    (
+        RELATIONSHIPS,
+        b"id\teffectiveTime\tactive\tmoduleId\tsourceId\tdestinationId\trelationshipGroup\ttypeId\tcharacteristicTypeId\tmodifierId\r\n122026\t20240101\t1\t900000000000207008\t138875005\t138875005\t0\t116680003\t900000000000011006\t900000000000451002\r\n",
+        b"REFUSED cycle 138875005\n",
     ),
 ];
 

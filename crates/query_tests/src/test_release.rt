@@ -22,3 +22,20 @@ pub fn sample_and<'a>(
     files.push(NamedBytes { name, bytes })?;
     Ok(files)
 }
+
+/// The files of the sample release, with other bytes for the one at a place.
+pub fn sample_with(
+    alloc: Global,
+    place: usize,
+    changed: &[u8],
+) -> Result<Vec<NamedBytes<'_>>, AllocError> {
+    let mut files = Vec::new(alloc);
+    for (at, named) in sample().iter().enumerate() {
+        let bytes = if at == place { changed } else { named.bytes };
+        files.push(NamedBytes {
+            name: named.name,
+            bytes,
+        })?;
+    }
+    Ok(files)
+}

@@ -178,30 +178,16 @@ const TWO_CONCEPTS: &[u8] = b"id\teffectiveTime\tactive\tmoduleId\tdefinitionSta
 1000004\t20240101\t1\t900000000000207008\t900000000000074008\r\n\
 100005\t20240101\t1\t900000000000207008\t900000000000074008\r\n";
 
-// What an engine answers to a line, behind what the vector holds before; or just that, where memory is
-// refused.
-fn answered_by(
-    rt: &impl Abort,
-    alloc: Global,
-    engine: &Engine,
-    line: &[u8],
-) -> Result<Vec<u8>, AllocError> {
+// What an engine answers to a line, behind what the vector holds before.
+fn answered_by(alloc: Global, engine: &Engine, line: &[u8]) -> Result<Vec<u8>, AllocError> {
     let mut output = Vec::from_slice(alloc, b"before\n")?;
-    if engine.answer(alloc, line, &mut output).is_err() {
-        assert!(rt; output.as_slice() == b"before\n".as_slice());
-        engine.answer(alloc, line, &mut output)?;
-    }
+    engine.answer(alloc, line, &mut output)?;
     Ok(output)
 }
 
 // The same, of an engine that is dropped: a function that owns one and has several ends is dear to prove.
-fn answered_and_drop(
-    rt: &impl Abort,
-    alloc: Global,
-    engine: Engine,
-    line: &[u8],
-) -> Result<Vec<u8>, AllocError> {
-    let answered = answered_by(rt, alloc, &engine, line);
+fn answered_and_drop(alloc: Global, engine: Engine, line: &[u8]) -> Result<Vec<u8>, AllocError> {
+    let answered = answered_by(alloc, &engine, line);
     drop(engine);
     answered
 }
@@ -215,7 +201,7 @@ fn answered(
     line: &[u8],
 ) -> Result<Vec<u8>, AllocError> {
     match Engine::load(alloc, files, language, Limits::standard()) {
-        Ok(engine) => answered_and_drop(rt, alloc, engine, line),
+        Ok(engine) => answered_and_drop(alloc, engine, line),
         Err(fault) => {
             assert!(rt; fault == LoadFault::Memory, "the release loads");
             Err(AllocError)
@@ -249,30 +235,21 @@ fn assert_answers(rt: &impl Abort, alloc: Global, rows: &[Row]) -> Result<(), Al
     Ok(())
 }
 
-// Looks at answers, once more where memory was refused. Each table is named once, since a literal is dear to
-// prove.
-fn assert_answers_again(rt: &impl Abort, alloc: Global, rows: &[Row]) -> Result<(), AllocError> {
-    match assert_answers(rt, alloc, rows) {
-        Ok(()) => Ok(()),
-        Err(AllocError) => assert_answers(rt, alloc, rows),
-    }
-}
-
 #[test]
 fn answers_queries_of_the_hierarchy(rt: HostRuntime) -> Result<(), Fail> {
-    assert_answers_again(&rt, rt.alloc(), &HIERARCHY)?;
+    assert_answers(&rt, rt.alloc(), &HIERARCHY)?;
     Ok(())
 }
 
 #[test]
 fn answers_queries_of_sets(rt: HostRuntime) -> Result<(), Fail> {
-    assert_answers_again(&rt, rt.alloc(), &SETS)?;
+    assert_answers(&rt, rt.alloc(), &SETS)?;
     Ok(())
 }
 
 #[test]
 fn answers_queries_of_attributes(rt: HostRuntime) -> Result<(), Fail> {
-    assert_answers_again(&rt, rt.alloc(), &ATTRIBUTES)?;
+    assert_answers(&rt, rt.alloc(), &ATTRIBUTES)?;
     Ok(())
 }
 
@@ -300,20 +277,9 @@ fn assert_refusals(
     Ok(())
 }
 
-fn assert_refusals_again(
-    rt: &impl Abort,
-    alloc: Global,
-    rows: &[(&[u8], &[u8])],
-) -> Result<(), AllocError> {
-    match assert_refusals(rt, alloc, rows) {
-        Ok(()) => Ok(()),
-        Err(AllocError) => assert_refusals(rt, alloc, rows),
-    }
-}
-
 #[test]
 fn refuses_other_lines(rt: HostRuntime) -> Result<(), Fail> {
-    assert_refusals_again(&rt, rt.alloc(), &REFUSALS)?;
+    assert_refusals(&rt, rt.alloc(), &REFUSALS)?;
     Ok(())
 }
 

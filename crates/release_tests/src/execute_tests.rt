@@ -1,7 +1,4 @@
 //! Queries over the sample release and over a chain, executed in each form of set, whichever way their leaves are answered.
-//!
-//! Where an allocation failed a test is run once more, so that it holds with every allocation failing in
-//! its turn.
 ghost use Rattle.postings.specs.Indexed.{IsIndexOf};
 
 use crate::load_tests::{chain_of, files_of, sample};
@@ -290,16 +287,9 @@ fn memory_alone(rt: &impl Abort, fault: LoadFault) -> Result<(), AllocError> {
     Err(AllocError)
 }
 
-fn assert_sample(rt: &impl Abort, alloc: Global) -> Result<(), AllocError> {
-    assert_all_executed(rt, alloc, &sample(), &ROWS)
-}
-
 #[test]
 fn executes_in_each_form_of_set(rt: HostRuntime) -> Result<(), Fail> {
-    match assert_sample(&rt, rt.alloc()) {
-        Ok(()) => {}
-        Err(AllocError) => assert_sample(&rt, rt.alloc())?,
-    }
+    assert_all_executed(&rt, rt.alloc(), &sample(), &ROWS)?;
     Ok(())
 }
 
@@ -326,9 +316,6 @@ fn assert_chain(rt: &impl Abort, alloc: Global) -> Result<(), AllocError> {
 // Long lists, which are kept as words and joined before the short ones.
 #[test]
 fn executes_over_a_chain(rt: HostRuntime) -> Result<(), Fail> {
-    match assert_chain(&rt, rt.alloc()) {
-        Ok(()) => {}
-        Err(AllocError) => assert_chain(&rt, rt.alloc())?,
-    }
+    assert_chain(&rt, rt.alloc())?;
     Ok(())
 }

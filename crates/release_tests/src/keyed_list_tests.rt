@@ -1,7 +1,4 @@
 //! Lists by a key, orders with parents first and cycles, of the is-a rows of the sample release and of a ring.
-//!
-//! Where an allocation failed a check is made once more, so that it holds with every allocation failing in
-//! its turn.
 ghost use Rattle.std.specs.Prelude.{◌<◌, ◌^◌, length};
 ghost use Rattle.hierarchy.specs.Hierarchy.{IsWithin};
 ghost use Rattle.hierarchy.specs.KeyedLists.{AreItemsBelow, AreKeysBelow, lists_by, turned as turned_of};
@@ -63,11 +60,7 @@ fn are_listed(
 fn lists_pairs_by_key(rt: HostRuntime) -> Result<(), Fail> {
     let wants: [&[u32]; 4] = [&[2, 2], &[], &[1, 0], &[1]];
     let turned: [&[u32]; 4] = [&[2], &[2, 3], &[0, 0], &[]];
-    let found = match are_listed(rt.alloc(), 4, &PAIRS, &wants, &turned) {
-        Ok(found) => found,
-        Err(AllocError) => are_listed(rt.alloc(), 4, &PAIRS, &wants, &turned)?,
-    };
-    assert!(rt; found);
+    assert!(rt; are_listed(rt.alloc(), 4, &PAIRS, &wants, &turned)?);
     Ok(())
 }
 
@@ -87,11 +80,7 @@ fn are_pushed(alloc: Global) -> Result<bool, AllocError> {
 
 #[test]
 fn pushes_lists(rt: HostRuntime) -> Result<(), Fail> {
-    let found = match are_pushed(rt.alloc()) {
-        Ok(found) => found,
-        Err(AllocError) => are_pushed(rt.alloc())?,
-    };
-    assert!(rt; found);
+    assert!(rt; are_pushed(rt.alloc())?);
     Ok(())
 }
 
@@ -110,27 +99,14 @@ fn ordered(
     Ok((has_order, least_cyclic(alloc, rows, count)?))
 }
 
-fn ordered_again(
-    alloc: Global,
-    rows: &[(u32, u32)],
-    count: u32,
-) -> Result<(bool, Option<u32>), AllocError>
-    requires { IsWithin count rows.now }
-{
-    match ordered(alloc, rows, count) {
-        Ok(found) => Ok(found),
-        Err(AllocError) => ordered(alloc, rows, count),
-    }
-}
-
 #[test]
 fn puts_parents_first(rt: HostRuntime) -> Result<(), Fail> {
-    assert!(rt; ordered_again(rt.alloc(), &ROWS, 10)? == (true, None));
+    assert!(rt; ordered(rt.alloc(), &ROWS, 10)? == (true, None));
     Ok(())
 }
 
 #[test]
 fn finds_the_least_of_a_ring(rt: HostRuntime) -> Result<(), Fail> {
-    assert!(rt; ordered_again(rt.alloc(), &RING, 5)? == (false, Some(1)));
+    assert!(rt; ordered(rt.alloc(), &RING, 5)? == (false, Some(1)));
     Ok(())
 }

@@ -1,7 +1,4 @@
 //! What is printed, in full.
-//!
-//! Where an allocation failed a check is made once more, so that it holds with every allocation failing
-//! in its turn; a vector that could not be printed to is looked at before that.
 ghost use Rattle.std.specs.Prelude.{◌≡◌, ◌≢◌};
 ghost use Rattle.idset.specs.Sets.{IsRisingBelow};
 
@@ -77,10 +74,7 @@ fn answered<S: ConceptSet>(
     assert!(rt; snapshot.concept_count() == 4);
     let set = S::from_items(alloc, concepts, 4)?;
     let mut output = Vec::from_slice(alloc, BEFORE)?;
-    if print_answer(alloc, snapshot, &set, &mut output).is_err() {
-        assert!(rt; output.as_slice() == BEFORE);
-        print_answer(alloc, snapshot, &set, &mut output)?;
-    }
+    print_answer(alloc, snapshot, &set, &mut output)?;
     Ok(output)
 }
 
@@ -128,40 +122,30 @@ fn check_answers_and_drop<S: ConceptSet>(
     done
 }
 
-fn check_answers_again<S: ConceptSet>(rt: &impl Abort, alloc: Global) -> Result<(), AllocError> {
-    match check_answers::<S>(rt, alloc) {
-        Ok(()) => Ok(()),
-        Err(AllocError) => check_answers::<S>(rt, alloc),
-    }
-}
-
 #[test]
 fn answers_of_sorted_sets(rt: HostRuntime) -> Result<(), Fail> {
-    check_answers_again::<SortedSet>(&rt, rt.alloc())?;
+    check_answers::<SortedSet>(&rt, rt.alloc())?;
     Ok(())
 }
 
 #[test]
 fn answers_of_word_sets(rt: HostRuntime) -> Result<(), Fail> {
-    check_answers_again::<WordSet>(&rt, rt.alloc())?;
+    check_answers::<WordSet>(&rt, rt.alloc())?;
     Ok(())
 }
 
 #[test]
 fn answers_of_mixed_sets(rt: HostRuntime) -> Result<(), Fail> {
-    check_answers_again::<MixedSet>(&rt, rt.alloc())?;
+    check_answers::<MixedSet>(&rt, rt.alloc())?;
     Ok(())
 }
 
 // Prints the line that refuses a text.
-fn refused(rt: &impl Abort, alloc: Global, fault: QueryFault) -> Result<Vec<u8>, AllocError>
+fn refused(alloc: Global, fault: QueryFault) -> Result<Vec<u8>, AllocError>
     requires { fault ≢ QueryFault.Memory }
 {
     let mut output = Vec::from_slice(alloc, BEFORE)?;
-    if print_fault(alloc, fault, &mut output).is_err() {
-        assert!(rt; output.as_slice() == BEFORE);
-        print_fault(alloc, fault, &mut output)?;
-    }
+    print_fault(alloc, fault, &mut output)?;
     Ok(output)
 }
 
@@ -174,10 +158,7 @@ fn check_refused(
 ) -> Result<(), AllocError>
     requires { fault ≢ QueryFault.Memory }
 {
-    let output = match refused(rt, alloc, fault) {
-        Ok(output) => output,
-        Err(AllocError) => refused(rt, alloc, fault)?,
-    };
+    let output = refused(alloc, fault)?;
     assert!(rt; output.as_slice().strip_prefix(BEFORE) == Some(line));
     Ok(())
 }
@@ -221,13 +202,10 @@ fn check_forms(
 }
 
 // Prints the line that refuses a release of two files.
-fn load_refused(rt: &impl Abort, alloc: Global, fault: &LoadFault) -> Result<Vec<u8>, AllocError> {
+fn load_refused(alloc: Global, fault: &LoadFault) -> Result<Vec<u8>, AllocError> {
     let names = ["b", "c"];
     let mut output = Vec::from_slice(alloc, BEFORE)?;
-    if print_load_fault(alloc, *fault, &names, &mut output).is_err() {
-        assert!(rt; output.as_slice() == BEFORE);
-        print_load_fault(alloc, *fault, &names, &mut output)?;
-    }
+    print_load_fault(alloc, *fault, &names, &mut output)?;
     Ok(output)
 }
 
@@ -238,10 +216,7 @@ fn check_load_refused(
     fault: &LoadFault,
     line: &[u8],
 ) -> Result<(), AllocError> {
-    let output = match load_refused(rt, alloc, fault) {
-        Ok(output) => output,
-        Err(AllocError) => load_refused(rt, alloc, fault)?,
-    };
+    let output = load_refused(alloc, fault)?;
     assert!(rt; output.as_slice().strip_prefix(BEFORE) == Some(line));
     Ok(())
 }
@@ -339,13 +314,9 @@ fn check_causes(
 const UNREAD: LoadFault = LoadFault::Device { file: Some(0) };
 
 // Prints the line of a file that can't be read.
-fn device_refused(rt: &impl Abort, alloc: Global, name: &str) -> Result<Vec<u8>, AllocError> {
+fn device_refused(alloc: Global, name: &str) -> Result<Vec<u8>, AllocError> {
     let mut output = Vec::from_slice(alloc, BEFORE)?;
-    let names = [name];
-    if print_load_fault(alloc, UNREAD, &names, &mut output).is_err() {
-        assert!(rt; output.as_slice() == BEFORE);
-        print_load_fault(alloc, UNREAD, &names, &mut output)?;
-    }
+    print_load_fault(alloc, UNREAD, &[name], &mut output)?;
     Ok(output)
 }
 
@@ -356,10 +327,7 @@ fn check_device_refused(
     name: &str,
     line: &[u8],
 ) -> Result<(), AllocError> {
-    let output = match device_refused(rt, alloc, name) {
-        Ok(output) => output,
-        Err(AllocError) => device_refused(rt, alloc, name)?,
-    };
+    let output = device_refused(alloc, name)?;
     assert!(rt; output.as_slice().strip_prefix(BEFORE) == Some(line));
     Ok(())
 }
@@ -374,12 +342,9 @@ fn refuses_files(rt: HostRuntime) -> Result<(), Fail> {
 }
 
 // Prints a report.
-fn reported(rt: &impl Abort, alloc: Global, report: &Report) -> Result<Vec<u8>, AllocError> {
+fn reported(alloc: Global, report: &Report) -> Result<Vec<u8>, AllocError> {
     let mut output = Vec::from_slice(alloc, BEFORE)?;
-    if print_report(alloc, report, &mut output).is_err() {
-        assert!(rt; output.as_slice() == BEFORE);
-        print_report(alloc, report, &mut output)?;
-    }
+    print_report(alloc, report, &mut output)?;
     Ok(output)
 }
 
@@ -394,10 +359,7 @@ fn prints_reports(rt: HostRuntime) -> Result<(), Fail> {
         names: 18446744073709551615,
         passed: 6,
     };
-    let output = match reported(&rt, rt.alloc(), &report) {
-        Ok(output) => output,
-        Err(AllocError) => reported(&rt, rt.alloc(), &report)?,
-    };
+    let output = reported(rt.alloc(), &report)?;
     let text =
         b"before\nFILES 5\nCONCEPTS 10\nISA 0\nATTRIBUTES 1234567890\nMEMBERS 2\nNAMES 18446744073709551615\nPASSED 6\n".as_slice();
     assert!(rt; output.as_slice() == text);

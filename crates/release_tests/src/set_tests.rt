@@ -1,7 +1,4 @@
 //! The row of sets in each form, and the forms against each other at many bounds.
-//!
-//! Each check runs again where an allocation failed, so that it holds with every allocation failing in
-//! its turn.
 ghost use Rattle.std.specs.Prelude.{◌≡◌, ◌<◌, ◌++◌, ◌∷◌, [], cond, IfOk, OnOk};
 ghost use Rattle.idset.specs.Sets.{IsRisingBelow};
 
@@ -80,13 +77,11 @@ fn made_alike<S: ConceptSet>(alloc: Global) -> Result<bool, AllocError> {
     )
 }
 
-// A list added to a set in place; where it could not be added, the set is as it was.
+// A list added to a set in place.
 fn grows<S: ConceptSet>(alloc: Global, set: &mut S) -> Result<bool, AllocError>
     requires { S.bound_of set.old ≡ 10 }
 {
-    if set.add_all(alloc, &[2, 5, 9]).is_err() {
-        return Ok(set.count() == 3 && set.has(0) && set.has(2) && set.has(5) && !set.has(9));
-    }
+    set.add_all(alloc, &[2, 5, 9])?;
     is_of(alloc, set, &[0, 2, 5, 9])
 }
 
@@ -112,28 +107,21 @@ fn row_holds<S: ConceptSet>(alloc: Global) -> Result<bool, AllocError> {
     )
 }
 
-fn row_holds_again<S: ConceptSet>(alloc: Global) -> Result<bool, AllocError> {
-    match row_holds::<S>(alloc) {
-        Ok(holds) => Ok(holds),
-        Err(AllocError) => row_holds::<S>(alloc),
-    }
-}
-
 #[test]
 fn row_of_sorted_sets(rt: HostRuntime) -> Result<(), Fail> {
-    assert!(rt; row_holds_again::<SortedSet>(rt.alloc())?);
+    assert!(rt; row_holds::<SortedSet>(rt.alloc())?);
     Ok(())
 }
 
 #[test]
 fn row_of_word_sets(rt: HostRuntime) -> Result<(), Fail> {
-    assert!(rt; row_holds_again::<WordSet>(rt.alloc())?);
+    assert!(rt; row_holds::<WordSet>(rt.alloc())?);
     Ok(())
 }
 
 #[test]
 fn row_of_mixed_sets(rt: HostRuntime) -> Result<(), Fail> {
-    assert!(rt; row_holds_again::<MixedSet>(rt.alloc())?);
+    assert!(rt; row_holds::<MixedSet>(rt.alloc())?);
     Ok(())
 }
 
@@ -227,10 +215,6 @@ fn agree_until(alloc: Global, end: u32) -> Result<u32, AllocError> {
 
 #[test]
 fn forms_agree_below_each_bound(rt: HostRuntime) -> Result<(), Fail> {
-    let agree = match agree_until(rt.alloc(), 601) {
-        Ok(agree) => agree,
-        Err(AllocError) => agree_until(rt.alloc(), 601)?,
-    };
-    assert_eq!(rt; agree, 601);
+    assert_eq!(rt; agree_until(rt.alloc(), 601)?, 601);
     Ok(())
 }

@@ -2,7 +2,7 @@
 use crate::load_tests::sample;
 use release_files::{MemoryFiles, NamedBytes};
 use snapshot::{Limits, LoadFault, Report, Snapshot};
-use std::alloc::{AllocError, Global};
+use std::alloc::Global;
 use std::process::Abort;
 use std::test::Fail;
 
@@ -60,61 +60,104 @@ fn loads_in_pieces(rt: HostRuntime) -> Result<(), Fail> {
     Ok(())
 }
 
+// How many bytes a source that fails reads at once.
+const PIECE: usize = 1_000;
+
+// Which of the sample's files is at hand at a call of its source, counted from 1, if there are so many calls.
+// The first call lists the files. Of each file one call opens it, one reads each piece, and one finds the end.
+fn file_at_call(call: u64) -> Option<usize> {
+    let mut calls = 1u64;
+    for (place, file) in sample().iter().enumerate() {
+        calls = calls.saturating_add(2 + file.bytes.len().div_ceil(PIECE) as u64);
+        if call <= calls {
+            return Some(place);
+        }
+    }
+    None
+}
+
 // The fault of a load of the sample whose source fails the call of a number, and how many names it leaves.
 fn failed(alloc: Global, fail_at: u64) -> (Option<LoadFault>, usize) {
     let files = sample();
-    let mut source = MemoryFiles::new(alloc, &files, 1_000, fail_at);
+    let mut source = MemoryFiles::new(alloc, &files, PIECE, fail_at);
     let mut names = Vec::new(alloc);
     let loaded = Snapshot::load_from(alloc, &mut source, &mut names, "en", Limits::standard());
     (loaded.err(), names.len())
 }
 
+// What it is to be: a device is told with the file at hand, until there is no call more.
+fn failure_at(fail_at: u64) -> (Option<LoadFault>, usize) {
+    if fail_at == 1 {
+        return (Some(LoadFault::Device { file: None }), 0);
+    }
+    match file_at_call(fail_at) {
+        Some(place) => (Some(LoadFault::Device { file: Some(place) }), 5),
+        None => (None, 5),
+    }
+}
+
 // Each call of a source fails in turn, until there are no more.
 #[test]
 fn fails_with_its_source(rt: HostRuntime) {
-    assert!(rt; failed(rt.alloc(), 1) == (Some(LoadFault::Device { file: None }), 0));
-    let mut last = 0;
-    for fail_at in 2..100 {
-        match failed(rt.alloc(), fail_at) {
-            (Some(LoadFault::Device { file: Some(file) }), 5) => {
-                assert!(rt; last <= file && file < 5);
-                last = file;
-            }
-            (Some(_), _) => assert!(rt; false, "{fail_at}"),
-            (None, _) => break,
-        }
+    for fail_at in 1..100 {
+        assert!(rt;
+            failed(rt.alloc(), fail_at) == failure_at(fail_at),
+            "{fail_at}"
+        );
     }
-    assert!(rt; last == 4);
 }
 
-// Whether the sample loads with a file cut behind so many bytes.
-fn loads_cut(alloc: Global, place: usize, length: usize) -> Result<bool, AllocError> {
-    let sample = sample();
-    let mut files = Vec::new(alloc);
-    for (at, named) in sample.iter().enumerate() {
-        let most = if at == place { length } else { usize::MAX };
-        let end = named.bytes.len().min(most);
-        files.push(NamedBytes {
-            name: named.name,
-            bytes: &named.bytes[..end],
-        })?;
-    }
-    Ok(Snapshot::load(alloc, files.as_slice(), "en", Limits::standard()).is_ok())
+// The fault of a load of files that are read in pieces, if it has one.
+fn fault_in_pieces(alloc: Global, files: &[NamedBytes<'_>], piece: usize) -> Option<LoadFault> {
+    let mut source = MemoryFiles::new(alloc, files, piece.max(1), 0);
+    let mut names = Vec::new(alloc);
+    Snapshot::load_from(alloc, &mut source, &mut names, "en", Limits::standard()).err()
 }
 
-// A file that is cut after any byte is loaded or refused. It loads at least where it is cut behind its
-// header, and where it is whole.
+// Whether files load, or are refused, alike however they are read; and whether they load.
+fn are_loaded_alike(alloc: Global, files: &[NamedBytes<'_>]) -> (bool, bool) {
+    let fault = Snapshot::load(alloc, files, "en", Limits::standard()).err();
+    let is_alike = fault_in_pieces(alloc, files, 1) == fault
+        && fault_in_pieces(alloc, files, 7) == fault
+        && fault_in_pieces(alloc, files, 4_096) == fault;
+    (
+        is_alike && fault != Some(LoadFault::Memory),
+        fault.is_none(),
+    )
+}
+
+// The same of the sample with a file cut behind so many bytes.
+fn are_cut_alike(alloc: Global, place: usize, length: usize) -> (bool, bool) {
+    let mut files = sample();
+    if let Some(file) = files.get_mut(place) {
+        *file = NamedBytes {
+            name: file.name,
+            bytes: file.bytes.get(..length).unwrap_or(file.bytes),
+        };
+    }
+    are_loaded_alike(alloc, &files)
+}
+
+// Looks at each cut of a file, the whole file being the last. Answers how many load.
+fn count_loaded(rt: &impl Abort, alloc: Global, place: usize, length: usize) -> u32 {
+    let mut loaded = 0u32;
+    for cut in 0..=length {
+        let (is_alike, loads) = are_cut_alike(alloc, place, cut);
+        assert!(rt; is_alike, "{place} {cut}");
+        loaded = loaded.saturating_add(u32::from(loads));
+    }
+    loaded
+}
+
+// How many lines each of the files has.
+const LINES: [u32; 5] = [4, 12, 12, 3, 21];
+
+// A file that is cut after any byte is loaded or refused, and alike in any pieces. It loads where it ends with its
+// header or with a row: behind the last character of the line, its CR or its LF.
 #[test]
-fn loads_or_refuses_what_is_cut(rt: HostRuntime) -> Result<(), Fail> {
-    for (place, file) in sample().iter().enumerate() {
-        let mut shorter = false;
-        for length in 0..file.bytes.len() {
-            if loads_cut(rt.alloc(), place, length)? {
-                shorter = true;
-            }
-        }
-        assert!(rt; shorter, "{place}");
-        assert!(rt; loads_cut(rt.alloc(), place, file.bytes.len())?, "{place}");
+fn loads_or_refuses_what_is_cut(rt: HostRuntime) {
+    for ((place, file), lines) in sample().iter().enumerate().zip(&LINES) {
+        let loaded = count_loaded(&rt, rt.alloc(), place, file.bytes.len());
+        assert!(rt; loaded == 3 * *lines, "{place} {loaded}");
     }
-    Ok(())
 }

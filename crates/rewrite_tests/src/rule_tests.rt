@@ -379,11 +379,11 @@ fn a_plan_that_gets_too_deep(rt: HostRuntime) -> Result<(), AllocError> {
     Ok(())
 }
 
-// Whether a fault is told in these words, unless memory is refused.
+// Whether a fault is told in these words.
 fn is_told(alloc: Global, fault: ApplyFault, words: &str) -> bool {
     match format!(in alloc; "{fault}") {
         Ok(text) => text.as_str() == words,
-        Err(AllocError) => true,
+        Err(AllocError) => false,
     }
 }
 
