@@ -40,7 +40,14 @@ pub fn walk_within<S: ConceptSet>(
         }
     }
     let led = walk(
-        alloc, snapshot, index, operator, operand, concepts, way.near_first, tally,
+        alloc,
+        snapshot,
+        index,
+        operator,
+        operand,
+        concepts,
+        way.near_first,
+        tally,
     )?;
     let found = restricted(alloc, led, candidates)?;
     Ok(found)

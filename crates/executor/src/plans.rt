@@ -28,9 +28,9 @@ use crate::walk_ways::walk_way;
 use constraint_tree::{Cardinality, Operator};
 use idset::ConceptSet;
 use pair_sets::{
-    Candidates, RowTally, Tested, Visits, count_of_test, extent_of, extent_to_take, group_extent_of,
-    group_extent_to_take, groups_of, groups_with_pairs_within, none_left, restricted, values_along,
-    with_groups, with_pairs_within, without,
+    Candidates, RowTally, Tested, Visits, count_of_test, extent_of, extent_to_take,
+    group_extent_of, group_extent_to_take, groups_of, groups_with_pairs_within, none_left,
+    restricted, values_along, with_groups, with_pairs_within, without,
 };
 use planner::{
     Choice, PhysicalPlan, after_first, first_choice, plan_floor, plan_size, unit_floor, unit_size,
@@ -217,9 +217,10 @@ fn execute_node<S: ConceptSet>(
                 count_of_test(&tested),
             );
             let choice = first_choice(choices);
+            let rows = tally.rows();
             let found = with_pairs_within(
-                alloc, snapshot, indexes, choice, limits, *back, *count, &typed, tested,
-                tally.rows(), candidates, visits,
+                alloc, snapshot, indexes, choice, limits, *back, *count, &typed, tested, rows,
+                candidates, visits,
             )?;
             Ok(found)
         }
@@ -267,7 +268,15 @@ fn walk_from<S: ConceptSet>(
         tally.leave();
     }
     let items = way.items;
-    count_walk(indexes, choices, operator, operand, from.count(), items, visits);
+    count_walk(
+        indexes,
+        choices,
+        operator,
+        operand,
+        from.count(),
+        items,
+        visits,
+    );
     let found = walk_within(
         alloc, snapshot, hierarchy, operator, &from, own, candidates, way, tally,
     )?;
@@ -710,9 +719,10 @@ fn execute_group_node<S: ConceptSet>(
                 count_of_test(&tested),
             );
             let choice = first_choice(choices);
+            let rows = tally.rows();
             let found = groups_with_pairs_within(
-                alloc, snapshot, indexes, choice, limits, *count, &typed, tested, tally.rows(),
-                candidates, visits,
+                alloc, snapshot, indexes, choice, limits, *count, &typed, tested, rows, candidates,
+                visits,
             )?;
             Ok(found)
         }

@@ -72,8 +72,22 @@ pub fn walk<S: ConceptSet>(
             let family = Family::Parents;
             listed_or_self(alloc, snapshot, index, family, operand, concepts, tally)
         }
-        Operator::Top => apart(alloc, index, Family::Ancestors, operand, concepts, near_first),
-        Operator::Bottom => apart(alloc, index, Family::Descendants, operand, concepts, near_first),
+        Operator::Top => apart(
+            alloc,
+            index,
+            Family::Ancestors,
+            operand,
+            concepts,
+            near_first,
+        ),
+        Operator::Bottom => apart(
+            alloc,
+            index,
+            Family::Descendants,
+            operand,
+            concepts,
+            near_first,
+        ),
     }
 }
 

@@ -93,15 +93,7 @@ pub fn with_pairs_among<S: ConceptSet>(
     snapshot.attribute_count();
     let concept_count = snapshot.concept_count();
     let asked = numbers_asked(alloc, concept_count, candidates)?;
-    let kept = concepts_among(
-        alloc,
-        indexes,
-        back,
-        count,
-        asked.as_slice(),
-        types,
-        tested,
-    )?;
+    let kept = concepts_among(alloc, indexes, back, count, asked.as_slice(), types, tested)?;
     S::from_numbers(alloc, kept.as_slice(), concept_count)
 }
 

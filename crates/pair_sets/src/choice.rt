@@ -93,7 +93,10 @@ fn by_type<S: ConceptSet>(
     }
     let few = few_values(alloc, indexes, reads, &tested, rows, whole)?;
     match few.values {
-        None => Ok((Way::ByType(typed.ids, tested), whole.saturating_add(few.looked_up))),
+        None => Ok((
+            Way::ByType(typed.ids, tested),
+            whole.saturating_add(few.looked_up),
+        )),
         Some(values) => {
             let items = typed.read.saturating_add(values.items());
             Ok((Way::ByValue(values.numbers), items))

@@ -21,8 +21,8 @@ mod visits;
 mod ways;
 
 pub use crate::candidates::{
-    Candidates, Extent, ListExtent, extent_of, extent_to_take, group_extent_of, group_extent_to_take,
-    none_left, restricted,
+    Candidates, Extent, ListExtent, extent_of, extent_to_take, group_extent_of,
+    group_extent_to_take, none_left, restricted,
 };
 pub use crate::difference::without;
 pub use crate::leaves::{groups_with_pairs_within, values_along, with_pairs_within};

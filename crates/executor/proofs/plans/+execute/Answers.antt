@@ -154,6 +154,7 @@ execute_tallied-returns-in_ok-found-in-Or-clause-items g t c =
     ∙ within_same release may some (means release (plan_of c.args.plan.now))
     (or_node release (plan_of c.args.plan.now) (numbers_in release some) c.deref-in-Or.result.now
     (ap plan_of c.in-Or.is ∙ plan_of-Or c.in-Or.parts ∙ ap (λ (parts : List ConceptPlan). or_plan (plans_of parts)) (sym c.deref-in-Or.ensures.value)) refl)
+
 pub execute_tallied-returns-in_ok-found-in-Walk-clause-size : goal.execute_tallied-returns-in_ok-found-in-Walk-clause-size
 execute_tallied-returns-in_ok-found-in-Walk-clause-size g t c =
     few_found c.args.snapshot.now.release c.args.indexes.now c.requires.index c.concept_count.ensures.rising

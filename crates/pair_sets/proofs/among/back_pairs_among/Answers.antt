@@ -30,11 +30,11 @@ loop-place-preserved g c =
     let within : (entries : List Entry) → AreSources indexed.concepts entries marks → k < length entries =
     λ entries sources. omega (arith, c.loop-place-test.true, sources_long indexed.concepts entries marks sources) in
     let tells : (entries : List Entry) → AreSources indexed.concepts entries marks → AreTypes (types_of indexed.rows) entries c.args.cells.now
-        → test (get_or entries k an_entry) ≡ c.counts_back.result =
+    → test (get_or entries k an_entry) ≡ c.counts_back.result =
     λ entries sources are.
-        sym (back_told indexed passes entries marks sources one (is_type_in indexed items) c.args.cells.now (type_tells indexed items) are k
-        (within entries sources))
-        ∙ counted in
+    sym (back_told indexed passes entries marks sources one (is_type_in indexed items) c.args.cells.now (type_tells indexed items) are k
+    (within entries sources))
+    ∙ counted in
     elim c.if-counts_back.branch [
       | then-counts_back w ↦ record {
         few = omega (arith, w.pairs-is);

@@ -22,11 +22,11 @@ loop-place-preserved g c =
     let here : kept (get_or marks k mark) (get_or cells k 0) ≡ c.has_passing_source.result =
     ap (λ (m : Mark). kept m (get_or cells k 0)) (sym c.index-marks-place.is) ∙ sym c.has_passing_source.ensures in
     let next : (keep : Bool) → c.has_passing_source.result ≡ keep → (pushed : List ℕ)
-        → pushed ≡ c.loop-place.hits.items ++ cond keep (number (get_or marks k mark) (get_or cells k 0) ∷ []) []
-        → pushed ≡ c.args.hits.now.items ++ picked kept number (take (k + 1) marks) (take (k + 1) cells) =
+    → pushed ≡ c.loop-place.hits.items ++ cond keep (number (get_or marks k mark) (get_or cells k 0) ∷ []) []
+    → pushed ≡ c.args.hits.now.items ++ picked kept number (take (k + 1) marks) (take (k + 1) cells) =
     λ keep told pushed is.
-        picked_next kept number mark marks cells k c.loop-place-test.true c.requires.long keep (here ∙ told)
-        c.args.hits.now.items c.loop-place.hits.items pushed c.loop-place.invariant is in
+    picked_next kept number mark marks cells k c.loop-place-test.true c.requires.long keep (here ∙ told)
+    c.args.hits.now.items c.loop-place.hits.items pushed c.loop-place.invariant is in
     elim c.if-has_passing_source.branch [
       | then-has_passing_source+in_ok-push w ↦
           ap (λ (hits : Vec ℕ _). hits.items) w.hits-is

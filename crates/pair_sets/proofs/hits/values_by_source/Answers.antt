@@ -36,7 +36,7 @@ loop-source-preserved g c =
     record {
       within = below;
       hits =
-      let one : ℕ → Bool = is_one_of c.args.indexes.now.concepts (g.S.ConceptSet.items_of c.args.types.now) in
+          let one : ℕ → Bool = is_one_of c.args.indexes.now.concepts (g.S.ConceptSet.items_of c.args.types.now) in
           hits_counted (λ number. entries_where (λ row. row.source == slice_index indexed.concepts number) indexed.rows) c.args.sources.now
           c.loop-source.source-index c.loop-source-test.true
           (length indexed.concepts) (counts_for_value indexed.concepts (λ row. one row.type_id))
