@@ -1,7 +1,6 @@
 -- The places of keys in a list, and of one more behind it.
-use Rattle.std.proofs.Common.{arith, ℕ, ◌≡◌, cond, inl, inr, nat_cmp, true, false, List, [], ◌∷◌, ◌++◌, length, nat_eq, None, Some, position, refl}
+use Rattle.std.proofs.Common.{arith, ℕ, suc, zero, inl, inr, slice_get, ◌≡◌, ◌<◌, ◌≤◌, true, false, List, [], ◌∷◌, ◌++◌, is_some, length, nat_eq, Option, None, Some, position, refl, slice_index}
 use Rattle.std.specs.List.{list_any, position_or_len}
-use Rattle.std.specs.BTreeMap.{is_at}
 use Rattle.std.proofs.lemmas.Bool.{cases_eq}
 use Rattle.std.proofs.lemmas.Bool.Decides.{nat_tests}
 use Rattle.std.proofs.lemmas.Grind.{common_steps}
@@ -14,6 +13,11 @@ met (first ∷ keys) key place is = grind (arith, common_steps, nat_tests, (met 
 pub not_met : (keys : List ℕ) (key : ℕ) → position (nat_eq key) keys ≡ None → list_any (nat_eq key) keys ≡ false
 not_met [] key is = refl
 not_met (first ∷ keys) key is = grind (arith, common_steps, nat_tests, (not_met keys key))
+
+-- a key was met if it has a place
+pub is_met : (keys : List ℕ) (key : ℕ) (at : Option ℕ) → at ≡ position (nat_eq key) keys → is_some at ≡ list_any (nat_eq key) keys
+is_met keys key None is = grind (arith, common_steps, (not_met keys key))
+is_met keys key (Some place) is = grind (arith, common_steps, (met keys key place))
 
 -- one that was not met comes behind all
 pub behind_all : (keys : List ℕ) (key : ℕ) → list_any (nat_eq key) keys ≡ false → position_or_len (nat_eq key) keys ≡ length keys
@@ -29,10 +33,26 @@ pub place_stays : (keys : List ℕ) (key other : ℕ) → nat_eq other key ≡ f
 place_stays [] key other is = grind (arith, common_steps, nat_tests)
 place_stays (first ∷ keys) key other is = grind (arith, common_steps, nat_tests, (place_stays keys key other is))
 
--- what a map finds once it has the place of the new key too
-pub place_more : (keys : List ℕ) (key other : ℕ) → list_any (nat_eq key) keys ≡ false
-    → cond (is_at (nat_cmp key) other) (Some (length keys)) (position (nat_eq other) keys) ≡ position (nat_eq other) (keys ++ key ∷ [])
-place_more keys key other new = elim (cases_eq key other) [
-  | inl same ↦ grind (arith, common_steps, nat_tests, (place_behind keys key new), same)
-  | inr apart ↦ grind (arith, common_steps, nat_tests, (place_stays keys key other), apart)
+-- a place is one of the list
+pub has_place : (keys : List ℕ) (key place : ℕ) → position (nat_eq key) keys ≡ Some place → place < length keys
+has_place [] key place is = grind (arith, common_steps)
+has_place (first ∷ keys) key place is = grind (arith, common_steps, nat_tests, (has_place keys key))
+
+pub is_at_place : (keys : List ℕ) (key place : ℕ) → position (nat_eq key) keys ≡ Some place → slice_index keys place ≡ key
+is_at_place [] key place is = grind (arith, common_steps)
+is_at_place (first ∷ keys) key zero is = grind (arith, common_steps, nat_tests)
+is_at_place (first ∷ keys) key (suc place) is = grind (arith, common_steps, nat_tests, (is_at_place keys key place))
+
+-- the place of a key stays when one more comes behind
+pub place_kept : (keys : List ℕ) (key other place : ℕ) → position (nat_eq other) keys ≡ Some place → position (nat_eq other) (keys ++ key ∷ []) ≡ Some place
+place_kept [] key other place is = grind (arith, common_steps)
+place_kept (first ∷ keys) key other place is = grind (arith, common_steps, nat_tests, (place_kept keys key other))
+
+-- and is not behind where the key is found
+pub at_or_before : (keys : List ℕ) (key place : ℕ) → slice_get keys place ≡ Some key → (first : ℕ) × (position (nat_eq key) keys ≡ Some first) × (first ≤ place)
+at_or_before [] key place is = grind (arith, common_steps)
+at_or_before (first ∷ keys) key zero is = (0, grind (arith, common_steps, nat_tests), omega arith)
+at_or_before (first ∷ keys) key (suc place) is = elim (cases_eq key first) [
+  | inl same ↦ (0, grind (arith, common_steps, nat_tests, same), omega arith)
+  | inr apart ↦ let later = at_or_before keys key place is in (suc later.0, grind (arith, common_steps, nat_tests, apart, later.1), omega (arith, later.2))
 ]

@@ -1,25 +1,18 @@
-use Rattle.std.proofs.Common.{arith, sym, ◌∙◌}
+use Rattle.std.proofs.Common.{arith, sym, subst, ◌∙◌, ◌≡◌, length, nat_cmp}
+use Rattle.std.specs.BTreeMap.{get}
 use Rattle.std.proofs.lemmas.Grind.{common_steps}
-use Rattle.first_met.proofs.PlaceLemmas.{behind_all, met, not_met, place_more}
+use Rattle.first_met.specs.FirstMetInside.{Finds}
+use Rattle.first_met.proofs.PlaceLemmas.{behind_all, not_met}
 use Rattle.first_met.proofs.FirstMet.meet.Goals as goal
 
-pub returns-in-Some-clause-new : goal.returns-in-Some-clause-new
-returns-in-Some-clause-new c = grind (arith, common_steps, met)
-
-pub returns-in-Some-clause-keys : goal.returns-in-Some-clause-keys
-returns-in-Some-clause-keys c = grind (arith, common_steps, met)
+pub invariant_of-self-in-Err : goal.invariant_of-self-in-Err
+invariant_of-self-in-Err c =
+    let before = c.self.inside.keys.items in
+    let same : before ≡ c.pop.new.self.items = grind (arith, common_steps) in
+    subst (λ keys. Finds keys c.note.new.slots.items (get nat_cmp c.note.new.others)) same (c.in-Err.ensures.err before c.self.invariant)
 
 pub returns-in-Ok-clause-place : goal.returns-in-Ok-clause-place
-returns-in-Ok-clause-place c = grind (arith, common_steps, not_met, behind_all)
-
-pub returns-in-Ok-clause-new : goal.returns-in-Ok-clause-new
-returns-in-Ok-clause-new c = grind (arith, common_steps, not_met)
-
-pub returns-in-Ok-clause-keys : goal.returns-in-Ok-clause-keys
-returns-in-Ok-clause-keys c = grind (arith, common_steps, not_met)
-
-pub invariant_of-self-in-Ok : goal.invariant_of-self-in-Ok
-invariant_of-self-in-Ok c = λ key.
-    let keys = c.self.inside.keys.items in
-    let new = not_met keys c.args.key (sym (c.self.invariant c.args.key) ∙ grind (arith, common_steps, c.insert.ensures.old)) in
-    c.in-Ok.ensures.updates.0 key ∙ grind (arith, common_steps, (place_more keys c.args.key key new), (c.self.invariant key), c.in_ok-push.ensures.items)
+returns-in-Ok-clause-place c =
+    let behind = behind_all c.args.self.now c.args.key (not_met c.args.self.now c.args.key (sym c.in_default.ensures.index)) in
+    let same : c.len-place.result ≡ length c.args.self.now = grind (arith, common_steps) in
+    same ∙ sym behind
