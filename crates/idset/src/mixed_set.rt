@@ -1,4 +1,4 @@
-//! The set in whichever of the two forms is the smaller.
+//! The set in whichever of the two forms suits how many items it has.
 ghost use Rattle.std.specs.Prelude.{◌≡◌, IfOk};
 ghost use Rattle.idset.specs.MixedForm.{form_bound, form_items, form_rises, list_items, word_items};
 ghost use Rattle.idset.specs.Sets.{all_items, common_items, IsRisingBelow, other_items};
@@ -10,8 +10,9 @@ use crate::sorted_set::SortedSet;
 use crate::word_set::WordSet;
 use std::alloc::{AllocError, Global};
 
-// A set is kept as a list up to the bound divided by this many items, where words take more.
-const WIDE: u32 = 64;
+// A set is kept as a list up to the bound divided by this many items. A wider one is asked for numbers, and joined with
+// others, sooner as words.
+const WIDE: u32 = 256;
 
 /// A set as a rising list while it has few items for its bound, and as words else: a set of a few
 /// concepts costs by its items, a wide one by the bound.

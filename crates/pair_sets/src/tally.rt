@@ -48,7 +48,7 @@ impl<'a> RowTally<'a> {
     }
 
     /// What is found is not added, so it is not known how many there are.
-    pub fn leave(&mut self) {
+    pub fn forget(&mut self) {
         self.rows = None;
     }
 
