@@ -16,7 +16,6 @@ use crate::value::{Decimal, Value};
 use sctid::Part;
 
 /// The row of the Relationship concrete values file that the fields of a line stand for.
-#[tactic(auto, using(crate::proofs::Columns::ten_texts))]
 pub fn read_concrete<'a>(
     recent: &mut RecentConcepts,
     fields: &[&'a [u8]],

@@ -77,7 +77,6 @@ impl RowReader {
 }
 
 // The row of the Concept file that the fields of a line stand for.
-#[tactic(auto, using(crate::proofs::Columns::five_texts))]
 fn read_concept(recent: &mut RecentConcepts, fields: &[&[u8]]) -> Result<ConceptRow, RowFault>
     ensures { let texts = texts_of fields.now in
         IsReading (fields_fault FileKind.Concept texts) (concept_of texts) result }
@@ -100,7 +99,6 @@ fn read_concept(recent: &mut RecentConcepts, fields: &[&[u8]]) -> Result<Concept
 }
 
 // The row of the Description file that the fields of a line stand for.
-#[tactic(auto, using(crate::proofs::Columns::nine_texts))]
 fn read_description<'a>(
     recent: &mut RecentConcepts,
     fields: &[&'a [u8]],
@@ -145,7 +143,6 @@ fn read_description<'a>(
 }
 
 // The row of the Relationship file that the fields of a line stand for.
-#[tactic(auto, using(crate::proofs::Columns::ten_texts))]
 fn read_relationship(
     recent: &mut RecentConcepts,
     fields: &[&[u8]],
@@ -195,7 +192,6 @@ fn read_relationship(
 }
 
 // The row of a simple reference set file that the fields of a line stand for.
-#[tactic(auto, using(crate::proofs::Columns::six_texts))]
 fn read_member(recent: &mut RecentConcepts, fields: &[&[u8]]) -> Result<MemberRow, RowFault>
     ensures { let texts = texts_of fields.now in
         IsReading (fields_fault FileKind.Member texts) (member_of texts) result }

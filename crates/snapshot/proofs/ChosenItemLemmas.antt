@@ -1,7 +1,7 @@
 -- Going over the rows that were read, with what one list has of them.
 use Rattle.std.proofs.lemmas.Bool.Decides.{nat_tests}
 use Rattle.std.proofs.lemmas.Grind.{common_steps}
-use Rattle.std.proofs.Common.{ℕ, ◌≡◌, ◌+◌, ◌<◌, ◌≤◌, ◌∙◌, List, [], ◌∷◌, length, true, false, Bool, Option, None, Some, ap, arith, cond, drop, drop-cons, get_or, map, refl, suc, All, is_some, filter_map, append-nil}
+use Rattle.std.proofs.Common.{ℕ, ◌≡◌, ◌+◌, ◌<◌, ◌≤◌, ◌∙◌, List, [], ◌∷◌, length, true, false, Bool, Option, ap, arith, cond, drop, drop-cons, get_or, map, refl, suc, All, is_some, filter_map}
 use Rattle.std.specs.List.{cons_option}
 use Rattle.std.proofs.lemmas.List.{drop_all}
 use Rattle.std.proofs.lemmas.List.Elements.{All-cons, All-drop, All-nil}
@@ -79,6 +79,3 @@ pub length-marked : {X : Type 0} (marks : List Bool) (items : List X) → length
 length-marked [] items = omega arith
 length-marked (mark ∷ marks) [] = omega arith
 length-marked (mark ∷ marks) (item ∷ items) = grind (arith, common_steps, nat_tests, (length-marked marks items))
-
--- for the loop over items
-pub ruleset chosen_by_one = (append-nil, nat_tests, common_steps, choices_ended, row_passed)

@@ -1,7 +1,7 @@
 -- From what was listed of the rows to the contents of a snapshot.
 use Rattle.std.proofs.lemmas.Bool.Decides.{nat_tests}
 use Rattle.std.proofs.lemmas.Grind.{common_steps}
-use Rattle.std.proofs.Common.{ℕ, ◌≡◌, ◌≤◌, ◌+◌, ◌-◌, All, List, [], ◌∷◌, length, map, None, Ok, arith, true, cond, filter_map}
+use Rattle.std.proofs.Common.{ℕ, Bool, ◌≡◌, ◌≢◌, ◌≤◌, ◌+◌, ◌-◌, All, List, [], ◌∷◌, length, map, Option, None, Some, Result, Ok, Err, arith, false, true, cond, filter_map, refl}
 use Rattle.std.proofs.lemmas.List.{length-map}
 use Rattle.std.proofs.lemmas.Bool.{and_parts}
 use Rattle.std.proofs.lemmas.List.Elements.{All-cons, All-weaker, filter_passes}
@@ -9,13 +9,15 @@ use Rattle.std.proofs.lemmas.List.Sums.{length-filter, count_by-le-length}
 use Rattle.std.specs.List.Sorted.{IsStrictlyIncreasing}
 use Rattle.snapshot.specs.LeastCycle.{IsLeastCycle}
 use Rattle.rf2_rows.specs.Release.{Attribute, Name}
-use Rattle.snapshot.specs.Contents.{Contents, IsFaultOf, first_cyclic}
+use Rattle.snapshot.specs.Contents.{Contents, IsFaultOf, first_cyclic, least_cyclic, unless_cyclic}
 use Rattle.hierarchy.specs.Members.{has}
 use Rattle.snapshot.specs.InForce.{put, rising, rows_among}
-use Rattle.snapshot.specs.Kept.{IsCycle, attributes_among, finished, is_value_among, names_among}
+use Rattle.snapshot.specs.Kept.{IsCycle, attributes_among, contents_from, finished, is_value_among, names_among, release_from}
 use Rattle.snapshot.specs.Listed.{Listed}
 use Rattle.snapshot.specs.Numbering.{numbered_row, row_of_numbers}
+use Rattle.snapshot.specs.Taking.{FailsAtRead, RaisesOnlyAtDevice, file_of, is_device}
 use Rattle.snapshot.specs.declared.fault.LoadFault.{LoadFault}
+use Rattle.snapshot.specs.declared.fault.LoadFault.TheVariants.{Cycle, Memory, NoConceptFile}
 use Rattle.snapshot.proofs.NumberingLemmas.{first_cyclic-Some, rows_of_numbers}
 
 -- a list does not grow by being brought in rising order
@@ -72,3 +74,31 @@ attributes_among-values concepts attributes = grind (arith, common_steps, nat_te
 -- the fault that names the least concept that reaches itself is that of the load
 pub least_cycle : (fault : LoadFault) (concepts : List ℕ) → IsStrictlyIncreasing concepts → (ends : List (ℕ × ℕ)) → IsLeastCycle fault concepts (filter_map (numbered_row concepts) ends) → IsCycle fault (first_cyclic concepts (rows_among concepts ends))
 least_cycle fault concepts ends h0 h1 h2 = grind (arith, common_steps, nat_tests, common_steps, first_cyclic-Some, nat_tests)
+
+-- a fault that is neither the device's nor that of a file, nor the want of a Concept file
+pub record IsOfNoFile (fault : LoadFault) : Type 0 where
+  pub own : is_device fault ≡ false
+  pub kind : (reads : ℕ → Bool) → FailsAtRead reads fault
+  pub named : file_of fault ≡ None
+  pub found : fault ≢ NoConceptFile
+
+cycle-own : (fault : LoadFault) (contents : Contents) (cyclic : Option ℕ)
+    → IsFaultOf fault (unless_cyclic contents cyclic) → IsOfNoFile fault
+cycle-own Memory contents cyclic said =
+    record { own = refl; kind = λ reads. tt; named = refl; found = λ same. cc }
+cycle-own (Cycle concept) contents cyclic said =
+    record { own = refl; kind = λ reads. tt; named = refl; found = λ same. cc }
+cycle-own fault contents None said = absurd (grind arith)
+cycle-own fault contents (Some concept) said = absurd (grind arith)
+
+-- so is each fault of what is finished
+pub finished-own : (language : List ℕ) (files count : ℕ) (listed : Listed) (fault : LoadFault)
+    → IsFaultOf fault (finished language files count listed) → IsOfNoFile fault
+finished-own language files count listed fault said =
+    cycle-own fault (contents_from language files count listed) (least_cyclic (release_from listed)) said
+
+-- where the count of failures stays the same nothing more is to be said of it
+pub raised_by_none : {T : Type 0} {old new : ℕ} (result : Result T LoadFault)
+    → new ≡ old → RaisesOnlyAtDevice result old new
+raised_by_none (Ok done) same = same
+raised_by_none (Err fault) same = λ other. same

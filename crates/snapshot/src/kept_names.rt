@@ -42,7 +42,6 @@ pub fn keep_names(
 }
 
 // A name row, whose term stands at a span if this is known.
-#[tactic(auto, using(crate::proofs::SpanLemmas::text_stays))]
 fn keep_name(
     name: &ReadName<'_>,
     span: Option<Span>,
@@ -97,10 +96,11 @@ fn keep_language(
     ensures within { IfOk result (λ number. number < length languages.new.items) }
     ensures language { IfOk result (λ number. text_at (string_bytes texts.new) (slice_index_or languages.new.items number no_span) ≡ language.now) }
 {
-    if !is_last(language.as_bytes(), texts.as_bytes(), languages.as_slice()) {
-        let span = push_text(texts, language)?;
-        languages.push(span)?;
+    if is_last(language.as_bytes(), texts.as_bytes(), languages.as_slice()) {
+        return Ok((languages.len() - 1) as u32);
     }
+    let span = push_text(texts, language)?;
+    languages.push(span)?;
     Ok((languages.len() - 1) as u32)
 }
 

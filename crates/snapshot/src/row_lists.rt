@@ -176,7 +176,6 @@ impl RowLists {
 }
 
 /// Of the items that were made of the rows in a list those whose rows are chosen.
-#[tactic(auto, using(crate::proofs::ChosenItemLemmas::chosen_by_one))]
 pub fn chosen_items<T: Copy>(
     alloc: Global,
     items: &[T],

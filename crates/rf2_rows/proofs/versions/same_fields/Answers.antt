@@ -1,6 +1,4 @@
 -- At each place the formats are those of the columns, and the texts are accepted there.
-use Rattle.std.proofs.lemmas.Bool.Decides.{nat_tests}
-use Rattle.std.proofs.lemmas.Grind.{common_steps}
 use Rattle.std.proofs.Common.{◌≡◌, ℕ, ◌+◌, ◌<◌, ◌&&◌, Bool, true, List, [], length, get_or, drop, map, None, refl, sym, ap, ◌∙◌, arith}
 use Rattle.std.specs.Borrow.{Bor}
 use Rattle.std.proofs.Math.ListN.{get_or-map, length-map}
@@ -53,10 +51,14 @@ module _ (kind : FileKind) (names : List Named) (are : map format_of names ≡ m
         rw (drop_all place (columns_of kind) (omega (arith, as_many)), drop_all place (texts_of ones) (omega (arith, as_many)), drop_all place (texts_of others) (omega (arith, as_many))) refl
 
 pub same_value-requires-clause-one : goal.same_value-requires-clause-one
-same_value-requires-clause-one c = grind (arith, common_steps, nat_tests, accepted_there)
+same_value-requires-clause-one c =
+    accepted_there c.args.kind c.formats-format-items.result.now c.formats-format-items.ensures
+    c.args.ones.now c.loop-place.place c.requires.one c.loop-place-test.true
 
 pub same_value-requires-clause-other : goal.same_value-requires-clause-other
-same_value-requires-clause-other c = grind (arith, common_steps, nat_tests, accepted_there)
+same_value-requires-clause-other c =
+    accepted_there c.args.kind c.formats-format-items.result.now c.formats-format-items.ensures
+    c.args.others.now c.loop-place.place c.requires.other c.loop-place-test.true
 
 pub returns-then-not-same_value : goal.returns-then-not-same_value
 returns-then-not-same_value c =

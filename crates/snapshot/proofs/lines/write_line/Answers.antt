@@ -6,6 +6,13 @@ use Rattle.snapshot.specs.NamesInside.{name_read}
 use Rattle.snapshot.proofs.NameLemmas.{noted-extends, noted-set}
 use Rattle.snapshot.proofs.lines.write_line.Goals as goal
 
+pub returns-in_ok-span-in-Some-clause-line : goal.returns-in_ok-span-in-Some-clause-line
+returns-in_ok-span-in-Some-clause-line c =
+    let names = c.args.names.now in
+    let name = name_read c.row.result in
+    let there = slice_get-get_or names c.in-Some.place name in
+    grind (arith, c.in_ok-span-in-Some.ensures.line, c.in-Some.is, c.requires.within, there, (c.row.ensures name))
+
 pub returns-in_ok-span-in-Some-clause-noted : goal.returns-in_ok-span-in-Some-clause-noted
 returns-in_ok-span-in-Some-clause-noted c =
     let names = c.args.names.now in

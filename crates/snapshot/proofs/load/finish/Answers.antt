@@ -10,6 +10,12 @@ use Rattle.snapshot.proofs.load.finish.Goals as goal
 pub new-requires-clause-few : goal.new-requires-clause-few
 new-requires-clause-few c = grind (arith, common_steps, nat_tests, length-rising)
 
+pub lists_among-requires-clause-few : goal.lists_among-requires-clause-few
+lists_among-requires-clause-few c = omega (arith, c.requires.few, c.requires.few_names)
+
+pub lists_among-requires-clause-few_attributes : goal.lists_among-requires-clause-few_attributes
+lists_among-requires-clause-few_attributes c = omega (arith, c.requires.few, c.requires.few_attributes)
+
 pub invariant_of-result : goal.invariant_of-result
 invariant_of-result c = grind (arith, common_steps, nat_tests, IsWithin-numbered, attributes_among-values, length-attributes_among)
 

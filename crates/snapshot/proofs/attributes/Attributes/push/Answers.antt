@@ -1,9 +1,16 @@
 use Rattle.std.proofs.Common.{arith}
 use Rattle.std.proofs.lemmas.Grind.{common_steps}
+use Rattle.std.proofs.lemmas.List.Elements.{All-weaker}
 use Rattle.snapshot.specs.AttributesInside.{IsPlacedIn, attribute_in}
 use Rattle.snapshot.proofs.AttributeLemmas.{attribute-extends, within-extends}
 use Rattle.snapshot.proofs.SpanLemmas.{all-push, rows-same}
 use Rattle.snapshot.proofs.attributes.Attributes.push.Goals as goal
+
+pub invariant_of-self-in_err-push : goal.invariant_of-self-in_err-push
+invariant_of-self-in_err-push c =
+    rw c.in_err-push.ensures.items
+    (All-weaker (IsPlacedIn c.self.inside.texts.items) (IsPlacedIn c.keep_value.new.texts.items)
+    (λ row. within-extends _ _ c.in_ok-kept.ensures.grown row.value) c.self.inside.rows.items c.self.invariant)
 
 pub invariant_of-self-2 : goal.invariant_of-self-2
 invariant_of-self-2 c = grind (arith, (all-push (IsPlacedIn c.self.inside.texts.items) (IsPlacedIn c.keep_value.new.texts.items)), within-extends, c.in_ok-kept.ensures.grown, c.in_ok-push.ensures.items, c.self.invariant, c.in_ok-kept.ensures.within)

@@ -1,9 +1,24 @@
 use Rattle.std.proofs.Common.{arith}
 use Rattle.std.proofs.lemmas.Grind.{common_steps}
+use Rattle.std.proofs.lemmas.List.Elements.{All-weaker}
 use Rattle.snapshot.specs.VersionsInside.{IsLineOf}
 use Rattle.snapshot.proofs.SpanLemmas.{all-push}
 use Rattle.snapshot.proofs.VersionLemmas.{line-extends, rows_kept}
 use Rattle.snapshot.proofs.versions.VersionRows.push.Goals as goal
+
+pub invariant_of-self : goal.invariant_of-self
+invariant_of-self c = grind (arith, c.in_err-line.ensures.same, c.self.invariant)
+
+pub returns-in_err-line-clause-err : goal.returns-in_err-line-clause-err
+returns-in_err-line-clause-err c = grind (arith, c.in_err-line.ensures.same)
+
+pub invariant_of-self-in_err-push : goal.invariant_of-self-in_err-push
+invariant_of-self-in_err-push c =
+    let lines = c.self.inside.lines.items in
+    let grown = c.push_bytes.new.texts.items in
+    let stays = line-extends lines grown (c.args.text.now, c.in_ok-line.ensures.grown) in
+    rw c.in_err-push.ensures.items
+    (All-weaker (IsLineOf lines) (IsLineOf grown) stays c.self.inside.rows.items c.self.invariant)
 
 pub returns-in_err-push-clause-err : goal.returns-in_err-push-clause-err
 returns-in_err-push-clause-err c =
