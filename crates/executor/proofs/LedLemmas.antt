@@ -1,24 +1,24 @@
 -- Where an operator leads, asked of one concept by its own lists.
-use Rattle.std.proofs.Common.{ℕ, ◌≡◌, ◌<◌, ◌∙◌, true, not, ◌&&◌, ◌||◌, List, refl, sym, ap, subst}
+use Rattle.std.proofs.Common.{ℕ, Bool, ◌≡◌, ◌<◌, ◌∙◌, true, false, not, ◌&&◌, ◌||◌, List, refl, sym, ap, subst}
 use Rattle.std.specs.Prelude.{filter}
 use Rattle.std.specs.List.{list_any}
 use Rattle.rf2_rows.specs.Release.{Release}
 use Rattle.hierarchy.specs.KeyedLists.{list_of}
-use Rattle.constraint_tree.specs.declared.operator.Operator.{Operator}
-use Rattle.constraint_tree.specs.declared.operator.Operator.TheVariants.{Descendants, DescendantsOrSelf, Children, ChildrenOrSelf, Ancestors, AncestorsOrSelf, Parents, ParentsOrSelf, Top, Bottom}
 use Rattle.constraint_tree.proofs.WalkLemmas.{passing_item, some_item_passes}
 use Rattle.idset.specs.Sets.{IsRisingBelow, all_items, has_item}
 use Rattle.idset.proofs.Normal.{filter-numbers_where, has_item-numbers_where}
 use Rattle.idset.proofs.Rising.{numbers_where-rising, rises_within-filter, rising_is_numbers_where}
 use Rattle.ancestor_index.specs.HierarchyLists.{Hierarchy}
 use Rattle.ancestor_index.proofs.ClosureLemmas.{both_ways, item_there, there_item}
-use Rattle.executor.specs.Joined.{back_of}
-use Rattle.executor.specs.Steps.{IsOver, apart, joined, led_to, lists_of}
+use Rattle.executor.specs.Joined.{AreJoined, back_of, is_whole, near_of}
+use Rattle.executor.specs.Steps.{IsOver, apart, joined, lists_of, stepped}
 use Rattle.executor.specs.declared.family.Family.{Family}
 use Rattle.executor.specs.declared.family.Family.TheVariants as family
+use Rattle.executor.specs.declared.family.Reach.{Reach}
+use Rattle.executor.specs.declared.family.Reach.TheVariants.{Listed, ListedOrSelf, Apart}
 use Rattle.pair_sets.proofs.AmongLemmas.{has_kept}
 use Rattle.pair_sets.proofs.ListLemmas.{all_below}
-use Rattle.executor.proofs.JoinedLemmas.{listed_stands, stands, stands_listed}
+use Rattle.executor.proofs.JoinedLemmas.{listed_stands, over_near, stands, stands_listed}
 use Rattle.pair_sets.proofs.WithinLemmas.{restricted_to}
 
 -- one concept stands to another as the other stands back to it
@@ -27,6 +27,19 @@ stands_back release family.Ancestors a b = refl
 stands_back release family.Descendants a b = refl
 stands_back release family.Parents a b = refl
 stands_back release family.Children a b = refl
+
+back_and_forth : (f : Family) → back_of (back_of f) ≡ f
+back_and_forth family.Ancestors = refl
+back_and_forth family.Descendants = refl
+back_and_forth family.Parents = refl
+back_and_forth family.Children = refl
+
+-- the lists that lead back from whole lists are whole
+pub back_is_whole : (f : Family) → is_whole f ≡ true → is_whole (back_of f) ≡ true
+back_is_whole family.Ancestors whole = refl
+back_is_whole family.Descendants whole = refl
+back_is_whole family.Parents whole = whole
+back_is_whole family.Children whole = whole
 
 module _ (count : ℕ) (hierarchy : Hierarchy) (over : IsOver count hierarchy) (items : List ℕ) (rises : IsRisingBelow count items) where
   module _ (f : Family) (concept : ℕ) (inside : concept < count) where
@@ -54,10 +67,11 @@ module _ (count : ℕ) (hierarchy : Hierarchy) (over : IsOver count hierarchy) (
         (stands_listed count hierarchy over f from.0 concept stood.0 inside (stands_back over.release f from.0 concept ∙ stood.1))
 
     -- it is in the list of one of them where one of them is in the list that leads back
+    pub asked_any : list_any (has_item items) own ≡ list_any (λ other. has_item (list_of lists other) concept) items
+    asked_any = both_ways (list_any (has_item items) own) (list_any (λ other. has_item (list_of lists other) concept) items) again there
+
     pub asked_back : list_any (has_item items) own ≡ has_item (joined count lists items) concept
-    asked_back =
-        both_ways (list_any (has_item items) own) (list_any (λ other. has_item (list_of lists other) concept) items) again there
-        ∙ sym (has_item-numbers_where count (λ n. list_any (λ other. has_item (list_of lists other) n) items) concept inside)
+    asked_back = asked_any ∙ sym (has_item-numbers_where count (λ n. list_any (λ other. has_item (list_of lists other) n) items) concept inside)
 
     pub asked_or_self : (has_item items concept || has_item (joined count lists items) concept)
         ≡ has_item (all_items count items (joined count lists items)) concept
@@ -66,27 +80,42 @@ module _ (count : ℕ) (hierarchy : Hierarchy) (over : IsOver count hierarchy) (
     pub asked_apart : (has_item items concept && not (list_any (has_item items) (list_of lists concept))) ≡ has_item (apart lists items) concept
     asked_apart = sym (has_kept (λ other. not (list_any (has_item items) (list_of lists other))) items concept)
 
-  -- what it leads to rises
-  led_rises : (operator : Operator) → IsRisingBelow count (led_to hierarchy count operator items)
-  led_rises Descendants = numbers_where-rising count (λ n. list_any (λ other. has_item (list_of hierarchy.descendants other) n) items)
-  led_rises DescendantsOrSelf = numbers_where-rising count (λ n. has_item items n || has_item (joined count hierarchy.descendants items) n)
-  led_rises Children = numbers_where-rising count (λ n. list_any (λ other. has_item (list_of hierarchy.children other) n) items)
-  led_rises ChildrenOrSelf = numbers_where-rising count (λ n. has_item items n || has_item (joined count hierarchy.children items) n)
-  led_rises Ancestors = numbers_where-rising count (λ n. list_any (λ other. has_item (list_of hierarchy.ancestors other) n) items)
-  led_rises AncestorsOrSelf = numbers_where-rising count (λ n. has_item items n || has_item (joined count hierarchy.ancestors items) n)
-  led_rises Parents = numbers_where-rising count (λ n. list_any (λ other. has_item (list_of hierarchy.parents other) n) items)
-  led_rises ParentsOrSelf = numbers_where-rising count (λ n. has_item items n || has_item (joined count hierarchy.parents items) n)
-  led_rises Top = rises_within-filter 0 count (λ concept. not (list_any (has_item items) (list_of hierarchy.ancestors concept))) items rises
-  led_rises Bottom = rises_within-filter 0 count (λ concept. not (list_any (has_item items) (list_of hierarchy.descendants concept))) items rises
+  -- none of them is in its list where it is none of those that they lead back to
+  pub asked_outside : (f : Family) (concept : ℕ) → concept < count → (found : List ℕ) → AreJoined (lists_of hierarchy (back_of f)) items found
+      → not (has_item found concept) ≡ not (list_any (has_item items) (list_of (lists_of hierarchy f) concept))
+  asked_outside f concept inside found joined =
+      ap not (joined concept ∙ sym (asked_any (back_of f) concept inside)
+      ∙ (λ i. list_any (has_item items) (list_of (lists_of hierarchy (back_and_forth f i)) concept)))
+
+  -- where none of them is in the list, none is one is-a row away
+  pub apart_near : (f : Family) (concept : ℕ) → concept < count
+      → (not (list_any (has_item items) (list_of (lists_of hierarchy (near_of f)) concept))
+      && not (list_any (has_item items) (list_of (lists_of hierarchy f) concept)))
+      ≡ not (list_any (has_item items) (list_of (lists_of hierarchy f) concept))
+  apart_near f concept inside =
+      by_near (list_any (has_item items) (list_of (lists_of hierarchy (near_of f)) concept))
+      (over_near count hierarchy over f concept inside (has_item items))
+    where
+      by_near : (near : Bool) → (near ≡ true → list_any (has_item items) (list_of (lists_of hierarchy f) concept) ≡ true)
+          → (not near && not (list_any (has_item items) (list_of (lists_of hierarchy f) concept)))
+          ≡ not (list_any (has_item items) (list_of (lists_of hierarchy f) concept))
+      by_near true far = sym (ap not (far refl))
+      by_near false far = refl
+
+  -- what a step leads to rises
+  led_rises : (lists : List (List ℕ)) (reach : Reach) → IsRisingBelow count (stepped lists count reach items)
+  led_rises lists Listed = numbers_where-rising count (λ n. list_any (λ other. has_item (list_of lists other) n) items)
+  led_rises lists ListedOrSelf = numbers_where-rising count (λ n. has_item items n || has_item (joined count lists items) n)
+  led_rises lists Apart = rises_within-filter 0 count (λ concept. not (list_any (has_item items) (list_of lists concept))) items rises
 
   -- those of a rising list that it leads to are those that it leads to of the list
-  pub led_asked : (operator : Operator) (wanted : List ℕ) → IsRisingBelow count wanted
-      → filter (has_item (led_to hierarchy count operator items)) wanted ≡ filter (has_item wanted) (led_to hierarchy count operator items)
-  led_asked operator wanted wanted_rises =
+  pub led_asked : (lists : List (List ℕ)) (reach : Reach) (wanted : List ℕ) → IsRisingBelow count wanted
+      → filter (has_item (stepped lists count reach items)) wanted ≡ filter (has_item wanted) (stepped lists count reach items)
+  led_asked lists reach wanted wanted_rises =
       ap (filter (has_item led)) (rising_is_numbers_where count wanted wanted_rises)
       ∙ filter-numbers_where count (has_item wanted) (has_item led)
       ∙ sym (restricted_to count (has_item wanted) (has_item led) led (filter (has_item wanted) led)
-      (rising_is_numbers_where count led (led_rises operator)) refl)
+      (rising_is_numbers_where count led (led_rises lists reach)) refl)
     where
       led : List ℕ
-      led = led_to hierarchy count operator items
+      led = stepped lists count reach items

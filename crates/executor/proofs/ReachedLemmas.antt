@@ -1,5 +1,5 @@
 -- What one pass over the is-a rows finds, in which each concept has its turn before those that are one row away.
-use Rattle.std.proofs.Common.{ℕ, ◌≡◌, ◌<◌, ◌≤◌, ◌+◌, ◌-◌, ◌∙◌, true, false, ◌||◌, List, length, get_or, map, take, inl, inr, refl, sym, ap, subst, arith, []}
+use Rattle.std.proofs.Common.{ℕ, ◌≡◌, ◌<◌, ◌≤◌, ◌+◌, ◌-◌, ◌∙◌, true, false, not, Bool, ◌&&◌, ◌||◌, List, length, get_or, map, take, inl, inr, refl, sym, ap, subst, arith}
 use Rattle.std.specs.Prelude.{Contains, nat_eq}
 use Rattle.std.specs.List.{list_any}
 use Rattle.std.specs.List.Sorted.{IsStrictlyIncreasing}
@@ -25,12 +25,13 @@ use Rattle.executor.specs.declared.family.Family.TheVariants as family
 use Rattle.pair_sets.proofs.ListLemmas.{all_below}
 use Rattle.executor.proofs.JoinedLemmas.{has_all, listed_stands, near_stands, over_length, over_rising, over_whole, stands, stands_listed}
 
--- what has been found before a turn: nothing but what items lead to, and of each concept that had its turn, if it is an item or
--- was found, all that is one row away
+-- what has been found before a turn: nothing but what items lead to; all that is one row away from an item; and of each concept that
+-- had its turn, if it is an item or was found, all that is one row away
 pub record IsPassed (lists near : List (List ℕ)) (at : ℕ → ℕ) (turn : ℕ) (items found : List ℕ) : Type 0 where
   pub sound : (n : ℕ) → has_item found n ≡ true → list_any (λ concept. has_item (list_of lists concept) n) items ≡ true
   pub full : (j : ℕ) → j < turn → (has_item items (at j) || has_item found (at j)) ≡ true
       → (n : ℕ) → has_item (list_of near (at j)) n ≡ true → has_item found n ≡ true
+  pub own : (concept : ℕ) → has_item items concept ≡ true → (n : ℕ) → has_item (list_of near concept) n ≡ true → has_item found n ≡ true
 
 module _ (release : Release) (rows : List (ℕ × ℕ)) (order : List ℕ) (rising : IsStrictlyIncreasing release.concepts)
     (within : IsWithin (length release.concepts) rows) (are : map (row_of_numbers release.concepts) rows ≡ release.isa)
@@ -137,14 +138,20 @@ module _ (release : Release) (rows : List (ℕ × ℕ)) (order : List ℕ) (risi
           (over_whole bound hierarchy over f whole from.0 concept n from_below inside from.2 (near_listed concept n inside near_told))
     ]
 
-    -- the turn of a concept that is an item or was found
+    first_true : (one other : Bool) → (one && other) ≡ true → one ≡ true
+    first_true true other both = refl
+    first_true false other both = both
+
+    -- the turn of a concept that was found
     pub passed_on : (turn : ℕ) (found list next : List ℕ) → turn < turns → IsRisingBelow bound found → list ≡ list_of near (at f turn)
-        → next ≡ all_items bound found list → (has_item items (at f turn) || has_item found (at f turn)) ≡ true
+        → next ≡ all_items bound found list → (has_item found (at f turn) && not (has_item items (at f turn))) ≡ true
         → Passed turn found → Passed (turn + 1) next
     passed_on turn found list next inside rises list_is next_is chosen passed = record {
       sound = λ n told. elim (or_cases (has_item found n) (has_item (list_of near (at f turn)) n) (sym (grown n) ∙ told)) [
         | inl before ↦ passed.sound n before
-        | inr now ↦ led_on found passed.sound (at f turn) n (below turn inside) chosen now
+        | inr now ↦ led_on found passed.sound (at f turn) n (below turn inside)
+            (or_right (has_item items (at f turn)) (has_item found (at f turn))
+            (first_true (has_item found (at f turn)) (not (has_item items (at f turn))) chosen)) now
       ];
       full = λ j less told n away. elim (cases_eq j turn) [
         | inl same ↦
@@ -154,6 +161,8 @@ module _ (release : Release) (rows : List (ℕ × ℕ)) (order : List ℕ) (risi
             let before : j < turn = omega (arith, less, other) in
             grown n ∙ or_left (has_item found n) (has_item (list_of near (at f turn)) n) (passed.full j before (still j before told) n away)
       ];
+      own = λ concept there n away.
+          grown n ∙ or_left (has_item found n) (has_item (list_of near (at f turn)) n) (passed.own concept there n away);
     }
       where
         grown : (n : ℕ) → has_item next n ≡ (has_item found n || has_item (list_of near (at f turn)) n)
@@ -173,22 +182,36 @@ module _ (release : Release) (rows : List (ℕ × ℕ)) (order : List ℕ) (risi
           ]
         ]
 
-    -- and of one that is neither
-    pub passed_over : (turn : ℕ) (found : List ℕ) → (has_item items (at f turn) || has_item found (at f turn)) ≡ false
+    -- and of one that was not found, or is an item
+    pub passed_over : (turn : ℕ) (found : List ℕ) → (has_item found (at f turn) && not (has_item items (at f turn))) ≡ false
         → Passed turn found → Passed (turn + 1) found
     passed_over turn found not_chosen passed = record {
       sound = passed.sound;
       full = λ j less told n away. elim (cases_eq j turn) [
-        | inl same ↦ absurd (false≢true (sym not_chosen ∙ subst (λ (m : ℕ). (has_item items (at f m) || has_item found (at f m)) ≡ true) same told))
+        | inl same ↦
+            passed.own (at f j)
+            (an_item (has_item items (at f j)) (has_item found (at f j)) told
+            (subst (λ (m : ℕ). (has_item found (at f m) && not (has_item items (at f m))) ≡ false) (sym same) not_chosen)) n away
         | inr other ↦ passed.full j (omega (arith, less, other)) told n away
       ];
+      own = passed.own;
     }
+      where
+        an_item : (item was : Bool) → (item || was) ≡ true → (was && not item) ≡ false → item ≡ true
+        an_item true was told not_chosen = refl
+        an_item false true told not_chosen = sym not_chosen
+        an_item false false told not_chosen = told
 
-    -- before the first turn nothing is found
-    pub passed_none : (found : List ℕ) → found ≡ [] → Passed 0 found
-    passed_none found is = record {
-      sound = λ n told. absurd (false≢true (ap (λ (xs : List ℕ). has_item xs n) (sym is) ∙ told));
+    -- before the first turn what is one row away from the items is found
+    pub passed_first : (found : List ℕ) → AreJoined near items found → Passed 0 found
+    passed_first found joined = record {
+      sound = λ n told.
+          let from = passing_item (λ c. has_item (list_of near c) n) items (sym (joined n) ∙ told) in
+          let from_below : from.0 < bound = subst (λ (m : ℕ). m < bound) from.1.2 (all_below bound items items_rise from.1.0 from.0 from.1.1) in
+          some_item_passes (λ c. has_item (list_of lists c) n) items from.0 from.1 (near_listed from.0 n from_below from.2);
       full = λ j less. absurd (omega (arith, less));
+      own = λ concept there n away.
+          joined n ∙ some_item_passes (λ c. has_item (list_of near c) n) items concept (item_there items concept there) away;
     }
 
     -- behind the last one all is found that items lead to

@@ -1,4 +1,5 @@
 pub mod Joined
 pub mod Lead
 pub mod Members
+pub mod Named
 pub mod Steps

@@ -1,6 +1,6 @@
 -- Where an operator leads from some concepts (Expression Constraint Language, "Simple Expression Constraints"), by their
 -- numbers and the lists of an index.
-use Rattle.std.specs.Prelude.{ℕ, ◌≡◌, not, List, filter, length}
+use Rattle.std.specs.Prelude.{ℕ, ◌≡◌, not, true, List, filter, length}
 use Rattle.std.specs.List.{list_any}
 use Rattle.rf2_rows.specs.Release.{Release}
 use Rattle.constraint_tree.specs.declared.operator.Operator.{Operator}
@@ -11,6 +11,10 @@ use Rattle.ancestor_index.specs.HierarchyLists.{Hierarchy, hierarchy_of}
 use Rattle.ancestor_index.specs.Wide.{IsWide}
 use Rattle.executor.specs.declared.family.Family.{Family}
 use Rattle.executor.specs.declared.family.Family.TheVariants as family
+use Rattle.executor.specs.declared.family.Reach.{Reach}
+use Rattle.executor.specs.declared.family.Reach.TheVariants.{Listed, ListedOrSelf, Apart}
+use Rattle.executor.specs.declared.family.Step.{Step}
+use Rattle.executor.specs.Joined.{is_whole}
 
 -- a family of lists of a hierarchy
 abbrev pub lists_of : Hierarchy → Family → List (List ℕ)
@@ -58,3 +62,15 @@ pub record IsOver (count : ℕ) (hierarchy : Hierarchy) : Type 0 where
   pub release : Release
   pub hierarchy_is : hierarchy ≡ hierarchy_of release
   pub count_is : count ≡ length release.concepts
+
+-- where a step leads from some concepts, all of them below a count, by their lists
+abbrev pub stepped : List (List ℕ) → ℕ → Reach → List ℕ → List ℕ
+stepped lists count Listed concepts = joined count lists concepts
+stepped lists count ListedOrSelf concepts = all_items count concepts (joined count lists concepts)
+stepped lists count Apart concepts = apart lists concepts
+
+-- a step leads where an operator leads, and keeps some concepts apart by whole lists alone
+pub record IsStepFor (operator : Operator) (step : Step) : Type 0 where
+  pub led : (hierarchy : Hierarchy) (count : ℕ) (concepts : List ℕ)
+      → led_to hierarchy count operator concepts ≡ stepped (lists_of hierarchy step.family) count step.reach concepts
+  pub whole : step.reach ≡ Apart → is_whole step.family ≡ true

@@ -4,9 +4,10 @@ ghost use Rattle.idset.specs.Sets.{has_item};
 ghost use Rattle.idset.specs.Words.{MarkedBelow};
 ghost use Rattle.hierarchy.specs.KeyedLists.{list_of};
 ghost use Rattle.executor.specs.Joined.{back_of, is_whole as is_whole_of, near_of, turn_of};
-ghost use Rattle.executor.specs.Steps.{HasWords, lists_of};
+ghost use Rattle.executor.specs.Steps.{HasWords, IsStepFor, lists_of};
 
 use ancestor_index::AncestorIndex;
+use constraint_tree::Operator;
 use pair_sets::ListExtent;
 
 /// A family of lists, one for each concept.
@@ -100,5 +101,51 @@ impl Family {
             Family::Parents => lists.parents,
             Family::Children => lists.children,
         }
+    }
+}
+
+/// Which concepts a step from some concepts leads to, by a list of each.
+#[derive(Clone, Copy)]
+pub enum Reach {
+    /// Those in one of the lists.
+    Listed,
+    /// Those in one of the lists, and the concepts themselves.
+    ListedOrSelf,
+    /// Those of the concepts whose own list has none of them.
+    Apart,
+}
+
+/// A step from some concepts: along which lists, and which concepts it leads to.
+#[derive(Clone, Copy)]
+pub struct Step {
+    /// The family of the lists.
+    pub family: Family,
+    /// Which concepts it leads to.
+    pub reach: Reach,
+}
+
+impl Step {
+    /// The step of an operator (Expression Constraint Language, "Simple Expression Constraints").
+    pub fn of(operator: Operator) -> Step
+        ensures { IsStepFor operator result }
+    {
+        let (family, reach) = match operator {
+            Operator::Descendants => (Family::Descendants, Reach::Listed),
+            Operator::DescendantsOrSelf => (Family::Descendants, Reach::ListedOrSelf),
+            Operator::Children => (Family::Children, Reach::Listed),
+            Operator::ChildrenOrSelf => (Family::Children, Reach::ListedOrSelf),
+            Operator::Ancestors => (Family::Ancestors, Reach::Listed),
+            Operator::AncestorsOrSelf => (Family::Ancestors, Reach::ListedOrSelf),
+            Operator::Parents => (Family::Parents, Reach::Listed),
+            Operator::ParentsOrSelf => (Family::Parents, Reach::ListedOrSelf),
+            Operator::Top => (Family::Ancestors, Reach::Apart),
+            Operator::Bottom => (Family::Descendants, Reach::Apart),
+        };
+        Step { family, reach }
+    }
+
+    /// Whether it leads to some of the concepts alone.
+    pub fn is_apart(self) -> bool {
+        matches!(self.reach, Reach::Apart)
     }
 }

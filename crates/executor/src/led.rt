@@ -1,12 +1,12 @@
 //! Which of some candidates an operator leads to, by the lists of each.
 ghost use Rattle.std.specs.Prelude.{◌≡◌, ◌<◌, All, IfOk, filter};
 ghost use Rattle.idset.specs.Sets.{all_items, has_item};
-ghost use Rattle.executor.specs.Steps.{apart as apart_of, IsOf, IsOver, joined, led_to, lists_of};
+ghost use Rattle.executor.specs.Steps.{apart as apart_of, IsOf, IsOver, joined, led_to, lists_of, stepped};
 ghost use Rattle.pair_sets.specs.Within.{AreBelow, may_be};
 
-use crate::family::Family;
+use crate::family::{Family, Reach, Step};
 use crate::walk_ways::WalkWay;
-use crate::walks::{is_apart, meets, walk};
+use crate::walks::{meets, walk};
 use ancestor_index::AncestorIndex;
 use constraint_tree::Operator;
 use idset::ConceptSet;
@@ -35,7 +35,7 @@ pub fn walk_within<S: ConceptSet>(
 {
     if way.asks_candidates {
         if let Candidates::Within(wanted, _) = candidates {
-            let found = led_among(alloc, index, operator, operand, *wanted, way.near_first)?;
+            let found = led_among(alloc, index, operator, operand, *wanted)?;
             return Ok(found);
         }
     }
@@ -43,7 +43,7 @@ pub fn walk_within<S: ConceptSet>(
         alloc,
         snapshot,
         index,
-        operator,
+        Step::of(operator),
         operand,
         concepts,
         way.near_first,
@@ -53,75 +53,57 @@ pub fn walk_within<S: ConceptSet>(
     Ok(found)
 }
 
-// The concepts of a set that an operator leads to from another.
-fn led_among<S: ConceptSet>(
+/// The concepts of a set that an operator leads to from another, each asked by its own lists.
+pub fn led_among<S: ConceptSet>(
     alloc: Global,
     index: &AncestorIndex,
     operator: Operator,
     operand: &S,
     wanted: &S,
-    near_first: bool,
 ) -> Result<S, AllocError>
     requires over { IsOver (S.bound_of operand.now) index.now }
     requires wanted { S.bound_of wanted.now ≡ S.bound_of operand.now }
     ensures items { IfOk result (λ found. S.items_of found ≡ filter (has_item (S.items_of wanted.now)) (led_to index.now (S.bound_of operand.now) operator (S.items_of operand.now))) }
     ensures bound { IfOk result (λ found. S.bound_of found ≡ S.bound_of operand.now) }
 {
+    let step = Step::of(operator);
     let own = wanted.items(alloc)?;
-    let kept = those_led_to(alloc, index, operator, operand, own.as_slice(), near_first)?;
+    let kept = those_led_to(alloc, index, step, operand, own.as_slice())?;
     S::from_items(alloc, kept.as_slice(), operand.bound())
 }
 
-// Those of some concepts that an operator leads to from a set.
+// Those of some concepts that a step leads to from a set.
 fn those_led_to<S: ConceptSet>(
     alloc: Global,
     index: &AncestorIndex,
-    operator: Operator,
+    step: Step,
     operand: &S,
     concepts: &[u32],
-    near_first: bool,
 ) -> Result<Vec<u32>, AllocError>
     requires over { IsOver (S.bound_of operand.now) index.now }
     requires below { All (λ concept. concept < S.bound_of operand.now) concepts.now }
-    ensures { IfOk result (λ kept. kept.items ≡ filter (has_item (led_to index.now (S.bound_of operand.now) operator (S.items_of operand.now))) concepts.now) }
+    ensures { IfOk result (λ kept. kept.items ≡ filter (has_item (stepped (lists_of index.now step.family) (S.bound_of operand.now) step.reach (S.items_of operand.now))) concepts.now) }
 {
     let mut kept = Vec::new(alloc);
     for concept in concepts {
-        if is_led_to(index, operator, operand, *concept, near_first) {
+        if is_led_to(index, step, operand, *concept) {
             kept.push(*concept)?;
         }
     }
     Ok(kept)
 }
 
-// Whether an operator leads to a concept from a set.
-fn is_led_to<S: ConceptSet>(
-    index: &AncestorIndex,
-    operator: Operator,
-    operand: &S,
-    concept: u32,
-    near_first: bool,
-) -> bool
+// Whether a step leads to a concept from a set.
+fn is_led_to<S: ConceptSet>(index: &AncestorIndex, step: Step, operand: &S, concept: u32) -> bool
     requires over { IsOver (S.bound_of operand.now) index.now }
     requires below { concept < S.bound_of operand.now }
-    ensures { result ≡ has_item (led_to index.now (S.bound_of operand.now) operator (S.items_of operand.now)) concept }
+    ensures { result ≡ has_item (stepped (lists_of index.now step.family) (S.bound_of operand.now) step.reach (S.items_of operand.now)) concept }
 {
-    match operator {
-        Operator::Descendants => is_listed(index, Family::Descendants, operand, concept),
-        Operator::DescendantsOrSelf => is_listed_or_self(
-            index,
-            Family::Descendants,
-            operand,
-            concept,
-        ),
-        Operator::Children => is_listed(index, Family::Children, operand, concept),
-        Operator::ChildrenOrSelf => is_listed_or_self(index, Family::Children, operand, concept),
-        Operator::Ancestors => is_listed(index, Family::Ancestors, operand, concept),
-        Operator::AncestorsOrSelf => is_listed_or_self(index, Family::Ancestors, operand, concept),
-        Operator::Parents => is_listed(index, Family::Parents, operand, concept),
-        Operator::ParentsOrSelf => is_listed_or_self(index, Family::Parents, operand, concept),
-        Operator::Top => is_kept_apart(index, Family::Ancestors, operand, concept, near_first),
-        Operator::Bottom => is_kept_apart(index, Family::Descendants, operand, concept, near_first),
+    let family = step.family;
+    match step.reach {
+        Reach::Listed => is_listed(index, family, operand, concept),
+        Reach::ListedOrSelf => is_listed_or_self(index, family, operand, concept),
+        Reach::Apart => is_kept_apart(index, family, operand, concept),
     }
 }
 
@@ -159,11 +141,10 @@ fn is_kept_apart<S: ConceptSet>(
     family: Family,
     operand: &S,
     concept: u32,
-    near_first: bool,
 ) -> bool
     requires over { IsOver (S.bound_of operand.now) index.now }
     requires below { concept < S.bound_of operand.now }
     ensures { result ≡ has_item (apart_of (lists_of index.now family) (S.items_of operand.now)) concept }
 {
-    operand.has(concept) && is_apart(index, family, concept, operand, near_first)
+    operand.has(concept) && !meets(family.list(index, concept), operand)
 }

@@ -1,5 +1,5 @@
 //! Going down a plan.
-ghost use Rattle.std.specs.Prelude.{◌≡◌, ◌≤◌, ◌<◌, ◌+◌, ◌*◌, ◌-◌, ◌^◌, ◌&&◌, Bool, IfOk, List, drop, length, min, slice_get, take};
+ghost use Rattle.std.specs.Prelude.{◌≡◌, ◌≤◌, ◌<◌, ◌+◌, ◌*◌, ◌-◌, ◌^◌, ◌&&◌, Bool, IfOk, IfSome, List, drop, length, min, slice_get, take};
 ghost use Rattle.std.specs.List.{list_all, list_any};
 ghost use Rattle.rf2_rows.specs.Pairs.{Pair};
 ghost use Rattle.rf2_rows.specs.Release.{Value};
@@ -15,16 +15,18 @@ ghost use Rattle.planner.specs.Sizes.{group_size, group_sizes, size as size_of, 
 ghost use Rattle.pair_sets.specs.Numbers.{numbers_in};
 ghost use Rattle.pair_sets.specs.Tested.{IsTestBelow, found_for, passes_of};
 ghost use Rattle.executor.specs.Lead.{leads_off, leads_off_groups, of_lead};
+ghost use Rattle.executor.specs.Named.{HasNamed};
 ghost use Rattle.pair_sets.specs.Within.{AreBelow, groups_within, may_be, numbers_within};
 
 use crate::counting::{
     concept_leaf_limits, count_members, count_units, count_walk, group_leaf_limits, minus_reads,
 };
+use crate::family::Step;
 use crate::guesses::{group_lead_of, guess_of_groups, lead_of, rows_of_types};
-use crate::led::walk_within;
+use crate::led::{led_among, walk_within};
 use crate::nodes::{common, each_concept, each_group, either, no_concept, no_group, one_concept};
 use crate::reference_sets::{component_count, members};
-use crate::walk_ways::walk_way;
+use crate::walk_ways::{items_unlisted, walk_way};
 use constraint_tree::{Cardinality, Operator};
 use idset::ConceptSet;
 use pair_sets::{
@@ -72,8 +74,7 @@ pub fn execute<S: ConceptSet>(
     Ok(found)
 }
 
-// The candidates among the concepts that a plan means, which are no more than its size. Where there is no candidate the plan
-// is left out, and its floor counted.
+// The candidates among the concepts that a plan means, which are no more than its size.
 #[cycle(execute)]
 fn execute_within<S: ConceptSet>(
     alloc: Global,
@@ -93,6 +94,35 @@ fn execute_within<S: ConceptSet>(
     ensures floor { IfOk result (λ _. min (visits.old.count + node_sum (floor_number indexes.now) choices.now (plan_of plan.now)) (2 ^ 64 - 1) ≤ visits.new.count) }
     ensures size { IfOk result (λ found. length (S.items_of found) ≤ size_of indexes.now choices.now (plan_of plan.now)) }
 {
+    let mut tally = RowTally::unasked();
+    let found = execute_tallied(
+        alloc, plan, choices, candidates, snapshot, indexes, visits, &mut tally,
+    )?;
+    Ok(found)
+}
+
+// The same, and how many rows they have as values, if that is asked for and shows as they are found. Where there is no candidate the
+// plan is left out, and its floor counted.
+#[cycle(execute)]
+fn execute_tallied<S: ConceptSet>(
+    alloc: Global,
+    plan: &ConceptPlan,
+    choices: &[Choice],
+    candidates: &Candidates<'_, S>,
+    snapshot: &Snapshot,
+    indexes: &Indexes,
+    visits: &mut Visits,
+    tally: &mut RowTally<'_>,
+) -> Result<S, AllocError>
+    requires index { IsIndexOf indexes.now snapshot.now.release }
+    requires candidates { AreBelow S.bound_of (length snapshot.now.release.concepts) candidates.now }
+    ensures items { IfOk result (λ found. S.items_of found ≡ numbers_within snapshot.now.release (may_be S.items_of candidates.now) (means snapshot.now.release (plan_of plan.now))) }
+    ensures bound { IfOk result (λ found. S.bound_of found ≡ length snapshot.now.release.concepts) }
+    ensures grows { visits.old.count ≤ visits.new.count }
+    ensures within { visits.new.count ≤ visits.old.count + node_sum (own_number indexes.now) choices.now (plan_of plan.now) }
+    ensures floor { IfOk result (λ _. min (visits.old.count + node_sum (floor_number indexes.now) choices.now (plan_of plan.now)) (2 ^ 64 - 1) ≤ visits.new.count) }
+    ensures size { IfOk result (λ found. length (S.items_of found) ≤ size_of indexes.now choices.now (plan_of plan.now)) }
+{
     // the concepts rise, and the sources of all attribute rows are in force
     snapshot.concept_count();
     snapshot.attribute_count();
@@ -101,7 +131,9 @@ fn execute_within<S: ConceptSet>(
         let found = no_concept(alloc, snapshot)?;
         return Ok(found);
     }
-    let found = execute_node(alloc, plan, choices, candidates, snapshot, indexes, visits)?;
+    let found = execute_node(
+        alloc, plan, choices, candidates, snapshot, indexes, visits, tally,
+    )?;
     Ok(found)
 }
 
@@ -116,6 +148,7 @@ fn execute_node<S: ConceptSet>(
     snapshot: &Snapshot,
     indexes: &Indexes,
     visits: &mut Visits,
+    tally: &mut RowTally<'_>,
 ) -> Result<S, AllocError>
     requires index { IsIndexOf indexes.now snapshot.now.release }
     requires candidates { AreBelow S.bound_of (length snapshot.now.release.concepts) candidates.now }
@@ -125,6 +158,7 @@ fn execute_node<S: ConceptSet>(
     ensures within { visits.new.count ≤ visits.old.count + node_sum (own_number indexes.now) choices.now (plan_of plan.now) }
     ensures floor { IfOk result (λ _. min (visits.old.count + node_sum (floor_number indexes.now) choices.now (plan_of plan.now)) (2 ^ 64 - 1) ≤ visits.new.count) }
 {
+    tally_named(plan, snapshot, tally);
     let all = Candidates::All;
     match plan {
         ConceptPlan::Empty => {
@@ -142,10 +176,8 @@ fn execute_node<S: ConceptSet>(
             Ok(found)
         }
         ConceptPlan::Walk(operator, operand) => {
-            let mut tally = RowTally::unasked();
             let found = walk_from(
-                alloc, *operator, operand, choices, candidates, snapshot, indexes, visits,
-                &mut tally,
+                alloc, *operator, operand, choices, candidates, snapshot, indexes, visits, tally,
             )?;
             Ok(found)
         }
@@ -164,9 +196,8 @@ fn execute_node<S: ConceptSet>(
             Ok(found)
         }
         ConceptPlan::Or(parts) => {
-            let mut tally = RowTally::unasked();
             let found = in_some(
-                alloc, parts, choices, candidates, snapshot, indexes, visits, &mut tally,
+                alloc, parts, choices, candidates, snapshot, indexes, visits, tally,
             )?;
             Ok(found)
         }
@@ -260,12 +291,22 @@ fn walk_from<S: ConceptSet>(
     snapshot.attribute_count();
     let all = Candidates::All;
     let from: S = execute_within(alloc, operand, choices, &all, snapshot, indexes, visits)?;
+    let hierarchy = indexes.hierarchy();
+    if let Candidates::Within(wanted, _) = candidates {
+        let asked = items_unlisted(hierarchy, operator, from.count(), from.bound(), candidates);
+        if let Some(items) = asked {
+            tally.forget();
+            let read = from.count();
+            count_walk(indexes, choices, operator, operand, read, items, visits);
+            let found = led_among(alloc, hierarchy, operator, &from, *wanted)?;
+            return Ok(found);
+        }
+    }
     let concepts = from.items(alloc)?;
     let own = concepts.as_slice();
-    let hierarchy = indexes.hierarchy();
     let way = walk_way(hierarchy, operator, own, from.bound(), candidates);
-    if own.len() != 1 || way.asks_candidates || is_apart(operator) {
-        tally.leave();
+    if own.len() != 1 || way.asks_candidates || Step::of(operator).is_apart() {
+        tally.forget();
     }
     let items = way.items;
     count_walk(
@@ -283,70 +324,18 @@ fn walk_from<S: ConceptSet>(
     Ok(found)
 }
 
-// The candidates among the concepts that a plan means, and how many rows they have as values, where that shows as they are
-// found.
-#[cycle(execute)]
-#[tactic(auto, using(crate::proofs::Rules::node_parts))]
-fn execute_tallied<S: ConceptSet>(
-    alloc: Global,
-    plan: &ConceptPlan,
-    choices: &[Choice],
-    candidates: &Candidates<'_, S>,
-    snapshot: &Snapshot,
-    indexes: &Indexes,
-    visits: &mut Visits,
-    tally: &mut RowTally<'_>,
-) -> Result<S, AllocError>
-    requires index { IsIndexOf indexes.now snapshot.now.release }
-    requires candidates { AreBelow S.bound_of (length snapshot.now.release.concepts) candidates.now }
-    ensures items { IfOk result (λ found. S.items_of found ≡ numbers_within snapshot.now.release (may_be S.items_of candidates.now) (means snapshot.now.release (plan_of plan.now))) }
-    ensures bound { IfOk result (λ found. S.bound_of found ≡ length snapshot.now.release.concepts) }
-    ensures grows { visits.old.count ≤ visits.new.count }
-    ensures within { visits.new.count ≤ visits.old.count + node_sum (own_number indexes.now) choices.now (plan_of plan.now) }
-    ensures floor { IfOk result (λ _. min (visits.old.count + node_sum (floor_number indexes.now) choices.now (plan_of plan.now)) (2 ^ 64 - 1) ≤ visits.new.count) }
-    ensures size { IfOk result (λ found. length (S.items_of found) ≤ size_of indexes.now choices.now (plan_of plan.now)) }
-{
-    // the concepts rise, and the sources of all attribute rows are in force
-    snapshot.concept_count();
-    snapshot.attribute_count();
-    match plan {
-        ConceptPlan::Walk(operator, operand) => {
-            let found = walk_from(
-                alloc, *operator, operand, choices, candidates, snapshot, indexes, visits, tally,
-            )?;
-            Ok(found)
-        }
-        ConceptPlan::Or(parts) => {
-            let found = in_some(
-                alloc, parts, choices, candidates, snapshot, indexes, visits, tally,
-            )?;
-            Ok(found)
-        }
-        _ => {
-            tally_one(plan, snapshot, tally);
-            let found = execute_within(
-                alloc, plan, choices, candidates, snapshot, indexes, visits,
-            )?;
-            Ok(found)
-        }
-    }
-}
-
-// Adds the rows of the concept that a plan names, if it is such a plan.
-fn tally_one(plan: &ConceptPlan, snapshot: &Snapshot, tally: &mut RowTally<'_>) {
+// Adds the rows of the concept that a plan names. Those of what a walk or an OR finds are added as it is found; how many any other
+// plan finds is not known.
+fn tally_named(plan: &ConceptPlan, snapshot: &Snapshot, tally: &mut RowTally<'_>) {
     match plan {
         ConceptPlan::One(id) => {
             if let Some(concept) = snapshot.index_of(*id) {
                 tally.add(&[concept]);
             }
         }
-        _ => tally.leave(),
+        ConceptPlan::Walk(_, _) | ConceptPlan::Or(_) => {}
+        _ => tally.forget(),
     }
-}
-
-// Whether an operator keeps those of a set that lead to no other of it.
-fn is_apart(operator: Operator) -> bool {
-    matches!(operator, Operator::Top | Operator::Bottom)
 }
 
 // The candidates among the concepts so many of whose groups are among those that a plan means.
@@ -562,15 +551,46 @@ fn led_along<S: ConceptSet>(
     // the concepts rise, and the sources of all attribute rows are in force
     snapshot.concept_count();
     snapshot.attribute_count();
-    let all = Candidates::All;
     let mut found = from;
+    let mut known: Option<(&ConceptPlan, S)> = None;
     let mut rest = choices;
     for name in names {
         let behind = plan_floor(name, rest, indexes).rest;
-        let named: S = execute_within(alloc, name, rest, &all, snapshot, indexes, visits)?;
+        let named: S = named_by(alloc, name, rest, known, snapshot, indexes, visits)?;
         found = values_along(alloc, snapshot, indexes, found, &named, visits)?;
+        known = Some((name, named));
         rest = behind;
     }
+    Ok(found)
+}
+
+// The concepts that the name of a dotted attribute means. Where the name before is the same, what it means is known; then the name
+// is left out, and its floor counted.
+#[cycle(execute)]
+fn named_by<S: ConceptSet>(
+    alloc: Global,
+    name: &ConceptPlan,
+    choices: &[Choice],
+    known: Option<(&ConceptPlan, S)>,
+    snapshot: &Snapshot,
+    indexes: &Indexes,
+    visits: &mut Visits,
+) -> Result<S, AllocError>
+    requires index { IsIndexOf indexes.now snapshot.now.release }
+    requires known { IfSome known (λ known. HasNamed snapshot.now.release (plan_of known.0.now) (S.items_of known.1) (S.bound_of known.1)) }
+    ensures named { IfOk result (λ found. HasNamed snapshot.now.release (plan_of name.now) (S.items_of found) (S.bound_of found)) }
+    ensures grows { visits.old.count ≤ visits.new.count }
+    ensures within { visits.new.count ≤ visits.old.count + node_sum (own_number indexes.now) choices.now (plan_of name.now) }
+    ensures floor { IfOk result (λ _. min (visits.old.count + node_sum (floor_number indexes.now) choices.now (plan_of name.now)) (2 ^ 64 - 1) ≤ visits.new.count) }
+{
+    if let Some((before, set)) = known {
+        if *before == *name {
+            visits.add(plan_floor(name, choices, indexes).floor);
+            return Ok(set);
+        }
+    }
+    let all = Candidates::All;
+    let found = execute_within(alloc, name, choices, &all, snapshot, indexes, visits)?;
     Ok(found)
 }
 

@@ -1,8 +1,8 @@
 //! What the concepts of a set reach, by one pass over the is-a rows.
-ghost use Rattle.std.specs.Prelude.{◌≡◌, ◌||◌, true, IfOk};
+ghost use Rattle.std.specs.Prelude.{◌≡◌, ◌<◌, ◌&&◌, not, true, All, IfOk};
 ghost use Rattle.idset.specs.Sets.{has_item};
 ghost use Rattle.executor.specs.Joined.{AreJoined, is_whole as is_whole_of, turn_of};
-ghost use Rattle.executor.specs.Steps.{IsOf, lists_of};
+ghost use Rattle.executor.specs.Steps.{IsOf, IsOver, lists_of};
 
 use crate::family::Family;
 use ancestor_index::AncestorIndex;
@@ -10,19 +10,23 @@ use idset::{ConceptSet, WordSet};
 use snapshot::Snapshot;
 use std::alloc::{AllocError, Global};
 
-/// The concepts that are in the list of one of a set, in a family whose lists hold those of their own concepts.
+/// The concepts that are in the list of one of a set, in a family whose lists hold those of their own concepts. The set is given as a
+/// list too.
 ///
-/// Each concept has its turn before those that are one is-a row away: where it is in the set or is found, they are found.
-/// So all that lead to it have had their turn, and what is one row away from it is read once.
+/// What is one is-a row away from a concept of the set is found first. Then each concept has its turn before those that are one row
+/// away: where it was found, and is not in the set, they are found. So all that lead to it have had their turn, and what is one row
+/// away from it is read once.
 pub fn reached<S: ConceptSet>(
     alloc: Global,
     snapshot: &Snapshot,
     index: &AncestorIndex,
     family: Family,
     set: &S,
+    concepts: &[u32],
 ) -> Result<WordSet, AllocError>
     requires over { IsOf snapshot.now.release (S.bound_of set.now) index.now }
     requires whole { is_whole_of family ≡ true }
+    requires concepts { concepts.now ≡ S.items_of set.now }
     ensures joined { IfOk result (λ found. AreJoined (lists_of index.now family) (S.items_of set.now) (⟦<WordSet as ConceptSet>⟧.items_of found)) }
     ensures bound { IfOk result (λ found. ⟦<WordSet as ConceptSet>⟧.bound_of found ≡ S.bound_of set.now) }
 {
@@ -30,19 +34,40 @@ pub fn reached<S: ConceptSet>(
     snapshot.concept_count();
     snapshot.isa_rows();
     let order = snapshot.parents_first();
-    let mut found = WordSet::from_items(alloc, &[], set.bound())?;
+    let near = family.near();
+    let mut found = near_of_all(alloc, index, near, concepts, set.bound())?;
     for turn in 0..order.len() {
         let concept = order[family.place_of_turn(turn, order.len())];
-        if is_in_one(set, &found, concept) {
-            found.add_all(alloc, family.near().list(index, concept))?;
+        if is_in_first_alone(&found, set, concept) {
+            found.add_all(alloc, near.list(index, concept))?;
         }
     }
     Ok(found)
 }
 
-// Whether a number is in one of two sets.
-fn is_in_one<S: ConceptSet, T: ConceptSet>(one: &S, other: &T, number: u32) -> bool
-    ensures { result ≡ (has_item (S.items_of one.now) number || has_item (T.items_of other.now) number) }
+// The concepts in the list of one of some. These are gone through by their numbers, so that lists follow one another in memory.
+fn near_of_all(
+    alloc: Global,
+    index: &AncestorIndex,
+    near: Family,
+    concepts: &[u32],
+    count: u32,
+) -> Result<WordSet, AllocError>
+    requires over { IsOver count index.now }
+    requires below { All (λ concept. concept < count) concepts.now }
+    ensures joined { IfOk result (λ found. AreJoined (lists_of index.now near) concepts.now (⟦<WordSet as ConceptSet>⟧.items_of found)) }
+    ensures bound { IfOk result (λ found. ⟦<WordSet as ConceptSet>⟧.bound_of found ≡ count) }
 {
-    one.has(number) || other.has(number)
+    let mut found = WordSet::from_items(alloc, &[], count)?;
+    for concept in concepts {
+        found.add_all(alloc, near.list(index, *concept))?;
+    }
+    Ok(found)
+}
+
+// Whether a number is in the first of two sets and not in the second.
+fn is_in_first_alone<S: ConceptSet, T: ConceptSet>(one: &S, other: &T, number: u32) -> bool
+    ensures { result ≡ (has_item (S.items_of one.now) number && not (has_item (T.items_of other.now) number)) }
+{
+    one.has(number) && !other.has(number)
 }

@@ -2,8 +2,8 @@
 ghost use Rattle.std.specs.Prelude.{◌<◌, All};
 ghost use Rattle.executor.specs.Steps.{IsOver};
 
-use crate::family::Family;
-use crate::walks::most_items;
+use crate::family::{Family, Step};
+use crate::walks::{items_of_lists, most_items};
 use ancestor_index::AncestorIndex;
 use constraint_tree::Operator;
 use pair_sets::Candidates;
@@ -16,10 +16,25 @@ const MANY: usize = 4096;
 pub struct WalkWay {
     /// Whether the candidates are asked one by one, each by the list that leads back from it.
     pub asks_candidates: bool,
-    /// Whether of a list that is looked for the concepts of a set those one is-a row away are looked at first, beside it.
-    pub near_first: bool,
+    /// Whether, where concepts of a set are looked for in the lists of its own, those one is-a row away are looked at first; and
+    /// how many items the whole lists may have that are looked at then, before a pass over the is-a rows stands for them.
+    pub near_first: Option<u64>,
     /// How many items of lists are read, and of the candidates.
     pub items: u64,
+}
+
+/// How many items are read where few candidates are asked one by one, and the concepts, which are not few, are not even listed: no
+/// more than all lists have. `None` where that is not so.
+pub fn items_unlisted<S>(
+    index: &AncestorIndex,
+    operator: Operator,
+    concepts: u32,
+    count: u32,
+    candidates: &Candidates<'_, S>,
+) -> Option<u64> {
+    let step = Step::of(operator);
+    let all = items_of_all_lists(index, step.family);
+    items_asked(step, count, candidates).filter(|items| concepts as usize > MANY && *items <= all)
 }
 
 /// The way from some concepts. The candidates are asked where they are few and their lists have no more items than those of the
@@ -34,44 +49,69 @@ pub fn walk_way<S>(
     requires over { IsOver count index.now }
     requires below { All (λ concept. concept < count) concepts.now }
 {
-    let (family, is_apart) = family_of(operator);
-    let whole = whole_way(index, family, is_apart, concepts, count);
-    if let Candidates::Within(_, extent) = candidates {
-        let asked = if is_apart { family } else { family.back() };
-        let items = extent.items.saturating_add(asked.items_of(extent.lists));
-        if extent.are_few_beside(count) && items <= whole.items {
-            return WalkWay {
-                asks_candidates: true,
-                near_first: false,
-                items,
-            };
-        }
+    let step = Step::of(operator);
+    let whole = whole_way(index, step, concepts, count);
+    match items_asked(step, count, candidates) {
+        Some(items) if items <= whole.items => WalkWay {
+            asks_candidates: true,
+            near_first: None,
+            items,
+        },
+        _ => whole,
     }
-    whole
+}
+
+// How many items are read where few candidates are asked one by one.
+fn items_asked<S>(step: Step, count: u32, candidates: &Candidates<'_, S>) -> Option<u64> {
+    match candidates {
+        Candidates::Within(_, extent) if extent.are_few_beside(count) => {
+            let asked = if step.is_apart() {
+                step.family
+            } else {
+                step.family.back()
+            };
+            Some(extent.items.saturating_add(asked.items_of(extent.lists)))
+        }
+        _ => None,
+    }
 }
 
 // The way without the candidates.
-fn whole_way(
-    index: &AncestorIndex,
-    family: Family,
-    is_apart: bool,
-    concepts: &[u32],
-    count: u32,
-) -> WalkWay
+fn whole_way(index: &AncestorIndex, step: Step, concepts: &[u32], count: u32) -> WalkWay
+    requires over { IsOver count index.now }
+    requires below { All (λ concept. concept < count) concepts.now }
+{
+    let family = step.family;
+    if step.is_apart() {
+        return apart_way(index, family, concepts, count);
+    }
+    if concepts.len() > MANY {
+        return without_candidates(None, items_of_all_lists(index, family));
+    }
+    let own = items_of_lists(index, family, concepts, count, u64::MAX);
+    without_candidates(None, with_pass(index, family, concepts.len(), own))
+}
+
+// The way to those of some concepts that have none of them in their list. The near lists are looked at first where all lists have
+// room for them and for what is read then: the whole lists of those that are left, or a pass over the is-a rows.
+fn apart_way(index: &AncestorIndex, family: Family, concepts: &[u32], count: u32) -> WalkWay
     requires over { IsOver count index.now }
     requires below { All (λ concept. concept < count) concepts.now }
 {
     let all = items_of_all_lists(index, family);
-    if concepts.len() > MANY && !is_apart {
-        return without_candidates(false, all);
+    let links = index.link_count() as u64;
+    let (own, near) = if concepts.len() > MANY {
+        (all, links)
+    } else {
+        let own = items_of_lists(index, family, concepts, count, u64::MAX);
+        let near = items_of_lists(index, family.near(), concepts, count, u64::MAX);
+        (own, near)
+    };
+    if concepts.len() > 1 && near.saturating_add(own.min(links)) <= all {
+        without_candidates(Some(all - near), near.saturating_add(own).min(all))
+    } else {
+        without_candidates(None, own)
     }
-    let (own, near) = listed_with_near(index, family, concepts, count);
-    if is_apart {
-        let both = own.saturating_add(near);
-        let near_first = concepts.len() > 1 && both <= all;
-        return without_candidates(near_first, if near_first { both } else { own });
-    }
-    without_candidates(false, with_pass(index, family, concepts.len(), own))
 }
 
 // How many items are read where the lists of so many concepts have so many: where the lists are left for a pass over the is-a rows,
@@ -85,31 +125,12 @@ fn with_pass(index: &AncestorIndex, family: Family, concepts: usize, own: u64) -
     }
 }
 
-fn without_candidates(near_first: bool, items: u64) -> WalkWay {
+fn without_candidates(near_first: Option<u64>, items: u64) -> WalkWay {
     WalkWay {
         asks_candidates: false,
         near_first,
         items,
     }
-}
-
-// How many items the lists of some concepts have, and how many those of the near family.
-fn listed_with_near(
-    index: &AncestorIndex,
-    family: Family,
-    concepts: &[u32],
-    count: u32,
-) -> (u64, u64)
-    requires over { IsOver count index.now }
-    requires below { All (λ concept. concept < count) concepts.now }
-{
-    let mut own = 0u64;
-    let mut near = 0u64;
-    for concept in concepts {
-        own = own.saturating_add(family.list(index, *concept).len() as u64);
-        near = near.saturating_add(family.near().list(index, *concept).len() as u64);
-    }
-    (own, near)
 }
 
 // How many items all lists have.
@@ -118,17 +139,5 @@ fn items_of_all_lists(index: &AncestorIndex, family: Family) -> u64 {
         index.ancestor_count() as u64
     } else {
         index.link_count() as u64
-    }
-}
-
-// The family of lists that an operator goes along, and whether it leads nowhere, and keeps those whose list has none of the set.
-fn family_of(operator: Operator) -> (Family, bool) {
-    match operator {
-        Operator::Descendants | Operator::DescendantsOrSelf => (Family::Descendants, false),
-        Operator::Children | Operator::ChildrenOrSelf => (Family::Children, false),
-        Operator::Ancestors | Operator::AncestorsOrSelf => (Family::Ancestors, false),
-        Operator::Parents | Operator::ParentsOrSelf => (Family::Parents, false),
-        Operator::Top => (Family::Ancestors, true),
-        Operator::Bottom => (Family::Descendants, true),
     }
 }

@@ -4,12 +4,11 @@ ghost use Rattle.std.specs.List.{list_any};
 ghost use Rattle.idset.specs.Sets.{all_items, has_item};
 ghost use Rattle.hierarchy.specs.KeyedLists.{list_of};
 ghost use Rattle.executor.specs.Joined.{AreJoined, is_long as is_long_of, is_whole as is_whole_of, with_length};
-ghost use Rattle.executor.specs.Steps.{apart as apart_of, IsOf, IsOver, joined, led_to, lists_of};
+ghost use Rattle.executor.specs.Steps.{apart as apart_of, IsOf, IsOver, joined, lists_of, stepped};
 
-use crate::family::Family;
+use crate::family::{Family, Reach, Step};
 use crate::reached::reached;
 use ancestor_index::AncestorIndex;
-use constraint_tree::Operator;
 use idset::{ConceptSet, WordSet};
 use pair_sets::RowTally;
 use snapshot::Snapshot;
@@ -21,72 +20,33 @@ const LONG: usize = 64;
 // To go to one is-a row after the other in the order of the hierarchy takes about as long as to read so many items of lists.
 const PASS: u64 = 8;
 
-/// The concepts that an operator leads to from those of a set (Expression Constraint Language, "Simple
-/// Expression Constraints"). The set is given as a list too, since it is read once. The rows are counted of what is found from one
-/// concept, if that is asked for.
+/// The concepts that a step leads to from those of a set. The set is given as a list too, since it is read once. The rows are counted
+/// of what is found from one concept, if that is asked for. Which lists are looked at first, where the set is looked for in them, is
+/// as `WalkWay` says.
 pub fn walk<S: ConceptSet>(
     alloc: Global,
     snapshot: &Snapshot,
     index: &AncestorIndex,
-    operator: Operator,
+    step: Step,
     operand: &S,
     concepts: &[u32],
-    near_first: bool,
+    near_first: Option<u64>,
     tally: &mut RowTally<'_>,
 ) -> Result<S, AllocError>
     requires over { IsOf snapshot.now.release (S.bound_of operand.now) index.now }
+    requires whole { step.reach ≡ Reach.Apart → is_whole_of step.family ≡ true }
     requires concepts { concepts.now ≡ S.items_of operand.now }
-    ensures items { IfOk result (λ found. S.items_of found ≡ led_to index.now (S.bound_of operand.now) operator (S.items_of operand.now)) }
+    ensures items { IfOk result (λ found. S.items_of found ≡ stepped (lists_of index.now step.family) (S.bound_of operand.now) step.reach (S.items_of operand.now)) }
     ensures bound { IfOk result (λ found. S.bound_of found ≡ S.bound_of operand.now) }
 {
-    match operator {
-        Operator::Descendants => {
-            let family = Family::Descendants;
-            listed(alloc, snapshot, index, family, operand, concepts, tally)
-        }
-        Operator::DescendantsOrSelf => {
-            let family = Family::Descendants;
+    let family = step.family;
+    match step.reach {
+        Reach::Listed => listed(alloc, snapshot, index, family, operand, concepts, tally),
+        Reach::ListedOrSelf => {
             listed_or_self(alloc, snapshot, index, family, operand, concepts, tally)
         }
-        Operator::Children => {
-            let family = Family::Children;
-            listed(alloc, snapshot, index, family, operand, concepts, tally)
-        }
-        Operator::ChildrenOrSelf => {
-            let family = Family::Children;
-            listed_or_self(alloc, snapshot, index, family, operand, concepts, tally)
-        }
-        Operator::Ancestors => {
-            let family = Family::Ancestors;
-            listed(alloc, snapshot, index, family, operand, concepts, tally)
-        }
-        Operator::AncestorsOrSelf => {
-            let family = Family::Ancestors;
-            listed_or_self(alloc, snapshot, index, family, operand, concepts, tally)
-        }
-        Operator::Parents => {
-            let family = Family::Parents;
-            listed(alloc, snapshot, index, family, operand, concepts, tally)
-        }
-        Operator::ParentsOrSelf => {
-            let family = Family::Parents;
-            listed_or_self(alloc, snapshot, index, family, operand, concepts, tally)
-        }
-        Operator::Top => apart(
-            alloc,
-            index,
-            Family::Ancestors,
-            operand,
-            concepts,
-            near_first,
-        ),
-        Operator::Bottom => apart(
-            alloc,
-            index,
-            Family::Descendants,
-            operand,
-            concepts,
-            near_first,
+        Reach::Apart => apart(
+            alloc, snapshot, index, family, operand, concepts, near_first,
         ),
     }
 }
@@ -152,7 +112,7 @@ fn list_of_one<S: ConceptSet>(
         let own = tally.read(alloc, list)?;
         return S::from_items(alloc, own.as_slice(), count);
     }
-    tally.leave();
+    tally.forget();
     match family.words(index, concept) {
         Some(words) => S::from_words(alloc, words, count),
         None => S::from_items(alloc, list, count),
@@ -193,16 +153,16 @@ fn all_listed<S: ConceptSet>(
 {
     let mut left = most_items(index);
     if family.is_whole() && has_more_items(index, family, concepts, operand.bound(), left) {
-        return reached(alloc, snapshot, index, family, operand);
+        return reached(alloc, snapshot, index, family, operand, concepts);
     }
     let mut found = WordSet::from_items(alloc, &[], operand.bound())?;
     let long = add_lists(alloc, index, family, concepts, true, &mut left, &mut found)?;
     if !long {
-        return reached(alloc, snapshot, index, family, operand);
+        return reached(alloc, snapshot, index, family, operand, concepts);
     }
     let short = add_lists(alloc, index, family, concepts, false, &mut left, &mut found)?;
     if !short {
-        return reached(alloc, snapshot, index, family, operand);
+        return reached(alloc, snapshot, index, family, operand, concepts);
     }
     Ok(found)
 }
@@ -227,13 +187,29 @@ fn has_more_items(
     requires over { IsOver count index.now }
     requires below { All (λ concept. concept < count) concepts.now }
 {
+    matches!(family, Family::Ancestors)
+        && items_of_lists(index, family, concepts, count, most) > most
+}
+
+/// How many items the lists of some concepts have, if these are no more than so many; else a number above that.
+pub fn items_of_lists(
+    index: &AncestorIndex,
+    family: Family,
+    concepts: &[u32],
+    count: u32,
+    most: u64,
+) -> u64
+    requires over { IsOver count index.now }
+    requires below { All (λ concept. concept < count) concepts.now }
+{
     let mut items = 0u64;
-    if matches!(family, Family::Ancestors) {
-        for concept in concepts {
-            items = items.saturating_add(index.ancestors(*concept).len() as u64);
+    for concept in concepts {
+        items = items.saturating_add(family.list(index, *concept).len() as u64);
+        if items > most {
+            return items;
         }
     }
-    items > most
+    items
 }
 
 // Adds to a set the lists of those concepts whose lists are long, or are not. Tells whether it has added all: of lists that
@@ -318,29 +294,90 @@ fn is_long(list: &[u32]) -> bool
 // The concepts of a set none of which is in their list.
 fn apart<S: ConceptSet>(
     alloc: Global,
+    snapshot: &Snapshot,
     index: &AncestorIndex,
     family: Family,
     operand: &S,
     concepts: &[u32],
-    near_first: bool,
+    near_first: Option<u64>,
 ) -> Result<S, AllocError>
-    requires over { IsOver (S.bound_of operand.now) index.now }
+    requires over { IsOf snapshot.now.release (S.bound_of operand.now) index.now }
+    requires whole { is_whole_of family ≡ true }
     requires concepts { concepts.now ≡ S.items_of operand.now }
     ensures items { IfOk result (λ found. S.items_of found ≡ apart_of (lists_of index.now family) (S.items_of operand.now)) }
     ensures bound { IfOk result (λ found. S.bound_of found ≡ S.bound_of operand.now) }
 {
-    let kept = kept_apart(alloc, index, family, concepts, operand, near_first)?;
+    let kept = kept_apart(
+        alloc, snapshot, index, family, concepts, operand, near_first,
+    )?;
     S::from_items(alloc, kept.as_slice(), operand.bound())
 }
 
-// Those of some concepts whose list has none of a set.
+// Those of the concepts of a set whose list has none of it. Where that is asked for, the concepts one is-a row away are looked at
+// first: most often one of them is in the set, and the whole list lies far off in memory.
 fn kept_apart<S: ConceptSet>(
+    alloc: Global,
+    snapshot: &Snapshot,
+    index: &AncestorIndex,
+    family: Family,
+    concepts: &[u32],
+    set: &S,
+    near_first: Option<u64>,
+) -> Result<Vec<u32>, AllocError>
+    requires over { IsOf snapshot.now.release (S.bound_of set.now) index.now }
+    requires whole { is_whole_of family ≡ true }
+    requires concepts { concepts.now ≡ S.items_of set.now }
+    requires below { All (λ concept. concept < S.bound_of set.now) concepts.now }
+    ensures { IfOk result (λ kept. kept.items ≡ filter (λ concept. not (list_any (has_item (S.items_of set.now)) (list_of (lists_of index.now family) concept))) concepts.now) }
+{
+    let Some(room) = near_first else {
+        return kept_by_lists(alloc, index, family, concepts, set);
+    };
+    let left = kept_by_lists(alloc, index, family.near(), concepts, set)?;
+    kept_in_room(
+        alloc,
+        snapshot,
+        index,
+        family,
+        left.as_slice(),
+        set,
+        concepts,
+        room,
+    )
+}
+
+// Those of some concepts whose list has none of a set, which is given as a list too. Where the lists have more items than there is
+// room for, one pass over the is-a rows takes their place.
+fn kept_in_room<S: ConceptSet>(
+    alloc: Global,
+    snapshot: &Snapshot,
+    index: &AncestorIndex,
+    family: Family,
+    concepts: &[u32],
+    set: &S,
+    own: &[u32],
+    room: u64,
+) -> Result<Vec<u32>, AllocError>
+    requires over { IsOf snapshot.now.release (S.bound_of set.now) index.now }
+    requires whole { is_whole_of family ≡ true }
+    requires own { own.now ≡ S.items_of set.now }
+    requires below { All (λ concept. concept < S.bound_of set.now) concepts.now }
+    ensures { IfOk result (λ kept. kept.items ≡ filter (λ concept. not (list_any (has_item (S.items_of set.now)) (list_of (lists_of index.now family) concept))) concepts.now) }
+{
+    if items_of_lists(index, family, concepts, set.bound(), room) > room {
+        let found = reached(alloc, snapshot, index, family.back(), set, own)?;
+        return kept_outside(alloc, concepts, &found);
+    }
+    kept_by_lists(alloc, index, family, concepts, set)
+}
+
+// The same, by the list of each.
+fn kept_by_lists<S: ConceptSet>(
     alloc: Global,
     index: &AncestorIndex,
     family: Family,
     concepts: &[u32],
     set: &S,
-    near_first: bool,
 ) -> Result<Vec<u32>, AllocError>
     requires over { IsOver (S.bound_of set.now) index.now }
     requires below { All (λ concept. concept < S.bound_of set.now) concepts.now }
@@ -348,30 +385,28 @@ fn kept_apart<S: ConceptSet>(
 {
     let mut kept = Vec::new(alloc);
     for concept in concepts {
-        if is_apart(index, family, *concept, set, near_first) {
+        if !meets(family.list(index, *concept), set) {
             kept.push(*concept)?;
         }
     }
     Ok(kept)
 }
 
-/// Whether the list of a concept has none of a set. The concepts one is-a row away are looked at first where that is asked
-/// for: most often one of them is in the set, and the whole list lies far off in memory.
-pub fn is_apart<S: ConceptSet>(
-    index: &AncestorIndex,
-    family: Family,
-    concept: u32,
+// Those of some concepts that are not in a set.
+fn kept_outside<S: ConceptSet>(
+    alloc: Global,
+    concepts: &[u32],
     set: &S,
-    near_first: bool,
-) -> bool
-    requires over { IsOver (S.bound_of set.now) index.now }
-    requires below { concept < S.bound_of set.now }
-    ensures { result ≡ not (list_any (has_item (S.items_of set.now)) (list_of (lists_of index.now family) concept)) }
+) -> Result<Vec<u32>, AllocError>
+    ensures { IfOk result (λ kept. kept.items ≡ filter (λ concept. not (has_item (S.items_of set.now) concept)) concepts.now) }
 {
-    if near_first && meets(family.near().list(index, concept), set) {
-        return false;
+    let mut kept = Vec::new(alloc);
+    for concept in concepts {
+        if !set.has(*concept) {
+            kept.push(*concept)?;
+        }
     }
-    !meets(family.list(index, concept), set)
+    Ok(kept)
 }
 
 /// Whether a set has one of the concepts of a list.

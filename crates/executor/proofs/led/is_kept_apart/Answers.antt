@@ -1,16 +1,20 @@
-use Rattle.std.proofs.Common.{◌≡◌, ◌∙◌, ◌&&◌, true, false, not, sym}
+use Rattle.std.proofs.Common.{◌≡◌, ◌∙◌, ◌&&◌, true, false, not, sym, ap, arith}
 use Rattle.std.specs.List.{list_any}
 use Rattle.hierarchy.specs.KeyedLists.{list_of}
 use Rattle.idset.specs.Sets.{has_item}
 use Rattle.executor.specs.Steps.{lists_of}
+use Rattle.executor.proofs.JoinedLemmas.{over_length}
 use Rattle.executor.proofs.LedLemmas.{asked_apart}
 use Rattle.executor.proofs.led.is_kept_apart.Goals as goal
+
+pub list-requires : goal.list-requires
+list-requires g c = omega (arith, c.requires.below, over_length (g.S.ConceptSet.bound_of c.args.operand.now) c.args.index.now c.requires.over c.args.family)
 
 pub returns-then-has : goal.returns-then-has
 returns-then-has g c =
     let items = g.S.ConceptSet.items_of c.args.operand.now in
     let own : has_item items c.args.concept ≡ true = sym c.has.ensures ∙ c.if-has.true in
-    c.is_apart.ensures
+    ap not (c.meets.ensures ∙ ap (list_any (has_item items)) c.list.ensures)
     ∙ sym (λ i. own i && not (list_any (has_item items) (list_of (lists_of c.args.index.now c.args.family) c.args.concept)))
     ∙ asked_apart (g.S.ConceptSet.bound_of c.args.operand.now) c.args.index.now c.requires.over items (g.met.S.ConceptSet.rising c.args.operand.now)
     c.args.family c.args.concept c.requires.below

@@ -3,7 +3,7 @@ use Rattle.std.specs.Prelude.{All, filter}
 use Rattle.std.proofs.lemmas.Result.{IfOk-weaker}
 use Rattle.idset.specs.Sets.{IsRisingBelow, has_item}
 use Rattle.idset.proofs.Rising.{rises_within-filter}
-use Rattle.executor.specs.Steps.{led_to}
+use Rattle.executor.specs.Steps.{lists_of, stepped}
 use Rattle.pair_sets.proofs.ListLemmas.{all_below}
 use Rattle.executor.proofs.LedLemmas.{led_asked}
 use Rattle.executor.proofs.led.led_among.Goals as goal
@@ -19,7 +19,7 @@ pub from_items-requires : goal.from_items-requires
 from_items-requires g c =
     let count = g.S.ConceptSet.bound_of c.args.operand.now in
     let wanted = g.S.ConceptSet.items_of c.args.wanted.now in
-    let led : List ℕ = led_to c.args.index.now count c.args.operator (g.S.ConceptSet.items_of c.args.operand.now) in
+    let led : List ℕ = stepped (lists_of c.args.index.now c.of-step.result.family) count c.of-step.result.reach (g.S.ConceptSet.items_of c.args.operand.now) in
     let kept : c.as_slice-2.result.now ≡ filter (has_item led) wanted =
     c.as_slice-2.ensures.value ∙ c.in_ok-kept.ensures ∙ ap (filter (has_item led)) (c.as_slice.ensures.value ∙ c.in_ok-own.ensures) in
     subst (λ (bound : ℕ). IsRisingBelow bound c.as_slice-2.result.now) (sym c.bound.ensures)
@@ -32,10 +32,13 @@ returns-clause-items g c =
     let count = g.S.ConceptSet.bound_of c.args.operand.now in
     let items = g.S.ConceptSet.items_of c.args.operand.now in
     let wanted = g.S.ConceptSet.items_of c.args.wanted.now in
-    let led : List ℕ = led_to c.args.index.now count c.args.operator items in
+    let step = c.of-step.result in
+    let led : List ℕ = stepped (lists_of c.args.index.now step.family) count step.reach items in
     IfOk-weaker c.from_items.result _ _
     (λ found same.
     same ∙ c.as_slice-2.ensures.value ∙ c.in_ok-kept.ensures ∙ ap (filter (has_item led)) (c.as_slice.ensures.value ∙ c.in_ok-own.ensures)
-    ∙ led_asked count c.args.index.now c.requires.over items (g.met.S.ConceptSet.rising c.args.operand.now) c.args.operator wanted
-    (subst (λ (bound : ℕ). IsRisingBelow bound wanted) c.requires.wanted (g.met.S.ConceptSet.rising c.args.wanted.now)))
+    ∙ led_asked count c.args.index.now c.requires.over items (g.met.S.ConceptSet.rising c.args.operand.now)
+    (lists_of c.args.index.now step.family) step.reach wanted
+    (subst (λ (bound : ℕ). IsRisingBelow bound wanted) c.requires.wanted (g.met.S.ConceptSet.rising c.args.wanted.now))
+    ∙ ap (filter (has_item wanted)) (sym (c.of-step.ensures.led c.args.index.now count items)))
     c.from_items.ensures.items

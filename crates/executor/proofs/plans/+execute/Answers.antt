@@ -1,5 +1,5 @@
 use Rattle.std.proofs.Common.{ℕ, List, ◌<◌, subst, ◌+◌, ◌*◌, ◌≤◌, ◌∙◌, ◌&&◌, Bool, true, drop, length, get_or, sym, ap, refl, arith, take, mul-le-mul_right, le_of_lt, Option}
-use Rattle.std.specs.Prelude.{All, slice_get}
+use Rattle.std.specs.Prelude.{All, filter, slice_get}
 use Rattle.std.specs.List.{list_all, list_any}
 use Rattle.std.proofs.lemmas.List.{nil_from_length, take_all}
 use Rattle.std.proofs.lemmas.Option.{slice_get_read}
@@ -41,23 +41,23 @@ use Rattle.executor.proofs.WorkLemmas.{all_end, all_most, all_next, all_pass, al
 use Rattle.executor.proofs.plans.+execute.Goals as goal
 use Rattle.executor.proofs.plans.+execute.Goals.{in_all-then-place-lead+in_ok-extent+in_ok-next, in_all-else-place-lead, groups_in_all-then-place-lead+in_ok-extent+in_ok-next, groups_in_all-else-place-lead}
 
-pub execute_within-returns-then-none_left-clause-items : goal.execute_within-returns-then-none_left-clause-items
-execute_within-returns-then-none_left-clause-items g t c =
+pub execute_tallied-returns-then-none_left-clause-items : goal.execute_tallied-returns-then-none_left-clause-items
+execute_tallied-returns-then-none_left-clause-items g t c =
     let release = c.args.snapshot.now.release in
     let may : ℕ → Bool = may_be g.S.ConceptSet.items_of c.args.candidates.now in
     none_within (length release.concepts) may (λ n. means release (plan_of c.args.plan.now) (get_or release.concepts n 0))
     (g.S.ConceptSet.items_of c.in_ok-found.found)
     (c.none_left.ensures c.if-none_left.true) c.in_ok-found.ensures.items
 
-pub execute_within-returns-clause-size : goal.execute_within-returns-clause-size
-execute_within-returns-clause-size g t c =
+pub execute_tallied-returns-clause-size : goal.execute_tallied-returns-clause-size
+execute_tallied-returns-clause-size g t c =
     few_found c.args.snapshot.now.release c.args.indexes.now c.requires.index c.concept_count.ensures.rising
     (sources_known c.args.snapshot.now.release c.concept_count.ensures.rising c.attribute_count.ensures.by_source)
     c.args.choices.now (plan_of c.args.plan.now) (may_be g.S.ConceptSet.items_of c.args.candidates.now)
     (g.S.ConceptSet.items_of c.in_ok-found-2.found) c.in_ok-found-2.ensures.items
 
-pub execute_within-returns-then-none_left-clause-within : goal.execute_within-returns-then-none_left-clause-within
-execute_within-returns-then-none_left-clause-within g t c =
+pub execute_tallied-returns-then-none_left-clause-within : goal.execute_tallied-returns-then-none_left-clause-within
+execute_tallied-returns-then-none_left-clause-within g t c =
     omega (
       arith,
       c.plan_floor.ensures.floor,
@@ -65,8 +65,8 @@ execute_within-returns-then-none_left-clause-within g t c =
       floor-le-bound c.args.indexes.now c.args.choices.now (plan_of c.args.plan.now),
     )
 
-pub execute_within-returns-in_err-found-clause-within : goal.execute_within-returns-in_err-found-clause-within
-execute_within-returns-in_err-found-clause-within g t c =
+pub execute_tallied-returns-in_err-found-clause-within : goal.execute_tallied-returns-in_err-found-clause-within
+execute_tallied-returns-in_err-found-clause-within g t c =
     omega (
       arith,
       c.plan_floor.ensures.floor,
@@ -134,45 +134,13 @@ execute_node-returns-in_ok-found-in-Walk-clause-items g t c =
 pub walk_from-walk_way-way-requires-clause-below : goal.walk_from-walk_way-way-requires-clause-below
 walk_from-walk_way-way-requires-clause-below g t c =
     let from = c.in_ok-from.from in
-    subst (λ (numbers : List ℕ). All (λ number. number < c.bound.result) numbers) (sym (c.as_slice-own.ensures.value ∙ c.in_ok-concepts.ensures))
-    (subst (λ (count : ℕ). All (λ number. number < count) (g.S.ConceptSet.items_of from)) (sym c.bound.ensures)
+    subst (λ (numbers : List ℕ). All (λ number. number < c.bound-2.result) numbers) (sym (c.as_slice-own.ensures.value ∙ c.in_ok-concepts.ensures))
+    (subst (λ (count : ℕ). All (λ number. number < count) (g.S.ConceptSet.items_of from)) (sym c.bound-2.ensures)
     (all_below (g.S.ConceptSet.bound_of from) (g.S.ConceptSet.items_of from) (g.met.S.ConceptSet.rising from)))
 
-pub execute_tallied-returns-in_ok-found-in-Walk-clause-items : goal.execute_tallied-returns-in_ok-found-in-Walk-clause-items
-execute_tallied-returns-in_ok-found-in-Walk-clause-items g t c =
-    let release = c.args.snapshot.now.release in
-    c.in_ok-found-in-Walk.ensures.items
-    ∙ ap (λ (plan : Plan). numbers_within release (may_be g.S.ConceptSet.items_of c.args.candidates.now) (means release plan))
-    (ap (λ (plan : ConceptPlan). walk_plan c.in-Walk.operator (plan_of plan)) c.deref.ensures ∙ sym (ap plan_of c.in-Walk.is))
-
-pub execute_tallied-returns-in_ok-found-in-Or-clause-items : goal.execute_tallied-returns-in_ok-found-in-Or-clause-items
-execute_tallied-returns-in_ok-found-in-Or-clause-items g t c =
-    let release = c.args.snapshot.now.release in
-    let may : ℕ → Bool = may_be g.S.ConceptSet.items_of c.args.candidates.now in
-    let some : ℕ → Bool = λ concept. list_any (λ part. means release (plan_of part) concept) c.deref-in-Or.result.now in
-    c.in_ok-found-in-Or.ensures.items
-    ∙ within_same release may some (means release (plan_of c.args.plan.now))
-    (or_node release (plan_of c.args.plan.now) (numbers_in release some) c.deref-in-Or.result.now
-    (ap plan_of c.in-Or.is ∙ plan_of-Or c.in-Or.parts ∙ ap (λ (parts : List ConceptPlan). or_plan (plans_of parts)) (sym c.deref-in-Or.ensures.value)) refl)
-
-pub execute_tallied-returns-in_ok-found-in-Walk-clause-size : goal.execute_tallied-returns-in_ok-found-in-Walk-clause-size
-execute_tallied-returns-in_ok-found-in-Walk-clause-size g t c =
-    few_found c.args.snapshot.now.release c.args.indexes.now c.requires.index c.concept_count.ensures.rising
-    (sources_known c.args.snapshot.now.release c.concept_count.ensures.rising c.attribute_count.ensures.by_source)
-    c.args.choices.now (plan_of c.args.plan.now) (may_be g.S.ConceptSet.items_of c.args.candidates.now)
-    (g.S.ConceptSet.items_of c.in_ok-found-in-Walk.found)
-    (execute_tallied-returns-in_ok-found-in-Walk-clause-items g t c)
-
-pub execute_tallied-returns-in_ok-found-in-Or-clause-size : goal.execute_tallied-returns-in_ok-found-in-Or-clause-size
-execute_tallied-returns-in_ok-found-in-Or-clause-size g t c =
-    few_found c.args.snapshot.now.release c.args.indexes.now c.requires.index c.concept_count.ensures.rising
-    (sources_known c.args.snapshot.now.release c.concept_count.ensures.rising c.attribute_count.ensures.by_source)
-    c.args.choices.now (plan_of c.args.plan.now) (may_be g.S.ConceptSet.items_of c.args.candidates.now)
-    (g.S.ConceptSet.items_of c.in_ok-found-in-Or.found)
-    (execute_tallied-returns-in_ok-found-in-Or-clause-items g t c)
-
-pub walk_from-returns-clause-items : goal.walk_from-returns-clause-items
-walk_from-returns-clause-items g t c =
+-- where the candidates are asked one by one
+pub walk_from-returns-in-Some-clause-items : goal.walk_from-returns-in-Some-clause-items
+walk_from-returns-in-Some-clause-items g t c =
     let release = c.args.snapshot.now.release in
     let from = c.in_ok-from.from in
     let plan : Plan = walk_plan c.args.operator (plan_of c.args.operand.now) in
@@ -181,7 +149,20 @@ walk_from-returns-clause-items g t c =
     (walk_node release plan led (plan_of c.args.operand.now) c.args.operator c.hierarchy-hierarchy.result.now
     (g.S.ConceptSet.bound_of from) (g.S.ConceptSet.items_of from) refl
     (c.hierarchy-hierarchy.ensures ∙ c.requires.index.hierarchy) c.in_ok-from.ensures.bound c.in_ok-from.ensures.items refl)
-    c.in_ok-found.ensures.items
+    (c.in_ok-found.ensures.items
+    ∙ ap (λ (candidates : Candidates _). filter (may_be g.S.ConceptSet.items_of candidates) led) (sym c.in-Within.is))
+
+pub walk_from-returns-clause-items : goal.walk_from-returns-clause-items
+walk_from-returns-clause-items g t c =
+    let release = c.args.snapshot.now.release in
+    let from = c.in_ok-from.from in
+    let plan : Plan = walk_plan c.args.operator (plan_of c.args.operand.now) in
+    let led : List ℕ = led_to c.hierarchy-hierarchy.result.now (g.S.ConceptSet.bound_of from) c.args.operator (g.S.ConceptSet.items_of from) in
+    kept_node release (may_be g.S.ConceptSet.items_of c.args.candidates.now) plan led (g.S.ConceptSet.items_of c.in_ok-found-2.found)
+    (walk_node release plan led (plan_of c.args.operand.now) c.args.operator c.hierarchy-hierarchy.result.now
+    (g.S.ConceptSet.bound_of from) (g.S.ConceptSet.items_of from) refl
+    (c.hierarchy-hierarchy.ensures ∙ c.requires.index.hierarchy) c.in_ok-from.ensures.bound c.in_ok-from.ensures.items refl)
+    c.in_ok-found-2.ensures.items
 
 pub execute_node-returns-in_ok-found-in-Members-clause-items : goal.execute_node-returns-in_ok-found-in-Members-clause-items
 execute_node-returns-in_ok-found-in-Members-clause-items g t c =
@@ -600,6 +581,7 @@ led_along-loop-name-init g t c = record {
   few = λ some. absurd (omega (arith, some));
   start = λ none. refl;
   work = some_start c.args.visits.now.count;
+  known = tt;
 }
 
 pub led_along-loop-name-preserved : goal.led_along-loop-name-preserved
@@ -613,7 +595,7 @@ led_along-loop-name-preserved g t c =
           name_step release plan c.args.names.now c.loop-name.name-index c.name-item.result c.loop-name-test.true c.name-item.is
           indexed.concepts (g.S.ConceptSet.items_of c.loop-name.found) (g.S.ConceptSet.items_of c.in_ok-named.named)
           (g.S.ConceptSet.items_of c.in_ok-found.found)
-          c.requires.index.concepts c.in_ok-named.ensures.items c.in_ok-found.ensures.items
+          c.requires.index.concepts c.in_ok-named.ensures.named.items_are c.in_ok-found.ensures.items
           (c.loop-name.invariant.items plan from);
       bound = c.in_ok-found.ensures.bound;
       few = λ some.
@@ -625,9 +607,10 @@ led_along-loop-name-preserved g t c =
           (length (g.S.ConceptSet.items_of c.loop-name.found) + length indexed.rows)
           (along_more indexed c.loop-name.name-index (length (g.S.ConceptSet.items_of c.args.from))
           (length (g.S.ConceptSet.items_of c.loop-name.found)) c.loop-name.invariant.start c.loop-name.invariant.few)
-          (omega (arith, c.execute_within.ensures.grows, c.values_along.ensures.grows))
-          (omega (arith, c.execute_within.ensures.within, c.values_along.ensures.within))
+          (omega (arith, c.named_by.ensures.grows, c.values_along.ensures.grows))
+          (omega (arith, c.named_by.ensures.within, c.values_along.ensures.within))
           (omega (arith, c.in_ok-named.ensures.floor, c.values_along.ensures.grows));
+      known = c.in_ok-named.ensures.named;
     }
 
 pub led_along-returns-in_err-named-clause-within : goal.led_along-returns-in_err-named-clause-within
@@ -636,9 +619,9 @@ led_along-returns-in_err-named-clause-within g t c =
     let first : ℕ = length (g.S.ConceptSet.items_of c.args.from) in
     omega (
       arith,
-      some_next {next = c.execute_within.new.visits.count} c.loop-name.invariant.work c.name-item.result c.loop-name-test.true c.name-item.is 0
+      some_next {next = c.named_by.new.visits.count} c.loop-name.invariant.work c.name-item.result c.loop-name-test.true c.name-item.is 0
           (omega (arith, along_le indexed c.loop-name.name-index (length c.args.names.now) first (le_of_lt c.loop-name-test.true)))
-          (omega (arith, c.execute_within.ensures.within)),
+          (omega (arith, c.named_by.ensures.within)),
       ap (λ (count : ℕ). values_bound indexed count first) (plan_count-parts c.args.names.now),
     )
 
@@ -652,8 +635,18 @@ led_along-returns-in_err-found-clause-within g t c =
     omega (
       arith,
       some_next {next = c.values_along.new.visits.count} c.loop-name.invariant.work c.name-item.result c.loop-name-test.true c.name-item.is (found + length indexed.rows)
-          (omega (arith, read, more)) (omega (arith, c.execute_within.ensures.within, c.values_along.ensures.within)),
+          (omega (arith, read, more)) (omega (arith, c.named_by.ensures.within, c.values_along.ensures.within)),
       ap (λ (count : ℕ). values_bound indexed count first) (plan_count-parts c.args.names.now),
+    )
+
+-- what a name that is left out counts is no more than its bound
+pub named_by-returns-then-eq-clause-within : goal.named_by-returns-then-eq-clause-within
+named_by-returns-then-eq-clause-within g t c =
+    omega (
+      arith,
+      c.plan_floor.ensures.floor,
+      c.add.ensures.count,
+      floor-le-bound c.args.indexes.now c.args.choices.now (plan_of c.args.name.now),
     )
 
 pub led_along-returns-clause-within : goal.led_along-returns-clause-within

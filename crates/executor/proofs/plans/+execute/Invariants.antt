@@ -1,5 +1,5 @@
 use Rattle.std.proofs.Common.{◌≡◌, ◌≤◌, ◌<◌, ◌*◌, ◌&&◌, length, get_or, min, take}
-use Rattle.std.specs.Prelude.{slice_get}
+use Rattle.std.specs.Prelude.{IfSome, slice_get}
 use Rattle.std.specs.List.{list_all, list_any}
 use Rattle.idset.specs.Sets.{numbers_where}
 use Rattle.postings.specs.Groups.{all_groups}
@@ -14,6 +14,7 @@ use Rattle.planner.proofs.LoopLemmas.{concept_sum, of_concepts, of_groups, unit_
 use Rattle.pair_sets.specs.Groups.{some_group_in}
 use Rattle.pair_sets.specs.Numbers.{numbers_in}
 use Rattle.executor.specs.Lead.{leads_off, leads_off_groups}
+use Rattle.executor.specs.Named.{HasNamed}
 use Rattle.pair_sets.specs.Within.{may_be}
 use Rattle.executor.proofs.PartWork.{concepts_read, groups_read}
 use Rattle.executor.proofs.WorkLemmas.{AllSoFar, SomeSoFar}
@@ -83,4 +84,5 @@ invariant-led_along-loop-name g l = record {
   work : SomeSoFar ConceptPlan of_concepts (concept_sum (floor_number l.indexes)) (concept_sum (own_number l.indexes))
       (λ place. values_bound l.indexes place (length (g.S.ConceptSet.items_of l.initial.found))) l.choices l.names l.name-index
       l.fn.visits.count l.visits.count l.rest;
+  known : IfSome l.known (λ known. HasNamed l.snapshot.release (plan_of known.0.now) (g.S.ConceptSet.items_of known.1) (g.S.ConceptSet.bound_of known.1));
 }

@@ -1,28 +1,43 @@
-use Rattle.std.proofs.Common.{ℕ, List, ◌≡◌, ◌<◌, ◌+◌, ◌||◌, ◌∙◌, length, get_or, sym, ap, subst, arith}
+use Rattle.std.proofs.Common.{ℕ, List, ◌≡◌, ◌<◌, ◌+◌, not, ◌&&◌, ◌∙◌, length, get_or, sym, ap, subst, arith}
+use Rattle.std.specs.Prelude.{All}
 use Rattle.hierarchy.specs.KeyedLists.{list_of}
 use Rattle.idset.specs.Sets.{IsRisingBelow, all_items, has_item, numbers_where}
 use Rattle.idset.specs.Words.{is_set}
-use Rattle.executor.specs.Joined.{near_of, turn_of}
+use Rattle.executor.specs.Joined.{AreJoined, near_of, turn_of}
 use Rattle.executor.specs.Steps.{lists_of}
 use Rattle.executor.specs.declared.family.Family.{Family}
-use Rattle.executor.proofs.ReachedLemmas.{IsPassed, near_rises, near_there, passed_all, passed_none, passed_on, passed_over}
+use Rattle.pair_sets.proofs.ListLemmas.{all_below}
+use Rattle.executor.proofs.ReachedLemmas.{IsPassed, near_rises, near_there, passed_all, passed_first, passed_on, passed_over}
 use Rattle.executor.proofs.reached.reached.Goals as goal
-use Rattle.executor.proofs.reached.reached.Goals.{then-is_in_one+in_ok-add_all, else-is_in_one}
+use Rattle.executor.proofs.reached.reached.Goals.{then-is_in_first_alone+in_ok-add_all, else-is_in_first_alone}
 
 pub loop-turn-init : goal.loop-turn-init
 loop-turn-init g c = record {
-  passed = passed_none c.args.snapshot.now.release c.isa_rows.result.now c.parents_first-order.result.now c.concept_count.ensures.rising c.isa_rows.ensures.within
+  passed = passed_first c.args.snapshot.now.release c.isa_rows.result.now c.parents_first-order.result.now
+      c.concept_count.ensures.rising c.isa_rows.ensures.within
       c.isa_rows.ensures.rows (c.parents_first-order.ensures c.isa_rows.result.now c.isa_rows.ensures.rows c.isa_rows.ensures.within)
       (g.S.ConceptSet.bound_of c.args.set.now) c.args.index.now c.requires.over.hierarchy_is c.requires.over.count_is c.args.family c.requires.whole
       (g.S.ConceptSet.items_of c.args.set.now) (g.met.S.ConceptSet.rising c.args.set.now)
-      (numbers_where c.in_ok-found.found.bound (is_set c.in_ok-found.found.words.items)) c.in_ok-found.ensures.items;
+      (numbers_where c.in_ok-found.found.bound (is_set c.in_ok-found.found.words.items))
+      (subst (λ (own : List ℕ). AreJoined (lists_of c.args.index.now (near_of c.args.family)) own
+      (numbers_where c.in_ok-found.found.bound (is_set c.in_ok-found.found.words.items))) c.requires.concepts
+      (subst (λ (near : Family). AreJoined (lists_of c.args.index.now near) c.args.concepts.now
+      (numbers_where c.in_ok-found.found.bound (is_set c.in_ok-found.found.words.items))) c.near-near.ensures c.in_ok-found.ensures.joined));
   bound = c.in_ok-found.ensures.bound ∙ c.bound.ensures;
 }
+
+pub near_of_all-requires-clause-below : goal.near_of_all-requires-clause-below
+near_of_all-requires-clause-below g c =
+    let count = g.S.ConceptSet.bound_of c.args.set.now in
+    let items = g.S.ConceptSet.items_of c.args.set.now in
+    subst (λ (bound : ℕ). All (λ concept. concept < bound) c.args.concepts.now) (sym c.bound.ensures)
+    (subst (λ (concepts : List ℕ). All (λ concept. concept < count) concepts) (sym c.requires.concepts)
+    (all_below count items (g.met.S.ConceptSet.rising c.args.set.now)))
 
 pub list-requires : goal.list-requires
 list-requires g c =
     let order = c.parents_first-order.result.now in
-    subst (λ (f : Family). get_or order c.place_of_turn.result 0 < length (lists_of c.args.index.now f)) (sym c.near.ensures)
+    subst (λ (f : Family). get_or order c.place_of_turn.result 0 < length (lists_of c.args.index.now f)) (sym c.near-near.ensures)
     (subst (λ (place : ℕ). get_or order place 0 < length (lists_of c.args.index.now (near_of c.args.family))) (sym c.place_of_turn.ensures)
     (near_there c.args.snapshot.now.release c.isa_rows.result.now order c.concept_count.ensures.rising c.isa_rows.ensures.within
     c.isa_rows.ensures.rows (c.parents_first-order.ensures c.isa_rows.result.now c.isa_rows.ensures.rows c.isa_rows.ensures.within)
@@ -34,7 +49,7 @@ add_all-requires g c =
     let order = c.parents_first-order.result.now in
     let listed : c.list.result.now ≡ list_of (lists_of c.args.index.now (near_of c.args.family))
     (get_or order (turn_of c.args.family (length order) c.loop-turn.turn) 0) =
-    c.list.ensures ∙ (λ i. list_of (lists_of c.args.index.now (c.near.ensures i)) (get_or order (c.place_of_turn.ensures i) 0)) in
+    c.list.ensures ∙ (λ i. list_of (lists_of c.args.index.now (c.near-near.ensures i)) (get_or order (c.place_of_turn.ensures i) 0)) in
     subst (λ (bound : ℕ). IsRisingBelow bound c.list.result.now) (sym c.loop-turn.invariant.bound)
     (subst (λ (list : List ℕ). IsRisingBelow (g.S.ConceptSet.bound_of c.args.set.now) list) (sym listed)
     (near_rises c.args.snapshot.now.release c.isa_rows.result.now order c.concept_count.ensures.rising c.isa_rows.ensures.within
@@ -51,11 +66,11 @@ loop-turn-preserved g c =
     let turn = c.loop-turn.turn in
     let found : List ℕ = numbers_where c.loop-turn.found.bound (is_set c.loop-turn.found.words.items) in
     let concept : ℕ = get_or order (turn_of f (length order) turn) 0 in
-    let asked : (has_item items concept || has_item found concept) ≡ c.is_in_one.result =
-    (λ i. has_item items (get_or order (sym c.place_of_turn.ensures i) 0) || has_item found (get_or order (sym c.place_of_turn.ensures i) 0))
-    ∙ sym c.is_in_one.ensures in
-    elim c.if-is_in_one.branch [
-      | then-is_in_one+in_ok-add_all w ↦ record {
+    let asked : (has_item found concept && not (has_item items concept)) ≡ c.is_in_first_alone.result =
+    (λ i. has_item found (get_or order (sym c.place_of_turn.ensures i) 0) && not (has_item items (get_or order (sym c.place_of_turn.ensures i) 0)))
+    ∙ sym c.is_in_first_alone.ensures in
+    elim c.if-is_in_first_alone.branch [
+      | then-is_in_first_alone+in_ok-add_all w ↦ record {
         passed =
             subst (IsPassed (lists_of c.args.index.now f) (lists_of c.args.index.now (near_of f))
             (λ turn. get_or order (turn_of f (length order) turn) 0) (turn + 1) items)
@@ -66,12 +81,12 @@ loop-turn-preserved g c =
             (g.met.S.ConceptSet.rising c.args.set.now) turn found
             w.list.result.now (numbers_where w.add_all.new.self.bound (is_set w.add_all.new.self.words.items)) c.loop-turn-test.true
             (subst (λ (bound : ℕ). IsRisingBelow bound found) c.loop-turn.invariant.bound c.loop-turn.found.rising)
-            (w.list.ensures ∙ (λ i. list_of (lists_of c.args.index.now (w.near.ensures i)) (get_or order (c.place_of_turn.ensures i) 0)))
+            (w.list.ensures ∙ (λ i. list_of (lists_of c.args.index.now (c.near-near.ensures i)) (get_or order (c.place_of_turn.ensures i) 0)))
             (w.in_ok-add_all.ensures.items ∙ (λ i. all_items (c.loop-turn.invariant.bound i) found w.list.result.now))
-            (asked ∙ w.if-is_in_one.true) c.loop-turn.invariant.passed);
+            (asked ∙ w.if-is_in_first_alone.true) c.loop-turn.invariant.passed);
         bound = ap (λ (set : _). set.bound) w.found-is ∙ w.in_ok-add_all.ensures.bound ∙ c.loop-turn.invariant.bound;
       }
-      | else-is_in_one w ↦ record {
+      | else-is_in_first_alone w ↦ record {
         passed =
             subst (IsPassed (lists_of c.args.index.now f) (lists_of c.args.index.now (near_of f))
             (λ turn. get_or order (turn_of f (length order) turn) 0) (turn + 1) items)
@@ -80,7 +95,7 @@ loop-turn-preserved g c =
             c.isa_rows.ensures.rows (c.parents_first-order.ensures c.isa_rows.result.now c.isa_rows.ensures.rows c.isa_rows.ensures.within)
             count c.args.index.now c.requires.over.hierarchy_is c.requires.over.count_is f c.requires.whole items
             (g.met.S.ConceptSet.rising c.args.set.now) turn found
-            (asked ∙ w.if-is_in_one.false) c.loop-turn.invariant.passed);
+            (asked ∙ w.if-is_in_first_alone.false) c.loop-turn.invariant.passed);
         bound = ap (λ (set : _). set.bound) w.found-is ∙ c.loop-turn.invariant.bound;
       }
     ]

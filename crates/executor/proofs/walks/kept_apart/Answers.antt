@@ -1,24 +1,45 @@
-use Rattle.std.proofs.Common.{ℕ, Vec, Bool, true, false, not, ◌∙◌, sym, ap, append-nil}
+use Rattle.std.proofs.Common.{ℕ, List, Bool, not, ◌&&◌, ◌<◌, ◌∙◌, sym, ap, subst}
+use Rattle.std.specs.Prelude.{All, filter, slice_index_or}
 use Rattle.std.specs.List.{list_any}
-use Rattle.idset.specs.Sets.{has_item}
-use Rattle.idset.proofs.Places.{filter_step}
+use Rattle.std.proofs.lemmas.Result.{IfOk-weaker}
+use Rattle.std.proofs.lemmas.List.Elements.{All-filter}
 use Rattle.hierarchy.specs.KeyedLists.{list_of}
-use Rattle.executor.specs.Steps.{lists_of}
+use Rattle.idset.specs.Sets.{has_item}
+use Rattle.postings.proofs.BlockLemmas.{filter-twice, filter-within}
+use Rattle.executor.specs.Joined.{near_of}
+use Rattle.executor.specs.Steps.{IsOver, lists_of}
+use Rattle.executor.specs.declared.family.Family.{Family}
+use Rattle.executor.proofs.LedLemmas.{apart_near}
 use Rattle.executor.proofs.walks.kept_apart.Goals as goal
-use Rattle.executor.proofs.walks.kept_apart.Goals.{then-is_apart+in_ok-push, else-is_apart}
 
-pub is_apart-requires-clause-below : goal.is_apart-requires-clause-below
-is_apart-requires-clause-below g c = c.requires.below c.loop-concept.concept-index 0 c.loop-concept-test.true
+-- those that are left are some of the concepts
+pub kept_in_room-requires-clause-below : goal.kept_in_room-requires-clause-below
+kept_in_room-requires-clause-below g c =
+    let set = has_item (g.S.ConceptSet.items_of c.args.set.now) in
+    subst (λ (concepts : List ℕ). All (λ concept. concept < g.S.ConceptSet.bound_of c.args.set.now) concepts)
+    (sym (c.as_slice.ensures.value ∙ c.in_ok-left.ensures))
+    (All-filter (λ concept. not (list_any set (list_of (lists_of c.args.index.now c.near.result) concept)))
+    (λ concept. concept < g.S.ConceptSet.bound_of c.args.set.now) c.args.concepts.now c.requires.below)
 
-pub loop-concept-preserved : goal.loop-concept-preserved
-loop-concept-preserved g c =
-    let test : ℕ → Bool = λ concept. not (list_any (has_item (g.S.ConceptSet.items_of c.args.set.now)) (list_of (lists_of c.args.index.now c.args.family) concept)) in
-    let k = c.loop-concept.concept-index in
-    elim c.if-is_apart.branch [
-      | then-is_apart+in_ok-push w ↦
-          filter_step test c.args.concepts.now c.loop-concept.kept.items c.if-is_apart.kept.items k true c.loop-concept-test.true c.loop-concept.invariant (sym w.if-is_apart.true ∙ c.is_apart.ensures)
-          (ap (λ (kept : Vec ℕ _). kept.items) w.kept-is ∙ w.in_ok-push.ensures.items)
-      | else-is_apart w ↦
-          filter_step test c.args.concepts.now c.loop-concept.kept.items c.if-is_apart.kept.items k false c.loop-concept-test.true c.loop-concept.invariant (sym w.if-is_apart.false ∙ c.is_apart.ensures)
-          (ap (λ (kept : Vec ℕ _). kept.items) w.kept-is ∙ sym (append-nil c.loop-concept.kept.items))
-    ]
+pub returns : goal.returns
+returns g c =
+    let count = g.S.ConceptSet.bound_of c.args.set.now in
+    let items = g.S.ConceptSet.items_of c.args.set.now in
+    let over : IsOver count c.args.index.now = record {
+      release = c.args.snapshot.now.release;
+      hierarchy_is = c.requires.over.hierarchy_is;
+      count_is = c.requires.over.count_is;
+    } in
+    let none : Family → ℕ → Bool = λ family concept. not (list_any (has_item items) (list_of (lists_of c.args.index.now family) concept)) in
+    let near = none (near_of c.args.family) in
+    let far = none c.args.family in
+    IfOk-weaker c.kept_in_room.result _ _
+    (λ kept same.
+    same
+    ∙ ap (filter far) (c.as_slice.ensures.value ∙ c.in_ok-left.ensures ∙ (λ i. filter (none (c.near.ensures i)) c.args.concepts.now))
+    ∙ filter-twice far near c.args.concepts.now
+    ∙ filter-within (λ concept. near concept && far concept) far c.args.concepts.now
+    (λ k d inside.
+    apart_near count c.args.index.now over items (g.met.S.ConceptSet.rising c.args.set.now) c.args.family
+    (slice_index_or c.args.concepts.now k d) (c.requires.below k d inside)))
+    c.kept_in_room.ensures

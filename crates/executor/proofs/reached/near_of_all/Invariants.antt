@@ -1,0 +1,13 @@
+use Rattle.std.proofs.Common.{◌≡◌, take}
+use Rattle.idset.specs.Sets.{numbers_where}
+use Rattle.idset.specs.Words.{is_set}
+use Rattle.executor.specs.Joined.{AreJoined}
+use Rattle.executor.specs.Steps.{lists_of}
+use Rattle.executor.proofs.reached.near_of_all.Given as goal
+
+-- the lists of the concepts so far are there
+abbrev pub invariant-loop-concept : goal.invariant-loop-concept
+invariant-loop-concept l = record {
+  joined : AreJoined (lists_of l.index l.near) (take l.concept-index l.concepts) (numbers_where l.found.bound (is_set l.found.words.items));
+  bound : l.found.bound ≡ l.count;
+}

@@ -1,9 +1,0 @@
-use Rattle.std.proofs.Common.{◌<◌, get_or, arith}
-use Rattle.executor.specs.declared.family.Family.TheVariants as family
-use Rattle.executor.proofs.JoinedLemmas.{over_length}
-use Rattle.executor.proofs.walks.has_more_items.Goals as goal
-
-pub ancestors-requires : goal.ancestors-requires
-ancestors-requires c =
-    let below : get_or c.args.concepts.now c.loop-concept.concept-index 0 < c.args.count = c.requires.below c.loop-concept.concept-index 0 c.loop-concept-test.true in
-    omega (arith, below, over_length c.args.count c.args.index.now c.requires.over family.Ancestors)

@@ -1,0 +1,9 @@
+use Rattle.std.proofs.Common.{◌<◌, get_or, arith}
+use Rattle.executor.proofs.JoinedLemmas.{over_length}
+use Rattle.executor.proofs.walks.kept_by_lists.Goals as goal
+
+pub list-requires : goal.list-requires
+list-requires g c =
+    let below : get_or c.args.concepts.now c.loop-concept.concept-index 0 < g.S.ConceptSet.bound_of c.args.set.now =
+    c.requires.below c.loop-concept.concept-index 0 c.loop-concept-test.true in
+    omega (arith, below, over_length (g.S.ConceptSet.bound_of c.args.set.now) c.args.index.now c.requires.over c.args.family)
