@@ -5,6 +5,8 @@
 #![tactic(auto)]
 
 #[cfg(test)]
+mod folder_tests;
+#[cfg(test)]
 mod plan_tests;
 #[cfg(test)]
 mod run_tests;
@@ -14,6 +16,8 @@ mod serve_tests;
 mod source_tests;
 #[cfg(test)]
 mod stream_tests;
+#[cfg(test)]
+mod test_folders;
 #[cfg(test)]
 mod test_release;
 #[cfg(test)]

@@ -1,13 +1,17 @@
 //! The files of the folders of a release.
-ghost use Rattle.std.specs.Prelude.{◌≡◌, ◌≤◌, IfOk, None, Ok, length};
-ghost use Rattle.release_files.specs.Source.{CountsFailures};
+ghost use Rattle.std.specs.Prelude.{◌≡◌, ◌≢◌, ◌≤◌, IfErr, IfOk, IfSome, IsSomeAnd, MatchOption, None, Ok, OnErr, OnOk, length, string_bytes};
+ghost use Rattle.std.specs.Io.KnownBytes.{IsAtEnd, ReadConsumes};
+ghost use Rattle.std.specs.IoError.{error_kind};
+ghost use Rattle.release_files.specs.Source.{CountsFailures, Opens};
+ghost use Rattle.streams.specs.Folders.{AnswersFault, IsNumbered, IsOpenedBy, IsPlace, path_below, rest_of};
 
 use crate::fault::TRIES;
+use crate::system::FolderSystem;
 use release_files::{FileSource, SourceFault};
 use rf2_rows::file_kind;
 use std::alloc::{AllocError, Global};
 use std::collections::BTreeSet;
-use std::fs::{File, Metadata};
+use std::fs::{Files, Metadata};
 use std::io::{ErrorKind, Read};
 use std::os::unix::fs::MetadataExt;
 use std::{fs, io, mem};
@@ -17,7 +21,8 @@ const LEVELS: usize = 16;
 
 /// The plain files of folders and their subfolders as a source. The name of a file is its path below
 /// its folder, with `/` between the parts; of two folders and more it begins with the number of the
-/// folder, from 1, as `2/a/b.txt` does. Nothing is claimed of what the files hold.
+/// folder, from 1, as `2/a/b.txt` does. Nothing is claimed of what the files hold; of the open file
+/// no byte is lost or given twice. The files are those of the host, or of any other system `R`.
 ///
 /// `list` gives the names folder by folder. Links are followed, but below each of the folders each
 /// folder is entered once, whatever links lead to it: level by level, and in a folder in the byte
@@ -25,17 +30,17 @@ const LEVELS: usize = 16;
 /// file, so that it fails where it is opened, and is passed over otherwise. `open` opens plain files
 /// alone, and a file is closed where its end is read.
 #[derive(Drop)]
-pub struct FolderSource<'a> {
-    rt: &'a HostRuntime,
+pub struct FolderSource<'a, R: Files = HostRuntime> {
+    rt: &'a R,
     folders: &'a [String],
-    file: Option<File>,
+    file: Option<R::File>,
     failures: u64,
 }
 
-impl<'a> FolderSource<'a> {
+impl<'a, R: FolderSystem> FolderSource<'a, R> {
     /// A source of the files of these folders, with none open.
-    pub fn new(rt: &'a HostRuntime, folders: &'a [String]) -> FolderSource<'a>
-        ensures { ⟦<FolderSource<'a> as FileSource>⟧.failure_count result ≡ 0 }
+    pub fn new(rt: &'a R, folders: &'a [String]) -> FolderSource<'a, R>
+        ensures { ⟦<FolderSource<'a, R> as FileSource>⟧.failure_count result ≡ 0 }
     {
         FolderSource {
             rt,
@@ -45,10 +50,14 @@ impl<'a> FolderSource<'a> {
         }
     }
 
-    // What the system gave. Its failure is counted, and closes the file.
+    // What the system gave. Its failure closes the file, and is counted unless it is want of memory.
     fn counted<T>(&mut self, given: io::Result<T>) -> Result<T, SourceFault>
         ensures value { IfOk result (λ value. given ≡ Ok value) }
+        ensures answered { IfOk given (λ value. result ≡ Ok value) }
+        ensures counted { IfErr given (λ error. AnswersFault (error_kind error) result self.old.failures self.new.failures) }
         ensures failures { CountsFailures result self.old.failures self.new.failures }
+        ensures open { OnOk result (self.new.file ≡ self.old.file) }
+        ensures closed { OnErr result (self.new.file ≡ None) }
     {
         match given {
             Ok(value) => Ok(value),
@@ -64,10 +73,10 @@ impl<'a> FolderSource<'a> {
     }
 }
 
-impl<'a> FileSource for FolderSource<'a> {
+impl<'a, R: FolderSystem> FileSource for FolderSource<'a, R> {
     ghost files = { λ _. None };
 
-    ghost rest = { λ _. None };
+    ghost rest = { λ source. rest_of R.File.Read.remaining source.file };
 
     ghost failure_count = { λ source. source.failures };
 
@@ -80,7 +89,13 @@ impl<'a> FileSource for FolderSource<'a> {
         self.counted(names)
     }
 
-    fn open(&mut self, name: &str) -> Result<(), SourceFault> {
+    /// The path by which the file is opened is that of its folder, `/` and the name below it.
+    fn open(&mut self, name: &str) -> Result<(), SourceFault>
+        ensures path { OnOk result (IsSomeAnd self.new.file (λ file. IsOpenedBy R.opens self.old.folders.now name.now file)) }
+        ensures opened { OnOk result (Opens None name.now (rest_of R.File.Read.remaining self.new.file)) }
+        ensures closed { OnErr result (IsAtEnd (rest_of R.File.Read.remaining self.new.file)) }
+        ensures failures { CountsFailures result self.old.failures self.new.failures }
+    {
         self.file = None;
         let file = open_file(self.rt, self.folders, name);
         self.file = Some(self.counted(file)?);
@@ -100,7 +115,7 @@ impl<'a> FileSource for FolderSource<'a> {
 }
 
 // The names of the files of folders, folder by folder.
-fn list_folders(rt: &HostRuntime, folders: &[String]) -> io::Result<Vec<String>> {
+fn list_folders<R: FolderSystem>(rt: &R, folders: &[String]) -> io::Result<Vec<String>> {
     if let [folder] = folders {
         return list_files(rt, folder.as_str());
     }
@@ -112,8 +127,8 @@ fn list_folders(rt: &HostRuntime, folders: &[String]) -> io::Result<Vec<String>>
 }
 
 // Adds the names of the files of a folder, each behind the number of the folder.
-fn list_numbered(
-    rt: &HostRuntime,
+fn list_numbered<R: FolderSystem>(
+    rt: &R,
     number: usize,
     folder: &str,
     names: &mut Vec<String>,
@@ -124,34 +139,38 @@ fn list_numbered(
     Ok(())
 }
 
-fn open_file(rt: &HostRuntime, folders: &[String], name: &str) -> io::Result<File> {
+fn open_file<R: FolderSystem>(rt: &R, folders: &[String], name: &str) -> io::Result<R::File>
+    ensures { IfOk result (λ file. IsOpenedBy R.opens folders.now name.now file) }
+{
     match folder_and_path(folders, name) {
-        Some((folder, below)) => open_plain(rt, joined(rt.alloc(), folder, below)?.as_str()),
+        Some((folder, below)) => rt.open_plain(joined(rt.alloc(), folder, below)?.as_str()),
         None => Err(io::Error::from(ErrorKind::NotFound)),
     }
 }
 
 // The folder of a file, and the path below it.
-fn folder_and_path<'a>(folders: &'a [String], name: &'a str) -> Option<(&'a str, &'a str)> {
+fn folder_and_path<'a>(folders: &'a [String], name: &'a str) -> Option<(&'a str, &'a str)>
+    ensures { MatchOption result (length folders.now ≢ 1) (λ place. IsPlace folders.now name.now place.0.now place.1.now) }
+{
     if let [folder] = folders {
         return Some((folder.as_str(), name));
     }
+    numbered(folders, name)
+}
+
+// The folder whose number begins the name of a file, and the path below it.
+fn numbered<'a>(folders: &'a [String], name: &'a str) -> Option<(&'a str, &'a str)>
+    ensures { IfSome result (λ place. IsNumbered folders.now name.now place.0.now place.1.now) }
+{
     let (number, below) = name.split_once('/')?;
     let index = number.parse::<usize>().ok()?.checked_sub(1)?;
     Some((folders.get(index)?.as_str(), below))
 }
 
-// Opens a plain file. Nothing else is opened, since to open a pipe may wait without end.
-fn open_plain(rt: &HostRuntime, path: &str) -> io::Result<File> {
-    if fs::metadata(rt, path)?.is_file() {
-        return File::open(rt, path);
-    }
-    Err(io::Error::from(ErrorKind::InvalidInput))
-}
-
 // Reads the next bytes. A read that is interrupted is tried again, 1,000 times in all.
-fn read_some(file: &mut File, buffer: &mut [u8]) -> io::Result<usize>
-    ensures { IfOk result (λ count. count ≤ length buffer.new) }
+fn read_some<F: Read>(file: &mut F, buffer: &mut [u8]) -> io::Result<usize>
+    ensures within { IfOk result (λ count. count ≤ length buffer.new) }
+    ensures bytes { ReadConsumes (F.remaining file.old) (F.remaining file.new) result buffer.new }
 {
     for _ in 0..TRIES {
         match file.read(buffer) {
@@ -167,7 +186,7 @@ fn read_some(file: &mut File, buffer: &mut [u8]) -> io::Result<usize>
 }
 
 // The names of the plain files of a folder and its subfolders, level by level.
-fn list_files(rt: &HostRuntime, folder: &str) -> io::Result<Vec<String>> {
+fn list_files<R: FolderSystem>(rt: &R, folder: &str) -> io::Result<Vec<String>> {
     let mut walk = Walk::new(rt.alloc());
     let mut level = Vec::new(rt.alloc());
     level.push(String::new(rt.alloc()))?;
@@ -202,7 +221,7 @@ impl Walk {
     }
 
     // Takes what a folder has, in the byte order of the names, unless the folder was entered before.
-    fn enter(&mut self, rt: &HostRuntime, folder: &str, below: &str) -> io::Result<()> {
+    fn enter<R: FolderSystem>(&mut self, rt: &R, folder: &str, below: &str) -> io::Result<()> {
         let path = joined(rt.alloc(), folder, below)?;
         let attributes = fs::metadata(rt, path.as_str())?;
         if self.entered.insert((attributes.dev(), attributes.ino()))? {
@@ -216,7 +235,7 @@ impl Walk {
     }
 
     // Takes a plain file or a folder by its path, or a link that leads nowhere, and nothing else.
-    fn take(&mut self, rt: &HostRuntime, folder: &str, name: String) -> io::Result<()> {
+    fn take<R: FolderSystem>(&mut self, rt: &R, folder: &str, name: String) -> io::Result<()> {
         let path = joined(rt.alloc(), folder, name.as_str())?;
         match fs::metadata(rt, path.as_str()) {
             Ok(attributes) => self.take_by(name, &attributes),
@@ -252,7 +271,7 @@ impl Walk {
 }
 
 // The names in a folder, in byte order.
-fn entries(rt: &HostRuntime, path: &str) -> io::Result<Vec<String>> {
+fn entries<R: FolderSystem>(rt: &R, path: &str) -> io::Result<Vec<String>> {
     let mut names = Vec::new(rt.alloc());
     for entry in fs::read_dir(rt, path)? {
         names.push(String::from_str(rt.alloc(), entry?.file_name())?)?;
@@ -262,7 +281,9 @@ fn entries(rt: &HostRuntime, path: &str) -> io::Result<Vec<String>> {
 }
 
 // A path below a folder. The folder itself is its word as it stands, so that an empty word is none.
-fn joined(alloc: Global, folder: &str, below: &str) -> Result<String, AllocError> {
+fn joined(alloc: Global, folder: &str, below: &str) -> Result<String, AllocError>
+    ensures { IfOk result (λ path. string_bytes path ≡ path_below folder.now below.now) }
+{
     let mut path = String::from_str(alloc, folder)?;
     if !below.is_empty() {
         path.push_str("/")?;

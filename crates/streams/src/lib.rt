@@ -6,8 +6,10 @@ mod fault;
 mod folder;
 mod input;
 mod output;
+mod system;
 
 pub use crate::fault::IoFault;
 pub use crate::folder::FolderSource;
 pub use crate::input::{QueryInput, StreamInput};
 pub use crate::output::{AnswerOutput, StreamOutput, write_all};
+pub use crate::system::FolderSystem;

@@ -1,0 +1,177 @@
+//! A file system of a test: its folders and files fail where the test asks it.
+ghost use Rattle.std.specs.Prelude.{IsErr};
+
+use std::alloc::{Alloc, Allocator, Global};
+use std::fs::{Files, Metadata, OpenFile, OpenOptions};
+use std::io::{ErrorKind, Read, Seek, SeekFrom, Write};
+use std::{fs, io};
+
+/// What stands at a path.
+#[derive(Clone, Copy)]
+pub enum Node {
+    /// A file with its bytes.
+    File(&'static [u8]),
+    /// A file that can't be opened.
+    Unopened(ErrorKind),
+    /// A file that can't be read.
+    Unread(ErrorKind),
+    /// A folder with its names, each ended by a NUL, and the folder of the system as which it is told
+    /// apart from others.
+    Folder(&'static [u8], &'static str),
+    /// A folder that can't be listed.
+    Unlisted(ErrorKind),
+    /// What can't be looked at.
+    Unseen(ErrorKind),
+}
+
+/// A file system of what stands at some paths.
+#[derive(Clone, Drop)]
+pub struct TestFolders {
+    rt: HostRuntime,
+    nodes: &'static [(&'static str, Node)],
+}
+
+impl TestFolders {
+    pub fn new(rt: HostRuntime, nodes: &'static [(&'static str, Node)]) -> TestFolders {
+        TestFolders { rt, nodes }
+    }
+
+    // What stands at a path, which may end in a `/`.
+    fn node(&self, path: &str) -> io::Result<Node> {
+        let wanted = path.strip_suffix('/').unwrap_or(path);
+        for (known, node) in self.nodes {
+            if *known == wanted {
+                return Ok(*node);
+            }
+        }
+        Err(io::Error::from(ErrorKind::NotFound))
+    }
+}
+
+/// The bytes of a file, or the names of a folder; or why they can't be read.
+#[derive(Drop)]
+pub struct TestFile {
+    bytes: &'static [u8],
+    fault: Option<ErrorKind>,
+}
+
+// What no source asks of a file system.
+fn unsupported<T>() -> io::Result<T>
+    ensures { IsErr result }
+{
+    Err(io::Error::from(ErrorKind::Unsupported))
+}
+
+impl Alloc for TestFolders {
+    type A = Global;
+
+    fn alloc(&self) -> Global {
+        self.rt.alloc()
+    }
+}
+
+impl Files for TestFolders {
+    type File = TestFile;
+
+    type Dir = TestFile;
+
+    fn open_file(&self, _how: &OpenOptions, path: &str) -> io::Result<TestFile> {
+        match self.node(path)? {
+            Node::File(bytes) => Ok(TestFile { bytes, fault: None }),
+            Node::Unread(kind) => Ok(TestFile {
+                bytes: b"",
+                fault: Some(kind),
+            }),
+            Node::Unopened(kind) => Err(io::Error::from(kind)),
+            _ => unsupported(),
+        }
+    }
+
+    fn open_dir(&self, path: &str) -> io::Result<TestFile> {
+        match self.node(path)? {
+            Node::Folder(bytes, _) => Ok(TestFile { bytes, fault: None }),
+            Node::Unlisted(kind) => Err(io::Error::from(kind)),
+            _ => unsupported(),
+        }
+    }
+
+    fn metadata(&self, path: &str) -> io::Result<Metadata> {
+        match self.node(path)? {
+            Node::Folder(_, like) => fs::metadata(&self.rt, like),
+            Node::Unlisted(_) => Ok(Metadata::of_dir()),
+            Node::Unseen(kind) => Err(io::Error::from(kind)),
+            _ => Ok(Metadata::of_file(0)),
+        }
+    }
+
+    fn symlink_metadata(&self, path: &str) -> io::Result<Metadata> {
+        self.metadata(path)
+    }
+
+    fn copy(&self, _from: &str, _to: &str) -> io::Result<u64> {
+        unsupported()
+    }
+
+    fn rename(&self, _from: &str, _to: &str) -> io::Result<()> {
+        unsupported()
+    }
+
+    fn remove_file(&self, _path: &str) -> io::Result<()> {
+        unsupported()
+    }
+
+    fn create_dir(&self, _path: &str) -> io::Result<()> {
+        unsupported()
+    }
+
+    fn remove_dir(&self, _path: &str) -> io::Result<()> {
+        unsupported()
+    }
+
+    fn remove_dir_all<B: Allocator>(&self, _alloc: B, _path: &str) -> io::Result<()> {
+        unsupported()
+    }
+}
+
+impl Read for TestFile {
+    fn read(&mut self, buffer: &mut [u8]) -> io::Result<usize> {
+        match self.fault {
+            Some(kind) => Err(io::Error::from(kind)),
+            None => self.bytes.read(buffer),
+        }
+    }
+}
+
+impl Write for TestFile {
+    fn write(&mut self, _bytes: &[u8]) -> io::Result<usize> {
+        unsupported()
+    }
+
+    fn flush(&mut self) -> io::Result<()> {
+        unsupported()
+    }
+}
+
+impl Seek for TestFile {
+    fn seek(&mut self, _to: SeekFrom) -> io::Result<u64> {
+        unsupported()
+    }
+}
+
+impl OpenFile for TestFile {
+    fn metadata(&self) -> io::Result<Metadata> {
+        unsupported()
+    }
+
+    fn set_len(&self, _size: u64) -> io::Result<()> {
+        unsupported()
+    }
+
+    fn sync_all(&self) -> io::Result<()> {
+        unsupported()
+    }
+
+    fn sync_data(&self) -> io::Result<()> {
+        unsupported()
+    }
+}

@@ -1,0 +1,5 @@
+use Rattle.std.specs.Io.KnownBytes.{Keeps}
+use Rattle.streams.proofs.folder.read_some.Given as goal
+
+abbrev pub invariant-loop : goal.invariant-loop
+invariant-loop g l = record { bytes : Keeps (g.F.Read.remaining l.fn.file) (g.F.Read.remaining l.file) }
