@@ -2,7 +2,7 @@
 ghost use Rattle.std.specs.Prelude.{◌≡◌, ◌<◌, ◌^◌, ℕ, List, All, IfOk, length, OnErr, OnOk};
 ghost use Rattle.std.specs.List.{range_with_len};
 ghost use Rattle.idset.specs.Sets.{all_items, common_items, has_item, IsRisingBelow, listed_numbers, missing_numbers, numbers_where, other_items};
-ghost use Rattle.idset.specs.Words.{AreWordsBelow, is_set, MarkedBelow};
+ghost use Rattle.idset.specs.Words.{AreWordsBelow, is_set};
 
 use std::alloc::{AllocError, Global};
 
@@ -80,10 +80,10 @@ pub trait ConceptSet: Drop {
     fn items(&self, alloc: Global) -> Result<Vec<u32>, AllocError>
         ensures { IfOk result (λ items. items.items ≡ items_of self.now) };
 
-    /// The items as words of 64 bits, as `from_words` takes them: for tests of many numbers. What is kept as words
-    /// is copied as it is.
-    fn marks(&self, alloc: Global) -> Result<Vec<u64>, AllocError>
-        ensures { IfOk result (λ words. MarkedBelow (bound_of self.now) words.items (has_item (items_of self.now))) };
+    /// The same set, in the form in which it is asked soonest whether it has a number: for tests of many numbers.
+    fn for_asking(self, alloc: Global) -> Result<Self, AllocError>
+        ensures items { IfOk result (λ set. items_of set ≡ items_of self) }
+        ensures bound { IfOk result (λ set. bound_of set ≡ bound_of self) };
 
     /// A set of the same items.
     fn copy(&self, alloc: Global) -> Result<Self, AllocError>

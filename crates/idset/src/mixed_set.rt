@@ -122,10 +122,13 @@ impl ConceptSet for MixedSet {
         }
     }
 
-    fn marks(&self, alloc: Global) -> Result<Vec<u64>, AllocError> {
-        match &self.form {
-            Form::Few(own) => own.marks(alloc),
-            Form::Many(own) => own.marks(alloc),
+    fn for_asking(self, alloc: Global) -> Result<MixedSet, AllocError> {
+        match self.form {
+            Form::Few(own) => {
+                let set = WordSet::from_items(alloc, own.list(), own.bound())?;
+                Ok(many(set))
+            }
+            Form::Many(own) => Ok(many(own)),
         }
     }
 

@@ -84,8 +84,8 @@ impl ConceptSet for WordSet {
         numbers_of(alloc, &self.words, self.bound)
     }
 
-    fn marks(&self, alloc: Global) -> Result<Vec<u64>, AllocError> {
-        Vec::from_slice(alloc, &self.words)
+    fn for_asking(self, _alloc: Global) -> Result<WordSet, AllocError> {
+        Ok(self)
     }
 
     #[tactic(auto, using(crate::proofs::Rising::rules_of_rising))]
