@@ -45,7 +45,8 @@ over_lists count hierarchy over f =
 pub over_length : (count : ℕ) (hierarchy : Hierarchy) → IsOver count hierarchy → (f : Family) → length (lists_of hierarchy f) ≡ count
 over_length count hierarchy over f = ap (λ (lists : List (List ℕ)). length lists) (over_lists count hierarchy over f) ∙ length-where count (stands over.release f)
 
-over_list : (count : ℕ) (hierarchy : Hierarchy) (over : IsOver count hierarchy) (f : Family) (concept : ℕ) → concept < count
+-- the list of a concept has those that it stands to
+pub over_list : (count : ℕ) (hierarchy : Hierarchy) (over : IsOver count hierarchy) (f : Family) (concept : ℕ) → concept < count
     → list_of (lists_of hierarchy f) concept ≡ numbers_where count (stands over.release f concept)
 over_list count hierarchy over f concept below =
     ap (λ (lists : List (List ℕ)). list_of lists concept) (over_lists count hierarchy over f) ∙ list_of-where count (stands over.release f) concept below

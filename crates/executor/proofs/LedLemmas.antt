@@ -103,7 +103,7 @@ module _ (count : ℕ) (hierarchy : Hierarchy) (over : IsOver count hierarchy) (
       by_near false far = refl
 
   -- what a step leads to rises
-  led_rises : (lists : List (List ℕ)) (reach : Reach) → IsRisingBelow count (stepped lists count reach items)
+  pub led_rises : (lists : List (List ℕ)) (reach : Reach) → IsRisingBelow count (stepped lists count reach items)
   led_rises lists Listed = numbers_where-rising count (λ n. list_any (λ other. has_item (list_of lists other) n) items)
   led_rises lists ListedOrSelf = numbers_where-rising count (λ n. has_item items n || has_item (joined count lists items) n)
   led_rises lists Apart = rises_within-filter 0 count (λ concept. not (list_any (has_item items) (list_of lists concept))) items rises

@@ -1,3 +1,4 @@
+pub mod AskedLemmas
 pub mod CountingLemmas
 pub mod GroupNodeLemmas
 pub mod JoinedLemmas

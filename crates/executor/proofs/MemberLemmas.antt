@@ -1,6 +1,6 @@
 -- The components of reference sets, by the numbers of concepts and by the member rows.
 use Rattle.std.proofs.Common.{ℕ, ◌≡◌, ◌<◌, ◌∙◌, ◌∷◌, [], ◌==◌, ◌&&◌, ◌||◌, Bool, true, false, List, length, get_or, refl, sym, ap, subst, arith}
-use Rattle.std.specs.Prelude.{All, Contains}
+use Rattle.std.specs.Prelude.{◌^◌, All, Contains, filter}
 use Rattle.std.specs.List.{flat_map, list_any}
 use Rattle.std.proofs.lemmas.Bool.{eq-eqb, eqb-true}
 use Rattle.std.proofs.lemmas.List.{get_or_default}
@@ -9,13 +9,15 @@ use Rattle.rf2_rows.specs.Release.{Release}
 use Rattle.constraint_tree.specs.Denotation.{is_component}
 use Rattle.constraint_tree.specs.Walks.{has_concept}
 use Rattle.constraint_tree.proofs.WalkLemmas.{passing_item, some_item_passes, tells_in_force}
-use Rattle.idset.specs.Sets.{has_item, listed_numbers, numbers_where}
-use Rattle.idset.proofs.Normal.{has_item-numbers_where, numbers_where-agree}
+use Rattle.idset.specs.Sets.{IsRising, IsRisingBelow, has_item, listed_numbers, numbers_where}
+use Rattle.idset.proofs.Normal.{filter-numbers_where, has_item-numbers_where, numbers_where-agree}
+use Rattle.idset.proofs.Rising.{numbers_where-rising, rising_fits, rising_is_numbers_where}
 use Rattle.hierarchy.specs.KeyedLists.{list_of}
 use Rattle.ancestor_index.specs.HierarchyLists.{is_child}
 use Rattle.ancestor_index.proofs.ClosureLemmas.{both_ways, list_of-where, there_where, where_there}
 use Rattle.postings.specs.Indexed.{members_of}
-use Rattle.executor.specs.Members.{components_of}
+use Rattle.executor.specs.Members.{components_of, is_in_one_of}
+use Rattle.pair_sets.proofs.WithinLemmas.{restricted_to}
 use Rattle.pair_sets.specs.Numbers.{numbers_in}
 use Rattle.pair_sets.specs.Tested.{is_one_of}
 use Rattle.pair_sets.proofs.ListLemmas.{any_agree, any_append}
@@ -78,14 +80,44 @@ member_told release refset n below inside =
     ap (λ (xs : List ℕ). has_item xs n) (list_of-where (length release.concepts) (is_member release) refset below)
     ∙ has_item-numbers_where (length release.concepts) (is_member release refset) n inside
 
+-- a concept is in the list of one of some reference sets where it is a component of one of them
+component_told : (release : Release) (items : List ℕ) → All (λ item. item < length release.concepts) items
+    → (n : ℕ) → n < length release.concepts
+    → is_in_one_of (members_of release) items n
+    ≡ list_any (λ row. list_any (λ refset. get_or release.concepts refset 0 == row.0) items && (row.1 == get_or release.concepts n 0)) release.members
+component_told release items below n inside =
+    any_agree items _ _ 0 (λ k there. member_told release (get_or items k 0) n (below k 0 there) inside)
+    ∙ any_exchanged (λ refset. get_or release.concepts refset 0) items release.members (get_or release.concepts n 0)
+
 pub members_listed : (release : Release) (items : List ℕ) → All (λ item. item < length release.concepts) items
     → listed_numbers (length release.concepts) (flat_map (list_of (members_of release)) items) ≡ components_of release items
 members_listed release items below =
     numbers_where-agree (length release.concepts) _ _
-    (λ n inside.
-    item_joined (members_of release) items n
-    ∙ any_agree items _ _ 0 (λ k there. member_told release (get_or items k 0) n (below k 0 there) inside)
-    ∙ any_exchanged (λ refset. get_or release.concepts refset 0) items release.members (get_or release.concepts n 0))
+    (λ n inside. item_joined (members_of release) items n ∙ component_told release items below n inside)
+
+-- the components of a reference set rise
+pub members_rise : (release : Release) (refset : ℕ) → refset < length release.concepts → length release.concepts < 2 ^ 32
+    → IsRising (list_of (members_of release) refset)
+members_rise release refset below small =
+    rising_fits (length release.concepts) (list_of (members_of release) refset)
+    (subst (IsRisingBelow (length release.concepts)) (sym (list_of-where (length release.concepts) (is_member release) refset below))
+    (numbers_where-rising (length release.concepts) (is_member release refset))) small
+
+-- those of a rising list that are in the list of one of some reference sets are the components of these that are in it
+pub members_asked : (release : Release) (items : List ℕ) → All (λ item. item < length release.concepts) items
+    → (wanted : List ℕ) → IsRisingBelow (length release.concepts) wanted
+    → filter (is_in_one_of (members_of release) items) wanted ≡ filter (has_item wanted) (components_of release items)
+members_asked release items below wanted rises =
+    ap (filter asked) (rising_is_numbers_where count wanted rises)
+    ∙ filter-numbers_where count (has_item wanted) asked
+    ∙ numbers_where-agree count _ _ (λ n inside. ap (λ (there : Bool). has_item wanted n && there) (component_told release items below n inside))
+    ∙ sym (restricted_to count (has_item wanted) _ (components_of release items) (filter (has_item wanted) (components_of release items)) refl refl)
+  where
+    count : ℕ
+    count = length release.concepts
+
+    asked : ℕ → Bool
+    asked = is_in_one_of (members_of release) items
 
 -- and they are numbers of concepts
 pub members_below : (release : Release) (items : List ℕ) → All (λ item. item < length release.concepts) items

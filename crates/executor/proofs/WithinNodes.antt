@@ -1,22 +1,29 @@
 -- What plans mean, of candidates alone, from what they mean.
-use Rattle.std.proofs.Common.{ℕ, zero, suc, ◌≡◌, ◌<◌, ◌≤◌, ◌∙◌, ◌∷◌, [], Bool, true, false, not, ◌&&◌, List, Option, None, Some, length, get_or, take, refl, sym, ap, arith, inl, inr, ◌+◌}
+use Rattle.std.proofs.Common.{ℕ, zero, suc, ◌≡◌, ◌<◌, ◌≤◌, ◌∙◌, ◌∷◌, [], Bool, true, false, not, ◌&&◌, List, Option, None, Some, length, get_or, take, refl, sym, ap, subst, arith, inl, inr, ◌+◌}
 use Rattle.std.specs.Prelude.{filter, slice_get}
 use Rattle.std.specs.List.{list_all, list_any, range_with_len}
-use Rattle.std.proofs.lemmas.Bool.{and_parts}
+use Rattle.std.proofs.lemmas.Bool.{and_parts, cases_lt}
 use Rattle.std.proofs.lemmas.Option.{slice_get_cases, slice_get_past}
 use Rattle.rf2_rows.specs.Pairs.{Pair}
 use Rattle.rf2_rows.specs.Release.{Release}
-use Rattle.idset.specs.Sets.{has_item, numbers_where, other_items}
-use Rattle.idset.proofs.Normal.{numbers_where-agree, numbers_where-all}
+use Rattle.constraint_tree.specs.declared.operator.Operator.{Operator}
+use Rattle.idset.specs.Sets.{IsRisingBelow, has_item, numbers_where, other_items}
+use Rattle.idset.proofs.Normal.{has_item-numbers_where, has_item-numbers_where_past, numbers_where-agree, numbers_where-all}
+use Rattle.idset.proofs.Rising.{numbers_where-rising}
+use Rattle.ancestor_index.specs.HierarchyLists.{Hierarchy, hierarchy_of}
 use Rattle.postings.specs.Groups.{ConceptGroup, all_groups}
 use Rattle.set_algebra.specs.declared.plan.ConceptPlan.{ConceptPlan}
 use Rattle.set_algebra.specs.declared.plan.UnitPlan.{UnitPlan}
 use Rattle.set_algebra.specs.Meaning.{group_means, means}
-use Rattle.set_algebra.specs.Plan.{GroupPlan, Plan, group_plan_of, minus_group, minus_plan, nothing_group, empty_plan, plan_of}
+use Rattle.set_algebra.specs.Plan.{GroupPlan, Plan, group_plan_of, minus_group, minus_plan, nothing_group, empty_plan, plan_of, walk_plan}
 use Rattle.pair_sets.specs.Groups.{groups_where, some_group_in}
 use Rattle.pair_sets.specs.Numbers.{numbers_in}
+use Rattle.executor.specs.Asked.{AreEnough, asked_lists}
+use Rattle.executor.specs.Steps.{led_to}
 use Rattle.executor.specs.Lead.{leads_off, leads_off_groups}
 use Rattle.pair_sets.specs.Within.{groups_within, numbers_within}
+use Rattle.executor.proofs.AskedLemmas.{led_from_part}
+use Rattle.executor.proofs.NodeLemmas.{walk_node}
 use Rattle.pair_sets.proofs.LeafLemmas as leaf
 use Rattle.pair_sets.proofs.WithinLemmas.{all_again, all_done, kept_groups, minus_within, restricted_to, some_of_none}
 
@@ -207,3 +214,40 @@ module _ (release : Release) (may : ℕ → Bool) where
       → found ≡ numbers_where (length all) (λ n. may n && list_any (λ part. some_group_in release (group_means release (group_plan_of part)) (slice_get all n)) parts)
       → found ≡ groups_within release may (λ pairs. list_any (λ part. group_means release (group_plan_of part) pairs) parts)
   any_done parts found found_is = found_is ∙ (λ i. numbers_where (length all) (λ n. may n && any_in parts (slice_get all n) i))
+
+-- where an operator leads, of candidates, from what a plan means of concepts that are enough for them
+pub walk_of_part : (release : Release) (child : Plan) (operator : Operator) (hierarchy : Hierarchy) (count : ℕ) (may enough : ℕ → Bool) (part found : List ℕ)
+    → hierarchy ≡ hierarchy_of release → count ≡ length release.concepts
+    → AreEnough (asked_lists hierarchy operator) may enough
+    → part ≡ numbers_within release enough (means release child)
+    → found ≡ filter may (led_to hierarchy count operator part)
+    → found ≡ numbers_within release may (means release (walk_plan operator child))
+walk_of_part release child operator hierarchy count may enough part found over counted are_enough part_is found_is =
+    kept_node release may (walk_plan operator child) (led_to hierarchy count operator set) found
+    (walk_node release (walk_plan operator child) (led_to hierarchy count operator set) child operator hierarchy count set refl over counted refl refl)
+    (found_is ∙ led_from_part count hierarchy (record { release = release; hierarchy_is = over; count_is = counted })
+    set part (rises holds) (subst (IsRisingBelow count) (sym part_is) (rises (λ n. enough n && holds n))) enough same operator may are_enough)
+  where
+    holds : ℕ → Bool
+    holds n = means release child (get_or release.concepts n 0)
+
+    set : List ℕ
+    set = numbers_in release (means release child)
+
+    rises : (test : ℕ → Bool) → IsRisingBelow count (numbers_where (length release.concepts) test)
+    rises test =
+        subst (λ (bound : ℕ). IsRisingBelow bound (numbers_where (length release.concepts) test)) (sym counted)
+        (numbers_where-rising (length release.concepts) test)
+
+    same : (n : ℕ) → enough n ≡ true → has_item part n ≡ has_item set n
+    same n told =
+        ap (λ (items : List ℕ). has_item items n) part_is
+        ∙ elim (cases_lt n (length release.concepts)) [
+          | inl below ↦
+              has_item-numbers_where (length release.concepts) (λ m. enough m && holds m) n below
+              ∙ ap (λ (b : Bool). b && holds n) told
+              ∙ sym (has_item-numbers_where (length release.concepts) holds n below)
+          | inr past ↦
+              has_item-numbers_where_past (length release.concepts) (λ m. enough m && holds m) n past
+              ∙ sym (has_item-numbers_where_past (length release.concepts) holds n past)
+        ]

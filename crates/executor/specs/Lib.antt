@@ -1,3 +1,4 @@
+pub mod Asked
 pub mod Joined
 pub mod Lead
 pub mod Members

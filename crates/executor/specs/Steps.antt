@@ -14,7 +14,8 @@ use Rattle.executor.specs.declared.family.Family.TheVariants as family
 use Rattle.executor.specs.declared.family.Reach.{Reach}
 use Rattle.executor.specs.declared.family.Reach.TheVariants.{Listed, ListedOrSelf, Apart}
 use Rattle.executor.specs.declared.family.Step.{Step}
-use Rattle.executor.specs.Joined.{is_whole}
+use Rattle.executor.specs.Asked.{asked_lists}
+use Rattle.executor.specs.Joined.{back_of, is_whole}
 
 -- a family of lists of a hierarchy
 abbrev pub lists_of : Hierarchy → Family → List (List ℕ)
@@ -69,8 +70,18 @@ stepped lists count Listed concepts = joined count lists concepts
 stepped lists count ListedOrSelf concepts = all_items count concepts (joined count lists concepts)
 stepped lists count Apart concepts = apart lists concepts
 
+-- the family of the lists by which it is asked whether a step leads to a concept
+abbrev pub asked_by : Family → Reach → Family
+asked_by family Listed = back_of family
+asked_by family ListedOrSelf = back_of family
+asked_by family Apart = family
+
+abbrev pub asked_of : Step → Family
+asked_of step = asked_by step.family step.reach
+
 -- a step leads where an operator leads, and keeps some concepts apart by whole lists alone
 pub record IsStepFor (operator : Operator) (step : Step) : Type 0 where
   pub led : (hierarchy : Hierarchy) (count : ℕ) (concepts : List ℕ)
       → led_to hierarchy count operator concepts ≡ stepped (lists_of hierarchy step.family) count step.reach concepts
   pub whole : step.reach ≡ Apart → is_whole step.family ≡ true
+  pub asked : (hierarchy : Hierarchy) → lists_of hierarchy (asked_of step) ≡ asked_lists hierarchy operator

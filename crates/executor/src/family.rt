@@ -4,7 +4,7 @@ ghost use Rattle.idset.specs.Sets.{has_item};
 ghost use Rattle.idset.specs.Words.{MarkedBelow};
 ghost use Rattle.hierarchy.specs.KeyedLists.{list_of};
 ghost use Rattle.executor.specs.Joined.{back_of, is_whole as is_whole_of, near_of, turn_of};
-ghost use Rattle.executor.specs.Steps.{HasWords, IsStepFor, lists_of};
+ghost use Rattle.executor.specs.Steps.{HasWords, IsStepFor, asked_of, lists_of};
 
 use ancestor_index::AncestorIndex;
 use constraint_tree::Operator;
@@ -142,6 +142,16 @@ impl Step {
             Operator::Bottom => (Family::Descendants, Reach::Apart),
         };
         Step { family, reach }
+    }
+
+    /// The family of the lists by which a concept is asked whether it leads there.
+    pub fn asked(self) -> Family
+        ensures { result ≡ asked_of self }
+    {
+        match self.reach {
+            Reach::Listed | Reach::ListedOrSelf => self.family.back(),
+            Reach::Apart => self.family,
+        }
     }
 
     /// Whether it leads to some of the concepts alone.

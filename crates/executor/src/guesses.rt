@@ -10,7 +10,7 @@ use set_algebra::{ConceptPlan, UnitPlan, ValueTest};
 // looked at a few times at the most.
 const DEPTH: u32 = 3;
 
-// How many rows a value may have.
+// How many rows a value may have that is not looked up.
 const ROWS_OF_VALUE: u64 = 16;
 
 /// The place of that part of which the least is guessed.
@@ -196,6 +196,33 @@ pub fn rows_of_types(types: &ConceptPlan, indexes: &Indexes) -> u64 {
     }
 }
 
+/// How many rows a plan reads where it reads none of candidates; none where it never does.
+pub fn rows_without(plan: &ConceptPlan, indexes: &Indexes) -> u64 {
+    match plan {
+        ConceptPlan::Empty
+        | ConceptPlan::All
+        | ConceptPlan::One(_)
+        | ConceptPlan::Walk(_, _)
+        | ConceptPlan::Members(_) => 0,
+        ConceptPlan::Pairs {
+            back,
+            types,
+            test,
+            ..
+        } => guess_of_rows(*back, types, test, indexes),
+        _ => u64::from(indexes.row_count()),
+    }
+}
+
+/// The same of a plan of groups.
+pub fn unit_rows_without(plan: &UnitPlan, indexes: &Indexes) -> u64 {
+    match plan {
+        UnitPlan::Nothing | UnitPlan::Every => 0,
+        UnitPlan::Pairs { types, test, .. } => guess_of_rows(false, types, test, indexes),
+        _ => u64::from(indexes.row_count()),
+    }
+}
+
 // How many rows have one of the types and a value that may pass, or read backwards a source that may.
 fn guess_of_rows(back: bool, types: &ConceptPlan, test: &ValueTest, indexes: &Indexes) -> u64 {
     let by_type = rows_of_types(types, indexes);
@@ -204,8 +231,9 @@ fn guess_of_rows(back: bool, types: &ConceptPlan, test: &ValueTest, indexes: &In
             ConceptPlan::One(id) => by_type.min(rows_of_concept(back, *id, indexes)),
             ConceptPlan::Walk(operator, from) => match &**from {
                 ConceptPlan::One(id) => {
-                    let values = length_of_list(*operator, *id, indexes).saturating_add(1);
-                    by_type.min(values.saturating_mul(ROWS_OF_VALUE))
+                    let others = length_of_list(*operator, *id, indexes);
+                    let own = rows_of_concept(back, *id, indexes);
+                    by_type.min(own.saturating_add(others.saturating_mul(ROWS_OF_VALUE)))
                 }
                 _ => by_type,
             },

@@ -1,6 +1,9 @@
 //! Which of some candidates an operator leads to, by the lists of each.
-ghost use Rattle.std.specs.Prelude.{◌≡◌, ◌<◌, All, IfOk, filter};
+ghost use Rattle.std.specs.Prelude.{◌≡◌, ◌<◌, ◌∷◌, All, IfOk, filter};
+ghost use Rattle.std.specs.List.{flat_map};
+ghost use Rattle.hierarchy.specs.KeyedLists.{list_of};
 ghost use Rattle.idset.specs.Sets.{all_items, has_item};
+ghost use Rattle.executor.specs.Asked.{AreEnough, asked_lists};
 ghost use Rattle.executor.specs.Steps.{apart as apart_of, IsOf, IsOver, joined, led_to, lists_of, stepped};
 ghost use Rattle.pair_sets.specs.Within.{AreBelow, may_be};
 
@@ -70,6 +73,43 @@ pub fn led_among<S: ConceptSet>(
     let own = wanted.items(alloc)?;
     let kept = those_led_to(alloc, index, step, operand, own.as_slice())?;
     S::from_items(alloc, kept.as_slice(), operand.bound())
+}
+
+/// The concepts of a set, and those in the lists by which it is asked whether an operator leads to them.
+pub fn enough_for<S: ConceptSet>(
+    alloc: Global,
+    index: &AncestorIndex,
+    operator: Operator,
+    wanted: &S,
+) -> Result<S, AllocError>
+    requires { IsOver (S.bound_of wanted.now) index.now }
+    ensures enough { IfOk result (λ enough. AreEnough (asked_lists index.now operator) (has_item (S.items_of wanted.now)) (has_item (S.items_of enough))) }
+    ensures bound { IfOk result (λ enough. S.bound_of enough ≡ S.bound_of wanted.now) }
+{
+    let family = Step::of(operator).asked();
+    let own = wanted.items(alloc)?;
+    let numbers = with_lists(alloc, index, family, own.as_slice(), wanted.bound())?;
+    S::from_numbers(alloc, numbers.as_slice(), wanted.bound())
+}
+
+// Some concepts, each with its list behind it.
+fn with_lists(
+    alloc: Global,
+    index: &AncestorIndex,
+    family: Family,
+    concepts: &[u32],
+    _count: u32,
+) -> Result<Vec<u32>, AllocError>
+    requires over { IsOver _count index.now }
+    requires below { All (λ concept. concept < _count) concepts.now }
+    ensures { IfOk result (λ numbers. numbers.items ≡ flat_map (λ concept. concept ∷ list_of (lists_of index.now family) concept) concepts.now) }
+{
+    let mut numbers = Vec::new(alloc);
+    for concept in concepts {
+        numbers.push(*concept)?;
+        numbers.extend_from_slice(family.list(index, *concept))?;
+    }
+    Ok(numbers)
 }
 
 // Those of some concepts that a step leads to from a set.

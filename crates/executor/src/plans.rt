@@ -14,6 +14,7 @@ ghost use Rattle.planner.specs.Nodes.{group_sum, groups_sum, node_sum, plans_sum
 ghost use Rattle.planner.specs.Sizes.{group_size, group_sizes, size as size_of, sizes, test_size, total};
 ghost use Rattle.pair_sets.specs.Numbers.{numbers_in};
 ghost use Rattle.pair_sets.specs.Tested.{IsTestBelow, found_for, passes_of};
+ghost use Rattle.executor.specs.Asked.{AreEnough, asked_lists};
 ghost use Rattle.executor.specs.Lead.{leads_off, leads_off_groups, of_lead};
 ghost use Rattle.executor.specs.Named.{HasNamed};
 ghost use Rattle.pair_sets.specs.Within.{AreBelow, groups_within, may_be, numbers_within};
@@ -22,11 +23,13 @@ use crate::counting::{
     concept_leaf_limits, count_members, count_units, count_walk, group_leaf_limits, minus_reads,
 };
 use crate::family::Step;
-use crate::guesses::{group_lead_of, guess_of_groups, lead_of, rows_of_types};
-use crate::led::{led_among, walk_within};
+use crate::guesses::{
+    group_lead_of, guess_of_groups, lead_of, rows_of_types, rows_without, unit_rows_without,
+};
+use crate::led::{enough_for, led_among, walk_within};
 use crate::nodes::{common, each_concept, each_group, either, no_concept, no_group, one_concept};
-use crate::reference_sets::{component_count, members};
-use crate::walk_ways::{items_unlisted, walk_way};
+use crate::reference_sets::{members_way, members_within};
+use crate::walk_ways::{items_enough, items_unlisted, walk_way};
 use constraint_tree::{Cardinality, Operator};
 use idset::ConceptSet;
 use pair_sets::{
@@ -131,9 +134,10 @@ fn execute_tallied<S: ConceptSet>(
         let found = no_concept(alloc, snapshot)?;
         return Ok(found);
     }
-    let found = execute_node(
+    let made: S = execute_node(
         alloc, plan, choices, candidates, snapshot, indexes, visits, tally,
     )?;
+    let found = tally.prepared(alloc, made)?;
     Ok(found)
 }
 
@@ -185,10 +189,9 @@ fn execute_node<S: ConceptSet>(
             let from: S = execute_within(alloc, operand, choices, &all, snapshot, indexes, visits)?;
             let numbers = from.items(alloc)?;
             let refsets = numbers.as_slice();
-            let components = component_count(indexes, refsets);
-            count_members(indexes, choices, operand, from.count(), components, visits);
-            let some = members(alloc, snapshot, indexes, refsets)?;
-            let found = restricted(alloc, some, candidates)?;
+            let way = members_way(indexes, refsets, candidates);
+            count_members(indexes, choices, operand, from.count(), way.items, visits);
+            let found = members_within(alloc, snapshot, indexes, refsets, candidates, way)?;
             Ok(found)
         }
         ConceptPlan::And(parts) => {
@@ -233,7 +236,9 @@ fn execute_node<S: ConceptSet>(
             let of_types = after_first(choices);
             let of_test = plan_floor(types, of_types, indexes).rest;
             let typed: S = execute_within(alloc, types, of_types, &all, snapshot, indexes, visits)?;
-            let mut tally = RowTally::of(indexes, *back, rows_of_types(types, indexes));
+            let choice = first_choice(choices);
+            let others = rows_of_types(types, indexes);
+            let mut tally = RowTally::of(indexes, choice, *back, others, candidates);
             let tested: Tested<S> = tested_of(
                 alloc, test, of_test, snapshot, indexes, visits, &mut tally,
             )?;
@@ -247,7 +252,6 @@ fn execute_node<S: ConceptSet>(
                 typed.count(),
                 count_of_test(&tested),
             );
-            let choice = first_choice(choices);
             let rows = tally.rows();
             let found = with_pairs_within(
                 alloc, snapshot, indexes, choice, limits, *back, *count, &typed, tested, rows,
@@ -264,8 +268,8 @@ fn execute_node<S: ConceptSet>(
     }
 }
 
-// The candidates among the concepts that an operator leads to from those that a plan means. The rows are counted of what is found from
-// one concept, if that is asked for.
+// The candidates among the concepts that an operator leads to from those that a plan means. Where few candidates are asked, it is
+// executed for them and for what is in the lists by which they are asked alone.
 #[cycle(execute)]
 fn walk_from<S: ConceptSet>(
     alloc: Global,
@@ -286,17 +290,65 @@ fn walk_from<S: ConceptSet>(
     ensures within { visits.new.count ≤ visits.old.count + node_sum (own_number indexes.now) choices.now (walk_plan operator (plan_of operand.now)) }
     ensures floor { IfOk result (λ _. min (visits.old.count + node_sum (floor_number indexes.now) choices.now (walk_plan operator (plan_of operand.now))) (2 ^ 64 - 1) ≤ visits.new.count) }
 {
+    let count = snapshot.concept_count();
+    let index = indexes.hierarchy();
+    if let Candidates::Within(wanted, _) = candidates {
+        let rows = rows_without(operand, indexes);
+        if let Some(items) = items_enough(index, operator, count, rows, candidates) {
+            let enough: S = enough_for(alloc, index, operator, *wanted)?;
+            let extent = extent_of(alloc, snapshot, indexes, &enough, rows)?;
+            let theirs = Candidates::Within(&enough, extent);
+            let found = walk_among(
+                alloc, operator, operand, choices, &theirs, items, candidates, snapshot, indexes,
+                visits, tally,
+            )?;
+            return Ok(found);
+        }
+    }
+    let all = Candidates::All;
+    let found = walk_among(
+        alloc, operator, operand, choices, &all, 0, candidates, snapshot, indexes, visits, tally,
+    )?;
+    Ok(found)
+}
+
+// The same, where the plan is executed for concepts that are enough for the candidates; to find these, so many items were read. The rows
+// are counted of what is found from one concept, if that is asked for.
+#[cycle(execute)]
+fn walk_among<S: ConceptSet>(
+    alloc: Global,
+    operator: Operator,
+    operand: &ConceptPlan,
+    choices: &[Choice],
+    enough: &Candidates<'_, S>,
+    before: u64,
+    candidates: &Candidates<'_, S>,
+    snapshot: &Snapshot,
+    indexes: &Indexes,
+    visits: &mut Visits,
+    tally: &mut RowTally<'_>,
+) -> Result<S, AllocError>
+    requires index { IsIndexOf indexes.now snapshot.now.release }
+    requires below { AreBelow S.bound_of (length snapshot.now.release.concepts) enough.now }
+    requires enough { AreEnough (asked_lists indexes.now.hierarchy operator) (may_be S.items_of candidates.now) (may_be S.items_of enough.now) }
+    requires candidates { AreBelow S.bound_of (length snapshot.now.release.concepts) candidates.now }
+    ensures items { IfOk result (λ found. S.items_of found ≡ numbers_within snapshot.now.release (may_be S.items_of candidates.now) (means snapshot.now.release (walk_plan operator (plan_of operand.now)))) }
+    ensures bound { IfOk result (λ found. S.bound_of found ≡ length snapshot.now.release.concepts) }
+    ensures grows { visits.old.count ≤ visits.new.count }
+    ensures within { visits.new.count ≤ visits.old.count + node_sum (own_number indexes.now) choices.now (walk_plan operator (plan_of operand.now)) }
+    ensures floor { IfOk result (λ _. min (visits.old.count + node_sum (floor_number indexes.now) choices.now (walk_plan operator (plan_of operand.now))) (2 ^ 64 - 1) ≤ visits.new.count) }
+{
     // the concepts rise, and the sources of all attribute rows are in force
     snapshot.concept_count();
     snapshot.attribute_count();
-    let all = Candidates::All;
-    let from: S = execute_within(alloc, operand, choices, &all, snapshot, indexes, visits)?;
+    let from: S = execute_within(alloc, operand, choices, enough, snapshot, indexes, visits)?;
     let hierarchy = indexes.hierarchy();
     if let Candidates::Within(wanted, _) = candidates {
         let asked = items_unlisted(hierarchy, operator, from.count(), from.bound(), candidates);
         if let Some(items) = asked {
             tally.forget();
             let read = from.count();
+            let items = items.saturating_add(before);
             count_walk(indexes, choices, operator, operand, read, items, visits);
             let found = led_among(alloc, hierarchy, operator, &from, *wanted)?;
             return Ok(found);
@@ -308,7 +360,7 @@ fn walk_from<S: ConceptSet>(
     if own.len() != 1 || way.asks_candidates || Step::of(operator).is_apart() {
         tally.forget();
     }
-    let items = way.items;
+    let items = way.items.saturating_add(before);
     count_walk(
         indexes,
         choices,
@@ -427,7 +479,8 @@ fn in_all<S: ConceptSet>(
         let part = &parts[place];
         let behind = plan_floor(part, rest, indexes).rest;
         if place != lead {
-            let extent = extent_of(alloc, snapshot, indexes, &found)?;
+            let rows = rows_without(part, indexes);
+            let extent = extent_of(alloc, snapshot, indexes, &found, rows)?;
             let still = Candidates::Within(&found, extent);
             let next: S = execute_within(alloc, part, rest, &still, snapshot, indexes, visits)?;
             visits.add(next.count() as u64);
@@ -622,7 +675,10 @@ fn tested_of<S: ConceptSet>(
             Ok(Tested::Within(set))
         }
         ValueTest::Outside(operand) => {
-            let set: S = execute_within(alloc, operand, choices, &all, snapshot, indexes, visits)?;
+            tally.forget();
+            let set: S = execute_tallied(
+                alloc, operand, choices, &all, snapshot, indexes, visits, tally,
+            )?;
             Ok(Tested::Outside(set))
         }
         ValueTest::Number(compare, number) => Ok(Tested::Number(*compare, *number)),
@@ -725,7 +781,9 @@ fn execute_group_node<S: ConceptSet>(
             let of_types = after_first(choices);
             let of_test = plan_floor(types, of_types, indexes).rest;
             let typed: S = execute_within(alloc, types, of_types, &all, snapshot, indexes, visits)?;
-            let mut tally = RowTally::of(indexes, false, rows_of_types(types, indexes));
+            let choice = first_choice(choices);
+            let others = rows_of_types(types, indexes);
+            let mut tally = RowTally::of(indexes, choice, false, others, candidates);
             let tested: Tested<S> = tested_of(
                 alloc, test, of_test, snapshot, indexes, visits, &mut tally,
             )?;
@@ -738,7 +796,6 @@ fn execute_group_node<S: ConceptSet>(
                 typed.count(),
                 count_of_test(&tested),
             );
-            let choice = first_choice(choices);
             let rows = tally.rows();
             let found = groups_with_pairs_within(
                 alloc, snapshot, indexes, choice, limits, *count, &typed, tested, rows, candidates,
@@ -783,7 +840,8 @@ fn groups_in_all<S: ConceptSet>(
         let part = &parts[place];
         let behind = unit_floor(part, rest, indexes).rest;
         if place != lead {
-            let extent = group_extent_of(alloc, snapshot, indexes, &groups)?;
+            let rows = unit_rows_without(part, indexes);
+            let extent = group_extent_of(alloc, snapshot, indexes, &groups, rows)?;
             let still = Candidates::Within(&groups, extent);
             let next: S = execute_groups(alloc, part, rest, &still, snapshot, indexes, visits)?;
             visits.add(next.count() as u64);

@@ -11,6 +11,9 @@ use pair_sets::Candidates;
 // The lists of more concepts than these are not added up one by one: all lists stand for them.
 const MANY: usize = 4096;
 
+// To find from which concepts an operator leads, for a concept of which that is asked, takes about as long as to read so many rows.
+const ROWS: u64 = 16;
+
 /// A way to find them. No answer depends on it.
 #[derive(Clone, Copy, Debug)]
 pub struct WalkWay {
@@ -35,6 +38,20 @@ pub fn items_unlisted<S>(
     let step = Step::of(operator);
     let all = items_of_all_lists(index, step.family);
     items_asked(step, count, candidates).filter(|items| concepts as usize > MANY && *items <= all)
+}
+
+/// How many items few candidates and the lists have by which they are asked, where these are few beside so many rows, which are read
+/// to find of all concepts those from which an operator leads. The items may be read twice. `None` where that is not so.
+pub fn items_enough<S>(
+    index: &AncestorIndex,
+    operator: Operator,
+    count: u32,
+    rows: u64,
+    candidates: &Candidates<'_, S>,
+) -> Option<u64> {
+    let step = Step::of(operator);
+    let most = items_of_all_lists(index, step.family).min(rows / ROWS);
+    items_asked(step, count, candidates).filter(|items| items.saturating_mul(2) <= most)
 }
 
 /// The way from some concepts. The candidates are asked where they are few and their lists have no more items than those of the
@@ -65,12 +82,8 @@ pub fn walk_way<S>(
 fn items_asked<S>(step: Step, count: u32, candidates: &Candidates<'_, S>) -> Option<u64> {
     match candidates {
         Candidates::Within(_, extent) if extent.are_few_beside(count) => {
-            let asked = if step.is_apart() {
-                step.family
-            } else {
-                step.family.back()
-            };
-            Some(extent.items.saturating_add(asked.items_of(extent.lists)))
+            let lists = step.asked().items_of(extent.lists);
+            Some(extent.items.saturating_add(lists))
         }
         _ => None,
     }

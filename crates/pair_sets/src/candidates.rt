@@ -15,8 +15,11 @@ const QUESTION: u64 = 32;
 
 const FEW: u64 = 16;
 
-// The rows of more candidates than there are rows, divided by this, are not counted: to read them all is sooner done.
-const WIDE: u32 = 64;
+// The rows of more concepts than there are other rows to read, divided by this, are not counted: to read these is sooner done.
+const WIDE: u64 = 64;
+
+// The same of groups, of which no more than the rows is looked up.
+const WIDE_GROUPS: u64 = 16;
 
 // The lists of more candidates are not counted.
 const LISTED: usize = 256;
@@ -147,35 +150,45 @@ pub fn restricted<S: ConceptSet>(
     }
 }
 
-/// How much there is of the concepts of a set.
+/// How much there is of the concepts of a set, for what reads so many rows without it. It is looked up only where they are few beside
+/// these, or so few that their lists are counted.
 pub fn extent_of<S: ConceptSet>(
     alloc: Global,
     snapshot: &Snapshot,
     indexes: &Indexes,
     concepts: &S,
+    rows: u64,
 ) -> Result<Extent, AllocError>
     requires index { IsIndexOf indexes.now snapshot.now.release }
     requires bound { S.bound_of concepts.now ≡ length snapshot.now.release.concepts }
 {
-    if concepts.count() > indexes.row_count() / WIDE {
-        return Ok(uncounted(concepts.count()));
+    let count = concepts.count();
+    if are_many_beside(count, rows / WIDE) {
+        return Ok(uncounted(count));
     }
     let own = concepts.items(alloc)?;
     Ok(extent_among(indexes, own.as_slice()))
 }
 
-/// How much there is of the groups of a set.
+// Whether so many candidates are more than those that are always looked up, and than so many.
+fn are_many_beside(candidates: u32, most: u64) -> bool {
+    candidates as usize > LISTED && u64::from(candidates) > most
+}
+
+/// The same of the groups of a set.
 pub fn group_extent_of<S: ConceptSet>(
     alloc: Global,
     snapshot: &Snapshot,
     indexes: &Indexes,
     groups: &S,
+    rows: u64,
 ) -> Result<Extent, AllocError>
     requires index { IsIndexOf indexes.now snapshot.now.release }
     requires bound { S.bound_of groups.now ≡ length (all_groups snapshot.now.release) }
 {
-    if groups.count() > indexes.row_count() / WIDE {
-        return Ok(uncounted(groups.count()));
+    let count = groups.count();
+    if are_many_beside(count, rows / WIDE_GROUPS) {
+        return Ok(uncounted(count));
     }
     // the concepts rise, so that each has its groups once
     snapshot.concept_count();
@@ -197,7 +210,13 @@ pub fn extent_to_take<S: ConceptSet>(
     requires bound { S.bound_of concepts.now ≡ length snapshot.now.release.concepts }
 {
     if may_be_read_thrice(concepts.count(), sizes) {
-        extent_of(alloc, snapshot, indexes, concepts)
+        extent_of(
+            alloc,
+            snapshot,
+            indexes,
+            concepts,
+            u64::from(indexes.row_count()),
+        )
     } else {
         Ok(extent_left(candidates, concepts.count()))
     }
@@ -216,7 +235,13 @@ pub fn group_extent_to_take<S: ConceptSet>(
     requires bound { S.bound_of groups.now ≡ length (all_groups snapshot.now.release) }
 {
     if may_be_read_thrice(groups.count(), sizes) {
-        group_extent_of(alloc, snapshot, indexes, groups)
+        group_extent_of(
+            alloc,
+            snapshot,
+            indexes,
+            groups,
+            u64::from(indexes.row_count()),
+        )
     } else {
         Ok(extent_left(candidates, groups.count()))
     }

@@ -22,6 +22,9 @@ use std::alloc::{AllocError, Global};
 // To look up a value takes about as long as to read so many rows that stand side by side.
 const VALUE: u64 = 4;
 
+// Where there are as many values as rows, divided by this, all rows are read as soon as those of the values.
+const SHARE: u64 = 2;
+
 /// The way in which a leaf is read. Beside it stands how many items are read, also to find the way.
 pub fn leaf_way<S: ConceptSet>(
     alloc: Global,
@@ -38,10 +41,25 @@ pub fn leaf_way<S: ConceptSet>(
     ensures { IfOk result (λ made. IsWayFor S.items_of S.bound_of indexes.now (is_one_of indexes.now.concepts (S.items_of types.now)) tested made.0) }
 {
     match reads.choice {
+        Choice::ByValue if are_most(indexes, reads, types, &tested) => {
+            by_type(alloc, snapshot, indexes, reads, types, tested, candidates)
+        }
         Choice::ByValue => by_value(alloc, indexes, reads, tested, candidates),
         Choice::ByType => by_type(alloc, snapshot, indexes, reads, types, tested, candidates),
         Choice::Scan => by_scan(alloc, indexes, reads, tested, candidates),
     }
+}
+
+// Whether so many values pass that the rows of all types are read sooner than those of each value, and may be read.
+fn are_most<S: ConceptSet>(
+    indexes: &Indexes,
+    reads: LeafReads,
+    types: &S,
+    tested: &Tested<S>,
+) -> bool {
+    let rows = u64::from(indexes.row_count());
+    let whole = rows.saturating_add(types_to_read(indexes, types));
+    u64::from(count_of_test(tested)) >= rows / SHARE && whole <= reads.bound
 }
 
 // By value, or by the candidates where these are read sooner. A test that is not of the concepts of a set is read by a scan.
@@ -256,8 +274,8 @@ fn with_rows<S: ConceptSet>(
     Ok((own, items))
 }
 
-// How many rows have one of some types, or `u64::MAX` where that is more.
-fn rows_of_types(indexes: &Indexes, ids: &[u64]) -> u64
+/// How many rows have one of some types, or `u64::MAX` where that is more.
+pub fn rows_of_types(indexes: &Indexes, ids: &[u64]) -> u64
     ensures { result ≡ min (sum_by (type_row_count indexes.now) ids.now) (2 ^ 64 - 1) }
 {
     let mut rows = 0u64;

@@ -13,6 +13,7 @@ ghost use Rattle.pair_sets.specs.Hits.{counts_for_concept, counts_for_group, cou
 ghost use Rattle.pair_sets.specs.Hits.{entries_with_sources, entries_with_types, entries_with_values};
 ghost use Rattle.pair_sets.specs.Tested.{IsTestBelow, is_one_of, passes_of};
 
+use crate::choice::rows_of_types;
 use crate::passing::passes;
 use crate::tested::Tested;
 use crate::types::is_typed;
@@ -79,7 +80,7 @@ fn sources_by_type<S: ConceptSet>(
 {
     // the concepts rise, so none has two numbers
     indexes.concept_count();
-    let mut hits = Vec::new(alloc);
+    let mut hits = Vec::with_capacity(alloc, rows_of_types(indexes, ids) as usize)?;
     for id in ids {
         let columns = indexes.type_columns(*id);
         push_passing(&mut hits, indexes, columns.sources, columns.values, tested)?;
@@ -125,7 +126,7 @@ fn values_by_type<S: ConceptSet>(
         (counts_for_value indexes.now.concepts (λ row. passes_of S.items_of indexes.now.concepts tested.now (concept_value row.source))) (entries_with_types indexes.now.rows ids.now) hits.items) }
 {
     indexes.concept_count();
-    let mut hits = Vec::new(alloc);
+    let mut hits = Vec::with_capacity(alloc, rows_of_types(indexes, ids) as usize)?;
     for id in ids {
         let columns = indexes.type_columns(*id);
         push_cells(&mut hits, indexes, columns.sources, columns.values, tested)?;
@@ -203,7 +204,7 @@ fn groups_by_type<S: ConceptSet>(
 {
     // the concepts rise, so no group has two numbers
     indexes.concept_count();
-    let mut hits = Vec::new(alloc);
+    let mut hits = Vec::with_capacity(alloc, rows_of_types(indexes, ids) as usize)?;
     for id in ids {
         let columns = indexes.type_columns(*id);
         push_passing(&mut hits, indexes, columns.groups, columns.values, tested)?;

@@ -1,12 +1,19 @@
 //! How many rows values have, as these are found.
 ghost use Rattle.std.specs.Prelude.{◌≡◌, IfOk};
 
+use crate::candidates::{Candidates, extent_for};
 use crate::choice::rows_of_value;
+use crate::ways::are_read_before;
+use idset::ConceptSet;
+use planner::Choice;
 use postings::Indexes;
 use std::alloc::{AllocError, Global};
 
 // To look at a value is worth it where so many rows that stand side by side might be left out for it.
 const VALUE: u64 = 4;
+
+// A set is brought into the form in which it is asked soonest where more rows than these are tested by it.
+const TESTED: u64 = 512;
 
 /// How many rows have one of some concepts as their value, or, read backwards, as their source, or more than that: added up as
 /// the lists are read in which they are found, if that is asked for. No answer depends on it.
@@ -19,6 +26,8 @@ pub struct RowTally<'a> {
     most: u64,
     // how many so far, where that is known
     rows: Option<u64>,
+    // how many other rows are tested by what is found, if it is not read by these
+    tested: u64,
 }
 
 impl<'a> RowTally<'a> {
@@ -29,16 +38,27 @@ impl<'a> RowTally<'a> {
             back: false,
             most: 0,
             rows: None,
+            tested: 0,
         }
     }
 
-    /// Of the rows of the indexes, to be read in place of so many others if they are fewer.
-    pub fn of(indexes: &'a Indexes, back: bool, others: u64) -> RowTally<'a> {
+    /// Of the rows of the indexes, to be read in place of so many others if they are fewer. What is found tests these others, but
+    /// where the choice, or the candidates, say that they are not read.
+    pub fn of<S>(
+        indexes: &'a Indexes,
+        choice: Choice,
+        back: bool,
+        others: u64,
+        candidates: &Candidates<'_, S>,
+    ) -> RowTally<'a> {
+        let asks_others = choice != Choice::ByValue
+            && !are_read_before(extent_for(candidates, back), others);
         RowTally {
             indexes: Some(indexes),
             back,
             most: others / VALUE,
             rows: Some(0),
+            tested: if asks_others { others } else { 0 },
         }
     }
 
@@ -50,6 +70,18 @@ impl<'a> RowTally<'a> {
     /// What is found is not added, so it is not known how many there are.
     pub fn forget(&mut self) {
         self.rows = None;
+    }
+
+    /// What was found, for a test of many rows in the form in which it is asked soonest.
+    pub fn prepared<S: ConceptSet>(&self, alloc: Global, found: S) -> Result<S, AllocError>
+        ensures items { IfOk result (λ set. S.items_of set ≡ S.items_of found) }
+        ensures bound { IfOk result (λ set. S.bound_of set ≡ S.bound_of found) }
+    {
+        if self.tested > TESTED {
+            found.for_asking(alloc)
+        } else {
+            Ok(found)
+        }
     }
 
     /// Whether the rows of a list of so many items are to be added.

@@ -15,6 +15,8 @@ use Rattle.idset.specs.Sets.{has_item, numbers_where}
 use Rattle.postings.specs.Groups.{all_groups}
 use Rattle.pair_sets.specs.Groups.{groups_where, some_group_in}
 use Rattle.pair_sets.specs.Numbers.{numbers_in}
+use Rattle.ancestor_index.specs.HierarchyLists.{Hierarchy}
+use Rattle.executor.specs.Asked.{AreEnough, asked_lists}
 use Rattle.executor.specs.Members.{components_of}
 use Rattle.executor.specs.Steps.{led_to}
 use Rattle.pair_sets.proofs.ListLemmas.{all_below}
@@ -32,11 +34,11 @@ use Rattle.planner.proofs.LoopLemmas.{concept_sum, of_concepts, of_groups, unit_
 use Rattle.planner.proofs.PartLemmas.{group_count-parts, plan_count-parts, values_are}
 use Rattle.executor.proofs.GroupNodeLemmas as groups
 use Rattle.pair_sets.proofs.LeafLemmas.{sources_known}
-use Rattle.executor.proofs.NodeLemmas.{all_node, and_node, members_node, name_step, one_node, or_node, outside_passes, pairs_node, units_node, values_node, walk_node, within_passes}
+use Rattle.executor.proofs.NodeLemmas.{all_node, and_node, members_node, name_step, one_node, or_node, outside_passes, pairs_node, units_node, values_node, within_passes}
 use Rattle.executor.proofs.PartWork.{concepts_found, concepts_read, few_found, few_groups, few_joined, few_joined_groups, few_values, groups_found, groups_read}
 use Rattle.pair_sets.proofs.WithinLemmas.{all_of_none, all_within, none_within, some_of_none, some_within}
 use Rattle.pair_sets.proofs.WithinLemmas.{kept_groups, kept_set}
-use Rattle.executor.proofs.WithinNodes.{any_done, empty_within, groups_led_again, groups_led_all, groups_same, kept_node, led_again, led_all, minus_groups, minus_node, nothing_within, within_same}
+use Rattle.executor.proofs.WithinNodes.{any_done, empty_within, groups_led_again, groups_led_all, groups_same, kept_node, led_again, led_all, minus_groups, minus_node, nothing_within, walk_of_part, within_same}
 use Rattle.executor.proofs.WorkLemmas.{all_end, all_most, all_next, all_pass, all_start, all_turn, along_from, along_le, along_more, first_within, joined_reads, lead_inside, lead_is, no_parts, some_end, some_next, some_start, some_turn}
 use Rattle.executor.proofs.plans.+execute.Goals as goal
 use Rattle.executor.proofs.plans.+execute.Goals.{in_all-then-place-lead+in_ok-extent+in_ok-next, in_all-else-place-lead, groups_in_all-then-place-lead+in_ok-extent+in_ok-next, groups_in_all-else-place-lead}
@@ -54,7 +56,7 @@ execute_tallied-returns-clause-size g t c =
     few_found c.args.snapshot.now.release c.args.indexes.now c.requires.index c.concept_count.ensures.rising
     (sources_known c.args.snapshot.now.release c.concept_count.ensures.rising c.attribute_count.ensures.by_source)
     c.args.choices.now (plan_of c.args.plan.now) (may_be g.S.ConceptSet.items_of c.args.candidates.now)
-    (g.S.ConceptSet.items_of c.in_ok-found-2.found) c.in_ok-found-2.ensures.items
+    (g.S.ConceptSet.items_of c.in_ok-found-2.found) (c.in_ok-found-2.ensures.items ∙ c.in_ok-made.ensures.items)
 
 pub execute_tallied-returns-then-none_left-clause-within : goal.execute_tallied-returns-then-none_left-clause-within
 execute_tallied-returns-then-none_left-clause-within g t c =
@@ -131,56 +133,55 @@ execute_node-returns-in_ok-found-in-Walk-clause-items g t c =
     ∙ ap (λ (plan : Plan). numbers_within release (may_be g.S.ConceptSet.items_of c.args.candidates.now) (means release plan))
     (ap (λ (plan : ConceptPlan). walk_plan c.in-Walk.operator (plan_of plan)) c.deref.ensures ∙ sym (ap plan_of c.in-Walk.is))
 
-pub walk_from-walk_way-way-requires-clause-below : goal.walk_from-walk_way-way-requires-clause-below
-walk_from-walk_way-way-requires-clause-below g t c =
+pub walk_among-walk_way-way-requires-clause-below : goal.walk_among-walk_way-way-requires-clause-below
+walk_among-walk_way-way-requires-clause-below g t c =
     let from = c.in_ok-from.from in
     subst (λ (numbers : List ℕ). All (λ number. number < c.bound-2.result) numbers) (sym (c.as_slice-own.ensures.value ∙ c.in_ok-concepts.ensures))
     (subst (λ (count : ℕ). All (λ number. number < count) (g.S.ConceptSet.items_of from)) (sym c.bound-2.ensures)
     (all_below (g.S.ConceptSet.bound_of from) (g.S.ConceptSet.items_of from) (g.met.S.ConceptSet.rising from)))
 
 -- where the candidates are asked one by one
-pub walk_from-returns-in-Some-clause-items : goal.walk_from-returns-in-Some-clause-items
-walk_from-returns-in-Some-clause-items g t c =
-    let release = c.args.snapshot.now.release in
+pub walk_among-returns-in-Some-clause-items : goal.walk_among-returns-in-Some-clause-items
+walk_among-returns-in-Some-clause-items g t c =
+    let may : ℕ → Bool = may_be g.S.ConceptSet.items_of c.args.candidates.now in
+    let enough : ℕ → Bool = may_be g.S.ConceptSet.items_of c.args.enough.now in
     let from = c.in_ok-from.from in
-    let plan : Plan = walk_plan c.args.operator (plan_of c.args.operand.now) in
     let led : List ℕ = led_to c.hierarchy-hierarchy.result.now (g.S.ConceptSet.bound_of from) c.args.operator (g.S.ConceptSet.items_of from) in
-    kept_node release (may_be g.S.ConceptSet.items_of c.args.candidates.now) plan led (g.S.ConceptSet.items_of c.in_ok-found.found)
-    (walk_node release plan led (plan_of c.args.operand.now) c.args.operator c.hierarchy-hierarchy.result.now
-    (g.S.ConceptSet.bound_of from) (g.S.ConceptSet.items_of from) refl
-    (c.hierarchy-hierarchy.ensures ∙ c.requires.index.hierarchy) c.in_ok-from.ensures.bound c.in_ok-from.ensures.items refl)
+    walk_of_part c.args.snapshot.now.release (plan_of c.args.operand.now) c.args.operator c.hierarchy-hierarchy.result.now (g.S.ConceptSet.bound_of from)
+    may enough (g.S.ConceptSet.items_of from) (g.S.ConceptSet.items_of c.in_ok-found.found)
+    (c.hierarchy-hierarchy.ensures ∙ c.requires.index.hierarchy) c.in_ok-from.ensures.bound
+    (subst (λ (hierarchy : Hierarchy). AreEnough (asked_lists hierarchy c.args.operator) may enough) (sym c.hierarchy-hierarchy.ensures) c.requires.enough)
+    c.in_ok-from.ensures.items
     (c.in_ok-found.ensures.items
     ∙ ap (λ (candidates : Candidates _). filter (may_be g.S.ConceptSet.items_of candidates) led) (sym c.in-Within.is))
 
-pub walk_from-returns-clause-items : goal.walk_from-returns-clause-items
-walk_from-returns-clause-items g t c =
-    let release = c.args.snapshot.now.release in
+pub walk_among-returns-clause-items : goal.walk_among-returns-clause-items
+walk_among-returns-clause-items g t c =
+    let may : ℕ → Bool = may_be g.S.ConceptSet.items_of c.args.candidates.now in
+    let enough : ℕ → Bool = may_be g.S.ConceptSet.items_of c.args.enough.now in
     let from = c.in_ok-from.from in
-    let plan : Plan = walk_plan c.args.operator (plan_of c.args.operand.now) in
-    let led : List ℕ = led_to c.hierarchy-hierarchy.result.now (g.S.ConceptSet.bound_of from) c.args.operator (g.S.ConceptSet.items_of from) in
-    kept_node release (may_be g.S.ConceptSet.items_of c.args.candidates.now) plan led (g.S.ConceptSet.items_of c.in_ok-found-2.found)
-    (walk_node release plan led (plan_of c.args.operand.now) c.args.operator c.hierarchy-hierarchy.result.now
-    (g.S.ConceptSet.bound_of from) (g.S.ConceptSet.items_of from) refl
-    (c.hierarchy-hierarchy.ensures ∙ c.requires.index.hierarchy) c.in_ok-from.ensures.bound c.in_ok-from.ensures.items refl)
-    c.in_ok-found-2.ensures.items
+    walk_of_part c.args.snapshot.now.release (plan_of c.args.operand.now) c.args.operator c.hierarchy-hierarchy.result.now (g.S.ConceptSet.bound_of from)
+    may enough (g.S.ConceptSet.items_of from) (g.S.ConceptSet.items_of c.in_ok-found-2.found)
+    (c.hierarchy-hierarchy.ensures ∙ c.requires.index.hierarchy) c.in_ok-from.ensures.bound
+    (subst (λ (hierarchy : Hierarchy). AreEnough (asked_lists hierarchy c.args.operator) may enough) (sym c.hierarchy-hierarchy.ensures) c.requires.enough)
+    c.in_ok-from.ensures.items c.in_ok-found-2.ensures.items
 
 pub execute_node-returns-in_ok-found-in-Members-clause-items : goal.execute_node-returns-in_ok-found-in-Members-clause-items
 execute_node-returns-in_ok-found-in-Members-clause-items g t c =
     let release = c.args.snapshot.now.release in
     let may : ℕ → Bool = may_be g.S.ConceptSet.items_of c.args.candidates.now in
-    kept_node release may (plan_of c.args.plan.now) (g.S.ConceptSet.items_of c.in_ok-some-in-Members.some)
-    (g.S.ConceptSet.items_of c.in_ok-found-in-Members.found)
-    (members_node release (plan_of c.args.plan.now) (g.S.ConceptSet.items_of c.in_ok-some-in-Members.some) (plan_of c.deref-in-Members.result.now)
+    let some : List ℕ = components_of release (g.S.ConceptSet.items_of c.in_ok-from-in-Members.from) in
+    kept_node release may (plan_of c.args.plan.now) some (g.S.ConceptSet.items_of c.in_ok-found-in-Members.found)
+    (members_node release (plan_of c.args.plan.now) some (plan_of c.deref-in-Members.result.now)
     (g.S.ConceptSet.items_of c.in_ok-from-in-Members.from)
     (ap plan_of c.in-Members.is ∙ ap (λ (plan : ConceptPlan). members_plan (plan_of plan)) (sym c.deref-in-Members.ensures))
-    c.in_ok-from-in-Members.ensures.items
-    (c.in_ok-some-in-Members.ensures.items
-    ∙ ap (components_of release) (c.as_slice-refsets.ensures.value ∙ c.in_ok-numbers-in-Members.ensures)))
-    c.in_ok-found-in-Members.ensures.items
+    c.in_ok-from-in-Members.ensures.items refl)
+    (c.in_ok-found-in-Members.ensures.items
+    ∙ ap (λ (refsets : List ℕ). filter may (components_of release refsets)) (c.as_slice-refsets.ensures.value ∙ c.in_ok-numbers-in-Members.ensures))
 
 -- the reference sets are concepts
-pub execute_node-component_count-components-requires : goal.execute_node-component_count-components-requires
-execute_node-component_count-components-requires g t c =
+pub execute_node-members_way-way-requires : goal.execute_node-members_way-way-requires
+execute_node-members_way-way-requires g t c =
     let from = c.in_ok-from-in-Members.from in
     subst (λ (numbers : List ℕ). All (λ number. number < length c.args.indexes.now.concepts) numbers)
     (sym (c.as_slice-refsets.ensures.value ∙ c.in_ok-numbers-in-Members.ensures))
@@ -188,8 +189,8 @@ execute_node-component_count-components-requires g t c =
     (c.in_ok-from-in-Members.ensures.bound ∙ ap (λ (ids : List ℕ). length ids) (sym c.requires.index.concepts))
     (all_below (g.S.ConceptSet.bound_of from) (g.S.ConceptSet.items_of from) (g.met.S.ConceptSet.rising from)))
 
-pub execute_node-members-requires-clause-below : goal.execute_node-members-requires-clause-below
-execute_node-members-requires-clause-below g t c =
+pub execute_node-members_within-requires-clause-below : goal.execute_node-members_within-requires-clause-below
+execute_node-members_within-requires-clause-below g t c =
     let from = c.in_ok-from-in-Members.from in
     subst (λ (numbers : List ℕ). All (λ number. number < length c.args.indexes.now.concepts) numbers)
     (sym (c.as_slice-refsets.ensures.value ∙ c.in_ok-numbers-in-Members.ensures))

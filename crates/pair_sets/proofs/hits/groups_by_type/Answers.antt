@@ -10,11 +10,11 @@ use Rattle.pair_sets.proofs.hits.groups_by_type.Goals as goal
 
 pub loop-id-init : goal.loop-id-init
 loop-id-init g c = record {
-  within = subst (All (λ number. number < length (groups_in c.args.indexes.now))) (sym c.new-hits.ensures.items) (λ k d within. absurd (omega (arith, within)));
+  within = subst (All (λ number. number < length (groups_in c.args.indexes.now))) (sym c.in_ok-hits.ensures.items) (λ k d within. absurd (omega (arith, within)));
   hits =
       let passes : Value → Bool = passes_of g.S.ConceptSet.items_of c.args.indexes.now.concepts c.args.tested.now in
       subst (AreHits (length (groups_in c.args.indexes.now)) (counts_for_group (groups_in c.args.indexes.now) (λ row. passes row.value)) [])
-      (sym c.new-hits.ensures.items)
+      (sym c.in_ok-hits.ensures.items)
       (no_hits (length (groups_in c.args.indexes.now)) (counts_for_group (groups_in c.args.indexes.now) (λ row. passes row.value)));
 }
 

@@ -9,11 +9,11 @@ use Rattle.pair_sets.proofs.hits.sources_by_type.Goals as goal
 
 pub loop-id-init : goal.loop-id-init
 loop-id-init g c = record {
-  within = subst (All (λ number. number < length c.args.indexes.now.concepts)) (sym c.new-hits.ensures.items) (λ k d within. absurd (omega (arith, within)));
+  within = subst (All (λ number. number < length c.args.indexes.now.concepts)) (sym c.in_ok-hits.ensures.items) (λ k d within. absurd (omega (arith, within)));
   hits =
       let passes : Value → Bool = passes_of g.S.ConceptSet.items_of c.args.indexes.now.concepts c.args.tested.now in
       subst (AreHits (length c.args.indexes.now.concepts) (counts_for_source c.args.indexes.now.concepts (λ row. passes row.value)) [])
-      (sym c.new-hits.ensures.items)
+      (sym c.in_ok-hits.ensures.items)
       (no_hits (length c.args.indexes.now.concepts) (counts_for_source c.args.indexes.now.concepts (λ row. passes row.value)));
 }
 

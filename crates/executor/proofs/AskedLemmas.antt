@@ -1,0 +1,166 @@
+-- Where an operator leads from a set is known, of concepts that are asked by their own lists, of what the set has in these lists.
+use Rattle.std.proofs.Common.{ℕ, Bool, ◌≡◌, ◌<◌, ◌∙◌, ◌==◌, inl, inr, true, false, not, ◌&&◌, ◌||◌, List, [], ◌∷◌, get_or, refl, sym, ap, subst, arith}
+use Rattle.std.specs.Prelude.{All, filter}
+use Rattle.std.specs.List.{flat_map, list_any}
+use Rattle.std.proofs.lemmas.Bool.{eq-eqb, eqb-true, false≢true, or_cases, or_left, or_right}
+use Rattle.std.proofs.lemmas.List.{get_or_default}
+use Rattle.std.proofs.lemmas.List.Elements.{All-append, All-cons, All-nil, All-tail}
+use Rattle.std.proofs.lemmas.List.Folds.{list_any-append}
+use Rattle.constraint_tree.specs.declared.operator.Operator.{Operator}
+use Rattle.constraint_tree.specs.declared.operator.Operator.TheVariants.{Descendants, DescendantsOrSelf, Children, ChildrenOrSelf, Ancestors, AncestorsOrSelf, Parents, ParentsOrSelf, Top, Bottom}
+use Rattle.idset.specs.Sets.{IsRisingBelow, all_items, has_item, listed_numbers, numbers_where}
+use Rattle.idset.proofs.Normal.{filter-numbers_where, has_item-numbers_where, numbers_where-agree}
+use Rattle.idset.proofs.Rising.{numbers_where-rising, rising_is_numbers_where}
+use Rattle.hierarchy.specs.KeyedLists.{list_of}
+use Rattle.ancestor_index.specs.HierarchyLists.{Hierarchy}
+use Rattle.ancestor_index.proofs.ClosureLemmas.{item_there, there_item}
+use Rattle.executor.specs.Asked.{AreEnough, asked_lists}
+use Rattle.executor.specs.Joined.{back_of}
+use Rattle.executor.specs.Steps.{IsOver, apart, joined, led_to, lists_of}
+use Rattle.executor.specs.declared.family.Family.{Family}
+use Rattle.executor.specs.declared.family.Family.TheVariants as family
+use Rattle.executor.specs.declared.family.Reach.TheVariants.{Listed, ListedOrSelf, Apart}
+use Rattle.executor.proofs.LedLemmas.{asked_apart, asked_back, asked_or_self, led_rises}
+use Rattle.pair_sets.proofs.ListLemmas.{all_below, any_agree}
+use Rattle.executor.proofs.JoinedLemmas.{over_list, stands}
+
+-- what is in the list of one of some concepts is in all of them, one behind the other
+in_joined : (each : ℕ → List ℕ) (concepts : List ℕ) (concept n : ℕ) → has_item concepts concept ≡ true → has_item (each concept) n ≡ true
+    → has_item (flat_map each concepts) n ≡ true
+in_joined each [] concept n there within = absurd (false≢true there)
+in_joined each (first ∷ rest) concept n there within =
+    list_any-append (λ item. item == n) (each first) (flat_map each rest)
+    ∙ elim (or_cases (first == concept) (has_item rest concept) there) [
+      | inl here ↦
+          or_left (has_item (each first) n) (has_item (flat_map each rest) n)
+          (ap (λ (k : ℕ). has_item (each k) n) (eqb-true first concept here) ∙ within)
+      | inr later ↦ or_right (has_item (each first) n) (has_item (flat_map each rest) n) (in_joined each rest concept n later within)
+    ]
+
+below_joined : (count : ℕ) (each : ℕ → List ℕ) (concepts : List ℕ) → All (λ concept. All (λ n. n < count) (each concept)) concepts
+    → All (λ n. n < count) (flat_map each concepts)
+below_joined count each [] below = All-nil (λ n. n < count)
+below_joined count each (concept ∷ rest) below =
+    All-append (λ n. n < count) (each concept) (flat_map each rest) (below 0 concept (omega arith))
+    (below_joined count each rest (All-tail (λ c. All (λ n. n < count) (each c)) concept rest below))
+
+module _ (count : ℕ) (hierarchy : Hierarchy) (over : IsOver count hierarchy) where
+  -- concepts, each with its list behind it, are numbers of concepts
+  pub with_lists_below : (f : Family) (concepts : List ℕ) → All (λ concept. concept < count) concepts
+      → All (λ n. n < count) (flat_map (λ concept. concept ∷ list_of (lists_of hierarchy f) concept) concepts)
+  with_lists_below f concepts below =
+      below_joined count (λ concept. concept ∷ list_of (lists_of hierarchy f) concept) concepts (λ k d within. each (get_or concepts k d) (below k d within))
+    where
+      each : (concept : ℕ) → concept < count → All (λ n. n < count) (concept ∷ list_of (lists_of hierarchy f) concept)
+      each concept inside =
+          All-cons (λ n. n < count) concept (list_of (lists_of hierarchy f) concept) inside
+          (all_below count (list_of (lists_of hierarchy f) concept)
+          (subst (IsRisingBelow count) (sym (over_list count hierarchy over f concept inside)) (numbers_where-rising count (stands over.release f concept))))
+
+  -- and they are enough for these
+  pub with_lists_enough : (f : Family) (concepts : List ℕ) → All (λ concept. concept < count) concepts
+      → AreEnough (lists_of hierarchy f) (has_item concepts)
+      (has_item (listed_numbers count (flat_map (λ concept. concept ∷ list_of (lists_of hierarchy f) concept) concepts)))
+  with_lists_enough f concepts below concept there = (
+    known concept (in_joined each concepts concept concept there (or_left (concept == concept) _ (eq-eqb concept concept refl))),
+    λ n listed. known n (in_joined each concepts concept n there (or_right (concept == n) _ listed)),
+  )
+    where
+      each : ℕ → List ℕ
+      each c = c ∷ list_of (lists_of hierarchy f) c
+
+      known : (n : ℕ) → has_item (flat_map each concepts) n ≡ true → has_item (listed_numbers count (flat_map each concepts)) n ≡ true
+      known n told =
+          let found = item_there (flat_map each concepts) n told in
+          has_item-numbers_where count (has_item (flat_map each concepts)) n
+          (subst (λ (m : ℕ). m < count) found.2 (with_lists_below f concepts below found.0 n found.1))
+          ∙ told
+
+  -- what an operator leads to rises
+  operator_rises : (operator : Operator) (items : List ℕ) → IsRisingBelow count items → IsRisingBelow count (led_to hierarchy count operator items)
+  operator_rises Descendants items rises = led_rises count hierarchy over items rises hierarchy.descendants Listed
+  operator_rises DescendantsOrSelf items rises = led_rises count hierarchy over items rises hierarchy.descendants ListedOrSelf
+  operator_rises Children items rises = led_rises count hierarchy over items rises hierarchy.children Listed
+  operator_rises ChildrenOrSelf items rises = led_rises count hierarchy over items rises hierarchy.children ListedOrSelf
+  operator_rises Ancestors items rises = led_rises count hierarchy over items rises hierarchy.ancestors Listed
+  operator_rises AncestorsOrSelf items rises = led_rises count hierarchy over items rises hierarchy.ancestors ListedOrSelf
+  operator_rises Parents items rises = led_rises count hierarchy over items rises hierarchy.parents Listed
+  operator_rises ParentsOrSelf items rises = led_rises count hierarchy over items rises hierarchy.parents ListedOrSelf
+  operator_rises Top items rises = led_rises count hierarchy over items rises hierarchy.ancestors Apart
+  operator_rises Bottom items rises = led_rises count hierarchy over items rises hierarchy.descendants Apart
+
+  -- a part of a set that has, of some numbers, what the set has
+  module _ (set part : List ℕ) (set_rises : IsRisingBelow count set) (part_rises : IsRisingBelow count part) (enough : ℕ → Bool)
+      (same : (n : ℕ) → enough n ≡ true → has_item part n ≡ has_item set n) where
+    -- a list of such numbers has one of the part where it has one of the set
+    same_any : (list : List ℕ) → ((n : ℕ) → has_item list n ≡ true → enough n ≡ true) → list_any (has_item part) list ≡ list_any (has_item set) list
+    same_any list all =
+        any_agree list (has_item part) (has_item set) 0
+        (λ k within. same (get_or list k 0) (all (get_or list k 0)
+        (there_item list (get_or list k 0) (k, within, get_or_default list k (get_or list k 0) 0 within))))
+
+    module _ (f : Family) (concept : ℕ) (inside : concept < count) where
+      listed : ((n : ℕ) → has_item (list_of (lists_of hierarchy (back_of f)) concept) n ≡ true → enough n ≡ true)
+          → has_item (joined count (lists_of hierarchy f) part) concept ≡ has_item (joined count (lists_of hierarchy f) set) concept
+      listed all =
+          sym (asked_back count hierarchy over part part_rises f concept inside)
+          ∙ same_any (list_of (lists_of hierarchy (back_of f)) concept) all
+          ∙ asked_back count hierarchy over set set_rises f concept inside
+
+      or_self : enough concept ≡ true → ((n : ℕ) → has_item (list_of (lists_of hierarchy (back_of f)) concept) n ≡ true → enough n ≡ true)
+          → has_item (all_items count part (joined count (lists_of hierarchy f) part)) concept
+          ≡ has_item (all_items count set (joined count (lists_of hierarchy f) set)) concept
+      or_self own all =
+          sym (asked_or_self count hierarchy over part part_rises f concept inside)
+          ∙ (λ i. same concept own i || listed all i)
+          ∙ asked_or_self count hierarchy over set set_rises f concept inside
+
+      kept : enough concept ≡ true → ((n : ℕ) → has_item (list_of (lists_of hierarchy f) concept) n ≡ true → enough n ≡ true)
+          → has_item (apart (lists_of hierarchy f) part) concept ≡ has_item (apart (lists_of hierarchy f) set) concept
+      kept own all =
+          sym (asked_apart count hierarchy over part part_rises f concept inside)
+          ∙ (λ i. same concept own i && not (same_any (list_of (lists_of hierarchy f) concept) all i))
+          ∙ asked_apart count hierarchy over set set_rises f concept inside
+
+    -- an operator leads from the part to a concept for which the numbers are enough where it leads there from the set
+    same_led : (operator : Operator) (concept : ℕ) → concept < count → enough concept ≡ true
+        → ((n : ℕ) → has_item (list_of (asked_lists hierarchy operator) concept) n ≡ true → enough n ≡ true)
+        → has_item (led_to hierarchy count operator part) concept ≡ has_item (led_to hierarchy count operator set) concept
+    same_led Descendants concept inside own all = listed family.Descendants concept inside all
+    same_led DescendantsOrSelf concept inside own all = or_self family.Descendants concept inside own all
+    same_led Children concept inside own all = listed family.Children concept inside all
+    same_led ChildrenOrSelf concept inside own all = or_self family.Children concept inside own all
+    same_led Ancestors concept inside own all = listed family.Ancestors concept inside all
+    same_led AncestorsOrSelf concept inside own all = or_self family.Ancestors concept inside own all
+    same_led Parents concept inside own all = listed family.Parents concept inside all
+    same_led ParentsOrSelf concept inside own all = or_self family.Parents concept inside own all
+    same_led Top concept inside own all = kept family.Ancestors concept inside own all
+    same_led Bottom concept inside own all = kept family.Descendants concept inside own all
+
+    -- of the candidates it leads to the same
+    pub led_from_part : (operator : Operator) (may : ℕ → Bool) → AreEnough (asked_lists hierarchy operator) may enough
+        → filter may (led_to hierarchy count operator part) ≡ filter may (led_to hierarchy count operator set)
+    led_from_part operator may are_enough =
+        kept_of part part_rises ∙ numbers_where-agree count _ _ each ∙ sym (kept_of set set_rises)
+      where
+        led : List ℕ → List ℕ
+        led items = led_to hierarchy count operator items
+
+        kept_of : (items : List ℕ) → IsRisingBelow count items
+            → filter may (led items) ≡ numbers_where count (λ n. has_item (led items) n && may n)
+        kept_of items rises =
+            ap (filter may) (rising_is_numbers_where count (led items) (operator_rises operator items rises))
+            ∙ filter-numbers_where count (has_item (led items)) may
+
+        asked : (n : ℕ) → n < count → (b : Bool) → may n ≡ b → (has_item (led part) n && b) ≡ (has_item (led set) n && b)
+        asked n inside true told =
+            let here = are_enough n told in
+            ap (λ (there : Bool). there && true) (same_led operator n inside here.0 here.1)
+        asked n inside false told = none (has_item (led part) n) ∙ sym (none (has_item (led set) n))
+          where
+            none : (b : Bool) → (b && false) ≡ false
+            none true = refl
+            none false = refl
+
+        each : (n : ℕ) → n < count → (has_item (led part) n && may n) ≡ (has_item (led set) n && may n)
+        each n inside = asked n inside (may n) refl

@@ -1,0 +1,26 @@
+-- What of a set must be known, where it is asked whether an operator leads to some concepts from it, each by a list of its own.
+use Rattle.std.specs.Prelude.{ℕ, ◌≡◌, Bool, true, List}
+use Rattle.idset.specs.Sets.{has_item}
+use Rattle.hierarchy.specs.KeyedLists.{list_of}
+use Rattle.ancestor_index.specs.HierarchyLists.{Hierarchy}
+use Rattle.constraint_tree.specs.declared.operator.Operator.{Operator}
+use Rattle.constraint_tree.specs.declared.operator.Operator.TheVariants.{Descendants, DescendantsOrSelf, Children, ChildrenOrSelf, Ancestors, AncestorsOrSelf, Parents, ParentsOrSelf, Top, Bottom}
+
+-- the lists by which it is asked: those that lead back, and for a concept of the set that has none of it, its own
+abbrev pub asked_lists : Hierarchy → Operator → List (List ℕ)
+asked_lists hierarchy Descendants = hierarchy.ancestors
+asked_lists hierarchy DescendantsOrSelf = hierarchy.ancestors
+asked_lists hierarchy Children = hierarchy.parents
+asked_lists hierarchy ChildrenOrSelf = hierarchy.parents
+asked_lists hierarchy Ancestors = hierarchy.descendants
+asked_lists hierarchy AncestorsOrSelf = hierarchy.descendants
+asked_lists hierarchy Parents = hierarchy.children
+asked_lists hierarchy ParentsOrSelf = hierarchy.children
+asked_lists hierarchy Top = hierarchy.ancestors
+asked_lists hierarchy Bottom = hierarchy.descendants
+
+-- some numbers are enough for some concepts: these, and what is in their lists
+abbrev pub AreEnough : List (List ℕ) → (ℕ → Bool) → (ℕ → Bool) → Type 0
+AreEnough lists wanted enough =
+    (concept : ℕ) → wanted concept ≡ true
+    → (enough concept ≡ true) × ((number : ℕ) → has_item (list_of lists concept) number ≡ true → enough number ≡ true)
