@@ -37,6 +37,34 @@ pub gives_next : (result : Result (Option Line) SourceFault) (old new : PieceLin
 gives_next (Ok line) old new before after ahead behind both = both.0
 gives_next (Err fault) old new before after ahead behind ended = ended
 
+-- and that alone
+pub takes_next : (result : Result (Option Line) SourceFault) (found : Option Line) (old new : PieceLines)
+    → (before after ahead behind : Option (List ℕ))
+    → MatchResult result
+    (λ line. GivesNext (option_map line_text line) old new before after × TakesWithin ahead behind old.held.left new.held.left)
+    (λ _. HasEnded new)
+    → result ≡ Ok found → TakesWithin ahead behind old.held.left new.held.left
+takes_next (Ok line) found old new before after ahead behind both is = both.1
+takes_next (Err fault) found old new before after ahead behind ended is = absurd (cc)
+
+-- what is taken in two turns
+pub takes_on : (first middle last : Option (List ℕ)) (old between new : ℕ) → TakesWithin first middle old between
+    → TakesWithin middle last between new → TakesWithin first last old new
+takes_on None None last old between new one other = omega (arith, one, other)
+takes_on None (Some middle) None old between new one other = absurd other
+takes_on None (Some middle) (Some last) old between new one other = omega (arith, one, other.0)
+takes_on (Some first) None last old between new one other = absurd one
+takes_on (Some first) (Some middle) None old between new one other = absurd other
+takes_on (Some first) (Some middle) (Some last) old between new one other =
+    (omega (arith, one.0, other.0), omega (arith, one.1, other.1))
+
+-- what is taken where no more may be than so many
+pub takes_most : (before after : Option (List ℕ)) (old new most : ℕ) → old ≤ most → TakesWithin before after old new
+    → TakesWithin before after most 0
+takes_most None after old new most few takes = omega arith
+takes_most (Some before) None old new most few takes = absurd takes
+takes_most (Some before) (Some after) old new most few takes = (omega arith, omega (arith, few, takes.1))
+
 -- a line was the first of those to come, and some bytes are left behind it
 pub record GaveLine (line : LineText) (old new : PieceLines) (after : Option (List ℕ)) (rest : List ℕ) : Type 0 where
   pub now : List ℕ

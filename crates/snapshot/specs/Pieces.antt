@@ -1,15 +1,16 @@
 -- Going over files that are read from a source in pieces.
 use Rattle.std.specs.List.{slice_get}
 use Rattle.rf2_rows.specs.Files.{file_kind_of}
-use Rattle.std.specs.Prelude.{Bool, is_some, option_and_then, ◌≡◌, ◌≢◌, ◌⊎◌, ℕ, ◌+◌, IfSome, List, [], map, take, IsPermutation, Option, None, Some, unwrap_or, Result, Ok, Err}
+use Rattle.std.specs.Prelude.{Bool, true, is_some, option_and_then, ◌≡◌, ◌≢◌, ◌⊎◌, ℕ, ◌+◌, IfErr, IfSome, List, [], length, map, take, IsPermutation, Option, None, Some, unwrap_or, Result, Ok, Err}
 use Rattle.std.specs.Cmp.Lexicographic.{slice_cmp}
 use Rattle.std.specs.Ordering.{nat_cmp}
 use Rattle.std.specs.List.Sorted.{IsSorted}
+use Rattle.release_files.specs.Held.{TakesWithin}
 use Rattle.release_files.specs.Source.{FileText, IsRaised, bytes_of}
 use Rattle.release_files.specs.declared.source.SourceFault.{SourceFault}
 use Rattle.release_files.specs.declared.source.SourceFault.TheVariants as source
 use Rattle.snapshot.specs.Files.{Place}
-use Rattle.snapshot.specs.Taking.{StopsAt, TakesAll}
+use Rattle.snapshot.specs.Taking.{FailsBelow, OfFiles, StopsAt, TakesAll, is_device}
 use Rattle.snapshot.specs.declared.fault.LoadFault.{LoadFault}
 use Rattle.snapshot.specs.declared.fault.LoadFault.TheVariants.{Device, Memory}
 
@@ -41,6 +42,11 @@ pub record FailsToList (old new : ℕ) (names : List (List ℕ)) (fault : LoadFa
   pub no_names : names ≡ []
   pub raised : IsRaised old new
 
+-- where the device has failed this was counted, and it was to list the files, or to read one of these
+abbrev pub FailsAtFiles : {X T : Type 0} → (X → List ℕ) → List X → Result T LoadFault → ℕ → ℕ → Type 0
+FailsAtFiles name files result old new =
+    IfErr result (λ fault. is_device fault ≡ true → FailsToList old new (map name files) fault ⊎ FailsBelow (length files) old new fault)
+
 -- names were listed: those of the files, in byte order, if these are told; or none, since the device failed, and this was
 -- counted, or memory was refused
 abbrev pub ListsNames : {T : Type 0} → Option (List FileText) → Result T LoadFault → List (List ℕ) → ℕ → ℕ → Type 0
@@ -56,6 +62,11 @@ listing_fault source.Memory = Memory
 abbrev pub fault_of : ℕ → SourceFault → LoadFault
 fault_of file source.Device = Device (Some file)
 fault_of file source.Memory = Memory
+
+-- of the bytes that were left of a file no more than so many were taken, unless its source failed or memory was refused
+abbrev pub TakesAtMost : {T : Type 0} → ℕ → Result T LoadFault → Option (List ℕ) → Option (List ℕ) → Type 0
+TakesAtMost most (Ok done) before after = TakesWithin before after most 0
+TakesAtMost most (Err fault) before after = OfFiles fault (TakesWithin before after most 0)
 
 -- the device failed at the file, and this was counted
 abbrev pub FailsAt : ℕ → ℕ → ℕ → LoadFault → Type 0

@@ -1,12 +1,15 @@
 -- The rows that a load has seen, and what it knows of their first fault.
-use Rattle.std.specs.Prelude.{◌≡◌, ◌≤◌, ◌+◌, ⊤, ℕ, List, [], ◌∷◌, ◌++◌, length, Option, None}
+use Rattle.std.specs.Prelude.{◌≡◌, ◌≤◌, ◌+◌, ⊤, ℕ, Bool, List, [], ◌∷◌, ◌++◌, length, Option, None, Some}
 use Rattle.rf2_rows.specs.Rows.{row_fault}
+use Rattle.snapshot.specs.Chosen.{choices}
 use Rattle.snapshot.specs.Contents.{text_of_row}
 use Rattle.snapshot.specs.Faults.{conflict_behind, first_fault, first_of}
 use Rattle.snapshot.specs.Files.{Place, RowAt, rows_of}
-use Rattle.snapshot.specs.Kept.{Kept, kept_behind, nothing_kept}
+use Rattle.snapshot.specs.Kept.{IsReadFrom, Kept, kept_behind, nothing_kept}
 use Rattle.snapshot.specs.Keys.{IsShort, Keyed, key_in, uuids_behind}
 use Rattle.snapshot.specs.Limits.{row_total}
+use Rattle.snapshot.specs.Listed.{Listed}
+use Rattle.snapshot.specs.Taking.{OfFiles}
 use Rattle.snapshot.specs.declared.fault.LoadFault.{LoadFault}
 use Rattle.snapshot.specs.declared.limits.Limits.{Limits}
 
@@ -53,3 +56,39 @@ pub record AreSeen (keyed : Keyed) (places : List Place) (seen beyond : List Row
   pub uuids : keyed.uuids ≡ uuids_after [] seen
   pub keys : keyed.keys ≡ keys_behind [] seen
   pub short : AreShort seen
+
+-- the first fault of places within limits
+abbrev pub IsFirstFault : Limits → List Place → LoadFault → Type 0
+IsFirstFault limits places fault = first_fault limits [] places ≡ Some fault
+
+-- the first fault of places of which the first pass has kept these keys, and then ended at a fault
+abbrev pub IsFirstBehind : Keyed → LoadFault → List Place → LoadFault → Type 0
+IsFirstBehind keyed ended places fault =
+    (limits : Limits) (kept : Kept) → row_total limits ≤ 68000000 → kept.keyed ≡ keyed
+    → OfFiles ended (IsSeen limits places kept (Some ended)) → IsFirstFault limits places fault
+
+-- the first fault of places of which the first pass has kept all rows
+abbrev pub IsFirstOfKept : Kept → List Place → LoadFault → Type 0
+IsFirstOfKept kept places fault =
+    (limits : Limits) → row_total limits ≤ 68000000 → IsSeen limits places kept None → IsFirstFault limits places fault
+
+-- so many rows are those of places of which the first pass has kept all, and this is what the chosen ones are made of
+abbrev pub AreChosenOfKept : Kept → List Place → ℕ → Listed → Type 0
+AreChosenOfKept kept places count listed =
+    (limits : Limits) → IsSeen limits places kept None → IsReadFrom limits places count listed
+
+-- the first conflict among the rows that were seen, with these keys
+abbrev pub IsFirstConflict : Keyed → List Place → LoadFault → Type 0
+IsFirstConflict keyed places fault =
+    (seen beyond : List RowAt) → AreSeen keyed places seen beyond → first_conflict [] seen ≡ Some fault
+
+-- no row that was seen, of those with these keys, conflicts with an earlier one
+abbrev pub HaveNoConflict : Keyed → List Place → Type 0
+HaveNoConflict keyed places =
+    (seen beyond : List RowAt) → AreSeen keyed places seen beyond → first_conflict [] seen ≡ None
+
+-- no row that was seen, of those with these keys, conflicts with an earlier one, and of each it is told whether it is chosen
+abbrev pub AreChoicesAmong : Keyed → List Place → List Bool → Type 0
+AreChoicesAmong keyed places chosen =
+    (seen beyond : List RowAt) → AreSeen keyed places seen beyond
+    → (first_conflict [] seen ≡ None) × (chosen ≡ choices seen [] seen)

@@ -1,11 +1,11 @@
 -- Going over places one after another.
-use Rattle.std.specs.Prelude.{◌≡◌, ◌<◌, ℕ, Bool, true, false, List, [], ◌∷◌, ◌++◌, ⊤, IfSome, Option, None, Some, Result, Ok, Err}
+use Rattle.std.specs.Prelude.{◌≡◌, ◌≢◌, ◌<◌, ℕ, Bool, true, false, List, [], ◌∷◌, ◌++◌, ⊤, IfErr, IfSome, Option, None, Some, Result, Ok, Err}
 use Rattle.release_files.specs.Lines.{line_text}
 use Rattle.release_files.specs.Source.{IsRaised}
 use Rattle.rf2_rows.specs.declared.kind.FileKind.{FileKind}
 use Rattle.snapshot.specs.Files.{Place, first_line, later_line, no_line}
 use Rattle.snapshot.specs.declared.fault.LoadFault.{LoadFault}
-use Rattle.snapshot.specs.declared.fault.LoadFault.TheVariants.{Conflict, Device, Header, Row, TooMany}
+use Rattle.snapshot.specs.declared.fault.LoadFault.TheVariants.{Conflict, Device, Header, Memory, Row, TooMany}
 use Rattle.snapshot.specs.declared.places.Met.{Met}
 use Rattle.snapshot.specs.declared.places.Met.TheVariants.{NoLine, First, Later}
 
@@ -43,6 +43,18 @@ RaisesOnlyAtDevice (Err fault) old new = is_device fault ≡ false → new ≡ o
 -- the device failed at one of so many files, and this was counted
 abbrev pub FailsBelow : ℕ → ℕ → ℕ → LoadFault → Type 0
 FailsBelow count old new fault = (file : ℕ) × (file < count) × (fault ≡ Device (Some file)) × IsRaised old new
+
+-- where the device has failed, it was at one of so many files, and this was counted
+abbrev pub FailsOnlyBelow : {T : Type 0} → ℕ → Result T LoadFault → ℕ → ℕ → Type 0
+FailsOnlyBelow count result old new = IfErr result (λ fault. is_device fault ≡ true → FailsBelow count old new fault)
+
+-- said of a fault of the files, which is neither the want of memory nor the device's
+abbrev pub OfFiles : LoadFault → Type 0 → Type 0
+OfFiles fault said = fault ≢ Memory → is_device fault ≡ false → said
+
+-- where places are told, a fault of the files that is answered is such a one of them
+abbrev pub FaultOf : {T : Type 0} → Option (List Place) → (List Place → LoadFault → Type 0) → Result T LoadFault → Type 0
+FaultOf told is result = IfSome told (λ places. IfErr result (λ fault. OfFiles fault (is places fault)))
 
 -- a file that has failed is one that is read
 abbrev pub FailsAtRead : (ℕ → Bool) → LoadFault → Type 0

@@ -1,17 +1,13 @@
 //! Reading the rows of a release, and choosing among those of components that have several.
-ghost use Rattle.std.specs.Prelude.{◌≡◌, ◌≢◌, ◌≤◌, ◌<◌, ◌+◌, ◌-◌, ◌^◌, [], ℕ, IfErr, IfOk, IfSome, OnOk, List, None, Some, false, true, length, min};
+ghost use Rattle.std.specs.Prelude.{◌≡◌, ◌≢◌, ◌≤◌, ◌<◌, ◌+◌, ◌-◌, ◌^◌, IfErr, IfOk, IfSome, OnOk, false, true, length, min};
 ghost use Rattle.std.specs.List.Sorted.{IsStrictlyIncreasing};
-ghost use Rattle.snapshot.specs.Chosen.{choices};
-ghost use Rattle.snapshot.specs.Faults.{first_fault};
-ghost use Rattle.snapshot.specs.Files.{RowAt};
-ghost use Rattle.snapshot.specs.Kept.{AreFew, IsReadFrom, Kept};
+ghost use Rattle.snapshot.specs.Kept.{AreFew, IsReadFrom};
 ghost use Rattle.snapshot.specs.Limits.{row_total};
 ghost use Rattle.snapshot.specs.ListsInside.{listed_in};
 ghost use Rattle.snapshot.specs.Noted.{Covers};
 ghost use Rattle.snapshot.specs.RowsKept.{kept_in};
-ghost use Rattle.snapshot.specs.Seen.{AreSeen, IsSeen, first_conflict};
-ghost use Rattle.snapshot.specs.Taking.{FailsAtRead, FailsBelow, FileIs, RaisesOnlyAtDevice, is_device as is_device_of};
-ghost use Rattle.snapshot.specs.declared.limits.Limits.{Limits};
+ghost use Rattle.snapshot.specs.Seen.{AreChoicesAmong, AreChosenOfKept, HaveNoConflict, IsFirstBehind, IsFirstConflict, IsFirstFault, IsFirstOfKept};
+ghost use Rattle.snapshot.specs.Taking.{FailsAtRead, FailsBelow, FailsOnlyBelow, FaultOf, FileIs, OfFiles, RaisesOnlyAtDevice, is_device as is_device_of};
 
 use crate::comparing::Comparing;
 use crate::fault::LoadFault;
@@ -68,8 +64,8 @@ pub fn read_rows<P: PlaceSource>(
     requires total { row_total limits ≤ 68000000 }
     requires some { 0 < P.file_count files.old }
     ensures ok { IfSome (P.places files.old) (λ known. IfOk result (λ read. IsReadFrom limits known read.count (listed_in read.lists))) }
-    ensures err { IfSome (P.places files.old) (λ known. IfErr result (λ fault. fault ≢ LoadFault.Memory → is_device_of fault ≡ false → first_fault limits [] known ≡ Some fault)) }
-    ensures device { IfErr result (λ fault. is_device_of fault ≡ true → FailsBelow (P.file_count files.old) (P.failure_count files.old) (P.failure_count files.new) fault) }
+    ensures err { FaultOf (P.places files.old) (IsFirstFault limits) result }
+    ensures device { FailsOnlyBelow (P.file_count files.old) result (P.failure_count files.old) (P.failure_count files.new) }
     ensures failures { P.failure_count files.old ≤ P.failure_count files.new }
     ensures calm { RaisesOnlyAtDevice result (P.failure_count files.old) (P.failure_count files.new) }
     ensures kind { IfErr result (λ fault. FailsAtRead (P.is_read files.old) fault) }
@@ -95,9 +91,7 @@ fn first_of_faults<P: PlaceSource>(
     fault: LoadFault,
 ) -> LoadFault
     requires some { 0 < P.file_count files.old }
-    ensures first { result ≢ LoadFault.Memory → is_device_of result ≡ false → IfSome (P.places files.old) (λ known. (limits : Limits) (kept : Kept) → row_total limits ≤ 68000000 → kept.keyed ≡ keys.now
-        → (fault ≢ LoadFault.Memory → is_device_of fault ≡ false → IsSeen limits known kept (Some fault))
-        → first_fault limits [] known ≡ Some result) }
+    ensures first { OfFiles result (IfSome (P.places files.old) (λ known. IsFirstBehind keys.now fault known result)) }
     ensures stays { is_device_of fault ≡ true → (result ≡ fault) × (P.failure_count files.new ≡ P.failure_count files.old) }
     ensures device { is_device_of fault ≡ false → is_device_of result ≡ true → FailsBelow (P.file_count files.old) (P.failure_count files.old) (P.failure_count files.new) result }
     ensures failures { P.failure_count files.old ≤ P.failure_count files.new }
@@ -128,12 +122,9 @@ fn choose_rows<P: PlaceSource>(
     rows: Rows,
 ) -> Result<ReadRows, LoadFault>
     requires some { 0 < P.file_count files.old }
-    ensures ok { IfSome (P.places files.old) (λ known. IfOk result (λ read. (limits : Limits) → IsSeen limits known (kept_in rows) None
-        → IsReadFrom limits known read.count (listed_in read.lists))) }
-    ensures err { IfSome (P.places files.old) (λ known. IfErr result (λ fault. fault ≢ LoadFault.Memory → is_device_of fault ≡ false
-        → (limits : Limits) → row_total limits ≤ 68000000 → IsSeen limits known (kept_in rows) None
-        → first_fault limits [] known ≡ Some fault)) }
-    ensures device { IfErr result (λ fault. is_device_of fault ≡ true → FailsBelow (P.file_count files.old) (P.failure_count files.old) (P.failure_count files.new) fault) }
+    ensures ok { IfSome (P.places files.old) (λ known. IfOk result (λ read. AreChosenOfKept (kept_in rows) known read.count (listed_in read.lists))) }
+    ensures err { FaultOf (P.places files.old) (IsFirstOfKept (kept_in rows)) result }
+    ensures device { FailsOnlyBelow (P.file_count files.old) result (P.failure_count files.old) (P.failure_count files.new) }
     ensures failures { P.failure_count files.old ≤ P.failure_count files.new }
     ensures calm { RaisesOnlyAtDevice result (P.failure_count files.old) (P.failure_count files.new) }
     ensures kind { IfErr result (λ fault. FailsAtRead (P.is_read files.old) fault) }
@@ -173,10 +164,9 @@ fn check_conflicts<P: PlaceSource>(
 ) -> Result<(), LoadFault>
     requires few { length keys.now.keys < 2 ^ 32 }
     requires some { 0 < P.file_count files.old }
-    ensures ok { IfSome (P.places files.old) (λ known. OnOk result ((seen beyond : List RowAt) → AreSeen keys.now known seen beyond → first_conflict [] seen ≡ None)) }
-    ensures err { IfSome (P.places files.old) (λ known. IfErr result (λ fault. fault ≢ LoadFault.Memory → is_device_of fault ≡ false → (seen beyond : List RowAt) → AreSeen keys.now known seen beyond
-        → first_conflict [] seen ≡ Some fault)) }
-    ensures device { IfErr result (λ fault. is_device_of fault ≡ true → FailsBelow (P.file_count files.old) (P.failure_count files.old) (P.failure_count files.new) fault) }
+    ensures ok { IfSome (P.places files.old) (λ known. OnOk result (HaveNoConflict keys.now known)) }
+    ensures err { FaultOf (P.places files.old) (IsFirstConflict keys.now) result }
+    ensures device { FailsOnlyBelow (P.file_count files.old) result (P.failure_count files.old) (P.failure_count files.new) }
     ensures failures { P.failure_count files.old ≤ P.failure_count files.new }
     ensures calm { RaisesOnlyAtDevice result (P.failure_count files.old) (P.failure_count files.new) }
     ensures kind { IfErr result (λ fault. FailsAtRead (P.is_read files.old) fault) }
@@ -209,11 +199,9 @@ fn compare<P: PlaceSource>(
     requires few { length repeated.items < 2 ^ 32 }
     requires covers { Covers repeated.items keys.now.keys }
     requires some { 0 < P.file_count files.old }
-    ensures ok { IfSome (P.places files.old) (λ known. IfOk result (λ chosen. (seen beyond : List RowAt) → AreSeen keys.now known seen beyond
-        → (first_conflict [] seen ≡ None) × (chosen.items ≡ choices seen [] seen))) }
-    ensures err { IfSome (P.places files.old) (λ known. IfErr result (λ fault. fault ≢ LoadFault.Memory → is_device_of fault ≡ false → (seen beyond : List RowAt) → AreSeen keys.now known seen beyond
-        → first_conflict [] seen ≡ Some fault)) }
-    ensures device { IfErr result (λ fault. is_device_of fault ≡ true → FailsBelow (P.file_count files.old) (P.failure_count files.old) (P.failure_count files.new) fault) }
+    ensures ok { IfSome (P.places files.old) (λ known. IfOk result (λ chosen. AreChoicesAmong keys.now known chosen.items)) }
+    ensures err { FaultOf (P.places files.old) (IsFirstConflict keys.now) result }
+    ensures device { FailsOnlyBelow (P.file_count files.old) result (P.failure_count files.old) (P.failure_count files.new) }
     ensures failures { P.failure_count files.old ≤ P.failure_count files.new }
     ensures calm { RaisesOnlyAtDevice result (P.failure_count files.old) (P.failure_count files.new) }
     ensures kind { IfErr result (λ fault. FailsAtRead (P.is_read files.old) fault) }

@@ -1,5 +1,5 @@
 //! Loading a release: its files are read, its concepts numbered, and the rows between them kept.
-ghost use Rattle.std.specs.Prelude.{◌≡◌, ◌≢◌, ◌↔◌, ◌<◌, ◌≤◌, ◌^◌, ◌⊎◌, ℕ, Err, None, Some, Ok, false, true, IfOk, IfErr, IfSome, OnOk, is_some, map, length, string_bytes, count_by};
+ghost use Rattle.std.specs.Prelude.{◌≡◌, ◌≢◌, ◌↔◌, ◌<◌, ◌≤◌, ◌^◌, ◌⊎◌, ℕ, Err, None, Some, Ok, false, IfOk, IfErr, IfSome, OnOk, is_some, map, length, string_bytes, count_by};
 ghost use Rattle.std.specs.List.{filter_map, list_any};
 ghost use Rattle.std.specs.Cmp.Lexicographic.{slice_cmp};
 ghost use Rattle.std.specs.List.Sorted.{IsSorted, IsStrictlyIncreasing};
@@ -7,8 +7,8 @@ ghost use Rattle.std.specs.Ordering.{nat_cmp};
 ghost use Rattle.snapshot.specs.Contents.{IsFaultOf, first_cyclic, load_of, loaded_from};
 ghost use Rattle.release_files.specs.Source.{file_text};
 ghost use Rattle.snapshot.specs.Files.{has_kind as has_kind_of, is_concept_file as is_concept_file_of, is_concept_kind, name_concepts};
-ghost use Rattle.snapshot.specs.Pieces.{AreInOrder, FailsToList, IsUnlisted, ListsNames, has_kind_at, listed, listing_fault};
-ghost use Rattle.snapshot.specs.Taking.{FailsAtRead, FailsBelow, FileIs, RaisesOnlyAtDevice, is_device};
+ghost use Rattle.snapshot.specs.Pieces.{AreInOrder, FailsAtFiles, IsUnlisted, ListsNames, has_kind_at, listed, listing_fault};
+ghost use Rattle.snapshot.specs.Taking.{FailsAtRead, FailsOnlyBelow, FileIs, RaisesOnlyAtDevice, is_device};
 ghost use Rattle.rf2_rows.specs.Files.{file_kind_of};
 ghost use Rattle.snapshot.specs.InForce.{rising as rising_of, rows_among};
 ghost use Rattle.snapshot.specs.Kept.{AreFew, attributes_among, names_among, IsCycle, finished};
@@ -89,9 +89,7 @@ impl Snapshot {
         ensures ok { IfSome (S.files source.old) (λ known. IfOk result (λ snapshot. load_of limits lang.now (listed known (map string_bytes names.new.items)) ≡ Ok snapshot)) }
         ensures err { IfSome (S.files source.old) (λ known. IfErr result (λ fault. is_device fault ≡ false → IsFaultOf fault (load_of limits lang.now (listed known (map string_bytes names.new.items))))) }
         ensures names { IfSome (S.files source.old) (λ known. AreInOrder known (map string_bytes names.new.items) ⊎ IsUnlisted result (map string_bytes names.new.items)) }
-        ensures device { IfErr result (λ fault. is_device fault ≡ true
-            → FailsToList (S.failure_count source.old) (S.failure_count source.new) (map string_bytes names.new.items) fault
-            ⊎ FailsBelow (length names.new.items) (S.failure_count source.old) (S.failure_count source.new) fault) }
+        ensures device { FailsAtFiles string_bytes names.new.items result (S.failure_count source.old) (S.failure_count source.new) }
         ensures failures { S.failure_count source.old ≤ S.failure_count source.new }
         ensures calm { RaisesOnlyAtDevice result (S.failure_count source.old) (S.failure_count source.new) }
         ensures kind { IfErr result (λ fault. FailsAtRead (has_kind_at (map string_bytes names.new.items)) fault) }
@@ -119,7 +117,7 @@ impl Snapshot {
     ) -> Result<Snapshot, LoadFault>
         ensures ok { IfSome (S.files source.old) (λ known. IfOk result (λ snapshot. load_of limits lang.now (listed known (map string_bytes names.now)) ≡ Ok snapshot)) }
         ensures err { IfSome (S.files source.old) (λ known. IfErr result (λ fault. is_device fault ≡ false → IsFaultOf fault (load_of limits lang.now (listed known (map string_bytes names.now))))) }
-        ensures device { IfErr result (λ fault. is_device fault ≡ true → FailsBelow (length names.now) (S.failure_count source.old) (S.failure_count source.new) fault) }
+        ensures device { FailsOnlyBelow (length names.now) result (S.failure_count source.old) (S.failure_count source.new) }
         ensures failures { S.failure_count source.old ≤ S.failure_count source.new }
         ensures calm { RaisesOnlyAtDevice result (S.failure_count source.old) (S.failure_count source.new) }
         ensures kind { IfErr result (λ fault. FailsAtRead (has_kind_at (map string_bytes names.now)) fault) }
@@ -181,7 +179,7 @@ fn load_places<P: PlaceSource>(
     requires some { 0 < P.file_count files.old }
     ensures ok { IfSome (P.places files.old) (λ known. IfOk result (λ snapshot. loaded_from limits lang.now kinds known ≡ Ok snapshot)) }
     ensures err { IfSome (P.places files.old) (λ known. IfErr result (λ fault. is_device fault ≡ false → IsFaultOf fault (loaded_from limits lang.now kinds known))) }
-    ensures device { IfErr result (λ fault. is_device fault ≡ true → FailsBelow (P.file_count files.old) (P.failure_count files.old) (P.failure_count files.new) fault) }
+    ensures device { FailsOnlyBelow (P.file_count files.old) result (P.failure_count files.old) (P.failure_count files.new) }
     ensures failures { P.failure_count files.old ≤ P.failure_count files.new }
     ensures calm { RaisesOnlyAtDevice result (P.failure_count files.old) (P.failure_count files.new) }
     ensures kind { IfErr result (λ fault. FailsAtRead (P.is_read files.old) fault) }

@@ -6,8 +6,8 @@ ghost use Rattle.release_files.specs.Lines.{lines_of};
 ghost use Rattle.release_files.specs.PieceLines.{lines_to_come};
 ghost use Rattle.release_files.specs.Source.{FileText};
 ghost use Rattle.snapshot.specs.Files.{later_line, places_from, places_of_file, places_of_lines};
-ghost use Rattle.snapshot.specs.Pieces.{cut_file, has_kind_at, FailsAt, FailsAtFile, GoesOver, fault_of, listed, text_named};
-ghost use Rattle.snapshot.specs.Taking.{FailsAtRead, FailsBelow, FileIs, RaisesOnlyAtDevice, StopsAt, TakesAll, is_device};
+ghost use Rattle.snapshot.specs.Pieces.{cut_file, has_kind_at, FailsAt, FailsAtFile, GoesOver, TakesAtMost, fault_of, listed, text_named};
+ghost use Rattle.snapshot.specs.Taking.{FailsAtRead, FailsOnlyBelow, FileIs, RaisesOnlyAtDevice, StopsAt, TakesAll, is_device};
 
 use crate::fault::LoadFault;
 use crate::places::{Met, PlaceSource, PlaceTaker};
@@ -70,7 +70,7 @@ fn take_pieces<S: FileSource, T: PlaceTaker>(
         IfErr result (λ fault. fault ≢ LoadFault.Memory
         → FailsAtFile (S.failure_count source.old) (S.failure_count source.new) fault
         ⊎ StopsAt T.takes T.refuses taker.old (places_from 0 (map (cut_file byte_limit) (listed known (map string_bytes names.now)))) taker.new fault)) }
-    ensures device { IfErr result (λ fault. is_device fault ≡ true → FailsBelow (length names.now) (S.failure_count source.old) (S.failure_count source.new) fault) }
+    ensures device { FailsOnlyBelow (length names.now) result (S.failure_count source.old) (S.failure_count source.new) }
     ensures kind { IfErr result (λ fault. FailsAtRead (has_kind_at (map string_bytes names.now)) fault) }
     ensures named { IfErr result (FileIs (λ file. file < length names.now)) }
     ensures found { IfErr result (λ fault. fault ≢ LoadFault.NoConceptFile) }
@@ -128,6 +128,7 @@ fn take_opened<S: FileSource, T: PlaceTaker>(
     ensures goes { (bytes : List ℕ) → S.rest source.old ≡ Some bytes → length bytes < 2 ^ 64
         → GoesOver T.takes T.refuses (FailsAt file (S.failure_count source.old) (S.failure_count source.new))
         taker.old (places_of_lines file kind (lines_of (take (byte_limit + 1) bytes))) result taker.new }
+    ensures bounded { TakesAtMost (byte_limit + 1) result (S.rest source.old) (S.rest source.new) }
     ensures device { IfErr result (λ fault. is_device fault ≡ true → FailsAt file (S.failure_count source.old) (S.failure_count source.new) fault) }
     ensures named { IfErr result (FileIs (λ at. at ≡ file)) }
     ensures found { IfErr result (λ fault. fault ≢ LoadFault.NoConceptFile) }
@@ -162,6 +163,7 @@ fn take_later<S: FileSource, T: PlaceTaker>(
     ensures goes { (rest : List ℕ) → reachable lines.held.left (S.rest source.old) ≡ Some rest → length (lines_to_come lines rest) < turns
         → GoesOver T.takes T.refuses (FailsAt file (S.failure_count source.old) (S.failure_count source.new))
         taker.old (map (later_line file kind) (lines_to_come lines rest)) result taker.new }
+    ensures bounded { TakesAtMost lines.held.left result (S.rest source.old) (S.rest source.new) }
     ensures device { IfErr result (λ fault. is_device fault ≡ true → FailsAt file (S.failure_count source.old) (S.failure_count source.new) fault) }
     ensures named { IfErr result (FileIs (λ at. at ≡ file)) }
     ensures found { IfErr result (λ fault. fault ≢ LoadFault.NoConceptFile) }

@@ -44,10 +44,10 @@ pub trait PlaceTaker {
 
 /// The files of a release as places, which can be gone over more than once.
 pub trait PlaceSource {
-    ghost use Rattle.std.specs.Prelude.{◌≡◌, ◌≢◌, ◌<◌, ◌≤◌, ℕ, Bool, List, Option, false, true, IfErr, IfSome, OnOk};
+    ghost use Rattle.std.specs.Prelude.{◌≡◌, ◌≢◌, ◌<◌, ◌≤◌, ℕ, Bool, List, Option, IfErr, IfSome, OnOk};
     ghost use Rattle.release_files.specs.Source.{FileText};
     ghost use Rattle.snapshot.specs.Files.{Place};
-    ghost use Rattle.snapshot.specs.Taking.{FailsAtRead, FailsBelow, FileIs, RaisesOnlyAtDevice, StopsAt, TakesAll, is_device};
+    ghost use Rattle.snapshot.specs.Taking.{FailsAtRead, FailsOnlyBelow, FaultOf, FileIs, RaisesOnlyAtDevice, StopsAt, TakesAll};
     ghost use Rattle.snapshot.specs.declared.fault.LoadFault.{LoadFault};
 
     /// The places in turn; `None` where nothing is claimed of them.
@@ -75,9 +75,8 @@ pub trait PlaceSource {
     /// Goes over the places in turn, from the first one on.
     fn take_places<T: PlaceTaker>(&mut self, taker: &mut T) -> Result<(), LoadFault>
         ensures ok { IfSome (places self.old) (λ known. OnOk result (TakesAll T.takes taker.old known taker.new)) }
-        ensures err { IfSome (places self.old) (λ known. IfErr result (λ fault. fault ≢ LoadFault.Memory → is_device fault ≡ false
-            → StopsAt T.takes T.refuses taker.old known taker.new fault)) }
-        ensures device { IfErr result (λ fault. is_device fault ≡ true → FailsBelow (file_count self.old) (failure_count self.old) (failure_count self.new) fault) }
+        ensures err { FaultOf (places self.old) (λ known fault. StopsAt T.takes T.refuses taker.old known taker.new fault) result }
+        ensures device { FailsOnlyBelow (file_count self.old) result (failure_count self.old) (failure_count self.new) }
         ensures places { places self.new ≡ places self.old }
         ensures files { file_count self.new ≡ file_count self.old }
         ensures failures { failure_count self.old ≤ failure_count self.new }
