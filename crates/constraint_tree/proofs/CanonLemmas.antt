@@ -1,6 +1,6 @@
 -- A tree with a form is printable and has a canonical form: one whose symbols are those that the text of the tree spells, and
 -- whose brackets are never deeper than those of any form.
-use Rattle.std.proofs.Common.{ℕ, ◌≡◌, ◌&&◌, ◌||◌, ◌==◌, Bool, true, false, List, [], ◌∷◌, ◌++◌, Some, map, if◌then◌else◌, refl, ap, ◌∙◌, sym, subst, arith}
+use Rattle.std.proofs.Common.{ℕ, ◌≡◌, ◌≤◌, ◌&&◌, ◌||◌, ◌==◌, Bool, true, false, List, [], ◌∷◌, ◌++◌, Some, map, if◌then◌else◌, refl, ap, ◌∙◌, sym, subst, arith}
 use Rattle.std.specs.Char.{to_ascii_lowercase}
 use Rattle.std.specs.List.{list_all}
 use Rattle.std.specs.Str.{bytes_eq}
@@ -13,7 +13,7 @@ use Rattle.constraint_tree.specs.Grammar.{ConstraintForm, Symbol, symbol_of, con
 use Rattle.constraint_tree.specs.Refusal.{IsConstraint, is_deep, most_open, opens, open_behind}
 use Rattle.constraint_tree.proofs.FitLemmas.{ArePlain, NumbersRead, constraint_fits}
 use Rattle.constraint_tree.proofs.FormLemmas.{forms_of}
-use Rattle.constraint_tree.proofs.LevelLemmas.{constraint_shallow, kind_of_symbol, symbols_deep}
+use Rattle.constraint_tree.proofs.LevelLemmas.{constraint_shallow, kind_of_symbol, levels, symbols_deep}
 use Rattle.constraint_tree.proofs.NumberLemmas.{numbers_read}
 use Rattle.constraint_tree.proofs.Symbols.{IsPrintable, constraint_symbols}
 use Rattle.constraint_tree.proofs.TextLemmas.{no_more}
@@ -25,12 +25,20 @@ pub record Canonical (tree : Tree) : Type 0 where
   pub is : constraint_tree form ≡ tree
   pub spells : (rest : List Symbol) → constraint_tokens form rest ≡ constraint_symbols tree rest
   pub shallow : symbols_deep 0 (constraint_symbols tree []) ≡ false
+  pub few : levels tree ≤ 64
 
 pub canonical : NumbersRead → (form : ConstraintForm) → ArePlain (constraint_tokens form []) → symbols_deep 0 (constraint_tokens form []) ≡ false → Canonical (constraint_tree form)
 canonical numbers form bare flat =
     let fit = constraint_fits numbers form 0 [] (omega arith) bare flat in
     let whole = (forms_of (constraint_tree form) fit.printable).whole in
-    record { printable = fit.printable; form = whole.form; is = whole.is; spells = whole.spells; shallow = constraint_shallow (constraint_tree form) 0 [] fit.fits refl }
+    record {
+      printable = fit.printable;
+      form = whole.form;
+      is = whole.is;
+      spells = whole.spells;
+      shallow = constraint_shallow (constraint_tree form) 0 [] fit.fits refl;
+      few = omega (arith, fit.fits);
+    }
 
 -- the depth of tokens is that of their symbols
 kind_of_symbol_of : (kind : TokenKind) (bytes : List ℕ) → kind_of_symbol (symbol_of (record { kind = kind; bytes = bytes })) ≡ kind

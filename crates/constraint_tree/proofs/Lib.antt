@@ -9,6 +9,7 @@ pub mod LevelLemmas
 pub mod FractionLemmas
 pub mod DigitLemmas
 pub mod Lists
+pub mod MostDeepLemmas
 pub mod NumberLemmas
 pub mod PieceLemmas
 pub mod PrintLemmas

@@ -1,6 +1,7 @@
 -- How deep a tree is: the number of nodes on the longest way from the root, where a constraint, a
 -- refinement and an attribute set are nodes, and an attribute is none.
-use Rattle.std.specs.Prelude.{ℕ, suc, max}
+use Rattle.std.specs.Prelude.{ℕ, ◌*◌, ◌+◌, suc, max}
+use Rattle.constraint_tree.specs.Refusal.{most_open}
 use Rattle.constraint_tree.specs.Tree.{Tree, concept_tree, any_tree, walk_tree, member_tree, and_tree, or_tree, minus_tree, dotted_tree, refined_tree, Trees, no_trees, tree_then, RefinementTree, one_refinement, group_refinement, and_refinement, or_refinement, RefinementTrees, no_refinements, refinement_then, AttributeSetTree, one_set, and_set, or_set, AttributeSetTrees, no_sets, set_then, AttributeTree, attribute_tree, TestTree, within_test, outside_test, number_test}
 
 abbrev mutual
@@ -46,3 +47,8 @@ abbrev mutual
   test_depth (within_test operand) = depth_of operand
   test_depth (outside_test operand) = depth_of operand
   test_depth (number_test compare value) = 0
+
+-- no constraint's tree is deeper: five nodes stand at the most between two open brackets, as a refined constraint, AND, an
+-- attribute, an operator and `^`, and six where none is opened any more
+abbrev pub most_deep : ℕ
+most_deep = 5 * most_open + 6

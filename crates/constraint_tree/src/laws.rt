@@ -2,11 +2,11 @@
 ghost use Rattle.std.specs.Prelude.{ℕ, ◌≤◌, List, length};
 ghost use Rattle.ecl_lexer.specs.Tokens.{most_bytes};
 ghost use Rattle.constraint_tree.specs.Denotation.{DenotesConceptsInForce};
+ghost use Rattle.constraint_tree.specs.Depth.{depth_of, most_deep};
 ghost use Rattle.constraint_tree.specs.Refusal.{IsConstraint};
 ghost use Rattle.constraint_tree.specs.Text.{constraint_text};
 ghost use Rattle.constraint_tree.specs.Tree.{Tree};
 ghost use Rattle.constraint_tree.specs.Walks.{TellsInForce, TellsChild, TellsBelow, TellsAbove};
-ghost use Rattle.constraint_tree.specs.WorkedQueries.{GivesEverything, GivesDescendants, GivesBraces, GivesDistinctPairs, GivesBraceCounts, GivesNoneInBraces, GivesReverse, GivesDotted, GivesNotEqual, GivesRowsInForce, GivesNumbers, GivesBounds, GivesDifferences, GivesEither, GivesWalks, GivesOperands, GivesEmptyAnswers};
 ghost use Rattle.constraint_tree.specs.WrongReadings.{MisreadsSplitBraces, MisreadsNotEqual, MisreadsNoneInBraces, MisreadsGroupZero, MisreadsRows, MisreadsTop, MisreadsDepth, MisreadsSecondParent, MisreadsWalkOfAnd};
 
 /// The tests that operators are made of say what they are named for: that a concept is one of the release's,
@@ -29,25 +29,9 @@ pub fn print_is_read()
         → IsConstraint (constraint_text tree) tree }
 {}
 
-/// What worked queries denote on a small release.
-pub fn worked_queries_hold()
-    ensures everything { GivesEverything }
-    ensures descendants { GivesDescendants }
-    ensures braces { GivesBraces }
-    ensures distinct_pairs { GivesDistinctPairs }
-    ensures brace_counts { GivesBraceCounts }
-    ensures none_in_braces { GivesNoneInBraces }
-    ensures reverse { GivesReverse }
-    ensures dotted { GivesDotted }
-    ensures not_equal { GivesNotEqual }
-    ensures rows_in_force { GivesRowsInForce }
-    ensures numbers { GivesNumbers }
-    ensures bounds { GivesBounds }
-    ensures differences { GivesDifferences }
-    ensures either { GivesEither }
-    ensures walks { GivesWalks }
-    ensures operands { GivesOperands }
-    ensures empty_answers { GivesEmptyAnswers }
+/// No constraint has a tree deeper than 326, since no more than 64 of its brackets are open at once.
+pub fn constraints_are_not_deep()
+    ensures { (text : List ℕ) (tree : Tree) → IsConstraint text tree → depth_of tree ≤ most_deep }
 {}
 
 /// What wrong readings of a query give on that release: each something else.

@@ -8,8 +8,8 @@ mod print;
 mod tree;
 
 pub use crate::laws::{
-    constraints_denote_concepts_in_force, print_is_read, walks_tell_chains, worked_queries_hold,
-    wrong_readings_differ,
+    constraints_are_not_deep, constraints_denote_concepts_in_force, print_is_read,
+    walks_tell_chains, wrong_readings_differ,
 };
 pub use crate::operator::{Cardinality, Compare, Operator};
 pub use crate::tree::{Attribute, AttributeSet, Constraint, Refinement, Test};

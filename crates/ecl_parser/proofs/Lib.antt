@@ -1,7 +1,9 @@
 pub mod Complete
+pub mod EitherLemmas
 pub mod Forms
 pub mod ParseLemmas
 pub mod ReadLemmas
 pub mod Shallow
 pub mod Sound
+pub mod TextLemmas
 pub mod TokenLemmas

@@ -44,12 +44,17 @@ tree_found tokens at tree enough read =
     (form.0, sym (symbols-spelled tokens) ∙ form.1, form.2)
 
 -- and the other way round
+pub tokens_read : (tokens : List Spelled) (tree : Tree) → is_deep 0 tokens ≡ false → IsTreeOf tokens tree
+    → constraint_in (readers 64) (map symbol_of tokens) ≡ Some (tree, [])
+tokens_read tokens tree shallow (form, same, tree_is) =
+    ap (constraint_in (readers 64)) same
+    ∙ constraint_complete 64 form [] (fits_most form tokens same shallow) at_end
+    ∙ ap (λ (t : Tree). Some (t, [])) (sym tree_is)
+
 tree_read : (tokens : List Token) (tree : Tree) → is_deep 0 (map spelled tokens) ≡ false → IsTreeOf (map spelled tokens) tree
     → constraint_in (readers 64) (symbols_from tokens 0) ≡ Some (tree, [])
-tree_read tokens tree shallow (form, same, tree_is) =
-    ap (constraint_in (readers 64)) (symbols-spelled tokens ∙ same)
-    ∙ constraint_complete 64 form [] (fits_most form (map spelled tokens) same shallow) at_end
-    ∙ ap (λ (t : Tree). Some (t, [])) (sym tree_is)
+tree_read tokens tree shallow is =
+    ap (constraint_in (readers 64)) (symbols-spelled tokens) ∙ tokens_read (map spelled tokens) tree shallow is
 
 -- where reading fails, or stops before the end, there is no tree
 pub none_read : (fault : QueryFault) (tokens : List Token) → is_deep 0 (map spelled tokens) ≡ false

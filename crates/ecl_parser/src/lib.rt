@@ -11,5 +11,5 @@ mod parser;
 mod text;
 mod tokens;
 
-pub use crate::laws::one_reading;
+pub use crate::laws::{one_reading, worked_queries_hold};
 pub use crate::text::{parse, read_again};

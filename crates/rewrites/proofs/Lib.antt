@@ -4,6 +4,7 @@ pub mod AlikeLemmas
 pub mod BoolLemmas
 pub mod ChildLemmas
 pub mod CountLemmas
+pub mod DepthLemmas
 pub mod GroupLemmas
 pub mod GroupRuleLemmas
 pub mod KeepingLemmas

@@ -24,6 +24,8 @@ mod walks;
 
 pub use crate::applying::{apply, apply_all};
 pub use crate::fault::ApplyFault;
-pub use crate::laws::{rules_apply_at_places, rules_keep_the_meaning};
+pub use crate::laws::{
+    rules_apply_at_places, rules_keep_the_meaning, simplified_plans_are_no_deeper,
+};
 pub use crate::rule::{Rule, Step};
 pub use crate::simplifying::simplify;

@@ -1,3 +1,4 @@
+pub mod DepthLemmas
 pub mod ListLemmas
 pub mod LoweredLists
 pub mod LoweringLemmas

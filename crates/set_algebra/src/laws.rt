@@ -1,13 +1,29 @@
 //! Laws about the definitions of this crate: functions that do nothing, each with laws as its contract.
+ghost use Rattle.std.specs.Prelude.{◌≡◌, ◌≤◌, ℕ, List};
+ghost use Rattle.constraint_tree.specs.Depth.{depth_of, most_deep};
+ghost use Rattle.constraint_tree.specs.Refusal.{IsConstraint};
+ghost use Rattle.constraint_tree.specs.Tree.{Tree};
+ghost use Rattle.set_algebra.specs.Depth.{plan_depth};
+ghost use Rattle.set_algebra.specs.Lowering.{lowered};
 ghost use Rattle.set_algebra.specs.Meaning.{MeansConceptsInForce};
 ghost use Rattle.set_algebra.specs.Places.{KeepsMeaningAtPlaces, ReplacesOneChild, FindsWhatIsPut, PutsBack};
 ghost use Rattle.set_algebra.specs.WorkedPlans.{HasPlanOfAttribute, HasPlanOfNumber, HasPlanOfBraces, HasPlanOfTwice, MeansEverything, MeansDescendants, MeansBraces, MeansDistinctPairs, MeansBraceCounts, MeansNoneInBraces, MeansReverse, MeansDotted, MeansNotEqual, MeansRowsInForce, MeansNumbers, MeansBounds, MeansDifferences, MeansEither, MeansWalks, MeansOperands, MeansEmptyAnswers};
 ghost use Rattle.set_algebra.specs.WrongPlans.{MisplansSplitBraces, MisplansSpreadCount, MisplansCountOfBraces};
 
+use constraint_tree::constraints_are_not_deep;
+
 /// A plan means concepts of the release alone, whatever the release and the plan are.
 pub fn plans_mean_concepts_in_force()
     ensures { MeansConceptsInForce }
 {}
+
+/// The plan of a constraint is as deep as its tree, so that no text has a plan deeper than 326.
+pub fn plans_are_as_deep_as_trees()
+    ensures same { (tree : Tree) → plan_depth (lowered tree) ≡ depth_of tree }
+    ensures most { (text : List ℕ) (tree : Tree) → IsConstraint text tree → plan_depth (lowered tree) ≤ most_deep }
+{
+    constraints_are_not_deep();
+}
 
 /// A plan that means the same over a release as the one at a place, put there in its stead, leaves what the
 /// whole means over that release: for plans of concepts and of groups, at every place in either, through

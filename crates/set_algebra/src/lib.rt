@@ -10,8 +10,8 @@ mod plan;
 pub mod views;
 
 pub use crate::laws::{
-    places_are_found_and_put, places_keep_the_meaning, plans_mean_concepts_in_force,
-    worked_plans_hold, worked_queries_have_plans, wrong_plans_differ,
+    places_are_found_and_put, places_keep_the_meaning, plans_are_as_deep_as_trees,
+    plans_mean_concepts_in_force, worked_plans_hold, worked_queries_have_plans, wrong_plans_differ,
 };
 pub use crate::lowering::lower;
 pub use crate::plan::{ConceptPlan, UnitPlan, ValueTest};

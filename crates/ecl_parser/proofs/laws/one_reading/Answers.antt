@@ -1,3 +1,4 @@
+use Rattle.ecl_parser.proofs.EitherLemmas.{tree_or_refusal}
 use Rattle.ecl_parser.proofs.ParseLemmas.{constraint_not_refused, same_refusal, same_tree, trees_equal}
 use Rattle.ecl_parser.proofs.laws.one_reading.Goals as goal
 
@@ -12,3 +13,6 @@ returns-clause-refusal c = same_refusal
 
 pub returns-clause-not_both : goal.returns-clause-not_both
 returns-clause-not_both c = constraint_not_refused
+
+pub returns-clause-either : goal.returns-clause-either
+returns-clause-either c = tree_or_refusal

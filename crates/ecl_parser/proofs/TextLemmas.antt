@@ -1,0 +1,144 @@
+-- The tree of a text, by computing: the text is cut into pieces, and the tree of its tokens is read.
+use Rattle.std.proofs.Common.{◌≡◌, ◌∙◌, ℕ, zero, suc, Bool, true, false, ◌&&◌, List, [], ◌∷◌, length, drop, map, Option, None, Some, option_map, if◌then◌else◌, refl, sym, ap, subst}
+use Rattle.std.specs.Prelude.{Result, Ok, Err, nat_le, nat_lt, option_and_then}
+use Rattle.std.specs.List.{list_all}
+use Rattle.std.proofs.lemmas.Bool.{and_parts, leb-true}
+use Rattle.ecl_lexer.specs.Pieces.{Piece, bytes_of, piece_text}
+use Rattle.ecl_lexer.specs.Reading.{reading}
+use Rattle.ecl_lexer.specs.Refusals.{IsRead}
+use Rattle.ecl_lexer.specs.Tokens.{IsCut, IsReadable, most_bytes, spelled_tokens}
+use Rattle.ecl_lexer.specs.declared.fault.QueryFault.{QueryFault}
+use Rattle.ecl_lexer.proofs.ReadLemmas.{drop-piece_text, reading-Ok}
+use Rattle.constraint_tree.specs.Denotation.{denotation}
+use Rattle.constraint_tree.specs.Grammar.{symbol_of}
+use Rattle.constraint_tree.specs.Refusal.{IsConstraint, is_deep}
+use Rattle.constraint_tree.specs.Sample.{sample}
+use Rattle.constraint_tree.specs.Tree.{Tree}
+use Rattle.constraint_tree.specs.WorkedQueries.{Gives}
+use Rattle.constraint_tree.proofs.PieceLemmas.{low_bytes}
+use Rattle.ecl_parser.specs.Reading.{Found, bounds_at, constraint_behind, constraint_in, focus_in, item_behind, item_in, many, member_in, pair_in, part_in, readers, refinement_behind, refinement_in, set_behind, set_in, sub_in, test_in}
+use Rattle.ecl_parser.proofs.Sound.{constraint_derives}
+
+-- the pieces of a text that is read to its end in so many turns
+abbrev piece_then : (List ℕ → Option (List Piece)) → List ℕ → Result Piece QueryFault → Option (List Piece)
+piece_then more text (Err fault) = None
+piece_then more text (Ok piece) = option_map (λ pieces. piece ∷ pieces) (more (drop (length (bytes_of piece)) text))
+
+abbrev pieces_in : ℕ → List ℕ → Option (List Piece)
+pieces_in turns [] = Some []
+pieces_in zero (byte ∷ behind) = None
+pieces_in (suc turns) (byte ∷ behind) = piece_then (λ rest. pieces_in turns rest) (byte ∷ behind) (reading 0 (byte ∷ behind))
+
+-- a piece that is read in front of pieces is one of the cut
+piece_cut : (text : List ℕ) (piece : Piece) (pieces : List Piece) → reading 0 text ≡ Ok piece
+    → IsCut (drop (length (bytes_of piece)) text) pieces [] → IsCut text (piece ∷ pieces) []
+piece_cut text piece pieces is cut =
+    let here = reading-Ok 0 text piece is in
+    let behind : here.rest ≡ drop (length (bytes_of piece)) text =
+    sym (drop-piece_text piece here.rest) ∙ ap (drop (length (bytes_of piece))) (sym here.is) in
+    record {
+      whole = here.is ∙ ap (piece_text piece) (behind ∙ cut.whole);
+      each = (subst (IsRead piece) (behind ∙ cut.whole) here.read, cut.each);
+    }
+
+-- such pieces are a cut of the text
+cut_in : (turns : ℕ) (text : List ℕ) (pieces : List Piece) → pieces_in turns text ≡ Some pieces → IsCut text pieces []
+cut_in turns [] pieces is =
+    let none : [] ≡ pieces = (cc) in
+    subst (λ (found : List Piece). IsCut [] found []) none (record { whole = refl; each = tt })
+cut_in zero (byte ∷ behind) pieces is = absurd (cc)
+cut_in (suc turns) (byte ∷ behind) pieces is =
+    by_result (λ rest found same. cut_in turns rest found same) (reading 0 (byte ∷ behind)) refl is
+  where
+    by_more : (piece : Piece) → reading 0 (byte ∷ behind) ≡ Ok piece
+        → ((found : List Piece) → pieces_in turns (drop (length (bytes_of piece)) (byte ∷ behind)) ≡ Some found
+        → IsCut (drop (length (bytes_of piece)) (byte ∷ behind)) found [])
+        → (more : Option (List Piece)) → pieces_in turns (drop (length (bytes_of piece)) (byte ∷ behind)) ≡ more
+        → option_map (λ found. piece ∷ found) more ≡ Some pieces → IsCut (byte ∷ behind) pieces []
+    by_more piece read cut None same found = absurd (cc)
+    by_more piece read cut (Some rest) same found =
+        let whole : piece ∷ rest ≡ pieces = (cc) in
+        subst (λ (found : List Piece). IsCut (byte ∷ behind) found []) whole
+        (piece_cut (byte ∷ behind) piece rest read (cut rest same))
+
+    by_result : ((rest : List ℕ) (found : List Piece) → pieces_in turns rest ≡ Some found → IsCut rest found [])
+        → (read : Result Piece QueryFault) → reading 0 (byte ∷ behind) ≡ read
+        → piece_then (λ rest. pieces_in turns rest) (byte ∷ behind) read ≡ Some pieces → IsCut (byte ∷ behind) pieces []
+    by_result cuts (Err fault) read found = absurd (cc)
+    by_result cuts (Ok piece) read found =
+        let rest = drop (length (bytes_of piece)) (byte ∷ behind) in
+        by_more piece read (λ more same. cuts rest more same) (pieces_in turns rest) refl found
+
+-- what is read, if nothing is left behind it
+abbrev whole : Found Tree → Option Tree
+whole None = None
+whole (Some (tree, [])) = Some tree
+whole (Some (tree, symbol ∷ rest)) = None
+
+-- the tree of the tokens among some pieces that have at most one bracket open at once
+abbrev tree_among : List Piece → Option Tree
+tree_among pieces =
+    if is_deep 0 (spelled_tokens pieces) then None
+    else whole (constraint_in (readers 1) (map symbol_of (spelled_tokens pieces)))
+
+-- whether a text is not too long and ASCII
+abbrev is_plain_text : List ℕ → Bool
+is_plain_text text = list_all (λ byte. nat_lt byte 128) text && nat_le (length text) most_bytes
+
+-- the tree of such a text
+abbrev tree_in : List ℕ → Option Tree
+tree_in text = if is_plain_text text then option_and_then tree_among (pieces_in (length text) text) else None
+
+-- the same, where it is to be computed
+unfoldable pub text_tree : List ℕ → Option Tree
+unfolding readers constraint_in constraint_behind sub_in member_in focus_in many bounds_at test_in pair_in part_in
+    set_in set_behind item_in item_behind refinement_in refinement_behind
+text_tree text = tree_in text
+
+whole_is : (found : Found Tree) (tree : Tree) → whole found ≡ Some tree → found ≡ Some (tree, [])
+whole_is None tree is = absurd (cc)
+whole_is (Some (other, [])) tree is = let same : other ≡ tree = (cc) in ap (λ (t : Tree). Some (t, [])) same
+whole_is (Some (other, symbol ∷ rest)) tree is = absurd (cc)
+
+tree_among-is : (text : List ℕ) (pieces : List Piece) (tree : Tree) → IsReadable text → IsCut text pieces []
+    → tree_among pieces ≡ Some tree → IsConstraint text tree
+tree_among-is text pieces tree readable cut is = by_depth (is_deep 0 (spelled_tokens pieces)) refl is
+  where
+    by_depth : (deep : Bool) → is_deep 0 (spelled_tokens pieces) ≡ deep
+        → (if deep then None else whole (constraint_in (readers 1) (map symbol_of (spelled_tokens pieces)))) ≡ Some tree
+        → IsConstraint text tree
+    by_depth true same found = absurd (cc)
+    by_depth false same found = record {
+      readable = readable;
+      tokens = spelled_tokens pieces;
+      are_tokens = (pieces, cut, refl);
+      shallow = same;
+      is_tree = constraint_derives 1 (map symbol_of (spelled_tokens pieces)) [] tree
+          (whole_is (constraint_in (readers 1) (map symbol_of (spelled_tokens pieces))) tree found);
+    }
+
+tree_in-is : (text : List ℕ) (tree : Tree) → tree_in text ≡ Some tree → IsConstraint text tree
+tree_in-is text tree is = by_plain (is_plain_text text) refl is
+  where
+    by_pieces : IsReadable text → (found : Option (List Piece)) → pieces_in (length text) text ≡ found
+        → option_and_then tree_among found ≡ Some tree → IsConstraint text tree
+    by_pieces readable None same read = absurd (cc)
+    by_pieces readable (Some pieces) same read =
+        tree_among-is text pieces tree readable (cut_in (length text) text pieces same) read
+
+    by_plain : (plain : Bool) → is_plain_text text ≡ plain
+        → (if plain then option_and_then tree_among (pieces_in (length text) text) else None) ≡ Some tree
+        → IsConstraint text tree
+    by_plain false same read = absurd (cc)
+    by_plain true same read =
+        let parts = and_parts (list_all (λ byte. nat_lt byte 128) text) (nat_le (length text) most_bytes) same in
+        by_pieces (leb-true (length text) most_bytes parts.1, low_bytes text parts.0) (pieces_in (length text) text) refl read
+
+pub text_tree-is : (text : List ℕ) (tree : Tree) → text_tree text ≡ Some tree → IsConstraint text tree
+unfolding text_tree
+text_tree-is text tree is = tree_in-is text tree is
+
+-- a text whose tree is this query, which denotes these concepts
+pub gives : {text : List ℕ} {query : Tree} {answer : List ℕ} → text_tree text ≡ Some query
+    → denotation sample query ≡ answer → Gives text query answer
+gives {text = text} {query = query} is found = record { is_query = text_tree-is text query is; denotes = found }
