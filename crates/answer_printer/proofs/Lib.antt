@@ -1,3 +1,4 @@
+mod AnswerLemmas
 pub mod LineLemmas
 pub mod LinedLemmas
 pub mod Rules

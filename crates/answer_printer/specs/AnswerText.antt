@@ -10,9 +10,13 @@ use Rattle.snapshot.specs.Line.{concept_line}
 abbrev pub number_line : ℕ → List ℕ
 number_line number = decimal number ++ 10 ∷ []
 
--- `OK` and how many concepts there are, then a line for each, with the names that they have
+-- `OK` and how many concepts there are
+abbrev pub answer_head : ℕ → List ℕ
+answer_head count = codes "OK " ++ number_line count
+
+-- then a line for each, with the names that they have
 abbrev pub answer_text : (ℕ → Option (List ℕ)) → List ℕ → List ℕ
-answer_text name concepts = (codes "OK " ++ number_line (length concepts)) ++ flat_map (concept_line name) concepts
+answer_text name concepts = answer_head (length concepts) ++ flat_map (concept_line name) concepts
 
 -- the line that refuses a text; want of memory has none
 abbrev pub refusal_text : QueryFault → List ℕ

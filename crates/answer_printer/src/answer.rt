@@ -1,15 +1,17 @@
 //! The answer to a query.
-ghost use Rattle.std.specs.Prelude.{◌≡◌, ◌<◌, ◌++◌, All, length, map, OnErr, OnOk, slice_index};
+ghost use Rattle.std.specs.Prelude.{◌≡◌, ◌<◌, ◌++◌, All, false, IfErr, IfOk, is_err, length, map, OnErr, OnOk, slice_index};
 ghost use Rattle.std.specs.List.{flat_map};
+ghost use Rattle.streams.specs.Waiting.{LeavesAnswer, Puts, WritesFront, is_write};
 ghost use Rattle.snapshot.specs.Line.{concept_line};
 ghost use Rattle.snapshot.specs.Name.{name_of};
-ghost use Rattle.answer_printer.specs.AnswerText.{answer_text};
+ghost use Rattle.answer_printer.specs.AnswerText.{answer_head, answer_text};
 ghost use Rattle.answer_printer.specs.Prefix.{IsPrefixOf};
 
 use crate::numbers::append_number;
 use idset::ConceptSet;
 use snapshot::Snapshot;
 use std::alloc::{AllocError, Global};
+use streams::{AnswerFault, AnswerOutput, IoFault, Piece};
 
 // The bytes of the first line at the most: `OK `, 10 digits and LF.
 const HEAD_ROOM: usize = 14;
@@ -49,10 +51,19 @@ fn append_answer(
     ensures begun { IsPrefixOf output.old.items output.new.items }
 {
     output.reserve(room_of(snapshot, concepts))?;
-    output.extend_from_slice(b"OK ")?;
-    append_number(concepts.len() as u64, output)?;
-    output.push(b'\n')?;
+    append_head(concepts.len(), output)?;
     append_lines(snapshot, concepts, output)
+}
+
+// Appends the first line of the answer of so many concepts, or a part of it where memory is refused.
+fn append_head(count: usize, output: &mut Vec<u8>) -> Result<(), AllocError>
+    ensures ok { OnOk result (output.new.items ≡ output.old.items ++ answer_head count) }
+    ensures begun { IsPrefixOf output.old.items output.new.items }
+{
+    output.extend_from_slice(b"OK ")?;
+    append_number(count as u64, output)?;
+    output.push(b'\n')?;
+    Ok(())
 }
 
 // How many bytes the answer of concepts has, or a few more; the greatest number where there are more.
@@ -78,6 +89,101 @@ fn append_lines(
 {
     for concept in concepts {
         output.extend_from_slice(snapshot.line(*concept))?;
+    }
+    Ok(())
+}
+
+/// Puts the text that `print_answer` appends into a piece of an output, line by line. All memory is taken before: where it is
+/// refused the piece and the output are as they were. Where the output fails a front of what waited and of the text was
+/// written, not all of it.
+pub fn write_answer<S: ConceptSet, W: AnswerOutput>(
+    alloc: Global,
+    snapshot: &Snapshot,
+    set: &S,
+    piece: &mut Piece,
+    output: &mut W,
+) -> Result<(), AnswerFault>
+    requires set { S.bound_of set.now ≡ length snapshot.now.release.concepts }
+    requires sound { W.has_failed output.old ≡ false }
+    ensures ok { OnOk result (Puts (W.written output.old) (W.written output.new) piece.old
+        (answer_text (name_of snapshot.now.release snapshot.now.language) (map (slice_index snapshot.now.release.concepts) (S.items_of set.now))) piece.new) }
+    ensures fault { IfErr result (λ fault. LeavesAnswer
+        (λ text. text ≡ answer_text (name_of snapshot.now.release snapshot.now.language) (map (slice_index snapshot.now.release.concepts) (S.items_of set.now)))
+        fault (W.written output.old) (W.written output.new) piece.old piece.new) }
+    ensures sound { OnOk result (W.has_failed output.new ≡ false) }
+    ensures failed { IfErr result (λ fault. W.has_failed output.new ≡ is_write fault) }
+{
+    let concepts = match set.items(alloc) {
+        Ok(concepts) => concepts,
+        Err(AllocError) => return Err(AnswerFault::Memory),
+    };
+    let head = match head_line(alloc, concepts.len()) {
+        Ok(head) => head,
+        Err(AllocError) => return Err(AnswerFault::Memory),
+    };
+    match put_answer(
+        snapshot,
+        head.as_slice(),
+        concepts.as_slice(),
+        piece,
+        output,
+    ) {
+        Ok(()) => Ok(()),
+        Err(_) => Err(AnswerFault::Write),
+    }
+}
+
+// The first line of the answer of so many concepts.
+fn head_line(alloc: Global, count: usize) -> Result<Vec<u8>, AllocError>
+    ensures { IfOk result (λ line. line.items ≡ answer_head count) }
+{
+    let mut line = Vec::new(alloc);
+    append_head(count, &mut line)?;
+    Ok(line)
+}
+
+// Puts a first line and the lines of concepts.
+fn put_answer<W: AnswerOutput>(
+    snapshot: &Snapshot,
+    head: &[u8],
+    concepts: &[u32],
+    piece: &mut Piece,
+    output: &mut W,
+) -> Result<(), IoFault>
+    requires concepts { All (λ concept. concept < length snapshot.now.release.concepts) concepts.now }
+    requires sound { W.has_failed output.old ≡ false }
+    ensures ok { OnOk result (Puts (W.written output.old) (W.written output.new) piece.old
+        (head.now ++ flat_map (concept_line (name_of snapshot.now.release snapshot.now.language)) (map (slice_index snapshot.now.release.concepts) concepts.now)) piece.new) }
+    ensures err { OnErr result (WritesFront (W.written output.old) (W.written output.new) (piece.old
+        ++ (head.now ++ flat_map (concept_line (name_of snapshot.now.release snapshot.now.language)) (map (slice_index snapshot.now.release.concepts) concepts.now)))) }
+    ensures failure { W.has_failed output.new ≡ is_err result }
+{
+    match piece.put(head, output) {
+        Ok(()) => put_lines(snapshot, concepts, piece, output),
+        Err(fault) => Err(fault),
+    }
+}
+
+// Puts the lines of concepts, as the snapshot keeps them.
+fn put_lines<W: AnswerOutput>(
+    snapshot: &Snapshot,
+    concepts: &[u32],
+    piece: &mut Piece,
+    output: &mut W,
+) -> Result<(), IoFault>
+    requires concepts { All (λ concept. concept < length snapshot.now.release.concepts) concepts.now }
+    requires sound { W.has_failed output.old ≡ false }
+    ensures ok { OnOk result (Puts (W.written output.old) (W.written output.new) piece.old
+        (flat_map (concept_line (name_of snapshot.now.release snapshot.now.language)) (map (slice_index snapshot.now.release.concepts) concepts.now)) piece.new) }
+    ensures err { OnErr result (WritesFront (W.written output.old) (W.written output.new) (piece.old
+        ++ flat_map (concept_line (name_of snapshot.now.release snapshot.now.language)) (map (slice_index snapshot.now.release.concepts) concepts.now))) }
+    ensures failure { W.has_failed output.new ≡ is_err result }
+{
+    for concept in concepts {
+        match piece.put(snapshot.line(*concept), output) {
+            Ok(()) => {}
+            Err(fault) => return Err(fault),
+        }
     }
     Ok(())
 }

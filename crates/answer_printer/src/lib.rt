@@ -2,7 +2,8 @@
 //! lines that refuse a query, a release or the files of one.
 //!
 //! Each printer appends to a vector. Where memory is refused it answers `AllocError`, and the vector
-//! is unchanged. `specs/` says which bytes are appended.
+//! is unchanged. The answer to a query may also be put into a piece of an output, line by line. `specs/` says which bytes
+//! are appended.
 #![tactic(auto)]
 
 mod answer;
@@ -15,7 +16,7 @@ mod query_refusal;
 mod report;
 mod told_name;
 
-pub use crate::answer::print_answer;
+pub use crate::answer::{print_answer, write_answer};
 pub use crate::laws::worked_texts_hold;
 pub use crate::load_refusal::print_load_fault;
 pub use crate::plan::print_plan;

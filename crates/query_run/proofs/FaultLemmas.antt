@@ -6,8 +6,11 @@ use Rattle.std.specs.Io.KnownBytes.{Appends}
 use Rattle.std.proofs.KnownBytes.{Appends-nil, Appends-trans}
 use Rattle.std.proofs.Math.Seq.{take-append-add}
 use Rattle.std.proofs.lemmas.List.{take-append-le, get_or_append_left, get_or-append-add}
+use Rattle.streams.specs.Waiting.{LeavesAnswer, is_write}
+use Rattle.streams.specs.declared.fault.AnswerFault.{AnswerFault}
+use Rattle.streams.specs.declared.fault.AnswerFault.TheVariants as answer
 use Rattle.query_run.specs.Lines.{Answers, AreAnswers, AreWritten}
-use Rattle.query_run.specs.Fault.{WritesFirst, WritesPart, LeavesWritten, IsAnswerFault, HaveFailed, CountsTurns, AnswersEnded, whole_answers}
+use Rattle.query_run.specs.Fault.{WritesFirst, WritesPart, LeavesWritten, IsAnswerFault, HaveFailed, CountsTurns, AnswersEnded, run_fault_of, whole_answers}
 use Rattle.query_run.specs.declared.running.RunFault.{RunFault}
 use Rattle.query_run.specs.declared.running.RunFault.TheVariants.{Read, Write, Memory, Turns}
 
@@ -107,6 +110,17 @@ module _ (answers : Answers) where
   pub one_part : (before after : Option (List ℕ)) (line text : List ℕ) (place : ℕ) → answers line text → place < length text → Appends before after (take place text)
       → WritesPart answers (line ∷ []) 0 before after
   one_part before after line text place is less wrote = ([], text, place, omega arith, refl, is, less, wrote)
+
+  pub leaves_one : (before after : Option (List ℕ)) (line waits : List ℕ) (fault : AnswerFault) (count : ℕ) → LeavesAnswer (answers line) fault before after [] waits
+      → LeavesWritten answers (line ∷ []) 0 (run_fault_of fault count) before after
+  leaves_one before after line waits answer.Memory count (same, none) =
+      subst (λ (written : Option (List ℕ)). WritesFirst answers (line ∷ []) 0 before written) (sym same) (one_unwritten before line)
+  leaves_one before after line waits answer.Write count (text, is, (place, less, wrote)) = one_part before after line text place is less wrote
+
+-- the fault of a run at that of an answer is one that an answer can meet
+pub is_answer_fault : (fault : AnswerFault) (count : ℕ) (failed : Bool) → failed ≡ is_write fault → IsAnswerFault (run_fault_of fault count) count failed
+is_answer_fault answer.Memory count failed is = (refl, is)
+is_answer_fault answer.Write count failed is = (refl, is)
 
 -- what a fault of an answer says of a whole run
 pub AnswerFault-count : (fault : RunFault) (count : ℕ) (failed : Bool) → IsAnswerFault fault count failed → whole_answers fault ≡ count

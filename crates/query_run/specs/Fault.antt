@@ -4,6 +4,8 @@ use Rattle.std.specs.Io.KnownBytes.{Appends, Consumes}
 use Rattle.query_run.specs.Lines.{Answers, AreAnswers, AreWritten, line_feed_count, query_lines}
 use Rattle.query_run.specs.declared.running.RunFault.{RunFault}
 use Rattle.query_run.specs.declared.running.RunFault.TheVariants.{Read, Write, Memory, Turns}
+use Rattle.streams.specs.declared.fault.AnswerFault.{AnswerFault}
+use Rattle.streams.specs.declared.fault.AnswerFault.TheVariants as answer
 
 -- the numbers of the faults
 abbrev pub run_fault_number : RunFault → ℕ
@@ -68,6 +70,11 @@ IsAnswerFault (Read answered) count output = ⊥
 IsAnswerFault (Write answered) count output = (answered ≡ count) × (output ≡ true)
 IsAnswerFault (Memory answered) count output = (answered ≡ count) × (output ≡ false)
 IsAnswerFault (Turns answered) count output = ⊥
+
+-- the fault of a run at that of an answer
+abbrev pub run_fault_of : AnswerFault → ℕ → RunFault
+run_fault_of answer.Memory count = Memory count
+run_fault_of answer.Write count = Write count
 
 -- a run has ended at a fault: some bytes were read, and of the answers to their lines the
 -- first were written, as many whole as the fault says

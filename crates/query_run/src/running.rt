@@ -1,14 +1,15 @@
 //! The run: answers the query lines of an input one after the other.
-ghost use Rattle.std.specs.Prelude.{◌≡◌, ℕ, ◌+◌, ◌^◌, ◌<◌, ◌≤◌, ◌∷◌, ◌++◌, false, IfErr, IfOk, IfSome, List, MatchOption, OnErr, OnOk, [], is_err, length, take, vec_len};
-ghost use Rattle.std.specs.Io.KnownBytes.{IsAtEnd};
-ghost use Rattle.query_run.specs.Fault.{CountsTurns, EndsAt, HaveFailed, IsAnswerFault, LeavesWritten, run_fault_number};
+ghost use Rattle.std.specs.Prelude.{◌≡◌, ℕ, ◌+◌, ◌^◌, ◌<◌, ◌≤◌, ◌∷◌, ◌++◌, false, IfErr, IfOk, IfSome, List, MatchOption, OnOk, [], length, vec_len};
+ghost use Rattle.std.specs.Io.KnownBytes.{Appends, IsAtEnd};
+ghost use Rattle.streams.specs.Waiting.{LeavesAnswer, is_write};
+ghost use Rattle.query_run.specs.Fault.{CountsTurns, EndsAt, HaveFailed, IsAnswerFault, LeavesWritten, run_fault_number, run_fault_of};
 ghost use Rattle.query_run.specs.KeptLine.{IsCutTo, kept_of};
 ghost use Rattle.query_run.specs.Lines.{AreWritten, HasNoFeed, line_feed, query_lines};
 
 use crate::answering::AnswerLine;
 use bstr::ByteSlice;
 use std::alloc::{AllocError, Global};
-use streams::{AnswerOutput, QueryInput, write_all};
+use streams::{AnswerFault, AnswerOutput, Piece, QueryInput};
 
 /// Why a run ended before its input did, and how many answers were written whole. After `Write` a
 /// front of the next answer may have gone out too, after the others nothing of it.
@@ -34,6 +35,16 @@ impl RunFault {
             RunFault::Write(_) => 2,
             RunFault::Memory(_) => 3,
             RunFault::Turns(_) => 4,
+        }
+    }
+
+    // The fault of a run at that of an answer, behind so many whole answers.
+    fn of(fault: AnswerFault, answered: u64) -> RunFault
+        ensures { result ≡ run_fault_of fault answered }
+    {
+        match fault {
+            AnswerFault::Memory => RunFault::Memory(answered),
+            AnswerFault::Write => RunFault::Write(answered),
         }
     }
 }
@@ -78,7 +89,10 @@ pub fn run<A: AnswerLine, R: QueryInput, W: AnswerOutput>(
         Err(_) => return Err(RunFault::Memory(0)),
     };
     let piece = buffer.as_mut_slice();
-    let mut progress = Progress::new(alloc);
+    let mut progress = match Progress::new(alloc) {
+        Ok(progress) => progress,
+        Err(_) => return Err(RunFault::Memory(0)),
+    };
     for _turn in 0..TURNS {
         let count = match input.read(piece) {
             Ok(count) => count,
@@ -103,24 +117,26 @@ fn zeros(alloc: Global, count: usize) -> Result<Vec<u8>, AllocError>
 }
 
 // What a run carries from one piece of the input to the next: the first bytes of a line that has not
-// ended, room for an answer, and how many answers were written.
+// ended, the piece in which an answer waits to be written, and how many answers were written.
 #[derive(Drop)]
 struct Progress {
     pending: Vec<u8>,
-    answer: Vec<u8>,
+    waiting: Piece,
     answered: u64,
 }
 
 impl Progress {
-    fn new(alloc: Global) -> Progress
-        ensures pending { result.pending.items ≡ [] }
-        ensures answered { result.answered ≡ 0 }
+    fn new(alloc: Global) -> Result<Progress, AllocError>
+        ensures pending { IfOk result (λ progress. progress.pending.items ≡ []) }
+        ensures waiting { IfOk result (λ progress. progress.waiting ≡ []) }
+        ensures answered { IfOk result (λ progress. progress.answered ≡ 0) }
     {
-        Progress {
+        let waiting = Piece::new(alloc)?;
+        Ok(Progress {
             pending: Vec::new(alloc),
-            answer: Vec::new(alloc),
+            waiting,
             answered: 0,
-        }
+        })
     }
 
     // Answers the lines that end in a piece of the input, and keeps what is behind them, as far as it
@@ -133,6 +149,7 @@ impl Progress {
         output: &mut W,
     ) -> Result<(), RunFault>
         requires room { self.old.answered + length piece.now < 2 ^ 64 }
+        requires waiting { self.old.waiting ≡ [] }
         requires sound { W.has_failed output.old ≡ false }
         ensures ok { OnOk result ((unended : List ℕ) → HasNoFeed unended → self.old.pending.items ≡ kept_of unended
             → (lines : List (List ℕ))
@@ -140,6 +157,7 @@ impl Progress {
             × (self.new.answered ≡ self.old.answered + length lines)
             × AreWritten (A.answers answerer.now) lines (W.written output.old) (W.written output.new)) }
         ensures few { OnOk result (self.new.answered ≤ self.old.answered + length piece.now) }
+        ensures waiting { OnOk result (self.new.waiting ≡ []) }
         ensures sound { OnOk result (W.has_failed output.new ≡ false) }
         ensures fault { IfErr result (λ fault. (unended : List ℕ) → HasNoFeed unended → self.old.pending.items ≡ kept_of unended
             → (count : ℕ)
@@ -162,6 +180,7 @@ impl Progress {
     // Adds bytes to those that are kept of a line.
     fn keep(&mut self, bytes: &[u8]) -> Result<(), AllocError>
         ensures pending { OnOk result (self.new.pending.items ≡ kept_of (self.old.pending.items ++ bytes.now)) }
+        ensures waiting { self.new.waiting ≡ self.old.waiting }
         ensures answered { self.new.answered ≡ self.old.answered }
     {
         self.pending.extend_from_slice(bytes)?;
@@ -169,7 +188,7 @@ impl Progress {
         Ok(())
     }
 
-    // Answers the line that the pending bytes begin and that `line` ends.
+    // Answers the line that the pending bytes begin and that `line` ends, and counts the answer.
     fn answer_line<A: AnswerLine, W: AnswerOutput>(
         &mut self,
         alloc: Global,
@@ -178,8 +197,10 @@ impl Progress {
         output: &mut W,
     ) -> Result<(), RunFault>
         requires room { self.old.answered + 1 < 2 ^ 64 }
+        requires waiting { self.old.waiting ≡ [] }
         requires sound { W.has_failed output.old ≡ false }
         ensures pending { OnOk result (self.new.pending.items ≡ []) }
+        ensures waiting { OnOk result (self.new.waiting ≡ []) }
         ensures answered { OnOk result (self.new.answered ≡ self.old.answered + 1) }
         ensures sound { OnOk result (W.has_failed output.new ≡ false) }
         ensures answer { OnOk result (AreWritten (A.answers answerer.now) ((self.old.pending.items ++ line.now) ∷ []) (W.written output.old) (W.written output.new)) }
@@ -187,34 +208,46 @@ impl Progress {
             IsAnswerFault fault self.old.answered (W.has_failed output.new)
             × LeavesWritten (A.answers answerer.now) ((self.old.pending.items ++ line.now) ∷ []) 0 fault (W.written output.old) (W.written output.new)) }
     {
-        if self.build_answer(alloc, answerer, line).is_err() {
-            return Err(RunFault::Memory(self.answered));
-        }
-        match write_all(self.answer.as_slice(), output) {
+        match self.write_answer(alloc, answerer, line, output) {
             Ok(()) => {
                 self.answered += 1;
                 Ok(())
             }
-            Err(_) => Err(RunFault::Write(self.answered)),
+            Err(fault) => Err(RunFault::of(fault, self.answered)),
         }
     }
 
-    // Puts the answer to a line into `answer`, whole, and forgets the line.
-    fn build_answer<A: AnswerLine>(
+    // Writes the answer to a line to its end, and forgets the line.
+    fn write_answer<A: AnswerLine, W: AnswerOutput>(
         &mut self,
         alloc: Global,
         answerer: &A,
         line: &[u8],
-    ) -> Result<(), AllocError>
+        output: &mut W,
+    ) -> Result<(), AnswerFault>
+        requires waiting { self.old.waiting ≡ [] }
+        requires sound { W.has_failed output.old ≡ false }
         ensures pending { OnOk result (self.new.pending.items ≡ []) }
-        ensures answer { OnOk result (A.answers answerer.now (self.old.pending.items ++ line.now) self.new.answer.items) }
+        ensures waiting { OnOk result (self.new.waiting ≡ []) }
         ensures answered { self.new.answered ≡ self.old.answered }
+        ensures answer { OnOk result ((text : List ℕ) × A.answers answerer.now (self.old.pending.items ++ line.now) text × Appends (W.written output.old) (W.written output.new) text) }
+        ensures fault { IfErr result (λ fault.
+            LeavesAnswer (A.answers answerer.now (self.old.pending.items ++ line.now)) fault (W.written output.old) (W.written output.new) [] self.new.waiting) }
+        ensures sound { OnOk result (W.has_failed output.new ≡ false) }
+        ensures failed { IfErr result (λ fault. W.has_failed output.new ≡ is_write fault) }
     {
-        self.pending.extend_from_slice(line)?;
-        self.answer.clear();
-        answerer.answer_line(alloc, self.pending.as_slice(), &mut self.answer)?;
+        if self.pending.extend_from_slice(line).is_err() {
+            return Err(AnswerFault::Memory);
+        }
+        match answerer.answer_line(alloc, self.pending.as_slice(), &mut self.waiting, output) {
+            Ok(()) => {}
+            Err(fault) => return Err(fault),
+        }
         self.pending.clear();
-        Ok(())
+        match self.waiting.flush(output) {
+            Ok(()) => Ok(()),
+            Err(_) => Err(AnswerFault::Write),
+        }
     }
 
     // Answers a last line that no line feed ended, unless it is empty, and counts the answers.
@@ -226,6 +259,7 @@ impl Progress {
     ) -> Result<u64, RunFault>
         requires unended { HasNoFeed self.old.pending.items }
         requires room { self.old.answered + 1 < 2 ^ 64 }
+        requires waiting { self.old.waiting ≡ [] }
         requires sound { W.has_failed output.old ≡ false }
         ensures count { IfOk result (λ count. count ≡ self.old.answered + length (query_lines self.old.pending.items)) }
         ensures sound { OnOk result (W.has_failed output.new ≡ false) }

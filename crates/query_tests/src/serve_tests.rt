@@ -144,6 +144,54 @@ fn refuses_words(rt: HostRuntime) {
     }
 }
 
+// What help tells names each command, each flag and each value of the command that it is asked of.
+#[test]
+fn help_names_what_there_is(rt: HostRuntime) {
+    let calls = [
+        (
+            ["hosecrag", "--help"].as_slice(),
+            ["query", "explain", "check", "--help", "--version"].as_slice(),
+        ),
+        (
+            &["hosecrag", "query", "-h"],
+            &["FOLDER", "--lang", "CODE", "--help"],
+        ),
+        (&["hosecrag", "explain", "-h"], &["FOLDER", "--help"]),
+        (&["hosecrag", "check", "-h"], &["FOLDER", "--help"]),
+        (&["hosecrag", "--version"], &["hosecrag 0.1.0"]),
+    ];
+    for (words, names) in calls {
+        match read_words(rt.alloc(), words) {
+            Err(WordFault::Help(text)) => assert!(rt; has_all(text.as_str(), names)),
+            _other => assert!(rt; false, "a call for help or for the version"),
+        }
+    }
+}
+
+// What is told of words that are wrong names the wrong one, or what is missing.
+#[test]
+fn wrong_words_are_named(rt: HostRuntime) {
+    let wrong = [
+        (["hosecrag", "qery"].as_slice(), ["qery"].as_slice()),
+        (&["hosecrag", "query", "F", "--land", "da"], &["--land"]),
+        (&["hosecrag", "check", "F", "--lang", "da"], &["--lang"]),
+        (&["hosecrag", "query", "F", "--lang"], &["--lang", "CODE"]),
+        (&["hosecrag", "explain"], &["FOLDER"]),
+        (&["hosecrag", "--"], &["query", "explain", "check"]),
+    ];
+    for (words, names) in wrong {
+        match read_words(rt.alloc(), words) {
+            Err(WordFault::Usage(text)) => assert!(rt; has_all(text.as_str(), names)),
+            _other => assert!(rt; false, "words that are wrong"),
+        }
+    }
+}
+
+// Whether each of these stands in a text.
+fn has_all(text: &str, names: &[&str]) -> bool {
+    names.iter().all(|name| text.contains(*name))
+}
+
 #[test]
 fn refuses_ten_folders(rt: HostRuntime) {
     for words in [TEN_FOLDERS, TEN_EXPLAINED] {

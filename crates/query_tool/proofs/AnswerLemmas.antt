@@ -1,5 +1,5 @@
 -- What answers a line.
-use Rattle.std.proofs.Common.{ℕ, ◌≡◌, ◌∙◌, inl, inr, List, get_or, map, sym, ap}
+use Rattle.std.proofs.Common.{ℕ, ◌≡◌, ◌∙◌, ◌⊎◌, inl, inr, List, get_or, map, refl, sym, ap}
 use Rattle.ecl_lexer.specs.declared.fault.QueryFault.{QueryFault}
 use Rattle.constraint_tree.specs.Refusal.{IsConstraint, IsRefusalOf}
 use Rattle.constraint_tree.specs.Tree.{Tree}
@@ -10,7 +10,7 @@ use Rattle.set_algebra.specs.Meaning.{means}
 use Rattle.set_algebra.specs.Plan.{Plan}
 use Rattle.pair_sets.specs.Numbers.{numbers_in}
 use Rattle.pair_sets.proofs.Normal.{concepts_of, numbers_in-agree}
-use Rattle.query_tool.specs.Answer.{constraint_answer, HasOneAnswer}
+use Rattle.query_tool.specs.Answer.{constraint_answer, HasAnAnswer, HasOneAnswer}
 
 -- the concepts of a plan are those of a constraint that denotes what it means
 pub concepts_answered : (release : Release) (tree : Tree) (plan : Plan) (found : List ℕ)
@@ -20,6 +20,14 @@ concepts_answered release tree plan found same found_is =
     ap (map (λ n. get_or release.concepts n 0))
     (found_is ∙ numbers_in-agree release (means release plan) (denotes release tree) (λ n _. same (get_or release.concepts n 0)))
     ∙ concepts_of release (denotes release tree)
+
+-- each line has an answer where each text is read
+pub an_answer_each : ((text : List ℕ) → ((tree : Tree) × IsConstraint text tree) ⊎ ((fault : QueryFault) × IsRefusalOf text fault))
+    → HasAnAnswer
+an_answer_each reads contents line = elim (reads line) [
+  | inl (tree, is) ↦ (constraint_answer contents tree, inl (tree, is, refl))
+  | inr (fault, refused) ↦ (refusal_text fault, inr (fault, refused, refl))
+]
 
 -- no line has two answers where no text is read in two ways
 pub one_answer_each : ((text : List ℕ) (one other : Tree) → IsConstraint text one → IsConstraint text other → one ≡ other)

@@ -23,6 +23,10 @@ IsForLine IsFor line text =
 abbrev pub IsAnswer : Contents → List ℕ → List ℕ → Type 0
 IsAnswer contents line text = IsForLine (λ tree text. text ≡ constraint_answer contents tree) line text
 
+-- each query line has an answer
+abbrev pub HasAnAnswer : Type 0
+HasAnAnswer = (contents : Contents) (line : List ℕ) → (text : List ℕ) × IsAnswer contents line text
+
 -- no query line has two answers
 abbrev pub HasOneAnswer : Type 0
 HasOneAnswer =

@@ -1,7 +1,7 @@
 //! What is appended for a query line over a release and its indexes: its answer, or its plan.
-ghost use Rattle.std.specs.Prelude.{ℕ, ◌≡◌, ◌++◌, List, IfOk, MatchOption, OnErr, OnOk};
+ghost use Rattle.std.specs.Prelude.{ℕ, ◌≡◌, ◌++◌, List, IfOk, MatchOption, OnErr, OnOk, length, map, slice_index};
 ghost use Rattle.ecl_lexer.specs.declared.fault.QueryFault.{QueryFault};
-ghost use Rattle.constraint_tree.specs.Denotation.{denotes};
+ghost use Rattle.constraint_tree.specs.Denotation.{denotation, denotes};
 ghost use Rattle.constraint_tree.specs.Refusal.{IsConstraint, IsRefusalOf};
 ghost use Rattle.constraint_tree.specs.Tree.{Tree, tree_of};
 ghost use Rattle.set_algebra.specs.Meaning.{means};
@@ -123,8 +123,8 @@ fn answer_constraint(
     ensures ok { OnOk result (output.new.items ≡ output.old.items ++ constraint_answer snapshot.now (tree_of constraint.now)) }
     ensures err { OnErr result (output.new.items ≡ output.old.items) }
 {
-    let physical = least_plan(alloc, constraint, indexes)?;
-    answer_by::<MixedSet>(alloc, &physical, snapshot, indexes, output)
+    let found: MixedSet = concepts_of(alloc, snapshot, indexes, constraint)?;
+    print_answer(alloc, snapshot, &found, output)
 }
 
 // The same by its plan after some steps, with choices that are asked for.
@@ -142,26 +142,42 @@ fn answer_with(
     ensures err { OnErr result (output.new.items ≡ output.old.items) }
 {
     let physical = asked_plan(alloc, constraint, steps, choices, indexes)?;
-    answer_by::<SortedSet>(alloc, &physical, snapshot, indexes, output)
+    let found: SortedSet = found_by(alloc, &physical, snapshot, indexes)?;
+    print_answer(alloc, snapshot, &found, output)
 }
 
-// Appends the answer that a plan gives over a release, by one form of set: that of any constraint that denotes what the plan means.
-fn answer_by<S: ConceptSet>(
+/// The concepts that a constraint denotes over a release, by its plan, in one form of set.
+pub fn concepts_of<S: ConceptSet>(
+    alloc: Global,
+    snapshot: &Snapshot,
+    indexes: &Indexes,
+    constraint: &Constraint,
+) -> Result<S, AllocError>
+    requires { IsIndexOf indexes.now snapshot.now.release }
+    ensures concepts { IfOk result (λ found. map (slice_index snapshot.now.release.concepts) (S.items_of found) ≡ denotation snapshot.now.release (tree_of constraint.now)) }
+    ensures bound { IfOk result (λ found. S.bound_of found ≡ length snapshot.now.release.concepts) }
+{
+    let physical = least_plan(alloc, constraint, indexes)?;
+    let found: S = found_by(alloc, &physical, snapshot, indexes)?;
+    Ok(found)
+}
+
+// The concepts that a plan means over a release: those of any constraint that denotes what the plan means.
+fn found_by<S: ConceptSet>(
     alloc: Global,
     physical: &PhysicalPlan,
     snapshot: &Snapshot,
     indexes: &Indexes,
-    output: &mut Vec<u8>,
-) -> Result<(), AllocError>
+) -> Result<S, AllocError>
     requires { IsIndexOf indexes.now snapshot.now.release }
-    ensures ok { (tree : Tree)
+    ensures concepts { IfOk result (λ found. (tree : Tree)
         → ((concept : ℕ) → means snapshot.now.release (plan_of physical.now.plan) concept ≡ denotes snapshot.now.release tree concept)
-        → OnOk result (output.new.items ≡ output.old.items ++ constraint_answer snapshot.now tree) }
-    ensures err { OnErr result (output.new.items ≡ output.old.items) }
+        → map (slice_index snapshot.now.release.concepts) (S.items_of found) ≡ denotation snapshot.now.release tree) }
+    ensures bound { IfOk result (λ found. S.bound_of found ≡ length snapshot.now.release.concepts) }
 {
     let mut visits = Visits { count: 0 };
     let found: S = execute(alloc, physical, snapshot, indexes, &mut visits)?;
-    print_answer(alloc, snapshot, &found, output)
+    Ok(found)
 }
 
 // Appends what explains a constraint over a release.

@@ -1,5 +1,5 @@
 //! The engine: a release that answers queries.
-ghost use Rattle.std.specs.Prelude.{ℕ, ◌≡◌, ◌<◌, ◌⊎◌, ◌++◌, List, Err, IfErr, IfOk, IfSome, Ok, OnErr, OnOk, false, length, map, string_bytes, true};
+ghost use Rattle.std.specs.Prelude.{ℕ, ◌≡◌, ◌<◌, ◌⊎◌, ◌++◌, List, Err, IfErr, IfOk, IfSome, Ok, OnErr, OnOk, false, length, map, string_bytes};
 ghost use Rattle.std.specs.Cmp.Lexicographic.{slice_cmp};
 ghost use Rattle.std.specs.List.Sorted.{IsSorted, IsStrictlyIncreasing};
 ghost use Rattle.std.specs.Ordering.{nat_cmp};
@@ -7,14 +7,15 @@ ghost use Rattle.constraint_tree.specs.Denotation.{denotation};
 ghost use Rattle.constraint_tree.specs.Tree.{Tree};
 ghost use Rattle.snapshot.specs.Contents.{IsFaultOf, load_of};
 ghost use Rattle.snapshot.specs.Files.{name_concepts};
-ghost use Rattle.snapshot.specs.Pieces.{AreInOrder, FailsToList, IsUnlisted, has_kind_at, listed};
-ghost use Rattle.snapshot.specs.Taking.{FailsAtRead, FailsBelow, FileIs, RaisesOnlyAtDevice, is_device};
+ghost use Rattle.snapshot.specs.Pieces.{AreInOrder, FailsAtFiles, IsUnlisted, has_kind_at, listed};
+ghost use Rattle.snapshot.specs.Taking.{FailsAtRead, FileIs, RaisesOnlyAtDevice, is_device};
 ghost use Rattle.release_files.specs.Source.{file_text};
 ghost use Rattle.query_tool.specs.Answer.{IsAnswer};
 ghost use Rattle.query_tool.specs.Explanation.{IsExplanation};
 ghost use Rattle.query_tool.specs.FrontLaw.{same_front};
 
 use crate::answering::{answer_over, answer_over_with, explain_over};
+use crate::writing::write_over;
 use planner::Choice;
 use postings::Indexes;
 use query_run::AnswerLine;
@@ -23,6 +24,7 @@ use rewrites::Step;
 use snapshot::{Limits, LoadFault, Snapshot};
 use std::alloc::{AllocError, Global};
 use std::marker::Model;
+use streams::{AnswerFault, AnswerOutput, Piece};
 
 /// A loaded release. Answering changes nothing in it. Contracts see what a snapshot of it contains.
 #[derive(Drop)]
@@ -74,9 +76,7 @@ impl Engine {
         ensures ok { IfSome (S.files source.old) (λ known. IfOk result (λ engine. load_of limits lang.now (listed known (map string_bytes names.new.items)) ≡ Ok engine)) }
         ensures err { IfSome (S.files source.old) (λ known. IfErr result (λ fault. is_device fault ≡ false → IsFaultOf fault (load_of limits lang.now (listed known (map string_bytes names.new.items))))) }
         ensures names { IfSome (S.files source.old) (λ known. AreInOrder known (map string_bytes names.new.items) ⊎ IsUnlisted result (map string_bytes names.new.items)) }
-        ensures device { IfErr result (λ fault. is_device fault ≡ true
-            → FailsToList (S.failure_count source.old) (S.failure_count source.new) (map string_bytes names.new.items) fault
-            ⊎ FailsBelow (length names.new.items) (S.failure_count source.old) (S.failure_count source.new) fault) }
+        ensures device { FailsAtFiles string_bytes names.new.items result (S.failure_count source.old) (S.failure_count source.new) }
         ensures calm { RaisesOnlyAtDevice result (S.failure_count source.old) (S.failure_count source.new) }
         ensures kind { IfErr result (λ fault. FailsAtRead (has_kind_at (map string_bytes names.new.items)) fault) }
         ensures files { S.files source.new ≡ S.files source.old }
@@ -152,14 +152,15 @@ impl AnswerLine for Engine {
 
     ghost same_front = { same_front };
 
-    /// As `answer` does.
-    fn answer_line(
+    /// The text of `answer`. Once the concepts are found, no memory is taken from line to line.
+    fn answer_line<W: AnswerOutput>(
         &self,
         alloc: Global,
         line: &[u8],
-        output: &mut Vec<u8>,
-    ) -> Result<(), AllocError> {
-        self.answer(alloc, line, output)
+        piece: &mut Piece,
+        output: &mut W,
+    ) -> Result<(), AnswerFault> {
+        write_over(alloc, &self.snapshot, &self.indexes, line, piece, output)
     }
 }
 

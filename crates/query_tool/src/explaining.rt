@@ -7,9 +7,10 @@ ghost use Rattle.query_tool.specs.Explanation.{IsExplanation};
 ghost use Rattle.query_tool.specs.FrontLaw.{same_front_explained};
 
 use crate::engine::Engine;
+use crate::writing::put_text;
 use query_run::{AnswerLine, RunFault, run};
 use std::alloc::{AllocError, Global};
-use streams::{AnswerOutput, QueryInput};
+use streams::{AnswerFault, AnswerOutput, Piece, QueryInput};
 
 // What answers a line by its plan.
 #[derive(Clone, Copy)]
@@ -22,13 +23,18 @@ impl<'a> AnswerLine for Explainer<'a> {
 
     ghost same_front = { λ explainer. same_front_explained explainer.engine.now };
 
-    fn answer_line(
+    fn answer_line<W: AnswerOutput>(
         &self,
         alloc: Global,
         line: &[u8],
-        output: &mut Vec<u8>,
-    ) -> Result<(), AllocError> {
-        self.engine.explain(alloc, line, output)
+        piece: &mut Piece,
+        output: &mut W,
+    ) -> Result<(), AnswerFault> {
+        let mut text = Vec::new(alloc);
+        match self.engine.explain(alloc, line, &mut text) {
+            Ok(()) => put_text(text.as_slice(), piece, output),
+            Err(AllocError) => Err(AnswerFault::Memory),
+        }
     }
 }
 

@@ -1,16 +1,33 @@
 //! Laws about the definitions of this crate: functions that do nothing, each with the law as its contract.
-ghost use Rattle.query_tool.specs.Answer.{HasOneAnswer};
+ghost use Rattle.std.specs.Prelude.{◌≤◌, ℕ, List};
+ghost use Rattle.constraint_tree.specs.Depth.{most_deep};
+ghost use Rattle.constraint_tree.specs.Refusal.{IsConstraint};
+ghost use Rattle.constraint_tree.specs.Tree.{Tree};
+ghost use Rattle.set_algebra.specs.Depth.{plan_depth};
+ghost use Rattle.query_tool.specs.Explanation.{executed_plan};
+ghost use Rattle.query_tool.specs.Answer.{HasAnAnswer, HasOneAnswer};
 ghost use Rattle.query_tool.specs.Promise.{KeepsThePromise};
 
 use ecl_parser::one_reading;
+use rewrites::simplified_plans_are_no_deeper;
+use set_algebra::plans_are_as_deep_as_trees;
 use snapshot::rising_keeps_the_members;
 use streams::{AnswerOutput, QueryInput};
 
-/// No query line has two answers.
+/// Each query line has an answer, and none has two.
 pub fn one_answer()
-    ensures { HasOneAnswer }
+    ensures some { HasAnAnswer }
+    ensures one { HasOneAnswer }
 {
     one_reading();
+}
+
+/// The plan that a query line is answered by is at most 326 deep.
+pub fn executed_plans_are_not_deep()
+    ensures { (text : List ℕ) (tree : Tree) → IsConstraint text tree → plan_depth (executed_plan tree) ≤ most_deep }
+{
+    plans_are_as_deep_as_trees();
+    simplified_plans_are_no_deeper();
 }
 
 /// What `serve` says of a query request that ends with status 0 is the promise of the engine.

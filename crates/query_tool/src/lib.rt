@@ -9,10 +9,11 @@ mod laws;
 mod plans;
 mod program;
 mod service;
+mod writing;
 
 pub use crate::engine::Engine;
 pub use crate::explaining::run_explain;
-pub use crate::laws::{one_answer, promise_is_kept};
+pub use crate::laws::{executed_plans_are_not_deep, one_answer, promise_is_kept};
 pub use crate::program::start;
 pub use crate::service::{Status, refuse_words, serve};
 pub use command_line::{Mode, Request, WordFault, read_words};

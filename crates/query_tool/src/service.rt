@@ -1,9 +1,9 @@
 //! What the program does with a request, its files and its streams.
-ghost use Rattle.std.specs.Prelude.{◌≡◌, ◌⊎◌, false, true, Err, IfErr, IfOk, IfSome, Ok, length, map, string_bytes};
+ghost use Rattle.std.specs.Prelude.{◌≡◌, ◌⊎◌, false, Err, IfErr, IfOk, IfSome, Ok, map, string_bytes};
 ghost use Rattle.rf2_rows.specs.Parts.{texts_of};
 ghost use Rattle.snapshot.specs.Contents.{Contents, IsFaultOf};
-ghost use Rattle.snapshot.specs.Pieces.{AreInOrder, FailsToList, IsUnlisted};
-ghost use Rattle.snapshot.specs.Taking.{FailsBelow, RaisesOnlyAtDevice, is_device};
+ghost use Rattle.snapshot.specs.Pieces.{AreInOrder, FailsAtFiles, IsUnlisted};
+ghost use Rattle.snapshot.specs.Taking.{RaisesOnlyAtDevice};
 ghost use Rattle.sample_release.specs.SampleContents.{sample_contents};
 ghost use Rattle.answer_printer.specs.LoadRefusal.{load_refusal};
 ghost use Rattle.answer_printer.specs.ReportText.{report_text};
@@ -272,9 +272,7 @@ fn report<S: FileSource>(
         × IfSome (S.files source.old) (λ known. IsLoadOf known lang.now (map string_bytes names.new.items) (Ok contents))) }
     ensures err { IfErr result (λ fault. IfSome (S.files source.old) (λ known. IsLoadOf known lang.now (map string_bytes names.new.items) (Err fault))) }
     ensures named { IfSome (S.files source.old) (λ known. AreInOrder known (map string_bytes names.new.items) ⊎ IsUnlisted result (map string_bytes names.new.items)) }
-    ensures device { IfErr result (λ fault. is_device fault ≡ true
-        → FailsToList (S.failure_count source.old) (S.failure_count source.new) (map string_bytes names.new.items) fault
-        ⊎ FailsBelow (length names.new.items) (S.failure_count source.old) (S.failure_count source.new) fault) }
+    ensures device { FailsAtFiles string_bytes names.new.items result (S.failure_count source.old) (S.failure_count source.new) }
     ensures calm { RaisesOnlyAtDevice result (S.failure_count source.old) (S.failure_count source.new) }
 {
     match Snapshot::load_from(alloc, source, names, lang, Limits::standard()) {

@@ -6,10 +6,12 @@ mod fault;
 mod folder;
 mod input;
 mod output;
+mod piece;
 mod system;
 
-pub use crate::fault::IoFault;
+pub use crate::fault::{AnswerFault, IoFault};
 pub use crate::folder::FolderSource;
 pub use crate::input::{QueryInput, StreamInput};
 pub use crate::output::{AnswerOutput, StreamOutput, write_all};
+pub use crate::piece::Piece;
 pub use crate::system::FolderSystem;

@@ -38,13 +38,14 @@ loop-turn-init g c =
       turns = inl (omega arith);
       reads = omega arith;
       room = search rules;
-      few = omega (arith, c.new-progress.ensures.answered);
+      waiting = c.in-Ok-new.ensures.waiting;
+      few = omega (arith, c.in-Ok-new.ensures.answered);
       lines = (
         [],
         [],
         Consumes-nil (g.R.QueryInput.remaining c.args.input.now),
-        ([], IsCutInto-pending [] (All-nil (λ byte. byte ≢ 10)), c.new-progress.ensures.pending),
-        c.new-progress.ensures.answered,
+        ([], IsCutInto-pending [] (All-nil (λ byte. byte ≢ 10)), c.in-Ok-new.ensures.pending),
+        c.in-Ok-new.ensures.answered,
         answers_none (g.A.AnswerLine.answers c.args.answerer.now) written,
       );
     }
@@ -118,6 +119,7 @@ loop-turn-preserved g c =
       turns = next_turn (g.R.QueryInput.read_count c.args.input.now) (g.R.QueryInput.read_count c.loop-turn.input) (g.R.QueryInput.read_count c.read.new.self) c.loop-turn._turn c.loop-turn.invariant.turns c.read.ensures.counted;
       reads = omega (arith, c.read.ensures.counted, c.loop-turn.invariant.reads);
       room = search rules;
+      waiting = c.in-Ok-take_piece.ensures.waiting;
       few = omega (arith, c.in-Ok-take_piece.ensures.few, c.in-Ok-read.ensures.within, c.loop-turn.invariant.few, c.loop-turn.invariant.room, length-take-le c.in-Ok-read.count c.read.new.buffer c.in-Ok-read.ensures.within);
       lines = (
         read ++ piece,

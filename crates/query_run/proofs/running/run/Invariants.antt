@@ -1,4 +1,4 @@
-use Rattle.std.proofs.Common.{◌≡◌, ◌⊎◌, ℕ, ◌+◌, ◌-◌, ◌*◌, ◌^◌, ◌≤◌, false, List, length}
+use Rattle.std.proofs.Common.{◌≡◌, ◌⊎◌, ℕ, ◌+◌, ◌-◌, ◌*◌, ◌^◌, ◌≤◌, [], false, List, length}
 use Rattle.std.specs.Io.KnownBytes.{Consumes}
 use Rattle.query_run.specs.KeptLine.{IsCutTo}
 use Rattle.query_run.specs.Lines.{AreWritten}
@@ -12,6 +12,7 @@ invariant-loop-turn g l = record {
   turns : (g.R.QueryInput.read_count l.input ≡ g.R.QueryInput.read_count l.fn.input + l._turn) ⊎ (g.R.QueryInput.read_count l.input ≡ 2 ^ 64 - 1);
   reads : g.R.QueryInput.read_count l.input ≤ g.R.QueryInput.read_count l.fn.input + l._turn;
   room : length l.piece ≡ 65536;
+  waiting : l.progress.waiting ≡ [];
   few : l.progress.answered ≤ l._turn * 65536;
   lines : (read : List ℕ) × (lines : List (List ℕ))
       × Consumes (g.R.QueryInput.remaining l.fn.input) (g.R.QueryInput.remaining l.input) read

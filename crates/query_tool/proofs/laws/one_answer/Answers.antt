@@ -1,5 +1,9 @@
-use Rattle.query_tool.proofs.AnswerLemmas.{one_answer_each}
+use Rattle.query_tool.proofs.AnswerLemmas.{an_answer_each, one_answer_each}
 use Rattle.query_tool.proofs.laws.one_answer.Goals as goal
 
-pub returns : goal.returns
-returns c = one_answer_each c.one_reading.ensures.tree c.one_reading.ensures.refusal c.one_reading.ensures.not_both
+pub returns-clause-some : goal.returns-clause-some
+returns-clause-some c = an_answer_each c.one_reading.ensures.either
+
+pub returns-clause-one : goal.returns-clause-one
+returns-clause-one c =
+    one_answer_each c.one_reading.ensures.tree c.one_reading.ensures.refusal c.one_reading.ensures.not_both

@@ -1,11 +1,24 @@
-use Rattle.std.proofs.Common.{ℕ, ◌++◌, ◌∙◌, List, sym, subst}
-use Rattle.query_run.proofs.FaultLemmas.{answers_one, on_ok_here}
+use Rattle.std.proofs.Common.{◌∙◌, ◌++◌, ◌∷◌, [], ap, subst, sym}
+use Rattle.query_run.specs.Fault.{IsAnswerFault, LeavesWritten, run_fault_of}
+use Rattle.query_run.specs.declared.running.RunFault.{RunFault}
+use Rattle.query_run.proofs.FaultLemmas.{answers_one, is_answer_fault, leaves_one}
 use Rattle.query_run.proofs.running.Progress.answer_line.Goals as goal
 
 pub returns-in-Ok-clause-answer : goal.returns-in-Ok-clause-answer
 returns-in-Ok-clause-answer g c =
+    let (text, is, wrote) = c.in-Ok.ensures.answer in
+    answers_one (g.A.AnswerLine.answers c.args.answerer.now) _ _ (c.args.self.now.pending.items ++ c.args.line.now) text is wrote
+
+pub returns-in-Err-clause-fault : goal.returns-in-Err-clause-fault
+returns-in-Err-clause-fault g c =
+    let answers = g.A.AnswerLine.answers c.args.answerer.now in
     let line = c.args.self.now.pending.items ++ c.args.line.now in
-    let answered : g.A.AnswerLine.answers c.args.answerer.now line c.build_answer.new.self.answer.items =
-    on_ok_here c.build_answer.result (sym c.is_err.ensures.value ∙ c.if-is_err.false) c.build_answer.ensures.answer in
-    answers_one (g.A.AnswerLine.answers c.args.answerer.now) (g.W.AnswerOutput.written c.args.output.now) (g.W.AnswerOutput.written c.write_all.new.output) line c.as_slice.result.now
-    (subst (λ (text : List ℕ). g.A.AnswerLine.answers c.args.answerer.now line text) (sym c.as_slice.ensures.value) answered) c.in-Ok.ensures.ok
+    let count = c.args.self.now.answered in
+    let before = g.W.AnswerOutput.written c.args.output.now in
+    let after = g.W.AnswerOutput.written c.write_answer.new.output in
+    let failed = g.W.AnswerOutput.has_failed c.write_answer.new.output in
+    let told = sym (c.of.ensures ∙ ap (run_fault_of c.in-Err.fault) c.in-Err.ensures.answered) in (
+      subst (λ (fault : RunFault). IsAnswerFault fault count failed) told (is_answer_fault c.in-Err.fault count failed c.in-Err.ensures.failed),
+      subst (λ (fault : RunFault). LeavesWritten answers (line ∷ []) 0 fault before after) told
+          (leaves_one answers before after line c.write_answer.new.self.waiting c.in-Err.fault count c.in-Err.ensures.fault),
+    )

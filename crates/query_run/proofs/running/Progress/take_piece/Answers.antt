@@ -10,6 +10,7 @@ use Rattle.query_run.proofs.running.Progress.take_piece.Goals as goal
 pub loop-line-init : goal.loop-line-init
 loop-line-init g c = record {
   sound = c.requires.sound;
+  waiting = c.requires.waiting;
   few = omega arith;
   lines = λ unended clear kept. (
     unended,
@@ -31,6 +32,7 @@ loop-line-preserved g c =
     let rest_is : c.loop-line.rest.now ≡ line ++ 10 ∷ rest = c.in-Some.ensures.0 in
     record {
       sound = c.in-Ok.ensures.sound;
+      waiting = c.in-Ok.ensures.waiting;
       few = omega (arith, ap length rest_is, length-append line (10 ∷ rest), c.in-Ok.ensures.answered, c.loop-line.invariant.few);
       lines = λ unended clear kept.
           let (before, lines, whole, (begun, cut, is), count, wrote) = c.loop-line.invariant.lines unended clear kept in (

@@ -1,4 +1,4 @@
-use Rattle.std.proofs.Common.{◌≡◌, ℕ, ◌+◌, ◌≤◌, ◌++◌, false, List, length}
+use Rattle.std.proofs.Common.{◌≡◌, ℕ, ◌+◌, ◌≤◌, ◌++◌, [], false, List, length}
 use Rattle.query_run.specs.KeptLine.{IsCutTo, kept_of}
 use Rattle.query_run.specs.Lines.{AreWritten, HasNoFeed}
 use Rattle.query_run.proofs.running.Progress.take_piece.Given as goal
@@ -8,6 +8,7 @@ use Rattle.query_run.proofs.running.Progress.take_piece.Given as goal
 abbrev pub invariant-loop-line : goal.invariant-loop-line
 invariant-loop-line g l = record {
   sound : g.W.AnswerOutput.has_failed l.output ≡ false;
+  waiting : l.self.waiting ≡ [];
   few : l.self.answered + length l.rest ≤ l.fn.self.answered + length l.piece;
   lines : (unended : List ℕ) → HasNoFeed unended → l.fn.self.pending.items ≡ kept_of unended
       → (before : List ℕ) × (lines : List (List ℕ))

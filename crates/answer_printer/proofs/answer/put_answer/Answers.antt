@@ -1,0 +1,16 @@
+use Rattle.std.proofs.lemmas.Result.{on_err_weaker, on_ok_weaker}
+use Rattle.streams.proofs.WaitingLemmas.{Puts-cut, Puts-then}
+use Rattle.answer_printer.proofs.answer.put_answer.Goals as goal
+
+-- the lines are put behind the first
+pub returns-in-Ok-clause-ok : goal.returns-in-Ok-clause-ok
+returns-in-Ok-clause-ok g c =
+    on_ok_weaker c.put_lines.result
+    (Puts-then _ _ _ c.args.piece.now c.args.head.now c.put.new.self c.in-Ok.ensures.ok _ c.put_lines.new.piece)
+    c.put_lines.ensures.ok
+
+pub returns-in-Ok-clause-err : goal.returns-in-Ok-clause-err
+returns-in-Ok-clause-err g c =
+    on_err_weaker c.put_lines.result
+    (Puts-cut _ _ _ c.args.piece.now c.args.head.now c.put.new.self c.in-Ok.ensures.ok _)
+    c.put_lines.ensures.err

@@ -1,0 +1,42 @@
+use Rattle.std.proofs.Common.{◌≡◌, ◌+◌, ◌++◌, ◌∙◌, List, ℕ, ap, append_assoc, arith, drop, map, subst, sym}
+use Rattle.std.proofs.lemmas.Grind.{common_steps}
+use Rattle.std.specs.Prelude.{slice_index}
+use Rattle.std.specs.List.{flat_map}
+use Rattle.streams.specs.Waiting.{WritesFront}
+use Rattle.streams.proofs.WaitingLemmas.{Puts-cut-more, Puts-then}
+use Rattle.snapshot.specs.Name.{name_of}
+use Rattle.snapshot.specs.Line.{concept_line}
+use Rattle.answer_printer.proofs.answer.put_lines.Goals as goal
+
+-- the lines so far, the line at hand and those that are left are all lines
+joined : (done line rest left all : List ℕ) → left ≡ line ++ rest → done ++ left ≡ all → (done ++ line) ++ rest ≡ all
+joined done line rest left all next whole = append_assoc done line rest ∙ ap (λ (text : List ℕ). done ++ text) (sym next) ∙ whole
+
+pub loop-concept-preserved : goal.loop-concept-preserved
+loop-concept-preserved g c =
+    let (done, put, whole) = c.loop-concept.invariant.put in
+    let release = c.args.snapshot.now.release in
+    let lines = λ (numbers : List ℕ). flat_map (concept_line (name_of release c.args.snapshot.now.language)) (map (slice_index release.concepts) numbers) in
+    let left = lines (drop c.loop-concept.concept-index c.args.concepts.now) in
+    let rest = lines (drop (c.loop-concept.concept-index + 1) c.args.concepts.now) in
+    let next : left ≡ c.line.result.now ++ rest = grind (arith, common_steps) in record {
+      sound = c.in-Ok.ensures.failure;
+      put = (
+        done ++ c.line.result.now,
+        Puts-then _ _ _ c.args.piece.now done c.loop-concept.piece put c.line.result.now c.put.new.self c.in-Ok.ensures.ok,
+        joined done c.line.result.now rest left (lines c.args.concepts.now) next whole,
+      );
+    }
+
+-- the output failed at the line at hand
+pub returns-in-Err-clause-err : goal.returns-in-Err-clause-err
+returns-in-Err-clause-err g c =
+    let (done, put, whole) = c.loop-concept.invariant.put in
+    let release = c.args.snapshot.now.release in
+    let lines = λ (numbers : List ℕ). flat_map (concept_line (name_of release c.args.snapshot.now.language)) (map (slice_index release.concepts) numbers) in
+    let left = lines (drop c.loop-concept.concept-index c.args.concepts.now) in
+    let rest = lines (drop (c.loop-concept.concept-index + 1) c.args.concepts.now) in
+    let next : left ≡ c.line.result.now ++ rest = grind (arith, common_steps) in
+    subst (λ (text : List ℕ). WritesFront (g.W.AnswerOutput.written c.args.output.now) (g.W.AnswerOutput.written c.put.new.output) (c.args.piece.now ++ text))
+    (joined done c.line.result.now rest left (lines c.args.concepts.now) next whole)
+    (Puts-cut-more _ _ _ c.args.piece.now done c.loop-concept.piece put c.line.result.now rest c.in-Err.ensures.err)

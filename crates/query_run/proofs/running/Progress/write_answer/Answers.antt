@@ -1,0 +1,17 @@
+use Rattle.std.proofs.Common.{◌≡◌, ◌++◌, List, ℕ, arith, subst}
+use Rattle.std.proofs.lemmas.Grind.{common_steps}
+use Rattle.streams.specs.Waiting.{WritesFront}
+use Rattle.streams.proofs.WaitingLemmas.{Puts-lost}
+use Rattle.query_run.proofs.running.Progress.write_answer.Goals as goal
+
+-- the output failed where what waited of the answer was written
+pub returns-in-Err-flush-clause-fault : goal.returns-in-Err-flush-clause-fault
+returns-in-Err-flush-clause-fault g c =
+    let (text, is, put) = c.in-Ok.ensures.ok in
+    let line : c.as_slice.result.now ≡ c.args.self.now.pending.items ++ c.args.line.now = grind (arith, common_steps) in (
+      text,
+      subst (λ (bytes : List ℕ). g.A.AnswerLine.answers c.args.answerer.now bytes text) line is,
+      subst (λ (waited : List ℕ). WritesFront (g.W.AnswerOutput.written c.args.output.now) (g.W.AnswerOutput.written c.flush.new.output) (waited ++ text))
+          c.requires.waiting
+          (Puts-lost _ _ _ c.args.self.now.waiting text c.answer_line.new.piece put c.in-Err-flush.ensures.err),
+    )

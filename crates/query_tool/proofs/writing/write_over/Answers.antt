@@ -1,0 +1,15 @@
+use Rattle.std.proofs.Common.{inl}
+use Rattle.std.proofs.lemmas.Result.{IfErr-weaker}
+use Rattle.streams.proofs.WaitingLemmas.{LeavesAnswer-weaker}
+use Rattle.constraint_tree.specs.Tree.{tree_of}
+use Rattle.query_tool.specs.Answer.{IsAnswer}
+use Rattle.query_tool.proofs.writing.write_over.Goals as goal
+
+-- what answers the constraint answers the line
+pub returns-in-Ok-clause-fault : goal.returns-in-Ok-clause-fault
+returns-in-Ok-clause-fault g c =
+    IfErr-weaker c.write_constraint.result _ _
+    (λ fault left.
+    LeavesAnswer-weaker _ (IsAnswer c.args.snapshot.now c.args.line.now)
+    (λ text is. inl (tree_of c.in-Ok.constraint, c.in-Ok.ensures.found, is)) fault _ _ _ _ left)
+    c.write_constraint.ensures.fault

@@ -1,0 +1,97 @@
+-- What is written and what waits, where bytes are put one after the other, and at a fault.
+use Rattle.std.proofs.Common.{◌≡◌, ℕ, ◌+◌, List, [], ◌++◌, Option, length, take, sym, ap, ◌∙◌, subst, append-nil, append_assoc, length-append, arith}
+use Rattle.std.specs.Io.KnownBytes.{Appends}
+use Rattle.std.proofs.KnownBytes.{Appends-nil, Appends-trans}
+use Rattle.std.proofs.Math.Seq.{take-append-add}
+use Rattle.std.proofs.lemmas.List.{take-append-le}
+use Rattle.streams.specs.Waiting.{LeavesAnswer, Puts, WritesFront}
+use Rattle.streams.specs.declared.fault.AnswerFault.{AnswerFault}
+use Rattle.streams.specs.declared.fault.AnswerFault.TheVariants.{Memory, Write}
+
+-- a front of bytes is one of them and what follows
+pub WritesFront-more : (before after : Option (List ℕ)) (bytes more : List ℕ) → WritesFront before after bytes
+    → WritesFront before after (bytes ++ more)
+WritesFront-more before after bytes more (place, less, wrote) = (
+  place,
+  omega (arith, length-append bytes more),
+  subst (Appends before after) (sym (take-append-le place bytes more (omega arith))) wrote,
+)
+
+-- bytes were written before
+pub WritesFront-after : (before mid after : Option (List ℕ)) (done bytes : List ℕ) → Appends before mid done → WritesFront mid after bytes
+    → WritesFront before after (done ++ bytes)
+WritesFront-after before mid after done bytes wrote (place, less, front) = (
+  length done + place,
+  omega (arith, length-append done bytes),
+  subst (Appends before after) (sym (take-append-add done bytes place))
+      (Appends-trans before mid after done (take place bytes) wrote front),
+)
+
+-- nothing was put
+pub Puts-nothing : (written : Option (List ℕ)) (waited : List ℕ) → Puts written written waited [] waited
+Puts-nothing written waited = record { front = []; written = Appends-nil written; whole = sym (append-nil waited) }
+
+-- bytes wait with those that waited
+pub Puts-waiting : (written : Option (List ℕ)) (waited bytes waits : List ℕ) → waits ≡ waited ++ bytes → Puts written written waited bytes waits
+Puts-waiting written waited bytes waits is = record { front = []; written = Appends-nil written; whole = is }
+
+-- what waited was written, and the bytes wait
+pub Puts-behind : (before after : Option (List ℕ)) (waited bytes waits : List ℕ) → Appends before after waited → waits ≡ bytes
+    → Puts before after waited bytes waits
+Puts-behind before after waited bytes waits wrote is = record {
+  front = waited;
+  written = wrote;
+  whole = ap (λ (rest : List ℕ). waited ++ rest) is;
+}
+
+-- what waited was written, and the bytes were
+pub Puts-through : (before mid after : Option (List ℕ)) (waited bytes waits : List ℕ) → Appends before mid waited → Appends mid after bytes
+    → waits ≡ [] → Puts before after waited bytes waits
+Puts-through before mid after waited bytes waits wrote more none = record {
+  front = waited ++ bytes;
+  written = Appends-trans before mid after waited bytes wrote more;
+  whole = ap (λ (rest : List ℕ). (waited ++ bytes) ++ rest) none ∙ append-nil (waited ++ bytes);
+}
+
+module _ (before mid after : Option (List ℕ)) (waited bytes waits : List ℕ) (put : Puts before mid waited bytes waits) where
+  -- what was written, what waits and what follows are what waited, the bytes and what follows
+  behind : (more : List ℕ) → put.front ++ (waits ++ more) ≡ waited ++ (bytes ++ more)
+  behind more =
+      sym (append_assoc put.front waits more)
+      ∙ ap (λ (all : List ℕ). all ++ more) put.whole
+      ∙ append_assoc waited bytes more
+
+  -- more bytes were put
+  pub Puts-then : (more left : List ℕ) → Puts mid after waits more left → Puts before after waited (bytes ++ more) left
+  Puts-then more left next = record {
+    front = put.front ++ next.front;
+    written = Appends-trans before mid after put.front next.front put.written next.written;
+    whole = append_assoc put.front next.front left ∙ ap (λ (all : List ℕ). put.front ++ all) next.whole ∙ behind more;
+  }
+
+  -- the output failed where more bytes were put
+  pub Puts-cut : (more : List ℕ) → WritesFront mid after (waits ++ more) → WritesFront before after (waited ++ (bytes ++ more))
+  Puts-cut more cut =
+      subst (WritesFront before after) (behind more) (WritesFront-after before mid after put.front (waits ++ more) put.written cut)
+
+  -- and still more was to come
+  pub Puts-cut-more : (more rest : List ℕ) → WritesFront mid after (waits ++ more) → WritesFront before after (waited ++ ((bytes ++ more) ++ rest))
+  Puts-cut-more more rest cut =
+      subst (WritesFront before after) (append_assoc waited (bytes ++ more) rest)
+      (WritesFront-more before after (waited ++ (bytes ++ more)) rest (Puts-cut more cut))
+
+  -- what waits was written
+  pub Puts-written : Appends mid after waits → Appends before after (waited ++ bytes)
+  Puts-written wrote =
+      subst (Appends before after) put.whole (Appends-trans before mid after put.front waits put.written wrote)
+
+  -- the output failed where what waits was written
+  pub Puts-lost : WritesFront mid after waits → WritesFront before after (waited ++ bytes)
+  Puts-lost cut = subst (WritesFront before after) put.whole (WritesFront-after before mid after put.front waits put.written cut)
+
+-- what is left of an answer of one kind is left of one of another that has all of these
+pub LeavesAnswer-weaker : (IsOne IsOther : List ℕ → Type 0) → ((text : List ℕ) → IsOne text → IsOther text) → (fault : AnswerFault)
+    (before after : Option (List ℕ)) (waited waits : List ℕ) → LeavesAnswer IsOne fault before after waited waits
+    → LeavesAnswer IsOther fault before after waited waits
+LeavesAnswer-weaker IsOne IsOther is Memory before after waited waits left = left
+LeavesAnswer-weaker IsOne IsOther is Write before after waited waits (text, one, front) = (text, is text one, front)
