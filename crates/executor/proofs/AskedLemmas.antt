@@ -1,9 +1,11 @@
 -- Where an operator leads from a set is known, of concepts that are asked by their own lists, of what the set has in these lists.
-use Rattle.std.proofs.Common.{ℕ, Bool, ◌≡◌, ◌<◌, ◌∙◌, ◌==◌, inl, inr, true, false, not, ◌&&◌, ◌||◌, List, [], ◌∷◌, get_or, refl, sym, ap, subst, arith}
+use Rattle.std.proofs.Common.{ℕ, Bool, ◌≡◌, ◌<◌, ◌∙◌, ◌==◌, inl, inr, true, false, not, ◌&&◌, ◌||◌, List, length, [], ◌∷◌, get_or, refl, sym, ap, subst, arith}
 use Rattle.std.specs.Prelude.{All, filter}
-use Rattle.std.specs.List.{flat_map, list_any}
+use Rattle.std.specs.List.{flat_map, list_any, range_with_len}
 use Rattle.std.proofs.lemmas.Bool.{eq-eqb, eqb-true, false≢true, or_cases, or_left, or_right}
-use Rattle.std.proofs.lemmas.List.{get_or_default}
+use Rattle.std.proofs.lemmas.List.{get_or_default, nil_from_length}
+use Rattle.std.proofs.lemmas.List.Filters.{length-filter_both}
+use Rattle.std.proofs.lemmas.List.FromFn.{length-range_with_len}
 use Rattle.std.proofs.lemmas.List.Elements.{All-append, All-cons, All-nil, All-tail}
 use Rattle.std.proofs.lemmas.List.Folds.{list_any-append}
 use Rattle.constraint_tree.specs.declared.operator.Operator.{Operator}
@@ -88,6 +90,44 @@ module _ (count : ℕ) (hierarchy : Hierarchy) (over : IsOver count hierarchy) w
   operator_rises ParentsOrSelf items rises = led_rises count hierarchy over items rises hierarchy.parents ListedOrSelf
   operator_rises Top items rises = led_rises count hierarchy over items rises hierarchy.ancestors Apart
   operator_rises Bottom items rises = led_rises count hierarchy over items rises hierarchy.descendants Apart
+
+  -- as many numbers below the count as it says are all of them, so that of these an operator leads to all that it leads to
+  pub led_from_all : (operator : Operator) (items : List ℕ) → IsRisingBelow count items → length items ≡ count
+      → filter (has_item items) (led_to hierarchy count operator items) ≡ led_to hierarchy count operator items
+  led_from_all operator items rises full =
+      ap (filter (has_item items)) (rising_is_numbers_where count led (operator_rises operator items rises))
+      ∙ filter-numbers_where count (has_item led) (has_item items)
+      ∙ numbers_where-agree count _ _ (λ n inside. with_all (has_item led n) (has_item items n) (each n inside))
+      ∙ sym (rising_is_numbers_where count led (operator_rises operator items rises))
+    where
+      led : List ℕ
+      led = led_to hierarchy count operator items
+
+      with_all : (b other : Bool) → other ≡ true → (b && other) ≡ b
+      with_all true other there = there
+      with_all false other there = refl
+
+      others : List ℕ
+      others = numbers_where count (λ n. not (has_item items n))
+
+      no_others : others ≡ []
+      no_others =
+          nil_from_length others (omega (
+            arith,
+            full,
+            ap (λ (xs : List ℕ). length xs) (rising_is_numbers_where count items rises),
+            length-filter_both (has_item items) (λ n. not (has_item items n)) (λ n. refl) (range_with_len 0 count),
+            length-range_with_len 0 count,
+          ))
+
+      each : (n : ℕ) → n < count → has_item items n ≡ true
+      each n inside =
+          told (has_item items n)
+          (sym (has_item-numbers_where count (λ m. not (has_item items m)) n inside) ∙ ap (λ (xs : List ℕ). has_item xs n) no_others)
+        where
+          told : (b : Bool) → not b ≡ false → b ≡ true
+          told true none = refl
+          told false none = sym none
 
   -- a part of a set that has, of some numbers, what the set has
   module _ (set part : List ℕ) (set_rises : IsRisingBelow count set) (part_rises : IsRisingBelow count part) (enough : ℕ → Bool)

@@ -1,9 +1,9 @@
 -- What one pass over the is-a rows finds, in which each concept has its turn before those that are one row away.
-use Rattle.std.proofs.Common.{ℕ, ◌≡◌, ◌<◌, ◌≤◌, ◌+◌, ◌-◌, ◌∙◌, true, false, not, Bool, ◌&&◌, ◌||◌, List, length, get_or, map, take, inl, inr, refl, sym, ap, subst, arith}
+use Rattle.std.proofs.Common.{ℕ, zero, suc, ◌≡◌, ◌==◌, ◌<◌, [], ◌∷◌, ◌≤◌, ◌+◌, ◌-◌, ◌∙◌, true, false, not, Bool, ◌&&◌, ◌||◌, List, length, get_or, map, take, inl, inr, refl, sym, ap, subst, arith}
 use Rattle.std.specs.Prelude.{Contains, nat_eq}
-use Rattle.std.specs.List.{list_any}
+use Rattle.std.specs.List.{list_all, list_any}
 use Rattle.std.specs.List.Sorted.{IsStrictlyIncreasing}
-use Rattle.std.proofs.lemmas.Bool.{cases_eq, eqb-false, false≢true, or_cases, or_left, or_right}
+use Rattle.std.proofs.lemmas.Bool.{and_parts, cases_eq, eqb-false, eqb-true, false≢true, or_cases, or_left, or_right}
 use Rattle.std.proofs.lemmas.List.{get_or-take, get_or_default, length-take}
 use Rattle.std.proofs.lemmas.List.Elements.{Contains-get_or}
 use Rattle.std.proofs.lemmas.Map.Keys.{apart_from_distinct}
@@ -24,6 +24,16 @@ use Rattle.executor.specs.declared.family.Family.{Family}
 use Rattle.executor.specs.declared.family.Family.TheVariants as family
 use Rattle.pair_sets.proofs.ListLemmas.{all_below}
 use Rattle.executor.proofs.JoinedLemmas.{has_all, listed_stands, near_stands, over_length, over_rising, over_whole, stands, stands_listed}
+
+-- where all of some numbers are among others, each is
+all_have : (items found : List ℕ) → list_all (has_item items) found ≡ true → (n : ℕ) → has_item found n ≡ true → has_item items n ≡ true
+all_have items [] all n there = absurd (false≢true there)
+all_have items (x ∷ xs) all n there =
+    let both = and_parts (has_item items x) (list_all (has_item items) xs) all in
+    elim (or_cases (x == n) (has_item xs n) there) [
+      | inl here ↦ subst (λ (m : ℕ). has_item items m ≡ true) (eqb-true x n here) both.0
+      | inr later ↦ all_have items xs both.1 n later
+    ]
 
 -- what has been found before a turn: nothing but what items lead to; all that is one row away from an item; and of each concept that
 -- had its turn, if it is an item or was found, all that is one row away
@@ -266,3 +276,17 @@ module _ (release : Release) (rows : List (ℕ × ℕ)) (order : List ℕ) (risi
             let from_below : from.0 < bound = subst (λ (m : ℕ). m < bound) (from.1.2) (all_below bound items items_rise from.1.0 from.0 from.1.1) in
             let stood = listed_stands bound hierarchy over f from.0 n from_below from.2 in
             led f refl from.0 (omega (arith, from_below, counted)) (omega (arith, stood.0, counted)) (there_item items from.0 from.1) stood.1
+
+    -- where all that is one row away from items is among them, no more is led to
+    pub all_among : (found : List ℕ) → AreJoined near items found → list_all (has_item items) found ≡ true → AreJoined lists items found
+    all_among found joined among = passed_all turns found (omega arith) (passed_by turns)
+      where
+        inside : (n : ℕ) → (b : Bool) → has_item found n ≡ b → (b && not (has_item items n)) ≡ false
+        inside n true there = ap not (all_have items found among n there)
+        inside n false there = refl
+
+        passed_by : (turn : ℕ) → Passed turn found
+        passed_by zero = passed_first found joined
+        passed_by (suc turn) =
+            subst (λ (t : ℕ). Passed t found) (omega arith)
+            (passed_over turn found (inside (at f turn) (has_item found (at f turn)) refl) (passed_by turn))

@@ -29,7 +29,7 @@ use crate::guesses::{
 use crate::led::{enough_for, led_among, walk_within};
 use crate::nodes::{common, each_concept, each_group, either, no_concept, no_group, one_concept};
 use crate::reference_sets::{members_way, members_within};
-use crate::walk_ways::{items_enough, items_unlisted, walk_way};
+use crate::walk_ways::{items_enough, items_from_all, items_unlisted, walk_way};
 use constraint_tree::{Cardinality, Operator};
 use idset::ConceptSet;
 use pair_sets::{
@@ -343,6 +343,15 @@ fn walk_among<S: ConceptSet>(
     snapshot.attribute_count();
     let from: S = execute_within(alloc, operand, choices, enough, snapshot, indexes, visits)?;
     let hierarchy = indexes.hierarchy();
+    if from.count() == from.bound() {
+        tally.forget();
+        let all = from.count();
+        let items = items_from_all(hierarchy, operator, all).saturating_add(before);
+        count_walk(indexes, choices, operator, operand, all, items, visits);
+        let led = led_among(alloc, hierarchy, operator, &from, &from)?;
+        let left = restricted(alloc, led, candidates)?;
+        return Ok(left);
+    }
     if let Candidates::Within(wanted, _) = candidates {
         let asked = items_unlisted(hierarchy, operator, from.count(), from.bound(), candidates);
         if let Some(items) = asked {

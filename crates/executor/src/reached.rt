@@ -1,5 +1,6 @@
 //! What the concepts of a set reach, by one pass over the is-a rows.
 ghost use Rattle.std.specs.Prelude.{◌≡◌, ◌<◌, ◌&&◌, not, true, All, IfOk};
+ghost use Rattle.std.specs.List.{list_all};
 ghost use Rattle.idset.specs.Sets.{has_item};
 ghost use Rattle.executor.specs.Joined.{AreJoined, is_whole as is_whole_of, turn_of};
 ghost use Rattle.executor.specs.Steps.{IsOf, IsOver, lists_of};
@@ -15,7 +16,7 @@ use std::alloc::{AllocError, Global};
 ///
 /// What is one is-a row away from a concept of the set is found first. Then each concept has its turn before those that are one row
 /// away: where it was found, and is not in the set, they are found. So all that lead to it have had their turn, and what is one row
-/// away from it is read once.
+/// away from it is read once. Where all that was found first is in the set, no more is.
 pub fn reached<S: ConceptSet>(
     alloc: Global,
     snapshot: &Snapshot,
@@ -36,6 +37,10 @@ pub fn reached<S: ConceptSet>(
     let order = snapshot.parents_first();
     let near = family.near();
     let mut found = near_of_all(alloc, index, near, concepts, set.bound())?;
+    let closed = contains_all(alloc, set, &found)?;
+    if closed {
+        return Ok(found);
+    }
     for turn in 0..order.len() {
         let concept = order[family.place_of_turn(turn, order.len())];
         if is_in_first_alone(&found, set, concept) {
@@ -43,6 +48,14 @@ pub fn reached<S: ConceptSet>(
         }
     }
     Ok(found)
+}
+
+// Whether all items of a set are in another.
+fn contains_all<S: ConceptSet>(alloc: Global, set: &S, found: &WordSet) -> Result<bool, AllocError>
+    ensures { IfOk result (λ all. all ≡ list_all (has_item (S.items_of set.now)) (⟦<WordSet as ConceptSet>⟧.items_of found.now)) }
+{
+    let items = found.items(alloc)?;
+    Ok(items.iter().all(|item| set.has(*item)))
 }
 
 // The concepts in the list of one of some. These are gone through by their numbers, so that lists follow one another in memory.

@@ -40,6 +40,12 @@ pub fn items_unlisted<S>(
     items_asked(step, count, candidates).filter(|items| concepts as usize > MANY && *items <= all)
 }
 
+/// How many items are read where each concept is asked whether an operator leads to it from all of them: of a list that is not empty the
+/// first item tells.
+pub fn items_from_all(index: &AncestorIndex, operator: Operator, concepts: u32) -> u64 {
+    items_of_all_lists(index, Step::of(operator).family).min(u64::from(concepts))
+}
+
 /// How many items few candidates and the lists have by which they are asked, where these are few beside so many rows, which are read
 /// to find of all concepts those from which an operator leads. The items may be read twice. `None` where that is not so.
 pub fn items_enough<S>(

@@ -32,6 +32,7 @@ use Rattle.planner.specs.Sizes.{group_sizes, size, sizes, total}
 use Rattle.planner.proofs.FloorLemmas.{floor-le-bound, group_floor-le-bound}
 use Rattle.planner.proofs.LoopLemmas.{concept_sum, of_concepts, of_groups, unit_sum}
 use Rattle.planner.proofs.PartLemmas.{group_count-parts, plan_count-parts, values_are}
+use Rattle.executor.proofs.AskedLemmas.{led_from_all}
 use Rattle.executor.proofs.GroupNodeLemmas as groups
 use Rattle.pair_sets.proofs.LeafLemmas.{sources_known}
 use Rattle.executor.proofs.NodeLemmas.{all_node, and_node, members_node, name_step, one_node, or_node, outside_passes, pairs_node, units_node, values_node, within_passes}
@@ -139,6 +140,25 @@ walk_among-walk_way-way-requires-clause-below g t c =
     subst (λ (numbers : List ℕ). All (λ number. number < c.bound-2.result) numbers) (sym (c.as_slice-own.ensures.value ∙ c.in_ok-concepts.ensures))
     (subst (λ (count : ℕ). All (λ number. number < count) (g.S.ConceptSet.items_of from)) (sym c.bound-2.ensures)
     (all_below (g.S.ConceptSet.bound_of from) (g.S.ConceptSet.items_of from) (g.met.S.ConceptSet.rising from)))
+
+-- where each concept is asked, since it leads from all
+pub walk_among-returns-then-count-bound-clause-items : goal.walk_among-returns-then-count-bound-clause-items
+walk_among-returns-then-count-bound-clause-items g t c =
+    let may : ℕ → Bool = may_be g.S.ConceptSet.items_of c.args.candidates.now in
+    let enough : ℕ → Bool = may_be g.S.ConceptSet.items_of c.args.enough.now in
+    let from = c.in_ok-from.from in
+    let count = g.S.ConceptSet.bound_of from in
+    let items = g.S.ConceptSet.items_of from in
+    let hierarchy = c.hierarchy-hierarchy.result.now in
+    let over = c.hierarchy-hierarchy.ensures ∙ c.requires.index.hierarchy in
+    walk_of_part c.args.snapshot.now.release (plan_of c.args.operand.now) c.args.operator hierarchy count may enough
+    items (g.S.ConceptSet.items_of c.in_ok-left.left) over c.in_ok-from.ensures.bound
+    (subst (λ (hierarchy : Hierarchy). AreEnough (asked_lists hierarchy c.args.operator) may enough) (sym c.hierarchy-hierarchy.ensures) c.requires.enough)
+    c.in_ok-from.ensures.items
+    (c.in_ok-left.ensures.items
+    ∙ ap (filter may) (c.in_ok-led.ensures.items
+    ∙ led_from_all count hierarchy (record { release = c.args.snapshot.now.release; hierarchy_is = over; count_is = c.in_ok-from.ensures.bound })
+    c.args.operator items (g.met.S.ConceptSet.rising from) (omega (arith, c.count.ensures, c.bound.ensures, c.if-count-bound.true))))
 
 -- where the candidates are asked one by one
 pub walk_among-returns-in-Some-clause-items : goal.walk_among-returns-in-Some-clause-items

@@ -7,7 +7,7 @@ use Rattle.executor.specs.Joined.{AreJoined, near_of, turn_of}
 use Rattle.executor.specs.Steps.{lists_of}
 use Rattle.executor.specs.declared.family.Family.{Family}
 use Rattle.pair_sets.proofs.ListLemmas.{all_below}
-use Rattle.executor.proofs.ReachedLemmas.{IsPassed, near_rises, near_there, passed_all, passed_first, passed_on, passed_over}
+use Rattle.executor.proofs.ReachedLemmas.{IsPassed, all_among, near_rises, near_there, passed_all, passed_first, passed_on, passed_over}
 use Rattle.executor.proofs.reached.reached.Goals as goal
 use Rattle.executor.proofs.reached.reached.Goals.{then-is_in_first_alone+in_ok-add_all, else-is_in_first_alone}
 
@@ -99,6 +99,18 @@ loop-turn-preserved g c =
         bound = ap (λ (set : _). set.bound) w.found-is ∙ c.loop-turn.invariant.bound;
       }
     ]
+
+pub returns-then-closed-clause-joined : goal.returns-then-closed-clause-joined
+returns-then-closed-clause-joined g c =
+    let items = g.S.ConceptSet.items_of c.args.set.now in
+    let found : List ℕ = numbers_where c.in_ok-found.found.bound (is_set c.in_ok-found.found.words.items) in
+    all_among c.args.snapshot.now.release c.isa_rows.result.now c.parents_first-order.result.now c.concept_count.ensures.rising c.isa_rows.ensures.within
+    c.isa_rows.ensures.rows (c.parents_first-order.ensures c.isa_rows.result.now c.isa_rows.ensures.rows c.isa_rows.ensures.within)
+    (g.S.ConceptSet.bound_of c.args.set.now) c.args.index.now c.requires.over.hierarchy_is c.requires.over.count_is c.args.family c.requires.whole
+    items (g.met.S.ConceptSet.rising c.args.set.now) found
+    (subst (λ (own : List ℕ). AreJoined (lists_of c.args.index.now (near_of c.args.family)) own found) c.requires.concepts
+    (subst (λ (near : Family). AreJoined (lists_of c.args.index.now near) c.args.concepts.now found) c.near-near.ensures c.in_ok-found.ensures.joined))
+    (sym c.in_ok-closed.ensures ∙ c.if-closed.true)
 
 pub returns-clause-joined : goal.returns-clause-joined
 returns-clause-joined g c =
