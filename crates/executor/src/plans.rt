@@ -343,15 +343,6 @@ fn walk_among<S: ConceptSet>(
     snapshot.attribute_count();
     let from: S = execute_within(alloc, operand, choices, enough, snapshot, indexes, visits)?;
     let hierarchy = indexes.hierarchy();
-    if from.count() == from.bound() {
-        tally.forget();
-        let all = from.count();
-        let items = items_from_all(hierarchy, operator, all).saturating_add(before);
-        count_walk(indexes, choices, operator, operand, all, items, visits);
-        let led = led_among(alloc, hierarchy, operator, &from, &from)?;
-        let left = restricted(alloc, led, candidates)?;
-        return Ok(left);
-    }
     if let Candidates::Within(wanted, _) = candidates {
         let asked = items_unlisted(hierarchy, operator, from.count(), from.bound(), candidates);
         if let Some(items) = asked {
@@ -362,6 +353,15 @@ fn walk_among<S: ConceptSet>(
             let found = led_among(alloc, hierarchy, operator, &from, *wanted)?;
             return Ok(found);
         }
+    }
+    if from.count() == from.bound() {
+        tally.forget();
+        let all = from.count();
+        let items = items_from_all(hierarchy, operator, all).saturating_add(before);
+        count_walk(indexes, choices, operator, operand, all, items, visits);
+        let led = led_among(alloc, hierarchy, operator, &from, &from)?;
+        let left = restricted(alloc, led, candidates)?;
+        return Ok(left);
     }
     let concepts = from.items(alloc)?;
     let own = concepts.as_slice();

@@ -137,9 +137,24 @@ execute_node-returns-in_ok-found-in-Walk-clause-items g t c =
 pub walk_among-walk_way-way-requires-clause-below : goal.walk_among-walk_way-way-requires-clause-below
 walk_among-walk_way-way-requires-clause-below g t c =
     let from = c.in_ok-from.from in
-    subst (λ (numbers : List ℕ). All (λ number. number < c.bound-2.result) numbers) (sym (c.as_slice-own.ensures.value ∙ c.in_ok-concepts.ensures))
-    (subst (λ (count : ℕ). All (λ number. number < count) (g.S.ConceptSet.items_of from)) (sym c.bound-2.ensures)
+    subst (λ (numbers : List ℕ). All (λ number. number < c.bound-3.result) numbers) (sym (c.as_slice-own.ensures.value ∙ c.in_ok-concepts.ensures))
+    (subst (λ (count : ℕ). All (λ number. number < count) (g.S.ConceptSet.items_of from)) (sym c.bound-3.ensures)
     (all_below (g.S.ConceptSet.bound_of from) (g.S.ConceptSet.items_of from) (g.met.S.ConceptSet.rising from)))
+
+-- where the candidates are asked one by one
+pub walk_among-returns-in-Some-clause-items : goal.walk_among-returns-in-Some-clause-items
+walk_among-returns-in-Some-clause-items g t c =
+    let may : ℕ → Bool = may_be g.S.ConceptSet.items_of c.args.candidates.now in
+    let enough : ℕ → Bool = may_be g.S.ConceptSet.items_of c.args.enough.now in
+    let from = c.in_ok-from.from in
+    let led : List ℕ = led_to c.hierarchy-hierarchy.result.now (g.S.ConceptSet.bound_of from) c.args.operator (g.S.ConceptSet.items_of from) in
+    walk_of_part c.args.snapshot.now.release (plan_of c.args.operand.now) c.args.operator c.hierarchy-hierarchy.result.now (g.S.ConceptSet.bound_of from)
+    may enough (g.S.ConceptSet.items_of from) (g.S.ConceptSet.items_of c.in_ok-found.found)
+    (c.hierarchy-hierarchy.ensures ∙ c.requires.index.hierarchy) c.in_ok-from.ensures.bound
+    (subst (λ (hierarchy : Hierarchy). AreEnough (asked_lists hierarchy c.args.operator) may enough) (sym c.hierarchy-hierarchy.ensures) c.requires.enough)
+    c.in_ok-from.ensures.items
+    (c.in_ok-found.ensures.items
+    ∙ ap (λ (candidates : Candidates _). filter (may_be g.S.ConceptSet.items_of candidates) led) (sym c.in-Within.is))
 
 -- where each concept is asked, since it leads from all
 pub walk_among-returns-then-count-bound-clause-items : goal.walk_among-returns-then-count-bound-clause-items
@@ -158,22 +173,7 @@ walk_among-returns-then-count-bound-clause-items g t c =
     (c.in_ok-left.ensures.items
     ∙ ap (filter may) (c.in_ok-led.ensures.items
     ∙ led_from_all count hierarchy (record { release = c.args.snapshot.now.release; hierarchy_is = over; count_is = c.in_ok-from.ensures.bound })
-    c.args.operator items (g.met.S.ConceptSet.rising from) (omega (arith, c.count.ensures, c.bound.ensures, c.if-count-bound.true))))
-
--- where the candidates are asked one by one
-pub walk_among-returns-in-Some-clause-items : goal.walk_among-returns-in-Some-clause-items
-walk_among-returns-in-Some-clause-items g t c =
-    let may : ℕ → Bool = may_be g.S.ConceptSet.items_of c.args.candidates.now in
-    let enough : ℕ → Bool = may_be g.S.ConceptSet.items_of c.args.enough.now in
-    let from = c.in_ok-from.from in
-    let led : List ℕ = led_to c.hierarchy-hierarchy.result.now (g.S.ConceptSet.bound_of from) c.args.operator (g.S.ConceptSet.items_of from) in
-    walk_of_part c.args.snapshot.now.release (plan_of c.args.operand.now) c.args.operator c.hierarchy-hierarchy.result.now (g.S.ConceptSet.bound_of from)
-    may enough (g.S.ConceptSet.items_of from) (g.S.ConceptSet.items_of c.in_ok-found.found)
-    (c.hierarchy-hierarchy.ensures ∙ c.requires.index.hierarchy) c.in_ok-from.ensures.bound
-    (subst (λ (hierarchy : Hierarchy). AreEnough (asked_lists hierarchy c.args.operator) may enough) (sym c.hierarchy-hierarchy.ensures) c.requires.enough)
-    c.in_ok-from.ensures.items
-    (c.in_ok-found.ensures.items
-    ∙ ap (λ (candidates : Candidates _). filter (may_be g.S.ConceptSet.items_of candidates) led) (sym c.in-Within.is))
+    c.args.operator items (g.met.S.ConceptSet.rising from) (omega (arith, c.count-2.ensures, c.bound-2.ensures, c.if-count-bound.true))))
 
 pub walk_among-returns-clause-items : goal.walk_among-returns-clause-items
 walk_among-returns-clause-items g t c =
