@@ -9,8 +9,8 @@ use Rattle.constraint_tree.specs.declared.operator.Operator.TheVariants.{Descend
 use Rattle.constraint_tree.specs.Text.{compare_text, most_text}
 use Rattle.set_algebra.specs.Plan.{Plan, empty_plan, all_plan, one_plan, walk_plan, members_plan, and_plan, or_plan, minus_plan, values_plan, pairs_plan, units_plan, Plans, no_plans, plan_then, GroupPlan, nothing_group, every_group, and_group, or_group, minus_group, pairs_group, GroupPlans, no_groups, group_then, TestPlan, within_plan, outside_plan, number_plan}
 use Rattle.postings.specs.Indexed.{Indexed}
-use Rattle.planner.specs.declared.choice.Choice.{Choice}
-use Rattle.planner.specs.declared.choice.Choice.TheVariants.{ByValue, ByType, Scan}
+use Rattle.set_algebra.specs.declared.choice.Choice.{Choice}
+use Rattle.set_algebra.specs.declared.choice.Choice.TheVariants.{ByValue, ByType, Scan}
 use Rattle.planner.specs.Bounds.{bound, capped, group_own_bound, own_bound}
 use Rattle.planner.specs.Leaves.{first_choice, group_leaves, leaves, test_choices, type_choices}
 use Rattle.answer_printer.specs.AnswerText.{number_line}

@@ -12,6 +12,7 @@ use Rattle.constraint_tree.specs.Tree.{Tree, trees_from, tree_then, RefinementTr
 use Rattle.ecl_parser.specs.Reading.{Found, Readers, behind, behind_close, bounds_at, bracketed_at, compare_at, compare_of, constraint_behind, constraint_in, count_at, focus_in, is_mark, item_behind, item_in, many, member_in, number_at, operator_of, otherwise, pair_in, part_in, readers, refinement_behind, refinement_in, set_behind, set_in, sub_in, test_in}
 use Rattle.ecl_parser.specs.declared.tokens.Mark.{Mark}
 use Rattle.ecl_parser.specs.declared.tokens.Mark.TheVariants as marks
+use Rattle.ecl_parser.proofs.MarkLemmas.{compare_back, kind_of, operator_back, read_is_no_mark}
 use Rattle.ecl_parser.proofs.Forms.{constraint_depth, subs_depth, sub_depth, focus_depth, refinement_depth, items_depth, item_depth, set_depth, parts_depth, part_depth, pair_depth, close_constraint, close_refinement, close_set, longer_sub, longer_item, longer_part}
 
 -- what may follow a form: no term behind a Sub; behind an item no comparison either; behind a whole form no joint
@@ -58,112 +59,49 @@ before_joint wanted kind joint rest = record {
   compare = ap (λ (c : Option Compare). option_map (λ compare. (compare, rest)) c) joint.no_compare;
 }
 
--- the tokens of operators and comparisons are read as what they are, and as no other
-operator_back : (o : Operator) → operator_of (operator_kind o) ≡ Some o
-operator_back operator.Descendants = refl
-operator_back operator.DescendantsOrSelf = refl
-operator_back operator.Children = refl
-operator_back operator.ChildrenOrSelf = refl
-operator_back operator.Ancestors = refl
-operator_back operator.AncestorsOrSelf = refl
-operator_back operator.Parents = refl
-operator_back operator.ParentsOrSelf = refl
-operator_back operator.Top = refl
-operator_back operator.Bottom = refl
+-- The token of an operator, and of a comparison, is no mark that is neither.
+no_operator : (wanted : Mark) → operator_of (kind_of wanted) ≡ None → (o : Operator) → is_mark wanted (operator_kind o) ≡ false
+no_operator wanted none o = read_is_no_mark operator_of (operator_kind o) o (operator_back o) wanted none
 
-compare_back : (c : Compare) → compare_of (compare_kind c) ≡ Some c
-compare_back compare.Equal = refl
-compare_back compare.NotEqual = refl
-compare_back compare.Less = refl
-compare_back compare.LessOrEqual = refl
-compare_back compare.Greater = refl
-compare_back compare.GreaterOrEqual = refl
+no_compare : (wanted : Mark) → compare_of (kind_of wanted) ≡ None → (c : Compare) → is_mark wanted (compare_kind c) ≡ false
+no_compare wanted none c = read_is_no_mark compare_of (compare_kind c) c (compare_back c) wanted none
 
-no_RoundOpen : (o : Operator) → is_mark marks.RoundOpen (operator_kind o) ≡ false
-no_RoundOpen operator.Descendants = refl
-no_RoundOpen operator.DescendantsOrSelf = refl
-no_RoundOpen operator.Children = refl
-no_RoundOpen operator.ChildrenOrSelf = refl
-no_RoundOpen operator.Ancestors = refl
-no_RoundOpen operator.AncestorsOrSelf = refl
-no_RoundOpen operator.Parents = refl
-no_RoundOpen operator.ParentsOrSelf = refl
-no_RoundOpen operator.Top = refl
-no_RoundOpen operator.Bottom = refl
+-- a mark that no Sub begins with
+record BeginsNoSub (wanted : Mark) : Type 0 where
+  any : is_mark wanted token.Wildcard ≡ false
+  round : is_mark wanted token.RoundOpen ≡ false
+  member : is_mark wanted token.MemberOf ≡ false
+  walk : operator_of (kind_of wanted) ≡ None
 
-no_BraceOpen : (o : Operator) → is_mark marks.BraceOpen (operator_kind o) ≡ false
-no_BraceOpen operator.Descendants = refl
-no_BraceOpen operator.DescendantsOrSelf = refl
-no_BraceOpen operator.Children = refl
-no_BraceOpen operator.ChildrenOrSelf = refl
-no_BraceOpen operator.Ancestors = refl
-no_BraceOpen operator.AncestorsOrSelf = refl
-no_BraceOpen operator.Parents = refl
-no_BraceOpen operator.ParentsOrSelf = refl
-no_BraceOpen operator.Top = refl
-no_BraceOpen operator.Bottom = refl
+no_brace : BeginsNoSub marks.BraceOpen
+no_brace = record { any = refl; round = refl; member = refl; walk = refl }
 
-no_BracketOpen : (o : Operator) → is_mark marks.BracketOpen (operator_kind o) ≡ false
-no_BracketOpen operator.Descendants = refl
-no_BracketOpen operator.DescendantsOrSelf = refl
-no_BracketOpen operator.Children = refl
-no_BracketOpen operator.ChildrenOrSelf = refl
-no_BracketOpen operator.Ancestors = refl
-no_BracketOpen operator.AncestorsOrSelf = refl
-no_BracketOpen operator.Parents = refl
-no_BracketOpen operator.ParentsOrSelf = refl
-no_BracketOpen operator.Top = refl
-no_BracketOpen operator.Bottom = refl
+no_bracket : BeginsNoSub marks.BracketOpen
+no_bracket = record { any = refl; round = refl; member = refl; walk = refl }
 
-no_Reverse : (o : Operator) → is_mark marks.Reverse (operator_kind o) ≡ false
-no_Reverse operator.Descendants = refl
-no_Reverse operator.DescendantsOrSelf = refl
-no_Reverse operator.Children = refl
-no_Reverse operator.ChildrenOrSelf = refl
-no_Reverse operator.Ancestors = refl
-no_Reverse operator.AncestorsOrSelf = refl
-no_Reverse operator.Parents = refl
-no_Reverse operator.ParentsOrSelf = refl
-no_Reverse operator.Top = refl
-no_Reverse operator.Bottom = refl
+no_reverse : BeginsNoSub marks.Reverse
+no_reverse = record { any = refl; round = refl; member = refl; walk = refl }
 
-compare_term : (c : Compare) → is_mark marks.Term (compare_kind c) ≡ false
-compare_term compare.Equal = refl
-compare_term compare.NotEqual = refl
-compare_term compare.Less = refl
-compare_term compare.LessOrEqual = refl
-compare_term compare.Greater = refl
-compare_term compare.GreaterOrEqual = refl
+-- it does not stand in front of a Sub, and so not of a pair
+behind_other : (wanted : Mark) (kind : TokenKind) (rest : List Symbol) → is_mark wanted kind ≡ false → behind wanted (mark kind ∷ rest) ≡ None
+behind_other wanted kind rest other = ap (λ (b : Bool). cond b (Some rest) None) other
 
--- no Sub begins with such a token
-sub_no_BraceOpen : (form : SubForm) (rest : List Symbol) → behind marks.BraceOpen (sub_tokens form rest) ≡ None
-sub_no_BraceOpen (plain (concept run is)) rest = refl
-sub_no_BraceOpen (plain (concept_term run is)) rest = refl
-sub_no_BraceOpen (plain any) rest = refl
-sub_no_BraceOpen (plain (round constraint)) rest = refl
-sub_no_BraceOpen (member focus) rest = refl
-sub_no_BraceOpen (walk o focus) rest = ap (λ (b : Bool). cond b (Some (focus_tokens focus rest)) None) (no_BraceOpen o)
-sub_no_BraceOpen (walk_member o focus) rest = ap (λ (b : Bool). cond b (Some (mark token.MemberOf ∷ focus_tokens focus rest)) None) (no_BraceOpen o)
+sub_begins : (wanted : Mark) → BeginsNoSub wanted → (form : SubForm) (rest : List Symbol) → behind wanted (sub_tokens form rest) ≡ None
+sub_begins wanted free (plain (concept run is)) rest = refl
+sub_begins wanted free (plain (concept_term run is)) rest = refl
+sub_begins wanted free (plain any) rest = behind_other wanted token.Wildcard rest free.any
+sub_begins wanted free (plain (round constraint)) rest =
+    behind_other wanted token.RoundOpen (constraint_tokens constraint (mark token.RoundClose ∷ rest)) free.round
+sub_begins wanted free (member focus) rest = behind_other wanted token.MemberOf (focus_tokens focus rest) free.member
+sub_begins wanted free (walk o focus) rest =
+    behind_other wanted (operator_kind o) (focus_tokens focus rest) (no_operator wanted free.walk o)
+sub_begins wanted free (walk_member o focus) rest =
+    behind_other wanted (operator_kind o) (mark token.MemberOf ∷ focus_tokens focus rest) (no_operator wanted free.walk o)
 
--- no Sub begins with such a token
-sub_no_BracketOpen : (form : SubForm) (rest : List Symbol) → behind marks.BracketOpen (sub_tokens form rest) ≡ None
-sub_no_BracketOpen (plain (concept run is)) rest = refl
-sub_no_BracketOpen (plain (concept_term run is)) rest = refl
-sub_no_BracketOpen (plain any) rest = refl
-sub_no_BracketOpen (plain (round constraint)) rest = refl
-sub_no_BracketOpen (member focus) rest = refl
-sub_no_BracketOpen (walk o focus) rest = ap (λ (b : Bool). cond b (Some (focus_tokens focus rest)) None) (no_BracketOpen o)
-sub_no_BracketOpen (walk_member o focus) rest = ap (λ (b : Bool). cond b (Some (mark token.MemberOf ∷ focus_tokens focus rest)) None) (no_BracketOpen o)
-
--- no Sub begins with such a token
-sub_no_Reverse : (form : SubForm) (rest : List Symbol) → behind marks.Reverse (sub_tokens form rest) ≡ None
-sub_no_Reverse (plain (concept run is)) rest = refl
-sub_no_Reverse (plain (concept_term run is)) rest = refl
-sub_no_Reverse (plain any) rest = refl
-sub_no_Reverse (plain (round constraint)) rest = refl
-sub_no_Reverse (member focus) rest = refl
-sub_no_Reverse (walk o focus) rest = ap (λ (b : Bool). cond b (Some (focus_tokens focus rest)) None) (no_Reverse o)
-sub_no_Reverse (walk_member o focus) rest = ap (λ (b : Bool). cond b (Some (mark token.MemberOf ∷ focus_tokens focus rest)) None) (no_Reverse o)
+pair_begins : (wanted : Mark) → BeginsNoSub wanted → (form : PairForm) (rest : List Symbol) → behind wanted (pair_tokens form rest) ≡ None
+pair_begins wanted free (within name value) rest = sub_begins wanted free name (mark token.Equal ∷ sub_tokens value rest)
+pair_begins wanted free (outside name value) rest = sub_begins wanted free name (mark token.NotEqual ∷ sub_tokens value rest)
+pair_begins wanted free (number name c text value is) rest = sub_begins wanted free name (mark (compare_kind c) ∷ decimal text ∷ rest)
 
 sub_no_number : (form : SubForm) (rest : List Symbol) → number_at (sub_tokens form rest) ≡ None
 sub_no_number (plain (concept run is)) rest = refl
@@ -185,29 +123,14 @@ name_no_brackets (plain (round constraint)) c rest =
     ∙ ap (λ (found : Option Compare). cond (is_some {T = Compare × List Symbol} (option_map (λ compare. (compare, rest)) found)) None (Some (constraint_tokens constraint (mark token.RoundClose ∷ mark (compare_kind c) ∷ rest)))) (compare_back c)
 name_no_brackets (member focus) c rest = refl
 name_no_brackets (walk o focus) c rest =
-    ap (λ (b : Bool). otherwise (cond b (Some (focus_tokens focus (mark (compare_kind c) ∷ rest))) None) None (λ left. cond (is_some {T = Compare × List Symbol} (compare_at (behind_close 0 left))) None (Some left))) (no_RoundOpen o)
+    ap (λ (b : Bool). otherwise (cond b (Some (focus_tokens focus (mark (compare_kind c) ∷ rest))) None) None (λ left. cond (is_some {T = Compare × List Symbol} (compare_at (behind_close 0 left))) None (Some left))) (no_operator marks.RoundOpen refl o)
 name_no_brackets (walk_member o focus) c rest =
-    ap (λ (b : Bool). otherwise (cond b (Some (mark token.MemberOf ∷ focus_tokens focus (mark (compare_kind c) ∷ rest))) None) None (λ left. cond (is_some {T = Compare × List Symbol} (compare_at (behind_close 0 left))) None (Some left))) (no_RoundOpen o)
+    ap (λ (b : Bool). otherwise (cond b (Some (mark token.MemberOf ∷ focus_tokens focus (mark (compare_kind c) ∷ rest))) None) None (λ left. cond (is_some {T = Compare × List Symbol} (compare_at (behind_close 0 left))) None (Some left))) (no_operator marks.RoundOpen refl o)
 
 pair_no_brackets : (form : PairForm) (rest : List Symbol) → bracketed_at (pair_tokens form rest) ≡ None
 pair_no_brackets (within name value) rest = name_no_brackets name compare.Equal (sub_tokens value rest)
 pair_no_brackets (outside name value) rest = name_no_brackets name compare.NotEqual (sub_tokens value rest)
 pair_no_brackets (number name c text value is) rest = name_no_brackets name c (decimal text ∷ rest)
-
-pair_no_BraceOpen : (form : PairForm) (rest : List Symbol) → behind marks.BraceOpen (pair_tokens form rest) ≡ None
-pair_no_BraceOpen (within name value) rest = sub_no_BraceOpen name (mark token.Equal ∷ sub_tokens value rest)
-pair_no_BraceOpen (outside name value) rest = sub_no_BraceOpen name (mark token.NotEqual ∷ sub_tokens value rest)
-pair_no_BraceOpen (number name c text value is) rest = sub_no_BraceOpen name (mark (compare_kind c) ∷ decimal text ∷ rest)
-
-pair_no_BracketOpen : (form : PairForm) (rest : List Symbol) → behind marks.BracketOpen (pair_tokens form rest) ≡ None
-pair_no_BracketOpen (within name value) rest = sub_no_BracketOpen name (mark token.Equal ∷ sub_tokens value rest)
-pair_no_BracketOpen (outside name value) rest = sub_no_BracketOpen name (mark token.NotEqual ∷ sub_tokens value rest)
-pair_no_BracketOpen (number name c text value is) rest = sub_no_BracketOpen name (mark (compare_kind c) ∷ decimal text ∷ rest)
-
-pair_no_Reverse : (form : PairForm) (rest : List Symbol) → behind marks.Reverse (pair_tokens form rest) ≡ None
-pair_no_Reverse (within name value) rest = sub_no_Reverse name (mark token.Equal ∷ sub_tokens value rest)
-pair_no_Reverse (outside name value) rest = sub_no_Reverse name (mark token.NotEqual ∷ sub_tokens value rest)
-pair_no_Reverse (number name c text value is) rest = sub_no_Reverse name (mark (compare_kind c) ∷ decimal text ∷ rest)
 
 -- a cardinality, or none in front of what begins with no bracket
 count_complete : (count : Option CountForm) (rest : List Symbol) → behind marks.BracketOpen rest ≡ None
@@ -404,10 +327,10 @@ mutual
   item_complete : (most : ℕ) (form : ItemForm) (rest : List Symbol) → item_depth form ≤ most → AfterItem rest
       → item_in (readers most) (item_tokens form rest) ≡ Some (item_tree form, rest)
   item_complete most (attribute None false pair) rest fits after =
-      rw (pair_no_brackets pair rest, pair_no_BracketOpen pair rest, pair_no_BraceOpen pair rest, pair_no_Reverse pair rest, pair_complete most None false pair rest fits after.term) refl
+      rw (pair_no_brackets pair rest, pair_begins marks.BracketOpen no_bracket pair rest, pair_begins marks.BraceOpen no_brace pair rest, pair_begins marks.Reverse no_reverse pair rest, pair_complete most None false pair rest fits after.term) refl
   item_complete most (attribute None true pair) rest fits after = rw (pair_complete most None true pair rest fits after.term) refl
   item_complete most (attribute (Some count) false pair) rest fits after =
-      rw (count_no_brackets count (pair_tokens pair rest), count_complete (Some count) (pair_tokens pair rest) (pair_no_BracketOpen pair rest), pair_no_BraceOpen pair rest, pair_no_Reverse pair rest, pair_complete most (Some count) false pair rest fits after.term) refl
+      rw (count_no_brackets count (pair_tokens pair rest), count_complete (Some count) (pair_tokens pair rest) (pair_begins marks.BracketOpen no_bracket pair rest), pair_begins marks.BraceOpen no_brace pair rest, pair_begins marks.Reverse no_reverse pair rest, pair_complete most (Some count) false pair rest fits after.term) refl
   item_complete most (attribute (Some count) true pair) rest fits after =
       rw (count_no_brackets count (mark token.Reverse ∷ pair_tokens pair rest), count_complete (Some count) (mark token.Reverse ∷ pair_tokens pair rest) refl, pair_complete most (Some count) true pair rest fits after.term) refl
   item_complete zero (group count set) rest fits after = absurd (omega arith)
@@ -457,9 +380,9 @@ mutual
   part_complete : (most : ℕ) (form : PartForm) (rest : List Symbol) → part_depth form ≤ most → AfterItem rest
       → part_in (readers most) (part_tokens form rest) ≡ Some (part_tree form, rest)
   part_complete most (counted_part None pair) rest fits after =
-      rw (pair_no_brackets pair rest, pair_no_BracketOpen pair rest, pair_complete most None false pair rest fits after.term) refl
+      rw (pair_no_brackets pair rest, pair_begins marks.BracketOpen no_bracket pair rest, pair_complete most None false pair rest fits after.term) refl
   part_complete most (counted_part (Some count) pair) rest fits after =
-      rw (count_no_brackets count (pair_tokens pair rest), count_complete (Some count) (pair_tokens pair rest) (pair_no_BracketOpen pair rest), pair_complete most (Some count) false pair rest fits after.term) refl
+      rw (count_no_brackets count (pair_tokens pair rest), count_complete (Some count) (pair_tokens pair rest) (pair_begins marks.BracketOpen no_bracket pair rest), pair_complete most (Some count) false pair rest fits after.term) refl
   part_complete zero (round_set set) rest fits after = absurd (omega arith)
   part_complete (suc most) (round_set set) rest fits after =
       rw (close_set set 0 (mark token.RoundClose ∷ rest), after.compare, set_complete most set (mark token.RoundClose ∷ rest) (omega arith) (before_round rest)) refl
@@ -471,4 +394,4 @@ mutual
   pair_complete most count reverse (outside name value) rest fits term =
       rw (sub_complete most name (mark token.NotEqual ∷ sub_tokens value rest) (omega arith) refl, sub_no_number value rest, sub_complete most value rest (omega arith) term) refl
   pair_complete most count reverse (number name c text value is) rest fits term =
-      rw (sub_complete most name (mark (compare_kind c) ∷ decimal text ∷ rest) fits (ap (λ (b : Bool). cond b (Some (decimal text ∷ rest)) None) (compare_term c)), compare_back c, is) refl
+      rw (sub_complete most name (mark (compare_kind c) ∷ decimal text ∷ rest) fits (ap (λ (b : Bool). cond b (Some (decimal text ∷ rest)) None) (no_compare marks.Term refl c)), compare_back c, is) refl

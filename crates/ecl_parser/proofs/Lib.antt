@@ -1,6 +1,7 @@
 pub mod Complete
 pub mod EitherLemmas
 pub mod Forms
+pub mod MarkLemmas
 pub mod ParseLemmas
 pub mod ReadLemmas
 pub mod Shallow

@@ -15,6 +15,7 @@ use Rattle.constraint_tree.specs.Tree.{Tree, concept_tree, any_tree, member_tree
 use Rattle.ecl_parser.specs.Reading.{◌>>=◌, Found, Readers, all_behind, behind, behind_close, behind_term, bounds_at, bracketed_at, closed, compare_at, compare_of, constraint_behind, constraint_in, count_at, digits_at, focus_in, is_mark, item_behind, item_in, many, member_in, most_at, number_at, operator_at, operator_of, otherwise, pair_in, part_in, readers, refinement_behind, refinement_in, set_behind, set_in, some_or_more, stands, sub_in, test_in, value_test, with_front}
 use Rattle.ecl_parser.specs.declared.tokens.Mark.{Mark}
 use Rattle.ecl_parser.specs.declared.tokens.Mark.TheVariants as marks
+use Rattle.ecl_parser.proofs.MarkLemmas.{kind_of, mark_kind}
 use Rattle.std.proofs.lemmas.Bool.{false≢true}
 
 -- how an answer came about
@@ -43,44 +44,7 @@ closed_some wanted (Some read) item rest is =
     let close = map_some (λ (left : List Symbol). (read.0, left)) (behind wanted read.1) (item, rest) is in
     (read.1, ap (λ x. Some (x, read.1)) (ap (λ (p : _ × List Symbol). p.0) close.2), close.1 ∙ ap (λ left. Some left) (ap (λ (p : _ × List Symbol). p.1) close.2))
 
--- the kind of token that a mark is
-abbrev kind_of : Mark → TokenKind
-kind_of marks.And = token.And
-kind_of marks.Or = token.Or
-kind_of marks.Minus = token.Minus
-kind_of marks.Colon = token.Colon
-kind_of marks.Dot = token.Dot
-kind_of marks.Dots = token.Dots
-kind_of marks.RoundOpen = token.RoundOpen
-kind_of marks.RoundClose = token.RoundClose
-kind_of marks.BraceOpen = token.BraceOpen
-kind_of marks.BraceClose = token.BraceClose
-kind_of marks.BracketOpen = token.BracketOpen
-kind_of marks.BracketClose = token.BracketClose
-kind_of marks.Wildcard = token.Wildcard
-kind_of marks.MemberOf = token.MemberOf
-kind_of marks.Reverse = token.Reverse
-kind_of marks.Term = token.Term
-
-mark_kind : (wanted : Mark) (kind : TokenKind) → is_mark wanted kind ≡ true → kind ≡ kind_of wanted
-mark_kind marks.And token.And is = refl
-mark_kind marks.Or token.Or is = refl
-mark_kind marks.Minus token.Minus is = refl
-mark_kind marks.Colon token.Colon is = refl
-mark_kind marks.Dot token.Dot is = refl
-mark_kind marks.Dots token.Dots is = refl
-mark_kind marks.RoundOpen token.RoundOpen is = refl
-mark_kind marks.RoundClose token.RoundClose is = refl
-mark_kind marks.BraceOpen token.BraceOpen is = refl
-mark_kind marks.BraceClose token.BraceClose is = refl
-mark_kind marks.BracketOpen token.BracketOpen is = refl
-mark_kind marks.BracketClose token.BracketClose is = refl
-mark_kind marks.Wildcard token.Wildcard is = refl
-mark_kind marks.MemberOf token.MemberOf is = refl
-mark_kind marks.Reverse token.Reverse is = refl
-mark_kind marks.Term token.Term is = refl
-mark_kind wanted kind is = absurd (false≢true is)
-
+-- what stands in front, where it is read
 behind_is : (wanted : Mark) (tokens rest : List Symbol) → behind wanted tokens ≡ Some rest → tokens ≡ mark (kind_of wanted) ∷ rest
 behind_is wanted [] rest is = (cc)
 behind_is wanted (digits run ∷ more) rest is = (cc)
@@ -89,7 +53,6 @@ behind_is wanted (mark kind ∷ more) rest is =
     let found = if_some (is_mark wanted kind) more rest is in
     ap (λ k. mark k ∷ more) (mark_kind wanted kind found.0) ∙ ap (λ left. mark (kind_of wanted) ∷ left) found.1
 
--- what stands in front, where it is read
 operator_kind_is : (kind : TokenKind) (o : Operator) → operator_of kind ≡ Some o → kind ≡ operator_kind o
 operator_kind_is token.DescendantOf o is = let same : operator.Descendants ≡ o = (cc) in ap operator_kind same
 operator_kind_is token.DescendantOrSelfOf o is = let same : operator.DescendantsOrSelf ≡ o = (cc) in ap operator_kind same
@@ -329,6 +292,117 @@ either_some : {A : Type 0} (test : Bool) (one other : Option A) (answer : A) →
 either_some true one other answer is = inl (refl, is)
 either_some false one other answer is = inr (refl, is)
 
+-- How a form is made of parts that a token joins: by its first two and the others, with their tokens, and the tree that is
+-- made of their trees.
+record Joint {Part Form Tree : Type 0} (part_tokens : Part → List Symbol → List Symbol) (part_tree : Part → Tree)
+    (form_tokens : Form → List Symbol → List Symbol) (form_tree : Form → Tree) (kind : TokenKind) (make : List Tree → Tree) : Type 0 where
+  form : Part → Part → List Part → Form
+  tokens : (first second : Part) (more : List Part) (rest : List Symbol)
+      → part_tokens first (list_tokens part_tokens kind (second ∷ more) rest) ≡ form_tokens (form first second more) rest
+  tree : (first second : Part) (more : List Part)
+      → make (part_tree first ∷ part_tree second ∷ map part_tree more) ≡ form_tree (form first second more)
+
+-- what is read behind a first part, where the token stands there, is the tree of such a form
+joint_sound : {Part Form Tree : Type 0} {part_tokens : Part → List Symbol → List Symbol} {part_tree : Part → Tree}
+    {form_tokens : Form → List Symbol → List Symbol} {form_tree : Form → Tree} (reader : List Symbol → Found Tree) → IsSound part_tokens part_tree reader
+    → (wanted : Mark) (make : List Tree → Tree) → Joint part_tokens part_tree form_tokens form_tree (kind_of wanted) make
+    → (part : Part) (tokens tail rest : List Symbol) (first tree : Tree) → tokens ≡ part_tokens part tail → first ≡ part_tree part → stands wanted tail ≡ true
+    → ◌>>=◌ {T = Tree × List Symbol} (with_front (first ∷ []) (all_behind reader wanted tail)) (λ parts left. Some (make parts, left)) ≡ Some (tree, rest)
+    → Derives form_tokens form_tree tokens tree rest
+joint_sound {Part} {Form} {Tree} {part_tokens} {part_tree} reader sound wanted make joint part tokens tail rest first tree front first_is stood read =
+    let list = joined_sound part_tokens part_tree reader sound make (first ∷ []) wanted tail rest tree stood read in (
+      joint.form part list.0 list.1,
+      front ∙ ap (part_tokens part) list.2 ∙ joint.tokens part list.0 list.1 rest,
+      list.3 ∙ ap (λ (t : Tree). make (t ∷ part_tree list.0 ∷ map part_tree list.1)) first_is ∙ joint.tree part list.0 list.1,
+    )
+
+-- forms of one part, or of parts that are joined by AND, or by OR
+record Joined {Part Form Tree : Type 0} (part_tokens : Part → List Symbol → List Symbol) (part_tree : Part → Tree)
+    (form_tokens : Form → List Symbol → List Symbol) (form_tree : Form → Tree) (make_and make_or : List Tree → Tree) : Type 0 where
+  one : Part → Form
+  one_tokens : (part : Part) (rest : List Symbol) → part_tokens part rest ≡ form_tokens (one part) rest
+  one_tree : (part : Part) → part_tree part ≡ form_tree (one part)
+  all : Joint part_tokens part_tree form_tokens form_tree token.And make_and
+  some : Joint part_tokens part_tree form_tokens form_tree token.Or make_or
+
+-- what is read behind the first part of such a form
+abbrev joined_behind : {Tree : Type 0} → (List Symbol → Found Tree) → (List Tree → Tree) → (List Tree → Tree) → Tree → List Symbol → Found Tree
+joined_behind reader make_and make_or first tokens =
+    cond (stands marks.And tokens) (with_front (first ∷ []) (all_behind reader marks.And tokens) >>= λ parts left. Some (make_and parts, left))
+    (cond (stands marks.Or tokens) (with_front (first ∷ []) (all_behind reader marks.Or tokens) >>= λ parts left. Some (make_or parts, left)) (Some (first, tokens)))
+
+forms_sound : {Part Form Tree : Type 0} {part_tokens : Part → List Symbol → List Symbol} {part_tree : Part → Tree}
+    {form_tokens : Form → List Symbol → List Symbol} {form_tree : Form → Tree} (reader : List Symbol → Found Tree) → IsSound part_tokens part_tree reader
+    → (make_and make_or : List Tree → Tree) → Joined part_tokens part_tree form_tokens form_tree make_and make_or
+    → IsSound form_tokens form_tree (λ tokens. reader tokens >>= joined_behind reader make_and make_or)
+forms_sound {Part} {Form} {Tree} {part_tokens} {part_tree} reader sound make_and make_or forms tokens rest tree is =
+    let first = bind_some (reader tokens) (joined_behind reader make_and make_or) (tree, rest) is in
+    let part = sound tokens first.0.1 first.0.0 first.1 in
+    let tail = first.0.1 in
+    let by_or : Found Tree = with_front (first.0.0 ∷ []) (all_behind reader marks.Or tail) >>= λ parts left. Some (make_or parts, left) in
+    let by_and : Found Tree = with_front (first.0.0 ∷ []) (all_behind reader marks.And tail) >>= λ parts left. Some (make_and parts, left) in
+    elim (either_some (stands marks.And tail) by_and (cond (stands marks.Or tail) by_or (Some (first.0.0, tail))) (tree, rest) first.2) [
+      | inl (stood, read) ↦ joint_sound reader sound marks.And make_and forms.all part.0 tokens tail rest first.0.0 tree part.1 part.2 stood read
+      | inr (no_and, next) ↦
+          elim (either_some (stands marks.Or tail) by_or (Some (first.0.0, tail)) (tree, rest) next) [
+            | inl (stood, read) ↦ joint_sound reader sound marks.Or make_or forms.some part.0 tokens tail rest first.0.0 tree part.1 part.2 stood read
+            | inr (no_or, end) ↦
+                let same : (first.0.0, tail) ≡ (tree, rest) = (cc) in (
+                  forms.one part.0,
+                  part.1 ∙ ap (λ (p : Tree × List Symbol). part_tokens part.0 p.1) same ∙ forms.one_tokens part.0 rest,
+                  sym (ap (λ (p : Tree × List Symbol). p.0) same) ∙ part.2 ∙ forms.one_tree part.0,
+                )
+          ]
+    ]
+
+joined_sets : Joined part_tokens part_tree set_tokens set_tree (λ parts. and_set (sets_from parts)) (λ parts. or_set (sets_from parts))
+joined_sets = record {
+  one = one_part;
+  one_tokens = λ part rest. refl;
+  one_tree = λ part. refl;
+  all = record {
+    form = λ first second more. all_parts first second (parts_of more);
+    tokens = λ first second more rest. ap (λ after. part_tokens first (mark token.And ∷ part_tokens second after)) (parts_of-tokens token.And more rest);
+    tree = λ first second more. ap (λ others. and_set (set_then (part_tree first) (set_then (part_tree second) others))) (parts_of-trees more);
+  };
+  some = record {
+    form = λ first second more. some_parts first second (parts_of more);
+    tokens = λ first second more rest. ap (λ after. part_tokens first (mark token.Or ∷ part_tokens second after)) (parts_of-tokens token.Or more rest);
+    tree = λ first second more. ap (λ others. or_set (set_then (part_tree first) (set_then (part_tree second) others))) (parts_of-trees more);
+  };
+}
+
+joined_refinements : Joined item_tokens item_tree refinement_tokens refinement_tree (λ parts. and_refinement (refinements_from parts)) (λ parts. or_refinement (refinements_from parts))
+joined_refinements = record {
+  one = one_item;
+  one_tokens = λ item rest. refl;
+  one_tree = λ item. refl;
+  all = record {
+    form = λ first second more. all_items first second (items_of more);
+    tokens = λ first second more rest. ap (λ after. item_tokens first (mark token.And ∷ item_tokens second after)) (items_of-tokens token.And more rest);
+    tree = λ first second more. ap (λ others. and_refinement (refinement_then (item_tree first) (refinement_then (item_tree second) others))) (items_of-trees more);
+  };
+  some = record {
+    form = λ first second more. some_items first second (items_of more);
+    tokens = λ first second more rest. ap (λ after. item_tokens first (mark token.Or ∷ item_tokens second after)) (items_of-tokens token.Or more rest);
+    tree = λ first second more. ap (λ others. or_refinement (refinement_then (item_tree first) (refinement_then (item_tree second) others))) (items_of-trees more);
+  };
+}
+
+conjunctions : Joint sub_tokens sub_tree constraint_tokens constraint_tree token.And (λ parts. and_tree (trees_from parts))
+conjunctions = record {
+  form = λ first second more. conjunction first second (subs_of more);
+  tokens = λ first second more rest. ap (λ after. sub_tokens first (mark token.And ∷ sub_tokens second after)) (subs_of-tokens token.And more rest);
+  tree = λ first second more. ap (λ others. and_tree (tree_then (sub_tree first) (tree_then (sub_tree second) others))) (subs_of-trees more);
+}
+
+disjunctions : Joint sub_tokens sub_tree constraint_tokens constraint_tree token.Or (λ parts. or_tree (trees_from parts))
+disjunctions = record {
+  form = λ first second more. disjunction first second (subs_of more);
+  tokens = λ first second more rest. ap (λ after. sub_tokens first (mark token.Or ∷ sub_tokens second after)) (subs_of-tokens token.Or more rest);
+  tree = λ first second more. ap (λ others. or_tree (tree_then (sub_tree first) (tree_then (sub_tree second) others))) (subs_of-trees more);
+}
+
 -- what is made of a pair that is read
 abbrev made : {Tree : Type 0} → (AttributeTree → Tree) → Found AttributeTree → Found Tree
 made make found = found >>= λ pair left. Some (make pair, left)
@@ -549,57 +623,12 @@ module _ (inner : Readers) (sound : AreSound inner) where
 
   set_sound : IsSound set_tokens set_tree (set_in inner)
   unfolding set_in set_behind
-  set_sound tokens rest tree is =
-      let first = bind_some (part_in inner tokens) (set_behind inner) (tree, rest) is in
-      let form = part_sound tokens first.0.1 first.0.0 first.1 in
-      let tail = first.0.1 in
-      elim (either_some (stands marks.And tail) (with_front (first.0.0 ∷ []) (all_behind (part_in inner) marks.And tail) >>= λ parts left. Some (and_set (sets_from parts), left)) (cond (stands marks.Or tail) (with_front (first.0.0 ∷ []) (all_behind (part_in inner) marks.Or tail) >>= λ parts left. Some (or_set (sets_from parts), left)) (Some (first.0.0, tail))) (tree, rest) first.2) [
-        | inl (stood, read) ↦
-            let list = joined_sound part_tokens part_tree (part_in inner) part_sound (λ parts. and_set (sets_from parts)) (first.0.0 ∷ []) marks.And tail rest tree stood read in (
-              all_parts form.0 list.0 (parts_of list.1),
-              form.1 ∙ ap (part_tokens form.0) (list.2 ∙ ap (λ after. mark token.And ∷ part_tokens list.0 after) (parts_of-tokens token.And list.1 rest)),
-              list.3 ∙ ap (λ (t : AttributeSetTree). and_set (sets_from (t ∷ part_tree list.0 ∷ map part_tree list.1))) form.2 ∙ ap (λ more. and_set (set_then (part_tree form.0) (set_then (part_tree list.0) more))) (parts_of-trees list.1),
-            )
-        | inr (no_and, next) ↦
-            elim (either_some (stands marks.Or tail) (with_front (first.0.0 ∷ []) (all_behind (part_in inner) marks.Or tail) >>= λ parts left. Some (or_set (sets_from parts), left)) (Some (first.0.0, tail)) (tree, rest) next) [
-              | inl (stood, read) ↦
-                  let list = joined_sound part_tokens part_tree (part_in inner) part_sound (λ parts. or_set (sets_from parts)) (first.0.0 ∷ []) marks.Or tail rest tree stood read in (
-                    some_parts form.0 list.0 (parts_of list.1),
-                    form.1 ∙ ap (part_tokens form.0) (list.2 ∙ ap (λ after. mark token.Or ∷ part_tokens list.0 after) (parts_of-tokens token.Or list.1 rest)),
-                    list.3 ∙ ap (λ (t : AttributeSetTree). or_set (sets_from (t ∷ part_tree list.0 ∷ map part_tree list.1))) form.2 ∙ ap (λ more. or_set (set_then (part_tree form.0) (set_then (part_tree list.0) more))) (parts_of-trees list.1),
-                  )
-              | inr (no_or, end) ↦
-                  let same : (first.0.0, tail) ≡ (tree, rest) = (cc) in
-                  (one_part form.0, form.1 ∙ ap (λ (p : AttributeSetTree × List Symbol). part_tokens form.0 p.1) same, sym (ap (λ (p : AttributeSetTree × List Symbol). p.0) same) ∙ form.2)
-            ]
-      ]
+  set_sound = forms_sound (part_in inner) part_sound (λ parts. and_set (sets_from parts)) (λ parts. or_set (sets_from parts)) joined_sets
 
   refinement_sound : IsSound refinement_tokens refinement_tree (refinement_in inner)
   unfolding refinement_in refinement_behind
-  refinement_sound tokens rest tree is =
-      let first = bind_some (item_in inner tokens) (refinement_behind inner) (tree, rest) is in
-      let form = item_sound tokens first.0.1 first.0.0 first.1 in
-      let tail = first.0.1 in
-      elim (either_some (stands marks.And tail) (with_front (first.0.0 ∷ []) (all_behind (item_in inner) marks.And tail) >>= λ parts left. Some (and_refinement (refinements_from parts), left)) (cond (stands marks.Or tail) (with_front (first.0.0 ∷ []) (all_behind (item_in inner) marks.Or tail) >>= λ parts left. Some (or_refinement (refinements_from parts), left)) (Some (first.0.0, tail))) (tree, rest) first.2) [
-        | inl (stood, read) ↦
-            let list = joined_sound item_tokens item_tree (item_in inner) item_sound (λ parts. and_refinement (refinements_from parts)) (first.0.0 ∷ []) marks.And tail rest tree stood read in (
-              all_items form.0 list.0 (items_of list.1),
-              form.1 ∙ ap (item_tokens form.0) (list.2 ∙ ap (λ after. mark token.And ∷ item_tokens list.0 after) (items_of-tokens token.And list.1 rest)),
-              list.3 ∙ ap (λ (t : RefinementTree). and_refinement (refinements_from (t ∷ item_tree list.0 ∷ map item_tree list.1))) form.2 ∙ ap (λ more. and_refinement (refinement_then (item_tree form.0) (refinement_then (item_tree list.0) more))) (items_of-trees list.1),
-            )
-        | inr (no_and, next) ↦
-            elim (either_some (stands marks.Or tail) (with_front (first.0.0 ∷ []) (all_behind (item_in inner) marks.Or tail) >>= λ parts left. Some (or_refinement (refinements_from parts), left)) (Some (first.0.0, tail)) (tree, rest) next) [
-              | inl (stood, read) ↦
-                  let list = joined_sound item_tokens item_tree (item_in inner) item_sound (λ parts. or_refinement (refinements_from parts)) (first.0.0 ∷ []) marks.Or tail rest tree stood read in (
-                    some_items form.0 list.0 (items_of list.1),
-                    form.1 ∙ ap (item_tokens form.0) (list.2 ∙ ap (λ after. mark token.Or ∷ item_tokens list.0 after) (items_of-tokens token.Or list.1 rest)),
-                    list.3 ∙ ap (λ (t : RefinementTree). or_refinement (refinements_from (t ∷ item_tree list.0 ∷ map item_tree list.1))) form.2 ∙ ap (λ more. or_refinement (refinement_then (item_tree form.0) (refinement_then (item_tree list.0) more))) (items_of-trees list.1),
-                  )
-              | inr (no_or, end) ↦
-                  let same : (first.0.0, tail) ≡ (tree, rest) = (cc) in
-                  (one_item form.0, form.1 ∙ ap (λ (p : RefinementTree × List Symbol). item_tokens form.0 p.1) same, sym (ap (λ (p : RefinementTree × List Symbol). p.0) same) ∙ form.2)
-            ]
-      ]
+  refinement_sound =
+      forms_sound (item_in inner) item_sound (λ parts. and_refinement (refinements_from parts)) (λ parts. or_refinement (refinements_from parts)) joined_refinements
 
   constraint_sound : IsSound constraint_tokens constraint_tree (constraint_in inner)
   unfolding constraint_in constraint_behind
@@ -612,19 +641,11 @@ module _ (inner : Readers) (sound : AreSound inner) where
       let joined_or : Option (Tree × List Symbol) = cond (stands marks.Or tail) (with_front (first.0.0 ∷ []) (all_behind (sub_in inner) marks.Or tail) >>= λ parts left. Some (or_tree (trees_from parts), left)) dotted_or in
       elim (either_some (stands marks.And tail) (with_front (first.0.0 ∷ []) (all_behind (sub_in inner) marks.And tail) >>= λ parts left. Some (and_tree (trees_from parts), left)) joined_or (tree, rest) first.2) [
         | inl (stood, read) ↦
-            let list = joined_sound sub_tokens sub_tree (sub_in inner) sub_sound (λ parts. and_tree (trees_from parts)) (first.0.0 ∷ []) marks.And tail rest tree stood read in (
-              conjunction form.0 list.0 (subs_of list.1),
-              form.1 ∙ ap (sub_tokens form.0) (list.2 ∙ ap (λ after. mark token.And ∷ sub_tokens list.0 after) (subs_of-tokens token.And list.1 rest)),
-              list.3 ∙ ap (λ (t : Tree). and_tree (trees_from (t ∷ sub_tree list.0 ∷ map sub_tree list.1))) form.2 ∙ ap (λ more. and_tree (tree_then (sub_tree form.0) (tree_then (sub_tree list.0) more))) (subs_of-trees list.1),
-            )
+            joint_sound (sub_in inner) sub_sound marks.And (λ parts. and_tree (trees_from parts)) conjunctions form.0 tokens tail rest first.0.0 tree form.1 form.2 stood read
         | inr (no_and, next) ↦
             elim (either_some (stands marks.Or tail) (with_front (first.0.0 ∷ []) (all_behind (sub_in inner) marks.Or tail) >>= λ parts left. Some (or_tree (trees_from parts), left)) dotted_or (tree, rest) next) [
               | inl (stood, read) ↦
-                  let list = joined_sound sub_tokens sub_tree (sub_in inner) sub_sound (λ parts. or_tree (trees_from parts)) (first.0.0 ∷ []) marks.Or tail rest tree stood read in (
-                    disjunction form.0 list.0 (subs_of list.1),
-                    form.1 ∙ ap (sub_tokens form.0) (list.2 ∙ ap (λ after. mark token.Or ∷ sub_tokens list.0 after) (subs_of-tokens token.Or list.1 rest)),
-                    list.3 ∙ ap (λ (t : Tree). or_tree (trees_from (t ∷ sub_tree list.0 ∷ map sub_tree list.1))) form.2 ∙ ap (λ more. or_tree (tree_then (sub_tree form.0) (tree_then (sub_tree list.0) more))) (subs_of-trees list.1),
-                  )
+                  joint_sound (sub_in inner) sub_sound marks.Or (λ parts. or_tree (trees_from parts)) disjunctions form.0 tokens tail rest first.0.0 tree form.1 form.2 stood read
               | inr (no_or, next') ↦
                   elim (either_some (stands marks.Dot tail) (with_front [] (all_behind (sub_in inner) marks.Dot tail) >>= λ names left. Some (dotted_tree first.0.0 (trees_from names), left)) plain_or (tree, rest) next') [
                     | inl (stood, read) ↦

@@ -4,8 +4,8 @@ use Rattle.constraint_tree.specs.declared.operator.Cardinality.{Cardinality}
 use Rattle.constraint_tree.specs.declared.operator.Operator.{Operator}
 use Rattle.postings.specs.Indexed.{Indexed}
 use Rattle.set_algebra.specs.Plan.{Plan, TestPlan}
-use Rattle.planner.specs.declared.choice.Choice.{Choice}
-use Rattle.planner.specs.declared.choice.Choice.TheVariants.{ByValue, ByType, Scan}
+use Rattle.set_algebra.specs.declared.choice.Choice.{Choice}
+use Rattle.set_algebra.specs.declared.choice.Choice.TheVariants.{ByValue, ByType, Scan}
 use Rattle.planner.specs.Alternatives.{leaf_bound}
 use Rattle.planner.specs.Bounds.{members_bound, walk_bound}
 use Rattle.planner.specs.Counts.{leaf_of}

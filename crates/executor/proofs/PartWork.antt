@@ -20,7 +20,7 @@ use Rattle.set_algebra.specs.declared.plan.ConceptPlan.{ConceptPlan}
 use Rattle.set_algebra.specs.declared.plan.UnitPlan.{UnitPlan}
 use Rattle.set_algebra.specs.Meaning.{group_means, means}
 use Rattle.set_algebra.specs.Plan.{GroupPlan, Plan, group_plan_of, group_plans_of, or_group, or_plan, plan_of, plans_of}
-use Rattle.planner.specs.declared.choice.Choice.{Choice}
+use Rattle.set_algebra.specs.declared.choice.Choice.{Choice}
 use Rattle.planner.specs.Bounds.{own_number}
 use Rattle.planner.specs.Nodes.{group_sum, groups_sum, node_sum, plans_sum}
 use Rattle.planner.specs.Sizes.{group_size, group_sizes, size, sizes, total}

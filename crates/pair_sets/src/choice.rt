@@ -2,7 +2,7 @@
 //!
 //! What is read to find the way is counted too, and is read only where the bound of the leaf has room for it.
 ghost use Rattle.std.specs.Prelude.{ℕ, ◌≡◌, ◌-◌, ◌<◌, ◌^◌, All, Bool, IfOk, IfSome, length, min, sum_by};
-ghost use Rattle.planner.specs.Counts.{type_row_count};
+ghost use Rattle.postings.specs.Stats.{type_row_count};
 ghost use Rattle.postings.specs.Indexed.{IsIndexOf, types_of};
 ghost use Rattle.pair_sets.specs.Tested.{IsTestBelow, is_one_of, passes_of};
 ghost use Rattle.pair_sets.specs.Ways.{AreAllThatPass, IsValuesWay, IsWayFor, row_count_of};
@@ -14,8 +14,8 @@ use crate::ways::{
     LeafReads, PassingValues, Way, are_read_before, items_among, look_ups, values_are_read_before,
 };
 use idset::ConceptSet;
-use planner::Choice;
 use postings::Indexes;
+use set_algebra::Choice;
 use snapshot::Snapshot;
 use std::alloc::{AllocError, Global};
 

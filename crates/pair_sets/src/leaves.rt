@@ -21,8 +21,8 @@ use crate::visits::Visits;
 use crate::ways::{LeafReads, Way};
 use constraint_tree::Cardinality;
 use idset::ConceptSet;
-use planner::{Choice, NodeLimits};
 use postings::Indexes;
+use set_algebra::{Choice, NodeLimits};
 use snapshot::Snapshot;
 use std::alloc::{AllocError, Global};
 

@@ -5,8 +5,8 @@ use crate::candidates::{Candidates, extent_for};
 use crate::choice::rows_of_value;
 use crate::ways::are_read_before;
 use idset::ConceptSet;
-use planner::Choice;
 use postings::Indexes;
+use set_algebra::Choice;
 use std::alloc::{AllocError, Global};
 
 // To look at a value is worth it where so many rows that stand side by side might be left out for it.

@@ -1,7 +1,7 @@
 //! The count of what is read.
 ghost use Rattle.std.specs.Prelude.{◌≡◌, ◌≤◌, ◌+◌, ◌-◌, ◌^◌, min};
 
-use planner::NodeLimits;
+use set_algebra::NodeLimits;
 
 /// How many items were read: of the lists of the indexes and of a snapshot, and of what parts of plans have found. The count
 /// rises, and stands still at `u64::MAX`.

@@ -4,7 +4,7 @@
 //! a few values, have fewer, their rows are read in place of these. Each way finds the same, so a bad one costs time alone.
 use crate::candidates::Extent;
 use crate::tested::Tested;
-use planner::Choice;
+use set_algebra::Choice;
 
 /// Which rows a leaf reads, and what says which values pass.
 #[derive(Drop)]

@@ -5,7 +5,7 @@ use Rattle.set_algebra.specs.declared.plan.ConceptPlan.{ConceptPlan}
 use Rattle.set_algebra.specs.declared.plan.UnitPlan.{UnitPlan}
 use Rattle.set_algebra.specs.Plan.{group_plan_of, group_plans_of, plan_of, plans_of}
 use Rattle.postings.specs.Indexed.{Indexed}
-use Rattle.planner.specs.declared.choice.Choice.{Choice}
+use Rattle.set_algebra.specs.declared.choice.Choice.{Choice}
 use Rattle.planner.specs.declared.tally.Tally.{Tally}
 use Rattle.planner.specs.Chosen.{chosen, group_chosen, groups_chosen, plans_chosen}
 use Rattle.planner.specs.Leads.{lead_list}

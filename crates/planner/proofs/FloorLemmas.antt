@@ -5,11 +5,12 @@ use Rattle.constraint_tree.specs.declared.operator.Operator.{Operator}
 use Rattle.snapshot.specs.Numbering.{concept_number}
 use Rattle.postings.specs.Groups.{groups_in}
 use Rattle.postings.specs.Indexed.{Indexed}
-use Rattle.planner.specs.declared.choice.Choice.{Choice}
-use Rattle.planner.specs.declared.choice.Choice.TheVariants.{ByValue, ByType, Scan}
+use Rattle.postings.specs.Stats.{type_row_count}
+use Rattle.set_algebra.specs.declared.choice.Choice.{Choice}
+use Rattle.set_algebra.specs.declared.choice.Choice.TheVariants.{ByValue, ByType, Scan}
 use Rattle.planner.specs.Alternatives.{leaf_bound}
 use Rattle.planner.specs.Bounds.{bound, group_own_bound, members_bound, own_bound, own_number, walk_bound}
-use Rattle.planner.specs.Counts.{is_extreme, leaf_of, list_length, member_count, one_of, rows_left, type_row_count, value_row_count}
+use Rattle.planner.specs.Counts.{is_extreme, leaf_of, list_length, member_count, one_of, rows_left, value_row_count}
 use Rattle.planner.specs.Floors.{floor, floor_number, group_own_floor, if_in_force, leaf_floor, of_one, own_floor}
 use Rattle.planner.specs.Leaves.{first_choice, group_leaves, leaves, test_choices, type_choices}
 use Rattle.planner.specs.Nodes.{NodeNumber, group_sum, groups_sum, node_sum, plans_sum, test_sum}

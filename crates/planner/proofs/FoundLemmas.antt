@@ -43,8 +43,8 @@ use Rattle.postings.proofs.OnceLemmas.{IsOnce}
 use Rattle.postings.proofs.PlaceLemmas.{length-places_where}
 use Rattle.postings.proofs.StatsLemmas.{stats_told}
 use Rattle.postings.proofs.ValueLemmas.{from_map}
-use Rattle.planner.specs.declared.choice.Choice.{Choice}
-use Rattle.planner.specs.declared.choice.Choice.TheVariants.{ByValue, ByType, Scan}
+use Rattle.set_algebra.specs.declared.choice.Choice.{Choice}
+use Rattle.set_algebra.specs.declared.choice.Choice.TheVariants.{ByValue, ByType, Scan}
 use Rattle.planner.specs.Alternatives.{found_by, leaf_rows, leaf_size}
 use Rattle.planner.specs.Counts.{counted, leaf_of, list_length, of_concept, type_rows, value_row_count, value_rows}
 use Rattle.planner.specs.Sizes.{members_size, walk_size}

@@ -2,8 +2,8 @@
 use Rattle.std.proofs.Common.{ℕ, ◌≡◌, ◌≤◌, ◌<◌, ◌&&◌, ◌∙◌, ◌⊎◌, Bool, true, false, cond, Option, Some, None, inl, inr, refl, sym, ap, subst, arith}
 use Rattle.std.specs.Prelude.{IsTrue, nat_le}
 use Rattle.std.proofs.lemmas.Bool.{and_parts, cases_Bool, leb-false, leb-true}
-use Rattle.planner.specs.declared.choice.Choice.{Choice}
-use Rattle.planner.specs.declared.choice.Choice.TheVariants.{ByValue, ByType, Scan}
+use Rattle.set_algebra.specs.declared.choice.Choice.{Choice}
+use Rattle.set_algebra.specs.declared.choice.Choice.TheVariants.{ByValue, ByType, Scan}
 use Rattle.planner.specs.declared.leaf.Leaf.{Leaf}
 use Rattle.planner.specs.Alternatives.{IsLeast, choice_of, leaf_bound, least_choice, offers, or_least, rank}
 use Rattle.planner.specs.Offered.{IsOffered}

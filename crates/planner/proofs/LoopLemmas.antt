@@ -6,7 +6,7 @@ use Rattle.set_algebra.specs.declared.plan.ConceptPlan.{ConceptPlan}
 use Rattle.set_algebra.specs.declared.plan.UnitPlan.{UnitPlan}
 use Rattle.set_algebra.specs.Plan.{plan_of, plans_of, group_plan_of, group_plans_of}
 use Rattle.postings.specs.Indexed.{Indexed}
-use Rattle.planner.specs.declared.choice.Choice.{Choice}
+use Rattle.set_algebra.specs.declared.choice.Choice.{Choice}
 use Rattle.planner.specs.declared.tally.Tally.{Tally}
 use Rattle.planner.specs.Bounds.{capped}
 use Rattle.planner.specs.Leaves.{group_leaves, groups_leaves, leaves, plans_leaves}

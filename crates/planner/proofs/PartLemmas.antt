@@ -6,7 +6,7 @@ use Rattle.set_algebra.specs.declared.plan.ConceptPlan.TheVariants as concept_pl
 use Rattle.set_algebra.specs.declared.plan.UnitPlan.{UnitPlan}
 use Rattle.set_algebra.specs.Plan.{Plan, Plans, group_plans_of, plan_of, plans_of, values_plan}
 use Rattle.set_algebra.proofs.PlanLemmas.{plan_of-Values}
-use Rattle.planner.specs.declared.choice.Choice.{Choice}
+use Rattle.set_algebra.specs.declared.choice.Choice.{Choice}
 use Rattle.planner.specs.Leaves.{group_count, leaves, plan_count, plans_leaves}
 use Rattle.planner.proofs.ListLemmas.{drop_further}
 

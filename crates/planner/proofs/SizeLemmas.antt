@@ -16,7 +16,7 @@ use Rattle.set_algebra.specs.Plan.{Plan, empty_plan, all_plan, one_plan, walk_pl
 use Rattle.set_algebra.proofs.MeaningLemmas.{in_force_if_meant}
 use Rattle.postings.specs.Groups.{ConceptGroup, all_groups, groups_in, pairs_of_group}
 use Rattle.postings.specs.Indexed.{Indexed, IsIndexOf}
-use Rattle.planner.specs.declared.choice.Choice.{Choice}
+use Rattle.set_algebra.specs.declared.choice.Choice.{Choice}
 use Rattle.planner.specs.Counts.{one_of}
 use Rattle.planner.specs.Found.{FindsWithinSize}
 use Rattle.planner.specs.Leaves.{first_choice, group_leaves, leaves, plan_count, test_choices, type_choices}

@@ -1,8 +1,8 @@
 -- The alternatives of a leaf, which is a node that counts pairs of concepts or of groups: which it offers, how many rows each
 -- of them reads, how much the leaf finds and visits at most, and which is chosen.
 use Rattle.std.specs.Prelude.{ℕ, ◌+◌, ◌≡◌, ◌≤◌, ◌&&◌, Bool, true, if◌then◌else◌, IsTrue, Option, None, Some, min, nat_le}
-use Rattle.planner.specs.declared.choice.Choice.{Choice}
-use Rattle.planner.specs.declared.choice.Choice.TheVariants.{ByValue, ByType, Scan}
+use Rattle.set_algebra.specs.declared.choice.Choice.{Choice}
+use Rattle.set_algebra.specs.declared.choice.Choice.TheVariants.{ByValue, ByType, Scan}
 use Rattle.planner.specs.declared.leaf.Leaf.{Leaf}
 
 -- by value a leaf can be answered only where its test says within which set a value is

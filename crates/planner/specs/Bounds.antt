@@ -7,7 +7,7 @@ use Rattle.set_algebra.specs.Plan.{Plan, empty_plan, all_plan, one_plan, walk_pl
 use Rattle.postings.specs.Groups.{groups_in}
 use Rattle.postings.specs.Indexed.{Indexed}
 use Rattle.postings.specs.Stats.{stats_in}
-use Rattle.planner.specs.declared.choice.Choice.{Choice}
+use Rattle.set_algebra.specs.declared.choice.Choice.{Choice}
 use Rattle.planner.specs.Alternatives.{leaf_bound, passed_over}
 use Rattle.planner.specs.Counts.{list_length, lists_length, member_count, one_of}
 use Rattle.planner.specs.Leaves.{first_choice, group_count, group_leaves, leaves, plan_count}

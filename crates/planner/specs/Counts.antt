@@ -7,8 +7,8 @@ use Rattle.set_algebra.specs.Plan.{Plan, empty_plan, all_plan, one_plan, walk_pl
 use Rattle.hierarchy.specs.KeyedLists.{list_of}
 use Rattle.snapshot.specs.Numbering.{concept_number}
 use Rattle.ancestor_index.specs.HierarchyLists.{Hierarchy}
-use Rattle.postings.specs.Indexed.{Indexed, rows_by_source, rows_by_type, rows_by_value}
-use Rattle.postings.specs.Stats.{stats_in}
+use Rattle.postings.specs.Indexed.{Indexed, rows_by_source, rows_by_value}
+use Rattle.postings.specs.Stats.{stats_in, type_row_count}
 use Rattle.planner.specs.declared.leaf.Leaf.{Leaf}
 
 -- what is counted of a concept by its number, and 0 of one that is not in force
@@ -78,10 +78,7 @@ is_extreme Bottom = true
 abbrev pub member_count : Indexed → ℕ → ℕ
 member_count indexed id = of_concept indexed (λ number. length (list_of indexed.members number)) id
 
--- how many rows have a type; and a value, or, read backwards, a source
-abbrev pub type_row_count : Indexed → ℕ → ℕ
-type_row_count indexed id = length (rows_by_type indexed id)
-
+-- how many rows have a value, or, read backwards, a source
 abbrev pub value_row_count : Indexed → Bool → ℕ → ℕ
 value_row_count indexed back id =
     of_concept indexed (λ number. length (if back then rows_by_source indexed number else rows_by_value indexed number)) id

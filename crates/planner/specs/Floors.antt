@@ -3,10 +3,11 @@ use Rattle.std.specs.Prelude.{ℕ, Bool, false, List, Option, None, Some, if◌t
 use Rattle.set_algebra.specs.Plan.{Plan, empty_plan, all_plan, one_plan, walk_plan, members_plan, and_plan, or_plan, minus_plan, values_plan, pairs_plan, units_plan, GroupPlan, nothing_group, every_group, and_group, or_group, minus_group, pairs_group, TestPlan, within_plan, outside_plan, number_plan}
 use Rattle.snapshot.specs.Numbering.{concept_number}
 use Rattle.postings.specs.Indexed.{Indexed}
-use Rattle.planner.specs.declared.choice.Choice.{Choice}
-use Rattle.planner.specs.declared.choice.Choice.TheVariants.{ByValue, ByType, Scan}
+use Rattle.postings.specs.Stats.{type_row_count}
+use Rattle.set_algebra.specs.declared.choice.Choice.{Choice}
+use Rattle.set_algebra.specs.declared.choice.Choice.TheVariants.{ByValue, ByType, Scan}
 use Rattle.planner.specs.Bounds.{bound}
-use Rattle.planner.specs.Counts.{is_extreme, list_length, member_count, one_of, type_row_count, value_row_count}
+use Rattle.planner.specs.Counts.{is_extreme, list_length, member_count, one_of, value_row_count}
 use Rattle.planner.specs.Leaves.{first_choice}
 use Rattle.planner.specs.Nodes.{NodeNumber, node_sum}
 

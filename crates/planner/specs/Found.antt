@@ -7,7 +7,7 @@ use Rattle.set_algebra.specs.Meaning.{group_means, meaning}
 use Rattle.set_algebra.specs.Plan.{GroupPlan, Plan}
 use Rattle.postings.specs.Groups.{ConceptGroup, all_groups, pairs_of_group}
 use Rattle.postings.specs.Indexed.{Indexed, IsIndexOf}
-use Rattle.planner.specs.declared.choice.Choice.{Choice}
+use Rattle.set_algebra.specs.declared.choice.Choice.{Choice}
 use Rattle.planner.specs.Sizes.{group_size, size}
 
 -- the groups of a release that a plan of groups means

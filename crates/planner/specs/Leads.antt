@@ -2,7 +2,7 @@
 use Rattle.std.specs.Prelude.{ℕ, ◌+◌, ◌≤◌, ◌<◌, if◌then◌else◌, List, [], ◌∷◌, length, min, nat_lt, slice_index}
 use Rattle.set_algebra.specs.Plan.{Plan, empty_plan, all_plan, one_plan, walk_plan, members_plan, and_plan, or_plan, minus_plan, values_plan, pairs_plan, units_plan, GroupPlan, nothing_group, every_group, and_group, or_group, minus_group, pairs_group}
 use Rattle.postings.specs.Indexed.{Indexed}
-use Rattle.planner.specs.declared.choice.Choice.{Choice}
+use Rattle.set_algebra.specs.declared.choice.Choice.{Choice}
 use Rattle.planner.specs.Nodes.{NodeList, node_list}
 use Rattle.planner.specs.Sizes.{group_sizes, sizes}
 

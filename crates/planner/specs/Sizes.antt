@@ -6,7 +6,7 @@ use Rattle.set_algebra.specs.Plan.{Plan, empty_plan, all_plan, one_plan, walk_pl
 use Rattle.postings.specs.Groups.{groups_in}
 use Rattle.postings.specs.Indexed.{Indexed}
 use Rattle.postings.specs.Stats.{stats_in}
-use Rattle.planner.specs.declared.choice.Choice.{Choice}
+use Rattle.set_algebra.specs.declared.choice.Choice.{Choice}
 use Rattle.planner.specs.declared.leaf.Leaf.{Leaf}
 use Rattle.planner.specs.Alternatives.{found_by, leaf_size}
 use Rattle.planner.specs.Counts.{is_extreme, leads_to_self, leaf_of, list_length, member_count, one_of}

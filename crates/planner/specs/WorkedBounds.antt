@@ -11,8 +11,8 @@ use Rattle.snapshot.specs.AttributesBySource.{attributes_by_source}
 use Rattle.ancestor_index.specs.HierarchyLists.{hierarchy_of}
 use Rattle.postings.specs.Indexed.{Indexed, members_of}
 use Rattle.postings.specs.Stats.{stats_in}
-use Rattle.planner.specs.declared.choice.Choice.{Choice}
-use Rattle.planner.specs.declared.choice.Choice.TheVariants.{ByValue, ByType}
+use Rattle.set_algebra.specs.declared.choice.Choice.{Choice}
+use Rattle.set_algebra.specs.declared.choice.Choice.TheVariants.{ByValue, ByType}
 use Rattle.planner.specs.Bounds.{bound, own_bounds}
 use Rattle.planner.specs.Chosen.{least_choices}
 use Rattle.planner.specs.Floors.{floor}

@@ -8,14 +8,14 @@ ghost use Rattle.planner.specs.Nodes.{group_list, groups_list, node_list, plans_
 ghost use Rattle.planner.specs.Sizes.{group_size, group_sizes, size as size_of, sizes, test_size};
 ghost use Rattle.planner.specs.Tallies.{IsTallyOf, no_tally, tally_with};
 
-use crate::choice::{Choice, after_first, first_choice};
+use crate::choice::{after_first, first_choice};
 use crate::counts::{
     NodeCost, concepts, groups, in_all, in_first, in_some, leaf, members, units as units_of,
     values, walk,
 };
 use crate::tally::Tally;
 use postings::Indexes;
-use set_algebra::{ConceptPlan, UnitPlan, ValueTest};
+use set_algebra::{Choice, ConceptPlan, UnitPlan, ValueTest};
 use std::alloc::AllocError;
 
 /// How much a plan finds at most, and the choices behind its own.

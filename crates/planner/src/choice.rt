@@ -1,18 +1,8 @@
-//! The ways in which a leaf of a plan can be answered.
+//! The front of a list of choices.
 ghost use Rattle.std.specs.Prelude.{◌≡◌, drop};
 ghost use Rattle.planner.specs.Leaves.{first_choice as first_choice_of, first_of};
 
-/// Which attribute rows a leaf of a plan is answered from. A leaf is a node that counts pairs, of concepts or of groups
-/// (Expression Constraint Language, "Refinements").
-#[derive(Clone, Copy, Debug, PartialEq, Eq)]
-pub enum Choice {
-    /// Those of the values that pass its test, which says within which set a value is.
-    ByValue,
-    /// Those of its types.
-    ByType,
-    /// All.
-    Scan,
-}
+use set_algebra::Choice;
 
 /// The first of some choices; where there is none the leaf is scanned.
 pub fn first_choice(choices: &[Choice]) -> Choice

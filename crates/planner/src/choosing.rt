@@ -9,11 +9,11 @@ ghost use Rattle.planner.specs.Nodes.{group_list, groups_list, node_list, plans_
 ghost use Rattle.planner.specs.Sizes.{group_size, group_sizes, size as size_of, sizes, test_size};
 ghost use Rattle.planner.specs.Tallies.{IsTallyOf, no_tally, tally_with};
 
-use crate::choice::{Choice, after_first, first};
+use crate::choice::{after_first, first};
 use crate::counts::{concepts, groups, leaf, members, units as units_of, values, walk};
 use crate::tally::Tally;
 use postings::Indexes;
-use set_algebra::{ConceptPlan, UnitPlan, ValueTest};
+use set_algebra::{Choice, ConceptPlan, UnitPlan, ValueTest};
 use std::alloc::{AllocError, Global};
 
 /// The choices of the leaves so far, and the places of the parts that are taken first.

@@ -5,7 +5,8 @@ ghost use Rattle.set_algebra.specs.Plan.{plan_of, test_plan_of};
 ghost use Rattle.postings.specs.Groups.{groups_in};
 ghost use Rattle.planner.specs.Alternatives.{found_by, passed_over};
 ghost use Rattle.planner.specs.Bounds.{capped, members_bound, values_bound, walk_bound};
-ghost use Rattle.planner.specs.Counts.{is_extreme as is_extreme_of, leads_to_self as leads_to_self_of, leaf_of, list_length as list_length_of, lists_along, lists_length as lists_length_of, member_count as member_count_of, one_of, type_row_count as type_row_count_of, type_rows as type_rows_of, rows_left, value_row_count as value_row_count_of, value_rows as value_rows_of};
+ghost use Rattle.planner.specs.Counts.{is_extreme as is_extreme_of, leads_to_self as leads_to_self_of, leaf_of, list_length as list_length_of, lists_along, lists_length as lists_length_of, member_count as member_count_of, one_of, type_rows as type_rows_of, rows_left, value_row_count as value_row_count_of, value_rows as value_rows_of};
+ghost use Rattle.postings.specs.Stats.{type_row_count as type_row_count_of};
 ghost use Rattle.planner.specs.Sizes.{members_size, values_size, walk_size};
 
 use crate::leaf::Leaf;

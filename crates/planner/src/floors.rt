@@ -8,11 +8,11 @@ ghost use Rattle.planner.specs.Floors.{floor as floor_of, floor_number, if_in_fo
 ghost use Rattle.planner.specs.Leaves.{group_leaves, groups_leaves, leaves, plans_leaves, test_leaves};
 ghost use Rattle.planner.specs.Nodes.{group_sum, groups_sum, plans_sum, test_sum};
 
-use crate::choice::{Choice, after_first, first_choice};
+use crate::choice::{after_first, first_choice};
 use crate::counts::{is_extreme, list_length, member_count, one, value_row_count};
 use constraint_tree::Operator;
 use postings::Indexes;
-use set_algebra::{ConceptPlan, UnitPlan, ValueTest};
+use set_algebra::{Choice, ConceptPlan, UnitPlan, ValueTest};
 
 /// How many items a plan visits at least, and the choices behind its own.
 #[derive(Clone, Copy)]

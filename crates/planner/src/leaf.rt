@@ -3,8 +3,8 @@ ghost use Rattle.std.specs.Prelude.{◌≡◌};
 ghost use Rattle.planner.specs.Bounds.{capped};
 ghost use Rattle.planner.specs.Alternatives.{choice_of, least_choice as least_choice_of, leaf_bound, leaf_size, offers as offers_of};
 
-use crate::choice::Choice;
 use crate::counts::NodeCost;
+use set_algebra::Choice;
 
 /// What the choice of a leaf rests on, all of it exact.
 #[derive(Clone, Copy, Debug)]

@@ -7,22 +7,12 @@ ghost use Rattle.planner.specs.Counts.{is_extreme, leaf_of, list_length, member_
 ghost use Rattle.planner.specs.Floors.{leaf_floor as leaf_floor_of, of_one};
 ghost use Rattle.planner.specs.Sizes.{group_size, size as size_of};
 
-use crate::choice::Choice;
 use crate::costs::{cost, unit_cost};
 use crate::counts::{leaf, members, units, walk};
 use crate::floors::{leaf_floor, members_floor, walk_floor};
 use constraint_tree::{Cardinality, Operator};
 use postings::Indexes;
-use set_algebra::{ConceptPlan, UnitPlan, ValueTest};
-
-/// How many items a node visits beside its sub-plans.
-#[derive(Clone, Copy, Debug)]
-pub struct NodeLimits {
-    /// At least: the floor of the node.
-    pub floor: u64,
-    /// At most, or `u64::MAX` where that is more: its own bound.
-    pub bound: u64,
-}
+use set_algebra::{Choice, ConceptPlan, NodeLimits, UnitPlan, ValueTest};
 
 /// Of a walk from a set of so many concepts.
 pub fn walk_limits(

@@ -11,12 +11,11 @@ ghost use Rattle.planner.specs.Leaves.{leaves};
 ghost use Rattle.planner.specs.Offered.{AreLeast, AreOffered};
 
 use crate::bound_list::list;
-use crate::choice::Choice;
 use crate::choosing::{Choosing, nothing_chosen, settle};
 use crate::costs::cost;
 use crate::floors::plan_floor;
 use postings::Indexes;
-use set_algebra::ConceptPlan;
+use set_algebra::{Choice, ConceptPlan};
 use std::alloc::{AllocError, Global};
 use std::marker::Model;
 

@@ -7,7 +7,7 @@ use Rattle.hierarchy.specs.Hierarchy.{reaches}
 use Rattle.snapshot.specs.AttributesBySource.{attributes_by_source}
 use Rattle.ancestor_index.specs.HierarchyLists.{is_child}
 use Rattle.postings.specs.Groups.{groups_in}
-use Rattle.postings.specs.Indexed.{Indexed}
+use Rattle.postings.specs.Indexed.{Indexed, rows_by_type}
 use Rattle.postings.specs.declared.stats.Stats.{Stats}
 
 -- the pairs of concepts in force of which the first stands to the second as a test says, each once
@@ -37,3 +37,7 @@ stats_in indexed = record {
   l = length (concat indexed.hierarchy.parents);
   m = length (concat indexed.members);
 }
+
+-- how many rows have a type
+abbrev pub type_row_count : Indexed → ℕ → ℕ
+type_row_count indexed id = length (rows_by_type indexed id)

@@ -7,7 +7,7 @@ use Rattle.set_algebra.specs.Meaning.{means}
 use Rattle.set_algebra.specs.Plan.{Plan}
 use Rattle.snapshot.specs.Contents.{Contents}
 use Rattle.postings.specs.Indexed.{Indexed, IsIndexOf}
-use Rattle.planner.specs.declared.choice.Choice.{Choice}
+use Rattle.set_algebra.specs.declared.choice.Choice.{Choice}
 use Rattle.planner.specs.Chosen.{least_choices}
 use Rattle.planner.specs.Offered.{AreLeast}
 use Rattle.answer_printer.specs.PlanText.{plan_text}

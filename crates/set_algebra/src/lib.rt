@@ -1,17 +1,22 @@
-//! Plans: the form that a query is executed in, and what they mean over a release.
+//! Plans: the form that a query is executed in, what they mean over a release, and what is said of a node on its way: which
+//! rows it is answered from, and how much it reads.
 #![tactic(auto)]
 
+mod choice;
 pub mod copy;
 mod depth;
 mod equal;
 mod laws;
 mod lowering;
+mod node_limits;
 mod plan;
 pub mod views;
 
+pub use crate::choice::Choice;
 pub use crate::laws::{
     places_are_found_and_put, places_keep_the_meaning, plans_are_as_deep_as_trees,
     plans_mean_concepts_in_force, worked_plans_hold, worked_queries_have_plans, wrong_plans_differ,
 };
 pub use crate::lowering::lower;
+pub use crate::node_limits::NodeLimits;
 pub use crate::plan::{ConceptPlan, UnitPlan, ValueTest};

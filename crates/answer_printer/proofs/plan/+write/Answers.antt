@@ -1,7 +1,7 @@
 use Rattle.std.proofs.Common.{ℕ, ◌≡◌, ◌∙◌, ◌++◌, ◌∷◌, List, ap, drop, length, sym}
 use Rattle.set_algebra.specs.declared.plan.ConceptPlan.{ConceptPlan}
 use Rattle.set_algebra.specs.Plan.{GroupPlan, Plan, group_plan_of, pairs_group, plan_of, plans_of, test_plan_of, values_plan}
-use Rattle.planner.specs.declared.choice.Choice.{Choice}
+use Rattle.set_algebra.specs.declared.choice.Choice.{Choice}
 use Rattle.planner.specs.Leaves.{leaves}
 use Rattle.planner.proofs.LoopLemmas.{rest_end, rest_turn}
 use Rattle.planner.proofs.PartLemmas.{values_are, values_behind}

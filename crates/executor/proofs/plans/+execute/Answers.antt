@@ -23,7 +23,7 @@ use Rattle.pair_sets.proofs.ListLemmas.{all_below}
 use Rattle.executor.specs.Lead.{leads_off, leads_off_groups}
 use Rattle.pair_sets.specs.Within.{groups_within, may_be, numbers_within}
 use Rattle.rf2_rows.specs.Pairs.{Pair}
-use Rattle.planner.specs.declared.choice.Choice.{Choice}
+use Rattle.set_algebra.specs.declared.choice.Choice.{Choice}
 use Rattle.planner.specs.Bounds.{own_number, values_bound}
 use Rattle.planner.specs.Floors.{floor_number}
 use Rattle.planner.specs.Leaves.{leaves, plan_count}

@@ -1,6 +1,6 @@
 use Rattle.std.proofs.Common.{◌≡◌, ◌-◌, ◌^◌, take}
 use Rattle.std.specs.Prelude.{min, sum_by}
-use Rattle.planner.specs.Counts.{type_row_count}
+use Rattle.postings.specs.Stats.{type_row_count}
 use Rattle.pair_sets.proofs.choice.rows_of_types.Given as goal
 
 -- those of the types so far

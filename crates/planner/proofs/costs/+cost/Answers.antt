@@ -1,6 +1,6 @@
 use Rattle.std.proofs.Common.{◌≡◌, ◌∙◌, List, sym, ap, arith}
 use Rattle.set_algebra.specs.Plan.{plan_of, plans_of}
-use Rattle.planner.specs.declared.choice.Choice.{Choice}
+use Rattle.set_algebra.specs.declared.choice.Choice.{Choice}
 use Rattle.planner.specs.Bounds.{bound, capped, own_number, values_bound}
 use Rattle.planner.specs.Leaves.{plan_count}
 use Rattle.planner.specs.Nodes.{plans_sum}

@@ -1,6 +1,6 @@
 use Rattle.std.proofs.Common.{◌∙◌, List, ap, arith}
 use Rattle.set_algebra.specs.Plan.{plan_of, plans_of}
-use Rattle.planner.specs.declared.choice.Choice.{Choice}
+use Rattle.set_algebra.specs.declared.choice.Choice.{Choice}
 use Rattle.planner.specs.Floors.{floor, floor_number}
 use Rattle.planner.specs.Nodes.{plans_sum}
 use Rattle.planner.proofs.LoopLemmas.{rest_end, rest_turn, sum_end, sum_turn}

@@ -1,6 +1,6 @@
 use Rattle.std.proofs.Common.{◌∙◌, [], List, length, ap, subst, sym}
 use Rattle.set_algebra.specs.Plan.{plan_of}
-use Rattle.planner.specs.declared.choice.Choice.{Choice}
+use Rattle.set_algebra.specs.declared.choice.Choice.{Choice}
 use Rattle.planner.specs.Leads.{leads}
 use Rattle.planner.specs.Offered.{AreLeast, AreOffered}
 use Rattle.planner.proofs.FrontLemmas.{length-chosen}

@@ -1,6 +1,6 @@
 use Rattle.std.proofs.Common.{◌∙◌, [], List, length, ap, subst, sym, arith}
 use Rattle.set_algebra.specs.Plan.{plan_of}
-use Rattle.planner.specs.declared.choice.Choice.{Choice}
+use Rattle.set_algebra.specs.declared.choice.Choice.{Choice}
 use Rattle.planner.specs.Leads.{leads}
 use Rattle.planner.specs.Offered.{AreOffered}
 use Rattle.planner.specs.Chosen.{chosen, least_choices}
