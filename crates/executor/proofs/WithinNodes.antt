@@ -1,6 +1,7 @@
 -- What plans mean, of candidates alone, from what they mean.
 use Rattle.std.proofs.Common.{ℕ, zero, suc, ◌≡◌, ◌<◌, ◌≤◌, ◌∙◌, ◌∷◌, [], Bool, true, false, not, ◌&&◌, List, Option, None, Some, length, get_or, take, refl, sym, ap, subst, arith, inl, inr, ◌+◌}
-use Rattle.std.specs.Prelude.{filter, slice_get}
+use Rattle.std.specs.Prelude.{IfOk, Result, filter, slice_get}
+use Rattle.std.proofs.lemmas.Result.{IfOk-weaker}
 use Rattle.std.specs.List.{list_all, list_any, range_with_len}
 use Rattle.std.proofs.lemmas.Bool.{and_parts, cases_lt}
 use Rattle.std.proofs.lemmas.Option.{slice_get_cases, slice_get_past}
@@ -35,6 +36,17 @@ passed_by test (y ∷ ys) zero x all at =
     let here : test y ≡ true = (and_parts (test y) (list_all test ys) all).0 in
     ap test (sym same) ∙ here
 passed_by test (y ∷ ys) (suc k) x all at = passed_by test ys k x (and_parts (test y) (list_all test ys) all).1 at
+
+-- what a call finds, where its items are told otherwise
+pub found_for : {T E : Type 0} (items_of : T → List ℕ) (result : Result T E) {own other : List ℕ → Type 0}
+    → ((found : List ℕ) → own found → other found) → IfOk result (λ found. own (items_of found)) → IfOk result (λ found. other (items_of found))
+found_for items_of result {own} {other} next found =
+    IfOk-weaker result (λ x. own (items_of x)) (λ x. other (items_of x)) (λ x. next (items_of x)) found
+
+pub found_as : {T E : Type 0} (items_of : T → List ℕ) (result : Result T E) {own other : List ℕ} → own ≡ other
+    → IfOk result (λ found. items_of found ≡ own) → IfOk result (λ found. items_of found ≡ other)
+found_as items_of result {own} {other} same found =
+    IfOk-weaker result (λ x. items_of x ≡ own) (λ x. items_of x ≡ other) (λ x is. is ∙ same) found
 
 module _ (release : Release) (may : ℕ → Bool) where
   abbrev by_number : (ℕ → Bool) → ℕ → Bool

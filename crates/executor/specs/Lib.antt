@@ -1,5 +1,6 @@
 pub mod Asked
 pub mod Joined
+pub mod Kinds
 pub mod Lead
 pub mod Members
 pub mod Named

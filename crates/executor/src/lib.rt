@@ -5,13 +5,17 @@
 #![tactic(auto)]
 
 mod counting;
+mod dotted_plans;
 mod family;
 mod guesses;
+mod joined_plans;
 mod led;
 mod nodes;
 mod plans;
 mod reached;
 mod reference_sets;
+mod unit_plans;
+mod walk_plans;
 mod walk_ways;
 mod walks;
 

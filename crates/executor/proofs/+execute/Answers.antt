@@ -1,5 +1,5 @@
 use Rattle.std.proofs.Common.{ℕ, List, ◌<◌, subst, ◌+◌, ◌*◌, ◌≤◌, ◌∙◌, ◌&&◌, Bool, true, drop, length, get_or, sym, ap, refl, arith, take, mul-le-mul_right, le_of_lt, Option}
-use Rattle.std.specs.Prelude.{All, filter, slice_get}
+use Rattle.std.specs.Prelude.{◌-◌, ◌^◌, All, IfOk, filter, min, slice_get}
 use Rattle.std.specs.List.{list_all, list_any}
 use Rattle.std.proofs.lemmas.List.{nil_from_length, take_all}
 use Rattle.std.proofs.lemmas.Option.{slice_get_read}
@@ -9,7 +9,7 @@ use Rattle.set_algebra.specs.Meaning.{group_means, has_groups, has_pairs, leads,
 use Rattle.pair_sets.specs.Tested.{is_one_of}
 use Rattle.pair_sets.specs.declared.candidates.Candidates.{Candidates}
 use Rattle.pair_sets.proofs.UnitLemmas.{units_found, units_within as units_of_candidates}
-use Rattle.set_algebra.specs.Plan.{Plan, and_group, and_plan, group_plan_of, group_plans_of, members_plan, minus_group, minus_plan, or_group, or_plan, outside_plan, pairs_group, pairs_plan, plan_of, plans_of, test_plan_of, units_plan, values_plan, walk_plan, within_plan}
+use Rattle.set_algebra.specs.Plan.{GroupPlan, Plan, and_group, and_plan, group_plan_of, group_plans_of, members_plan, minus_group, minus_plan, or_group, or_plan, outside_plan, pairs_group, pairs_plan, plan_of, plans_of, test_plan_of, units_plan, values_plan, walk_plan, within_plan}
 use Rattle.set_algebra.proofs.PlanLemmas.{group_plan_of-And, group_plan_of-Or, plan_of-And, plan_of-Or, plan_of-Values}
 use Rattle.idset.specs.Sets.{has_item, numbers_where}
 use Rattle.postings.specs.Groups.{all_groups}
@@ -39,28 +39,28 @@ use Rattle.executor.proofs.NodeLemmas.{all_node, and_node, members_node, name_st
 use Rattle.executor.proofs.PartWork.{concepts_found, concepts_read, few_found, few_groups, few_joined, few_joined_groups, few_values, groups_found, groups_read}
 use Rattle.pair_sets.proofs.WithinLemmas.{all_of_none, all_within, none_within, some_of_none, some_within}
 use Rattle.pair_sets.proofs.WithinLemmas.{kept_groups, kept_set}
-use Rattle.executor.proofs.WithinNodes.{any_done, empty_within, groups_led_again, groups_led_all, groups_same, kept_node, led_again, led_all, minus_groups, minus_node, nothing_within, walk_of_part, within_same}
+use Rattle.executor.proofs.WithinNodes.{any_done, empty_within, found_as, found_for, groups_led_again, groups_led_all, groups_same, kept_node, led_again, led_all, meant_within, minus_groups, minus_node, nothing_within, walk_of_part, within_same}
 use Rattle.executor.proofs.WorkLemmas.{all_end, all_most, all_next, all_pass, all_start, all_turn, along_from, along_le, along_more, first_within, joined_reads, lead_inside, lead_is, no_parts, some_end, some_next, some_start, some_turn}
-use Rattle.executor.proofs.plans.+execute.Goals as goal
-use Rattle.executor.proofs.plans.+execute.Goals.{in_all-then-place-lead+in_ok-extent+in_ok-next, in_all-else-place-lead, groups_in_all-then-place-lead+in_ok-extent+in_ok-next, groups_in_all-else-place-lead}
+use Rattle.executor.proofs.+execute.Goals as goal
+use Rattle.executor.proofs.+execute.Goals.{joined_plans::in_all-then-place-lead+in_ok-extent+in_ok-next, joined_plans::in_all-else-place-lead, unit_plans::groups_in_all-then-place-lead+in_ok-extent+in_ok-next, unit_plans::groups_in_all-else-place-lead}
 
-pub execute_tallied-returns-then-none_left-clause-items : goal.execute_tallied-returns-then-none_left-clause-items
-execute_tallied-returns-then-none_left-clause-items g t c =
+pub plans::execute_tallied-returns-then-none_left-clause-items : goal.plans::execute_tallied-returns-then-none_left-clause-items
+plans::execute_tallied-returns-then-none_left-clause-items g t c =
     let release = c.args.snapshot.now.release in
     let may : ℕ → Bool = may_be g.S.ConceptSet.items_of c.args.candidates.now in
     none_within (length release.concepts) may (λ n. means release (plan_of c.args.plan.now) (get_or release.concepts n 0))
     (g.S.ConceptSet.items_of c.in_ok-found.found)
     (c.none_left.ensures c.if-none_left.true) c.in_ok-found.ensures.items
 
-pub execute_tallied-returns-clause-size : goal.execute_tallied-returns-clause-size
-execute_tallied-returns-clause-size g t c =
+pub plans::execute_tallied-returns-clause-size : goal.plans::execute_tallied-returns-clause-size
+plans::execute_tallied-returns-clause-size g t c =
     few_found c.args.snapshot.now.release c.args.indexes.now c.requires.index c.concept_count.ensures.rising
     (sources_known c.args.snapshot.now.release c.concept_count.ensures.rising c.attribute_count.ensures.by_source)
     c.args.choices.now (plan_of c.args.plan.now) (may_be g.S.ConceptSet.items_of c.args.candidates.now)
     (g.S.ConceptSet.items_of c.in_ok-found-2.found) (c.in_ok-found-2.ensures.items ∙ c.in_ok-made.ensures.items)
 
-pub execute_tallied-returns-then-none_left-clause-within : goal.execute_tallied-returns-then-none_left-clause-within
-execute_tallied-returns-then-none_left-clause-within g t c =
+pub plans::execute_tallied-returns-then-none_left-clause-within : goal.plans::execute_tallied-returns-then-none_left-clause-within
+plans::execute_tallied-returns-then-none_left-clause-within g t c =
     omega (
       arith,
       c.plan_floor.ensures.floor,
@@ -68,8 +68,8 @@ execute_tallied-returns-then-none_left-clause-within g t c =
       floor-le-bound c.args.indexes.now c.args.choices.now (plan_of c.args.plan.now),
     )
 
-pub execute_tallied-returns-in_err-found-clause-within : goal.execute_tallied-returns-in_err-found-clause-within
-execute_tallied-returns-in_err-found-clause-within g t c =
+pub plans::execute_tallied-returns-in_err-found-clause-within : goal.plans::execute_tallied-returns-in_err-found-clause-within
+plans::execute_tallied-returns-in_err-found-clause-within g t c =
     omega (
       arith,
       c.plan_floor.ensures.floor,
@@ -77,15 +77,15 @@ execute_tallied-returns-in_err-found-clause-within g t c =
       floor-le-bound c.args.indexes.now c.args.choices.now (plan_of c.args.plan.now),
     )
 
-pub execute_groups-returns-clause-size : goal.execute_groups-returns-clause-size
-execute_groups-returns-clause-size g t c =
+pub unit_plans::execute_groups-returns-clause-size : goal.unit_plans::execute_groups-returns-clause-size
+unit_plans::execute_groups-returns-clause-size g t c =
     few_groups c.args.snapshot.now.release c.args.indexes.now c.requires.index c.concept_count.ensures.rising
     (sources_known c.args.snapshot.now.release c.concept_count.ensures.rising c.attribute_count.ensures.by_source)
     c.args.choices.now (group_plan_of c.args.plan.now) (may_be g.S.ConceptSet.items_of c.args.candidates.now)
     (g.S.ConceptSet.items_of c.in_ok-found-2.found) c.in_ok-found-2.ensures.items
 
-pub execute_groups-returns-then-none_left-clause-within : goal.execute_groups-returns-then-none_left-clause-within
-execute_groups-returns-then-none_left-clause-within g t c =
+pub unit_plans::execute_groups-returns-then-none_left-clause-within : goal.unit_plans::execute_groups-returns-then-none_left-clause-within
+unit_plans::execute_groups-returns-then-none_left-clause-within g t c =
     omega (
       arith,
       c.unit_floor.ensures.floor,
@@ -93,8 +93,8 @@ execute_groups-returns-then-none_left-clause-within g t c =
       group_floor-le-bound c.args.indexes.now c.args.choices.now (group_plan_of c.args.plan.now),
     )
 
-pub execute_groups-returns-in_err-found-clause-within : goal.execute_groups-returns-in_err-found-clause-within
-execute_groups-returns-in_err-found-clause-within g t c =
+pub unit_plans::execute_groups-returns-in_err-found-clause-within : goal.unit_plans::execute_groups-returns-in_err-found-clause-within
+unit_plans::execute_groups-returns-in_err-found-clause-within g t c =
     omega (
       arith,
       c.unit_floor.ensures.floor,
@@ -102,48 +102,17 @@ execute_groups-returns-in_err-found-clause-within g t c =
       group_floor-le-bound c.args.indexes.now c.args.choices.now (group_plan_of c.args.plan.now),
     )
 
-pub execute_node-returns-in_ok-found-in-Empty-clause-items : goal.execute_node-returns-in_ok-found-in-Empty-clause-items
-execute_node-returns-in_ok-found-in-Empty-clause-items g t c =
-    let release = c.args.snapshot.now.release in
-    let may : ℕ → Bool = may_be g.S.ConceptSet.items_of c.args.candidates.now in
-    empty_within release may (plan_of c.args.plan.now) (g.S.ConceptSet.items_of c.in_ok-found-in-Empty.found)
-    (ap plan_of c.in-Empty.is) c.in_ok-found-in-Empty.ensures.items
-
-pub execute_node-returns-in_ok-found-in-All-clause-items : goal.execute_node-returns-in_ok-found-in-All-clause-items
-execute_node-returns-in_ok-found-in-All-clause-items g t c =
-    let release = c.args.snapshot.now.release in
-    let may : ℕ → Bool = may_be g.S.ConceptSet.items_of c.args.candidates.now in
-    kept_node release may (plan_of c.args.plan.now) (g.S.ConceptSet.items_of c.in_ok-every-in-All.every) (g.S.ConceptSet.items_of c.in_ok-found-in-All.found)
-    (all_node release (plan_of c.args.plan.now) (g.S.ConceptSet.items_of c.in_ok-every-in-All.every)
-    (ap plan_of c.in-All.is) c.in_ok-every-in-All.ensures.items)
-    c.in_ok-found-in-All.ensures.items
-
-pub execute_node-returns-in_ok-found-in-One-clause-items : goal.execute_node-returns-in_ok-found-in-One-clause-items
-execute_node-returns-in_ok-found-in-One-clause-items g t c =
-    let release = c.args.snapshot.now.release in
-    let may : ℕ → Bool = may_be g.S.ConceptSet.items_of c.args.candidates.now in
-    kept_node release may (plan_of c.args.plan.now) (g.S.ConceptSet.items_of c.in_ok-one-in-One.one) (g.S.ConceptSet.items_of c.in_ok-found-in-One.found)
-    (one_node release (plan_of c.args.plan.now) (g.S.ConceptSet.items_of c.in_ok-one-in-One.one) c.in-One.id
-    (ap plan_of c.in-One.is) c.in_ok-one-in-One.ensures.items)
-    c.in_ok-found-in-One.ensures.items
-
-pub execute_node-returns-in_ok-found-in-Walk-clause-items : goal.execute_node-returns-in_ok-found-in-Walk-clause-items
-execute_node-returns-in_ok-found-in-Walk-clause-items g t c =
-    let release = c.args.snapshot.now.release in
-    c.in_ok-found-in-Walk.ensures.items
-    ∙ ap (λ (plan : Plan). numbers_within release (may_be g.S.ConceptSet.items_of c.args.candidates.now) (means release plan))
-    (ap (λ (plan : ConceptPlan). walk_plan c.in-Walk.operator (plan_of plan)) c.deref.ensures ∙ sym (ap plan_of c.in-Walk.is))
-
-pub walk_among-walk_way-way-requires-clause-below : goal.walk_among-walk_way-way-requires-clause-below
-walk_among-walk_way-way-requires-clause-below g t c =
+pub walk_plans::walk_among-walk_way-way-requires-clause-below : goal.walk_plans::walk_among-walk_way-way-requires-clause-below
+walk_plans::walk_among-walk_way-way-requires-clause-below g t c =
     let from = c.in_ok-from.from in
     subst (λ (numbers : List ℕ). All (λ number. number < c.bound-3.result) numbers) (sym (c.as_slice-own.ensures.value ∙ c.in_ok-concepts.ensures))
     (subst (λ (count : ℕ). All (λ number. number < count) (g.S.ConceptSet.items_of from)) (sym c.bound-3.ensures)
     (all_below (g.S.ConceptSet.bound_of from) (g.S.ConceptSet.items_of from) (g.met.S.ConceptSet.rising from)))
 
 -- where the candidates are asked one by one
-pub walk_among-returns-in-Some-clause-items : goal.walk_among-returns-in-Some-clause-items
-walk_among-returns-in-Some-clause-items g t c =
+
+pub walk_plans::walk_among-returns-in-Some-clause-items : goal.walk_plans::walk_among-returns-in-Some-clause-items
+walk_plans::walk_among-returns-in-Some-clause-items g t c =
     let may : ℕ → Bool = may_be g.S.ConceptSet.items_of c.args.candidates.now in
     let enough : ℕ → Bool = may_be g.S.ConceptSet.items_of c.args.enough.now in
     let from = c.in_ok-from.from in
@@ -157,8 +126,9 @@ walk_among-returns-in-Some-clause-items g t c =
     ∙ ap (λ (candidates : Candidates _). filter (may_be g.S.ConceptSet.items_of candidates) led) (sym c.in-Within.is))
 
 -- where each concept is asked, since it leads from all
-pub walk_among-returns-then-count-bound-clause-items : goal.walk_among-returns-then-count-bound-clause-items
-walk_among-returns-then-count-bound-clause-items g t c =
+
+pub walk_plans::walk_among-returns-then-count-bound-clause-items : goal.walk_plans::walk_among-returns-then-count-bound-clause-items
+walk_plans::walk_among-returns-then-count-bound-clause-items g t c =
     let may : ℕ → Bool = may_be g.S.ConceptSet.items_of c.args.candidates.now in
     let enough : ℕ → Bool = may_be g.S.ConceptSet.items_of c.args.enough.now in
     let from = c.in_ok-from.from in
@@ -175,8 +145,8 @@ walk_among-returns-then-count-bound-clause-items g t c =
     ∙ led_from_all count hierarchy (record { release = c.args.snapshot.now.release; hierarchy_is = over; count_is = c.in_ok-from.ensures.bound })
     c.args.operator items (g.met.S.ConceptSet.rising from) (omega (arith, c.count-2.ensures, c.bound-2.ensures, c.if-count-bound.true))))
 
-pub walk_among-returns-clause-items : goal.walk_among-returns-clause-items
-walk_among-returns-clause-items g t c =
+pub walk_plans::walk_among-returns-clause-items : goal.walk_plans::walk_among-returns-clause-items
+walk_plans::walk_among-returns-clause-items g t c =
     let may : ℕ → Bool = may_be g.S.ConceptSet.items_of c.args.candidates.now in
     let enough : ℕ → Bool = may_be g.S.ConceptSet.items_of c.args.enough.now in
     let from = c.in_ok-from.from in
@@ -186,186 +156,10 @@ walk_among-returns-clause-items g t c =
     (subst (λ (hierarchy : Hierarchy). AreEnough (asked_lists hierarchy c.args.operator) may enough) (sym c.hierarchy-hierarchy.ensures) c.requires.enough)
     c.in_ok-from.ensures.items c.in_ok-found-2.ensures.items
 
-pub execute_node-returns-in_ok-found-in-Members-clause-items : goal.execute_node-returns-in_ok-found-in-Members-clause-items
-execute_node-returns-in_ok-found-in-Members-clause-items g t c =
-    let release = c.args.snapshot.now.release in
-    let may : ℕ → Bool = may_be g.S.ConceptSet.items_of c.args.candidates.now in
-    let some : List ℕ = components_of release (g.S.ConceptSet.items_of c.in_ok-from-in-Members.from) in
-    kept_node release may (plan_of c.args.plan.now) some (g.S.ConceptSet.items_of c.in_ok-found-in-Members.found)
-    (members_node release (plan_of c.args.plan.now) some (plan_of c.deref-in-Members.result.now)
-    (g.S.ConceptSet.items_of c.in_ok-from-in-Members.from)
-    (ap plan_of c.in-Members.is ∙ ap (λ (plan : ConceptPlan). members_plan (plan_of plan)) (sym c.deref-in-Members.ensures))
-    c.in_ok-from-in-Members.ensures.items refl)
-    (c.in_ok-found-in-Members.ensures.items
-    ∙ ap (λ (refsets : List ℕ). filter may (components_of release refsets)) (c.as_slice-refsets.ensures.value ∙ c.in_ok-numbers-in-Members.ensures))
-
 -- the reference sets are concepts
-pub execute_node-members_way-way-requires : goal.execute_node-members_way-way-requires
-execute_node-members_way-way-requires g t c =
-    let from = c.in_ok-from-in-Members.from in
-    subst (λ (numbers : List ℕ). All (λ number. number < length c.args.indexes.now.concepts) numbers)
-    (sym (c.as_slice-refsets.ensures.value ∙ c.in_ok-numbers-in-Members.ensures))
-    (subst (λ (count : ℕ). All (λ number. number < count) (g.S.ConceptSet.items_of from))
-    (c.in_ok-from-in-Members.ensures.bound ∙ ap (λ (ids : List ℕ). length ids) (sym c.requires.index.concepts))
-    (all_below (g.S.ConceptSet.bound_of from) (g.S.ConceptSet.items_of from) (g.met.S.ConceptSet.rising from)))
 
-pub execute_node-members_within-requires-clause-below : goal.execute_node-members_within-requires-clause-below
-execute_node-members_within-requires-clause-below g t c =
-    let from = c.in_ok-from-in-Members.from in
-    subst (λ (numbers : List ℕ). All (λ number. number < length c.args.indexes.now.concepts) numbers)
-    (sym (c.as_slice-refsets.ensures.value ∙ c.in_ok-numbers-in-Members.ensures))
-    (subst (λ (count : ℕ). All (λ number. number < count) (g.S.ConceptSet.items_of from))
-    (c.in_ok-from-in-Members.ensures.bound ∙ ap (λ (ids : List ℕ). length ids) (sym c.requires.index.concepts))
-    (all_below (g.S.ConceptSet.bound_of from) (g.S.ConceptSet.items_of from) (g.met.S.ConceptSet.rising from)))
-
-pub execute_node-returns-in_ok-found-in-And-clause-items : goal.execute_node-returns-in_ok-found-in-And-clause-items
-execute_node-returns-in_ok-found-in-And-clause-items g t c =
-    let release = c.args.snapshot.now.release in
-    let may : ℕ → Bool = may_be g.S.ConceptSet.items_of c.args.candidates.now in
-    let some : ℕ → Bool = λ concept. list_all (λ part. means release (plan_of part) concept) c.deref-in-And.result.now in
-    c.in_ok-found-in-And.ensures.items
-    ∙ within_same release may some (means release (plan_of c.args.plan.now))
-    (and_node release (plan_of c.args.plan.now) (numbers_in release some) c.deref-in-And.result.now
-    (ap plan_of c.in-And.is ∙ plan_of-And c.in-And.parts ∙ ap (λ (parts : List ConceptPlan). and_plan (plans_of parts))
-    (sym c.deref-in-And.ensures.value)) refl)
-
-pub execute_node-returns-in_ok-found-in-Or-clause-items : goal.execute_node-returns-in_ok-found-in-Or-clause-items
-execute_node-returns-in_ok-found-in-Or-clause-items g t c =
-    let release = c.args.snapshot.now.release in
-    let may : ℕ → Bool = may_be g.S.ConceptSet.items_of c.args.candidates.now in
-    let some : ℕ → Bool = λ concept. list_any (λ part. means release (plan_of part) concept) c.deref-in-Or.result.now in
-    c.in_ok-found-in-Or.ensures.items
-    ∙ within_same release may some (means release (plan_of c.args.plan.now))
-    (or_node release (plan_of c.args.plan.now) (numbers_in release some) c.deref-in-Or.result.now
-    (ap plan_of c.in-Or.is ∙ plan_of-Or c.in-Or.parts ∙ ap (λ (parts : List ConceptPlan). or_plan (plans_of parts)) (sym c.deref-in-Or.ensures.value)) refl)
-
-pub execute_node-returns-in_ok-found-in-Minus-clause-items : goal.execute_node-returns-in_ok-found-in-Minus-clause-items
-execute_node-returns-in_ok-found-in-Minus-clause-items g t c =
-    let release = c.args.snapshot.now.release in
-    let may : ℕ → Bool = may_be g.S.ConceptSet.items_of c.args.candidates.now in
-    minus_node release may (plan_of c.args.plan.now) (plan_of c.deref-in-Minus.result.now) (plan_of c.deref-in-Minus-5.result.now)
-    (g.S.ConceptSet.items_of c.in_ok-left-in-Minus.left) (g.S.ConceptSet.items_of c.in_ok-right-in-Minus.right)
-    (g.S.ConceptSet.items_of c.in_ok-found-in-Minus.found)
-    (ap plan_of c.in-Minus.is ∙ (λ i. minus_plan (plan_of (sym c.deref-in-Minus.ensures i)) (plan_of (sym c.deref-in-Minus-5.ensures i))))
-    c.in_ok-left-in-Minus.ensures.items c.in_ok-right-in-Minus.ensures.items c.in_ok-found-in-Minus.ensures.items
-
-pub execute_node-returns-in_ok-found-in-Values-clause-items : goal.execute_node-returns-in_ok-found-in-Values-clause-items
-execute_node-returns-in_ok-found-in-Values-clause-items g t c =
-    let release = c.args.snapshot.now.release in
-    let may : ℕ → Bool = may_be g.S.ConceptSet.items_of c.args.candidates.now in
-    kept_node release may (plan_of c.args.plan.now) (g.S.ConceptSet.items_of c.in_ok-led-in-Values.led) (g.S.ConceptSet.items_of c.in_ok-found-in-Values.found)
-    (values_node release (plan_of c.args.plan.now) (g.S.ConceptSet.items_of c.in_ok-led-in-Values.led)
-    (plan_of c.deref-in-Values.result.now) c.deref-in-Values-3.result.now
-    (ap plan_of c.in-Values.is ∙ plan_of-Values c.in-Values.start c.in-Values.names
-    ∙ (λ i. values_plan (plan_of (sym c.deref-in-Values.ensures i)) (plans_of (sym c.deref-in-Values-3.ensures.value i))))
-    (c.in_ok-led-in-Values.ensures.items (plan_of c.deref-in-Values.result.now) c.in_ok-from-in-Values.ensures.items))
-    c.in_ok-found-in-Values.ensures.items
-
-pub execute_node-returns-in_err-led-in-Values-clause-within : goal.execute_node-returns-in_err-led-in-Values-clause-within
-execute_node-returns-in_err-led-in-Values-clause-within g t c =
-    let indexed = c.args.indexes.now in
-    let choices = c.args.choices.now in
-    let names = plans_of c.deref-in-Values-3.result.now in
-    let is = values_are c.in-Values.start c.in-Values.names c.in-Values.is c.deref-in-Values.ensures c.deref-in-Values-3.ensures.value in
-    let behind =
-    c.plan_floor-in-Values.ensures.rest
-    ∙ ap (λ (start : ConceptPlan). drop (leaves (plan_of start)) choices) (c.deref-in-Values-2.ensures ∙ sym c.deref-in-Values.ensures) in
-    omega (
-      arith,
-      c.led_along.ensures.within,
-      c.execute_within-in-Values.ensures.within,
-      along_from indexed (plan_count names) (length (g.S.ConceptSet.items_of c.in_ok-from-in-Values.from))
-          (size indexed choices (plan_of c.deref-in-Values.result.now)) c.in_ok-from-in-Values.ensures.size,
-      ap (λ (plan : Plan). node_sum (own_number indexed) choices plan) is,
-      ap (λ (rest : List Choice). plans_sum (own_number indexed) rest names) behind,
-    )
-
-pub execute_node-returns-in_err-found-in-Values-clause-within : goal.execute_node-returns-in_err-found-in-Values-clause-within
-execute_node-returns-in_err-found-in-Values-clause-within g t c =
-    let indexed = c.args.indexes.now in
-    let choices = c.args.choices.now in
-    let names = plans_of c.deref-in-Values-3.result.now in
-    let is = values_are c.in-Values.start c.in-Values.names c.in-Values.is c.deref-in-Values.ensures c.deref-in-Values-3.ensures.value in
-    let behind =
-    c.plan_floor-in-Values.ensures.rest
-    ∙ ap (λ (start : ConceptPlan). drop (leaves (plan_of start)) choices) (c.deref-in-Values-2.ensures ∙ sym c.deref-in-Values.ensures) in
-    omega (
-      arith,
-      c.led_along.ensures.within,
-      c.execute_within-in-Values.ensures.within,
-      along_from indexed (plan_count names) (length (g.S.ConceptSet.items_of c.in_ok-from-in-Values.from))
-          (size indexed choices (plan_of c.deref-in-Values.result.now)) c.in_ok-from-in-Values.ensures.size,
-      ap (λ (plan : Plan). node_sum (own_number indexed) choices plan) is,
-      ap (λ (rest : List Choice). plans_sum (own_number indexed) rest names) behind,
-    )
-
-pub execute_node-returns-in_ok-found-in-Values-clause-within : goal.execute_node-returns-in_ok-found-in-Values-clause-within
-execute_node-returns-in_ok-found-in-Values-clause-within g t c =
-    let indexed = c.args.indexes.now in
-    let choices = c.args.choices.now in
-    let names = plans_of c.deref-in-Values-3.result.now in
-    let is = values_are c.in-Values.start c.in-Values.names c.in-Values.is c.deref-in-Values.ensures c.deref-in-Values-3.ensures.value in
-    let behind =
-    c.plan_floor-in-Values.ensures.rest
-    ∙ ap (λ (start : ConceptPlan). drop (leaves (plan_of start)) choices) (c.deref-in-Values-2.ensures ∙ sym c.deref-in-Values.ensures) in
-    omega (
-      arith,
-      c.led_along.ensures.within,
-      c.execute_within-in-Values.ensures.within,
-      along_from indexed (plan_count names) (length (g.S.ConceptSet.items_of c.in_ok-from-in-Values.from))
-          (size indexed choices (plan_of c.deref-in-Values.result.now)) c.in_ok-from-in-Values.ensures.size,
-      ap (λ (plan : Plan). node_sum (own_number indexed) choices plan) is,
-      ap (λ (rest : List Choice). plans_sum (own_number indexed) rest names) behind,
-    )
-
-pub execute_node-returns-in_ok-found-in-Values-clause-floor : goal.execute_node-returns-in_ok-found-in-Values-clause-floor
-execute_node-returns-in_ok-found-in-Values-clause-floor g t c =
-    let indexed = c.args.indexes.now in
-    let choices = c.args.choices.now in
-    let names = plans_of c.deref-in-Values-3.result.now in
-    let is = values_are c.in-Values.start c.in-Values.names c.in-Values.is c.deref-in-Values.ensures c.deref-in-Values-3.ensures.value in
-    let behind =
-    c.plan_floor-in-Values.ensures.rest
-    ∙ ap (λ (start : ConceptPlan). drop (leaves (plan_of start)) choices) (c.deref-in-Values-2.ensures ∙ sym c.deref-in-Values.ensures) in
-    omega (
-      arith,
-      c.in_ok-led-in-Values.ensures.floor,
-      c.in_ok-from-in-Values.ensures.floor,
-      ap (λ (plan : Plan). node_sum (floor_number indexed) choices plan) is,
-      ap (λ (rest : List Choice). plans_sum (floor_number indexed) rest names) behind,
-    )
-
-pub execute_node-returns-in_ok-found-in-Pairs-clause-items : goal.execute_node-returns-in_ok-found-in-Pairs-clause-items
-execute_node-returns-in_ok-found-in-Pairs-clause-items g t c =
-    let release = c.args.snapshot.now.release in
-    let may : ℕ → Bool = may_be g.S.ConceptSet.items_of c.args.candidates.now in
-    let passes = value_passes release (test_plan_of c.in-Pairs.test) in
-    let one : ℕ → Bool = is_one_of c.args.indexes.now.concepts (g.S.ConceptSet.items_of c.in_ok-typed-in-Pairs.typed) in
-    let some : ℕ → Bool = λ concept. has_pairs c.in-Pairs.count one passes (pairs_of release c.in-Pairs.back concept) in
-    c.in_ok-found-in-Pairs.ensures.items
-    ∙ (λ i. numbers_within release may
-    (λ concept. has_pairs c.in-Pairs.count one (λ value. c.in_ok-tested-in-Pairs.ensures.passes value i) (pairs_of release c.in-Pairs.back concept)))
-    ∙ within_same release may some (means release (plan_of c.args.plan.now))
-    (pairs_node release (plan_of c.args.plan.now) (numbers_in release some)
-    c.in-Pairs.back c.in-Pairs.count (plan_of c.deref-in-Pairs-2.result.now) (test_plan_of c.in-Pairs.test)
-    c.args.indexes.now.concepts (g.S.ConceptSet.items_of c.in_ok-typed-in-Pairs.typed)
-    (ap plan_of c.in-Pairs.is
-    ∙ ap (λ (types : ConceptPlan). pairs_plan c.in-Pairs.back c.in-Pairs.count (plan_of types) (test_plan_of c.in-Pairs.test))
-    (sym c.deref-in-Pairs-2.ensures))
-    c.requires.index.concepts c.in_ok-typed-in-Pairs.ensures.items refl)
-
-pub execute_node-returns-in_ok-found-in-Units-clause-items : goal.execute_node-returns-in_ok-found-in-Units-clause-items
-execute_node-returns-in_ok-found-in-Units-clause-items g t c =
-    let release = c.args.snapshot.now.release in
-    let may : ℕ → Bool = may_be g.S.ConceptSet.items_of c.args.candidates.now in
-    let some : ℕ → Bool = has_groups release c.in-Units.count (group_means release (group_plan_of c.deref-in-Units.result.now)) in
-    c.in_ok-found-in-Units.ensures.items
-    ∙ within_same release may some (means release (plan_of c.args.plan.now))
-    (units_node release (plan_of c.args.plan.now) (numbers_in release some) c.in-Units.count (group_plan_of c.deref-in-Units.result.now)
-    (ap plan_of c.in-Units.is ∙ ap (λ (units : UnitPlan). units_plan c.in-Units.count (group_plan_of units)) (sym c.deref-in-Units.ensures)) refl)
-
-pub units_within-returns-then-has_few_groups-clause-items : goal.units_within-returns-then-has_few_groups-clause-items
-units_within-returns-then-has_few_groups-clause-items g t c =
+pub plans::units_within-returns-then-has_few_groups-clause-items : goal.plans::units_within-returns-then-has_few_groups-clause-items
+plans::units_within-returns-then-has_few_groups-clause-items g t c =
     let release = c.args.snapshot.now.release in
     units_of_candidates release c.concept_count-found_groups.ensures.rising c.args.count (group_means release (group_plan_of c.args.units.now))
     (g.S.ConceptSet.items_of c.in-Within.wanted.now) (g.S.ConceptSet.items_of c.in_ok-own.own) (g.S.ConceptSet.items_of c.in_ok-groups.groups)
@@ -374,8 +168,8 @@ units_within-returns-then-has_few_groups-clause-items g t c =
     ∙ ap (λ (candidates : Candidates _). numbers_within release (may_be g.S.ConceptSet.items_of candidates)
     (has_groups release c.args.count (group_means release (group_plan_of c.args.units.now)))) (sym c.in-Within.is)
 
-pub units_within-returns-clause-items : goal.units_within-returns-clause-items
-units_within-returns-clause-items g t c =
+pub plans::units_within-returns-clause-items : goal.plans::units_within-returns-clause-items
+plans::units_within-returns-clause-items g t c =
     let release = c.args.snapshot.now.release in
     let may : ℕ → Bool = may_be g.S.ConceptSet.items_of c.args.candidates.now in
     kept_set release may (has_groups release c.args.count (group_means release (group_plan_of c.args.units.now)))
@@ -385,16 +179,16 @@ units_within-returns-clause-items g t c =
     c.in_ok-groups-2.ensures.items c.in_ok-some-2.ensures.items)
     c.in_ok-found-2.ensures.items
 
-pub led_by-returns-clause-items : goal.led_by-returns-clause-items
-led_by-returns-clause-items g t c =
+pub joined_plans::led_by-returns-clause-items : goal.joined_plans::led_by-returns-clause-items
+joined_plans::led_by-returns-clause-items g t c =
     let release = c.args.snapshot.now.release in
     let may : ℕ → Bool = may_be g.S.ConceptSet.items_of c.args.candidates.now in
     c.in_ok-found.ensures.items
     ∙ ap (λ (at : Option ConceptPlan). numbers_within release may (leads_off release at))
     (sym (slice_get_read c.args.parts.now (length c.args.parts.now) c.args.lead c.index-parts-lead.result refl c.requires.lead c.index-parts-lead.is))
 
-pub led_by-returns-clause-within : goal.led_by-returns-clause-within
-led_by-returns-clause-within g t c =
+pub joined_plans::led_by-returns-clause-within : goal.joined_plans::led_by-returns-clause-within
+joined_plans::led_by-returns-clause-within g t c =
     let indexed = c.args.indexes.now in
     omega (
       arith,
@@ -405,8 +199,8 @@ led_by-returns-clause-within g t c =
           c.index-parts-lead.is,
     )
 
-pub led_by-returns-clause-floor : goal.led_by-returns-clause-floor
-led_by-returns-clause-floor g t c =
+pub joined_plans::led_by-returns-clause-floor : goal.joined_plans::led_by-returns-clause-floor
+joined_plans::led_by-returns-clause-floor g t c =
     let indexed = c.args.indexes.now in
     omega (
       arith,
@@ -416,8 +210,8 @@ led_by-returns-clause-floor g t c =
           c.requires.lead c.index-parts-lead.is,
     )
 
-pub in_all-loop-place-init : goal.in_all-loop-place-init
-in_all-loop-place-init g t c =
+pub joined_plans::in_all-loop-place-init : goal.joined_plans::in_all-loop-place-init
+joined_plans::in_all-loop-place-init g t c =
     let release = c.args.snapshot.now.release in
     record {
       items = all_of_none (length release.concepts)
@@ -428,12 +222,12 @@ in_all-loop-place-init g t c =
       work = all_start c.choices_at-at.ensures c.led_by.ensures.grows c.led_by.ensures.within c.in_ok-found.ensures.floor;
     }
 
-pub in_all-loop-place-preserved : goal.in_all-loop-place-preserved
-in_all-loop-place-preserved g t c =
+pub joined_plans::in_all-loop-place-preserved : goal.joined_plans::in_all-loop-place-preserved
+joined_plans::in_all-loop-place-preserved g t c =
     let release = c.args.snapshot.now.release in
     let may : ℕ → Bool = may_be g.S.ConceptSet.items_of c.args.candidates.now in
     elim c.if-place-lead.branch [
-      | in_all-then-place-lead+in_ok-extent+in_ok-next w ↦
+      | joined_plans::in_all-then-place-lead+in_ok-extent+in_ok-next w ↦
           record {
             items = ap (λ (found : _). g.S.ConceptSet.items_of found) w.found-is
                 ∙ all_within (length release.concepts) (λ (p : ConceptPlan) (n : ℕ). means release (plan_of p)
@@ -451,7 +245,7 @@ in_all-loop-place-preserved g t c =
                 (omega (arith, w.execute_within.ensures.within, w.add.ensures.count, w.in_ok-next.ensures.size, ap (λ (visits : _). visits.count) w.visits-is))
                 (omega (arith, w.in_ok-next.ensures.floor, w.add.ensures.grows, ap (λ (visits : _). visits.count) w.visits-is));
           }
-      | in_all-else-place-lead w ↦
+      | joined_plans::in_all-else-place-lead w ↦
           record {
             items = ap (λ (found : _). g.S.ConceptSet.items_of found) w.found-is
                 ∙ led_again release may c.args.parts.now c.min-lead.result c.loop-place.place w.if-place-lead.false c.loop-place-test.true
@@ -462,8 +256,8 @@ in_all-loop-place-preserved g t c =
           }
     ]
 
-pub in_all-returns-clause-items : goal.in_all-returns-clause-items
-in_all-returns-clause-items g t c =
+pub joined_plans::in_all-returns-clause-items : goal.joined_plans::in_all-returns-clause-items
+joined_plans::in_all-returns-clause-items g t c =
     let release = c.args.snapshot.now.release in
     let may : ℕ → Bool = may_be g.S.ConceptSet.items_of c.args.candidates.now in
     led_all release may c.args.parts.now c.min-lead.result (g.S.ConceptSet.items_of c.loop-place.found)
@@ -473,33 +267,33 @@ in_all-returns-clause-items g t c =
     (λ part. means release (plan_of part) (get_or release.concepts n 0)) parts))
     (take_all c.loop-place.place c.args.parts.now (omega arith)))
 
-pub in_all-returns-in_err-found-clause-within : goal.in_all-returns-in_err-found-clause-within
-in_all-returns-in_err-found-clause-within g t c =
+pub joined_plans::in_all-returns-in_err-found-clause-within : goal.joined_plans::in_all-returns-in_err-found-clause-within
+joined_plans::in_all-returns-in_err-found-clause-within g t c =
     omega (
       arith,
       c.led_by.ensures.within,
       first_within of_concepts (concepts_read c.args.indexes.now) c.args.parts.now c.min-lead.result c.choices_at-at.ensures (lead_inside c.lead_of.result c.is_empty.ensures c.if-is_empty.false c.min-lead.ensures),
     )
 
-pub in_all-returns-in_err-extent-clause-within : goal.in_all-returns-in_err-extent-clause-within
-in_all-returns-in_err-extent-clause-within g t c = omega (arith, all_most c.loop-place.invariant.work (lead_inside c.lead_of.result c.is_empty.ensures c.if-is_empty.false c.min-lead.ensures))
+pub joined_plans::in_all-returns-in_err-extent-clause-within : goal.joined_plans::in_all-returns-in_err-extent-clause-within
+joined_plans::in_all-returns-in_err-extent-clause-within g t c = omega (arith, all_most c.loop-place.invariant.work (lead_inside c.lead_of.result c.is_empty.ensures c.if-is_empty.false c.min-lead.ensures))
 
-pub in_all-returns-in_err-next-clause-within : goal.in_all-returns-in_err-next-clause-within
-in_all-returns-in_err-next-clause-within g t c =
+pub joined_plans::in_all-returns-in_err-next-clause-within : goal.joined_plans::in_all-returns-in_err-next-clause-within
+joined_plans::in_all-returns-in_err-next-clause-within g t c =
     omega (
       arith,
       all_next {next = c.execute_within.new.visits.count} c.loop-place.invariant.work (lead_inside c.lead_of.result c.is_empty.ensures c.if-is_empty.false c.min-lead.ensures) c.index-parts-place.result c.loop-place-test.true c.index-parts-place.is c.if-place-lead.true
           (omega (arith, c.execute_within.ensures.within)),
     )
 
-pub in_all-returns-clause-within : goal.in_all-returns-clause-within
-in_all-returns-clause-within g t c = omega (arith, (all_end c.loop-place.invariant.work (omega arith) (lead_inside c.lead_of.result c.is_empty.ensures c.if-is_empty.false c.min-lead.ensures)).within)
+pub joined_plans::in_all-returns-clause-within : goal.joined_plans::in_all-returns-clause-within
+joined_plans::in_all-returns-clause-within g t c = omega (arith, (all_end c.loop-place.invariant.work (omega arith) (lead_inside c.lead_of.result c.is_empty.ensures c.if-is_empty.false c.min-lead.ensures)).within)
 
-pub in_all-returns-clause-floor : goal.in_all-returns-clause-floor
-in_all-returns-clause-floor g t c = (all_end c.loop-place.invariant.work (omega arith) (lead_inside c.lead_of.result c.is_empty.ensures c.if-is_empty.false c.min-lead.ensures)).floor
+pub joined_plans::in_all-returns-clause-floor : goal.joined_plans::in_all-returns-clause-floor
+joined_plans::in_all-returns-clause-floor g t c = (all_end c.loop-place.invariant.work (omega arith) (lead_inside c.lead_of.result c.is_empty.ensures c.if-is_empty.false c.min-lead.ensures)).floor
 
-pub in_some-loop-part-init : goal.in_some-loop-part-init
-in_some-loop-part-init g t c =
+pub joined_plans::in_some-loop-part-init : goal.joined_plans::in_some-loop-part-init
+joined_plans::in_some-loop-part-init g t c =
     let release = c.args.snapshot.now.release in
     let may : ℕ → Bool = may_be g.S.ConceptSet.items_of c.args.candidates.now in
     record {
@@ -508,8 +302,8 @@ in_some-loop-part-init g t c =
       work = some_start c.args.visits.now.count;
     }
 
-pub in_some-loop-part-preserved : goal.in_some-loop-part-preserved
-in_some-loop-part-preserved g t c =
+pub joined_plans::in_some-loop-part-preserved : goal.joined_plans::in_some-loop-part-preserved
+joined_plans::in_some-loop-part-preserved g t c =
     let release = c.args.snapshot.now.release in
     let indexed = c.args.indexes.now in
     let may : ℕ → Bool = may_be g.S.ConceptSet.items_of c.args.candidates.now in
@@ -536,8 +330,8 @@ in_some-loop-part-preserved g t c =
           (omega (arith, c.in_ok-next.ensures.floor, c.add.ensures.grows));
     }
 
-pub in_some-returns-in_err-next-clause-within : goal.in_some-returns-in_err-next-clause-within
-in_some-returns-in_err-next-clause-within g t c =
+pub joined_plans::in_some-returns-in_err-next-clause-within : goal.joined_plans::in_some-returns-in_err-next-clause-within
+joined_plans::in_some-returns-in_err-next-clause-within g t c =
     let indexed = c.args.indexes.now in
     omega (
       arith,
@@ -551,8 +345,8 @@ in_some-returns-in_err-next-clause-within g t c =
       ap (λ (count : ℕ). count * total (sizes indexed c.args.choices.now (plans_of c.args.parts.now))) (plan_count-parts c.args.parts.now),
     )
 
-pub in_some-returns-in_err-found-2-clause-within : goal.in_some-returns-in_err-found-2-clause-within
-in_some-returns-in_err-found-2-clause-within g t c =
+pub joined_plans::in_some-returns-in_err-found-2-clause-within : goal.joined_plans::in_some-returns-in_err-found-2-clause-within
+joined_plans::in_some-returns-in_err-found-2-clause-within g t c =
     let release = c.args.snapshot.now.release in
     let indexed = c.args.indexes.now in
     let may : ℕ → Bool = may_be g.S.ConceptSet.items_of c.args.candidates.now in
@@ -575,8 +369,8 @@ in_some-returns-in_err-found-2-clause-within g t c =
       ap (λ (count : ℕ). count * all) (plan_count-parts c.args.parts.now),
     )
 
-pub in_some-returns-clause-within : goal.in_some-returns-clause-within
-in_some-returns-clause-within g t c =
+pub joined_plans::in_some-returns-clause-within : goal.joined_plans::in_some-returns-clause-within
+joined_plans::in_some-returns-clause-within g t c =
     let indexed = c.args.indexes.now in
     omega (
       arith,
@@ -584,19 +378,19 @@ in_some-returns-clause-within g t c =
       ap (λ (count : ℕ). count * total (sizes indexed c.args.choices.now (plans_of c.args.parts.now))) (plan_count-parts c.args.parts.now),
     )
 
-pub in_some-returns-clause-floor : goal.in_some-returns-clause-floor
-in_some-returns-clause-floor g t c = (some_end c.loop-part.invariant.work (omega arith)).floor
+pub joined_plans::in_some-returns-clause-floor : goal.joined_plans::in_some-returns-clause-floor
+joined_plans::in_some-returns-clause-floor g t c = (some_end c.loop-part.invariant.work (omega arith)).floor
 
-pub in_some-returns-clause-items : goal.in_some-returns-clause-items
-in_some-returns-clause-items g t c =
+pub joined_plans::in_some-returns-clause-items : goal.joined_plans::in_some-returns-clause-items
+joined_plans::in_some-returns-clause-items g t c =
     let release = c.args.snapshot.now.release in
     let may : ℕ → Bool = may_be g.S.ConceptSet.items_of c.args.candidates.now in
     c.loop-part.invariant.items
     ∙ ap (λ (parts : List ConceptPlan). numbers_within release may (λ concept. list_any (λ part. means release (plan_of part) concept) parts))
     (take_all c.loop-part.part-index c.args.parts.now (omega arith))
 
-pub led_along-loop-name-init : goal.led_along-loop-name-init
-led_along-loop-name-init g t c = record {
+pub dotted_plans::led_along-loop-name-init : goal.dotted_plans::led_along-loop-name-init
+dotted_plans::led_along-loop-name-init g t c = record {
   items = λ plan from. from;
   bound = c.requires.bound;
   few = λ some. absurd (omega (arith, some));
@@ -605,8 +399,8 @@ led_along-loop-name-init g t c = record {
   known = tt;
 }
 
-pub led_along-loop-name-preserved : goal.led_along-loop-name-preserved
-led_along-loop-name-preserved g t c =
+pub dotted_plans::led_along-loop-name-preserved : goal.dotted_plans::led_along-loop-name-preserved
+dotted_plans::led_along-loop-name-preserved g t c =
     let release = c.args.snapshot.now.release in
     let indexed = c.args.indexes.now in
     let sources : ℕ → Bool = is_one_of indexed.concepts (g.S.ConceptSet.items_of c.loop-name.found) in
@@ -634,8 +428,8 @@ led_along-loop-name-preserved g t c =
       known = c.in_ok-named.ensures.named;
     }
 
-pub led_along-returns-in_err-named-clause-within : goal.led_along-returns-in_err-named-clause-within
-led_along-returns-in_err-named-clause-within g t c =
+pub dotted_plans::led_along-returns-in_err-named-clause-within : goal.dotted_plans::led_along-returns-in_err-named-clause-within
+dotted_plans::led_along-returns-in_err-named-clause-within g t c =
     let indexed = c.args.indexes.now in
     let first : ℕ = length (g.S.ConceptSet.items_of c.args.from) in
     omega (
@@ -646,8 +440,8 @@ led_along-returns-in_err-named-clause-within g t c =
       ap (λ (count : ℕ). values_bound indexed count first) (plan_count-parts c.args.names.now),
     )
 
-pub led_along-returns-in_err-found-clause-within : goal.led_along-returns-in_err-found-clause-within
-led_along-returns-in_err-found-clause-within g t c =
+pub dotted_plans::led_along-returns-in_err-found-clause-within : goal.dotted_plans::led_along-returns-in_err-found-clause-within
+dotted_plans::led_along-returns-in_err-found-clause-within g t c =
     let indexed = c.args.indexes.now in
     let first : ℕ = length (g.S.ConceptSet.items_of c.args.from) in
     let found : ℕ = length (g.S.ConceptSet.items_of c.loop-name.found) in
@@ -661,8 +455,9 @@ led_along-returns-in_err-found-clause-within g t c =
     )
 
 -- what a name that is left out counts is no more than its bound
-pub named_by-returns-then-eq-clause-within : goal.named_by-returns-then-eq-clause-within
-named_by-returns-then-eq-clause-within g t c =
+
+pub dotted_plans::named_by-returns-then-eq-clause-within : goal.dotted_plans::named_by-returns-then-eq-clause-within
+dotted_plans::named_by-returns-then-eq-clause-within g t c =
     omega (
       arith,
       c.plan_floor.ensures.floor,
@@ -670,8 +465,8 @@ named_by-returns-then-eq-clause-within g t c =
       floor-le-bound c.args.indexes.now c.args.choices.now (plan_of c.args.name.now),
     )
 
-pub led_along-returns-clause-within : goal.led_along-returns-clause-within
-led_along-returns-clause-within g t c =
+pub dotted_plans::led_along-returns-clause-within : goal.dotted_plans::led_along-returns-clause-within
+dotted_plans::led_along-returns-clause-within g t c =
     let indexed = c.args.indexes.now in
     let first : ℕ = length (g.S.ConceptSet.items_of c.args.from) in
     omega (
@@ -680,116 +475,51 @@ led_along-returns-clause-within g t c =
       ap (λ (count : ℕ). values_bound indexed count first) (plan_count-parts c.args.names.now),
     )
 
-pub led_along-returns-clause-floor : goal.led_along-returns-clause-floor
-led_along-returns-clause-floor g t c = (some_end c.loop-name.invariant.work (omega arith)).floor
+pub dotted_plans::led_along-returns-clause-floor : goal.dotted_plans::led_along-returns-clause-floor
+dotted_plans::led_along-returns-clause-floor g t c = (some_end c.loop-name.invariant.work (omega arith)).floor
 
-pub led_along-returns-clause-items : goal.led_along-returns-clause-items
-led_along-returns-clause-items g t c =
+pub dotted_plans::led_along-returns-clause-items : goal.dotted_plans::led_along-returns-clause-items
+dotted_plans::led_along-returns-clause-items g t c =
     let release = c.args.snapshot.now.release in
     λ plan from.
     c.loop-name.invariant.items plan from
     ∙ ap (λ (names : List ConceptPlan). numbers_in release (leads release (means release plan) (plans_of names)))
     (take_all c.loop-name.name-index c.args.names.now (omega arith))
 
-pub tested_of-returns-in_ok-set-in-Within-clause-passes : goal.tested_of-returns-in_ok-set-in-Within-clause-passes
-tested_of-returns-in_ok-set-in-Within-clause-passes g t c =
+pub plans::tested_of-returns-in_ok-set-in-Within-clause-passes : goal.plans::tested_of-returns-in_ok-set-in-Within-clause-passes
+plans::tested_of-returns-in_ok-set-in-Within-clause-passes g t c =
     let release = c.args.snapshot.now.release in
     within_passes release (plan_of c.deref.result.now) c.args.indexes.now.concepts (g.S.ConceptSet.items_of c.in_ok-set-in-Within.set)
     (test_plan_of c.args.test.now)
     (ap test_plan_of c.in-Within.is ∙ ap (λ (operand : ConceptPlan). within_plan (plan_of operand)) (sym c.deref.ensures))
     c.requires.index.concepts c.in_ok-set-in-Within.ensures.items
 
-pub tested_of-returns-in_ok-set-in-Outside-clause-passes : goal.tested_of-returns-in_ok-set-in-Outside-clause-passes
-tested_of-returns-in_ok-set-in-Outside-clause-passes g t c =
+pub plans::tested_of-returns-in_ok-set-in-Outside-clause-passes : goal.plans::tested_of-returns-in_ok-set-in-Outside-clause-passes
+plans::tested_of-returns-in_ok-set-in-Outside-clause-passes g t c =
     let release = c.args.snapshot.now.release in
     outside_passes release (plan_of c.deref-in-Outside.result.now) c.args.indexes.now.concepts (g.S.ConceptSet.items_of c.in_ok-set-in-Outside.set)
     (test_plan_of c.args.test.now)
     (ap test_plan_of c.in-Outside.is ∙ ap (λ (operand : ConceptPlan). outside_plan (plan_of operand)) (sym c.deref-in-Outside.ensures))
     c.requires.index.concepts c.in_ok-set-in-Outside.ensures.items
 
-pub execute_groups-returns-then-none_left-clause-items : goal.execute_groups-returns-then-none_left-clause-items
-execute_groups-returns-then-none_left-clause-items g t c =
+pub unit_plans::execute_groups-returns-then-none_left-clause-items : goal.unit_plans::execute_groups-returns-then-none_left-clause-items
+unit_plans::execute_groups-returns-then-none_left-clause-items g t c =
     let release = c.args.snapshot.now.release in
     let may : ℕ → Bool = may_be g.S.ConceptSet.items_of c.args.candidates.now in
     none_within (length (all_groups release)) may (λ n. some_group_in release (group_means release (group_plan_of c.args.plan.now))
     (slice_get (all_groups release) n)) (g.S.ConceptSet.items_of c.in_ok-found.found)
     (c.none_left.ensures c.if-none_left.true) c.in_ok-found.ensures.items
 
-pub execute_group_node-returns-in_ok-found-in-Nothing-clause-items : goal.execute_group_node-returns-in_ok-found-in-Nothing-clause-items
-execute_group_node-returns-in_ok-found-in-Nothing-clause-items g t c =
-    let release = c.args.snapshot.now.release in
-    let may : ℕ → Bool = may_be g.S.ConceptSet.items_of c.args.candidates.now in
-    nothing_within release may (group_plan_of c.args.plan.now) (g.S.ConceptSet.items_of c.in_ok-found-in-Nothing.found)
-    (ap group_plan_of c.in-Nothing.is) c.in_ok-found-in-Nothing.ensures.items
-
-pub execute_group_node-returns-in_ok-found-in-Every-clause-items : goal.execute_group_node-returns-in_ok-found-in-Every-clause-items
-execute_group_node-returns-in_ok-found-in-Every-clause-items g t c =
-    let release = c.args.snapshot.now.release in
-    let may : ℕ → Bool = may_be g.S.ConceptSet.items_of c.args.candidates.now in
-    kept_groups release may (group_means release (group_plan_of c.args.plan.now)) (g.S.ConceptSet.items_of c.in_ok-every-in-Every.every)
-    (g.S.ConceptSet.items_of c.in_ok-found-in-Every.found)
-    (groups.every_node release (group_plan_of c.args.plan.now) (g.S.ConceptSet.items_of c.in_ok-every-in-Every.every)
-    (ap group_plan_of c.in-Every.is) c.in_ok-every-in-Every.ensures.items)
-    c.in_ok-found-in-Every.ensures.items
-
-pub execute_group_node-returns-in_ok-found-in-And-clause-items : goal.execute_group_node-returns-in_ok-found-in-And-clause-items
-execute_group_node-returns-in_ok-found-in-And-clause-items g t c =
-    let release = c.args.snapshot.now.release in
-    let may : ℕ → Bool = may_be g.S.ConceptSet.items_of c.args.candidates.now in
-    let some : List Pair → Bool = λ pairs. list_all (λ part. group_means release (group_plan_of part) pairs) c.deref.result.now in
-    c.in_ok-found-in-And.ensures.items
-    ∙ groups_same release may some (group_means release (group_plan_of c.args.plan.now))
-    (groups.and_node release (group_plan_of c.args.plan.now) (groups_where release some) c.deref.result.now
-    (ap group_plan_of c.in-And.is ∙ group_plan_of-And c.in-And.parts
-    ∙ ap (λ (parts : List UnitPlan). and_group (group_plans_of parts)) (sym c.deref.ensures.value)) refl)
-
-pub execute_group_node-returns-in_ok-found-in-Or-clause-items : goal.execute_group_node-returns-in_ok-found-in-Or-clause-items
-execute_group_node-returns-in_ok-found-in-Or-clause-items g t c =
-    let release = c.args.snapshot.now.release in
-    let may : ℕ → Bool = may_be g.S.ConceptSet.items_of c.args.candidates.now in
-    let some : List Pair → Bool = λ pairs. list_any (λ part. group_means release (group_plan_of part) pairs) c.deref-in-Or.result.now in
-    c.in_ok-found-in-Or.ensures.items
-    ∙ groups_same release may some (group_means release (group_plan_of c.args.plan.now))
-    (groups.or_node release (group_plan_of c.args.plan.now) (groups_where release some) c.deref-in-Or.result.now
-    (ap group_plan_of c.in-Or.is ∙ group_plan_of-Or c.in-Or.parts
-    ∙ ap (λ (parts : List UnitPlan). or_group (group_plans_of parts)) (sym c.deref-in-Or.ensures.value)) refl)
-
-pub execute_group_node-returns-in_ok-groups-in-Minus-clause-items : goal.execute_group_node-returns-in_ok-groups-in-Minus-clause-items
-execute_group_node-returns-in_ok-groups-in-Minus-clause-items g t c =
-    let release = c.args.snapshot.now.release in
-    let may : ℕ → Bool = may_be g.S.ConceptSet.items_of c.args.candidates.now in
-    minus_groups release may (group_plan_of c.args.plan.now) (group_plan_of c.deref-in-Minus.result.now) (group_plan_of c.deref-in-Minus-5.result.now)
-    (g.S.ConceptSet.items_of c.in_ok-left-in-Minus.left) (g.S.ConceptSet.items_of c.in_ok-right-in-Minus.right)
-    (g.S.ConceptSet.items_of c.in_ok-groups-in-Minus.groups)
-    (ap group_plan_of c.in-Minus.is ∙ (λ i. minus_group (group_plan_of (sym c.deref-in-Minus.ensures i)) (group_plan_of (sym c.deref-in-Minus-5.ensures i))))
-    c.in_ok-left-in-Minus.ensures.items c.in_ok-right-in-Minus.ensures.items c.in_ok-groups-in-Minus.ensures.items
-
-pub execute_group_node-returns-in_ok-found-in-Pairs-clause-items : goal.execute_group_node-returns-in_ok-found-in-Pairs-clause-items
-execute_group_node-returns-in_ok-found-in-Pairs-clause-items g t c =
-    let release = c.args.snapshot.now.release in
-    let may : ℕ → Bool = may_be g.S.ConceptSet.items_of c.args.candidates.now in
-    let one : ℕ → Bool = is_one_of c.args.indexes.now.concepts (g.S.ConceptSet.items_of c.in_ok-typed-in-Pairs.typed) in
-    let some : List Pair → Bool = has_pairs c.in-Pairs.count one (value_passes release (test_plan_of c.in-Pairs.test)) in
-    c.in_ok-found-in-Pairs.ensures.items
-    ∙ (λ i. groups_within release may (has_pairs c.in-Pairs.count one (λ value. c.in_ok-tested-in-Pairs.ensures.passes value i)))
-    ∙ groups_same release may some (group_means release (group_plan_of c.args.plan.now))
-    (groups.pairs_node release (group_plan_of c.args.plan.now) (groups_where release some)
-    c.in-Pairs.count (plan_of c.deref-in-Pairs-2.result.now) (test_plan_of c.in-Pairs.test)
-    c.args.indexes.now.concepts (g.S.ConceptSet.items_of c.in_ok-typed-in-Pairs.typed)
-    (ap group_plan_of c.in-Pairs.is
-    ∙ ap (λ (types : ConceptPlan). pairs_group c.in-Pairs.count (plan_of types) (test_plan_of c.in-Pairs.test)) (sym c.deref-in-Pairs-2.ensures))
-    c.requires.index.concepts c.in_ok-typed-in-Pairs.ensures.items refl)
-
-pub groups_led_by-returns-clause-items : goal.groups_led_by-returns-clause-items
-groups_led_by-returns-clause-items g t c =
+pub unit_plans::groups_led_by-returns-clause-items : goal.unit_plans::groups_led_by-returns-clause-items
+unit_plans::groups_led_by-returns-clause-items g t c =
     let release = c.args.snapshot.now.release in
     let may : ℕ → Bool = may_be g.S.ConceptSet.items_of c.args.candidates.now in
     c.in_ok-groups.ensures.items
     ∙ ap (λ (at : Option UnitPlan). groups_within release may (leads_off_groups release at))
     (sym (slice_get_read c.args.parts.now (length c.args.parts.now) c.args.lead c.index-parts-lead.result refl c.requires.lead c.index-parts-lead.is))
 
-pub groups_led_by-returns-clause-within : goal.groups_led_by-returns-clause-within
-groups_led_by-returns-clause-within g t c =
+pub unit_plans::groups_led_by-returns-clause-within : goal.unit_plans::groups_led_by-returns-clause-within
+unit_plans::groups_led_by-returns-clause-within g t c =
     let indexed = c.args.indexes.now in
     omega (
       arith,
@@ -800,8 +530,8 @@ groups_led_by-returns-clause-within g t c =
           c.index-parts-lead.is,
     )
 
-pub groups_led_by-returns-clause-floor : goal.groups_led_by-returns-clause-floor
-groups_led_by-returns-clause-floor g t c =
+pub unit_plans::groups_led_by-returns-clause-floor : goal.unit_plans::groups_led_by-returns-clause-floor
+unit_plans::groups_led_by-returns-clause-floor g t c =
     let indexed = c.args.indexes.now in
     omega (
       arith,
@@ -811,8 +541,8 @@ groups_led_by-returns-clause-floor g t c =
           c.requires.lead c.index-parts-lead.is,
     )
 
-pub groups_in_all-returns-then-is_empty-clause-items : goal.groups_in_all-returns-then-is_empty-clause-items
-groups_in_all-returns-then-is_empty-clause-items g t c =
+pub unit_plans::groups_in_all-returns-then-is_empty-clause-items : goal.unit_plans::groups_in_all-returns-then-is_empty-clause-items
+unit_plans::groups_in_all-returns-then-is_empty-clause-items g t c =
     let release = c.args.snapshot.now.release in
     let may : ℕ → Bool = may_be g.S.ConceptSet.items_of c.args.candidates.now in
     kept_groups release may (λ pairs. true) (g.S.ConceptSet.items_of c.in_ok-every.every) (g.S.ConceptSet.items_of c.in_ok-left.left)
@@ -820,8 +550,8 @@ groups_in_all-returns-then-is_empty-clause-items g t c =
     ∙ ap (λ (parts : List UnitPlan). groups_within release may (λ pairs. list_all (λ part. group_means release (group_plan_of part) pairs) parts))
     (sym (nil_from_length c.args.parts.now (no_parts c.is_empty.ensures c.if-is_empty.true)))
 
-pub groups_in_all-loop-place-init : goal.groups_in_all-loop-place-init
-groups_in_all-loop-place-init g t c =
+pub unit_plans::groups_in_all-loop-place-init : goal.unit_plans::groups_in_all-loop-place-init
+unit_plans::groups_in_all-loop-place-init g t c =
     let release = c.args.snapshot.now.release in
     record {
       items = all_of_none (length (all_groups release))
@@ -832,12 +562,12 @@ groups_in_all-loop-place-init g t c =
       work = all_start c.unit_choices_at-at.ensures c.groups_led_by.ensures.grows c.groups_led_by.ensures.within c.in_ok-groups.ensures.floor;
     }
 
-pub groups_in_all-loop-place-preserved : goal.groups_in_all-loop-place-preserved
-groups_in_all-loop-place-preserved g t c =
+pub unit_plans::groups_in_all-loop-place-preserved : goal.unit_plans::groups_in_all-loop-place-preserved
+unit_plans::groups_in_all-loop-place-preserved g t c =
     let release = c.args.snapshot.now.release in
     let may : ℕ → Bool = may_be g.S.ConceptSet.items_of c.args.candidates.now in
     elim c.if-place-lead.branch [
-      | groups_in_all-then-place-lead+in_ok-extent+in_ok-next w ↦
+      | unit_plans::groups_in_all-then-place-lead+in_ok-extent+in_ok-next w ↦
           record {
             items = ap (λ (found : _). g.S.ConceptSet.items_of found) w.groups-is
                 ∙ all_within (length (all_groups release)) (λ (p : UnitPlan) (n : ℕ). some_group_in release (group_means release (group_plan_of p))
@@ -856,7 +586,7 @@ groups_in_all-loop-place-preserved g t c =
                 (omega (arith, w.execute_groups.ensures.within, w.add.ensures.count, w.in_ok-next.ensures.size, ap (λ (visits : _). visits.count) w.visits-is))
                 (omega (arith, w.in_ok-next.ensures.floor, w.add.ensures.grows, ap (λ (visits : _). visits.count) w.visits-is));
           }
-      | groups_in_all-else-place-lead w ↦
+      | unit_plans::groups_in_all-else-place-lead w ↦
           record {
             items = ap (λ (found : _). g.S.ConceptSet.items_of found) w.groups-is
                 ∙ groups_led_again release may c.args.parts.now c.min-lead.result c.loop-place.place w.if-place-lead.false c.loop-place-test.true
@@ -867,8 +597,8 @@ groups_in_all-loop-place-preserved g t c =
           }
     ]
 
-pub groups_in_all-returns-clause-items : goal.groups_in_all-returns-clause-items
-groups_in_all-returns-clause-items g t c =
+pub unit_plans::groups_in_all-returns-clause-items : goal.unit_plans::groups_in_all-returns-clause-items
+unit_plans::groups_in_all-returns-clause-items g t c =
     let release = c.args.snapshot.now.release in
     let may : ℕ → Bool = may_be g.S.ConceptSet.items_of c.args.candidates.now in
     groups_led_all release may c.args.parts.now c.min-lead.result (g.S.ConceptSet.items_of c.loop-place.groups)
@@ -879,33 +609,33 @@ groups_in_all-returns-clause-items g t c =
     (slice_get (all_groups release) n)) parts))
     (take_all c.loop-place.place c.args.parts.now (omega arith)))
 
-pub groups_in_all-returns-in_err-groups-clause-within : goal.groups_in_all-returns-in_err-groups-clause-within
-groups_in_all-returns-in_err-groups-clause-within g t c =
+pub unit_plans::groups_in_all-returns-in_err-groups-clause-within : goal.unit_plans::groups_in_all-returns-in_err-groups-clause-within
+unit_plans::groups_in_all-returns-in_err-groups-clause-within g t c =
     omega (
       arith,
       c.groups_led_by.ensures.within,
       first_within of_groups (groups_read c.args.indexes.now) c.args.parts.now c.min-lead.result c.unit_choices_at-at.ensures (lead_inside c.group_lead_of.result c.is_empty.ensures c.if-is_empty.false c.min-lead.ensures),
     )
 
-pub groups_in_all-returns-in_err-extent-clause-within : goal.groups_in_all-returns-in_err-extent-clause-within
-groups_in_all-returns-in_err-extent-clause-within g t c = omega (arith, all_most c.loop-place.invariant.work (lead_inside c.group_lead_of.result c.is_empty.ensures c.if-is_empty.false c.min-lead.ensures))
+pub unit_plans::groups_in_all-returns-in_err-extent-clause-within : goal.unit_plans::groups_in_all-returns-in_err-extent-clause-within
+unit_plans::groups_in_all-returns-in_err-extent-clause-within g t c = omega (arith, all_most c.loop-place.invariant.work (lead_inside c.group_lead_of.result c.is_empty.ensures c.if-is_empty.false c.min-lead.ensures))
 
-pub groups_in_all-returns-in_err-next-clause-within : goal.groups_in_all-returns-in_err-next-clause-within
-groups_in_all-returns-in_err-next-clause-within g t c =
+pub unit_plans::groups_in_all-returns-in_err-next-clause-within : goal.unit_plans::groups_in_all-returns-in_err-next-clause-within
+unit_plans::groups_in_all-returns-in_err-next-clause-within g t c =
     omega (
       arith,
       all_next {next = c.execute_groups.new.visits.count} c.loop-place.invariant.work (lead_inside c.group_lead_of.result c.is_empty.ensures c.if-is_empty.false c.min-lead.ensures) c.index-parts-place.result c.loop-place-test.true c.index-parts-place.is c.if-place-lead.true
           (omega (arith, c.execute_groups.ensures.within)),
     )
 
-pub groups_in_all-returns-clause-within : goal.groups_in_all-returns-clause-within
-groups_in_all-returns-clause-within g t c = omega (arith, (all_end c.loop-place.invariant.work (omega arith) (lead_inside c.group_lead_of.result c.is_empty.ensures c.if-is_empty.false c.min-lead.ensures)).within)
+pub unit_plans::groups_in_all-returns-clause-within : goal.unit_plans::groups_in_all-returns-clause-within
+unit_plans::groups_in_all-returns-clause-within g t c = omega (arith, (all_end c.loop-place.invariant.work (omega arith) (lead_inside c.group_lead_of.result c.is_empty.ensures c.if-is_empty.false c.min-lead.ensures)).within)
 
-pub groups_in_all-returns-clause-floor : goal.groups_in_all-returns-clause-floor
-groups_in_all-returns-clause-floor g t c = (all_end c.loop-place.invariant.work (omega arith) (lead_inside c.group_lead_of.result c.is_empty.ensures c.if-is_empty.false c.min-lead.ensures)).floor
+pub unit_plans::groups_in_all-returns-clause-floor : goal.unit_plans::groups_in_all-returns-clause-floor
+unit_plans::groups_in_all-returns-clause-floor g t c = (all_end c.loop-place.invariant.work (omega arith) (lead_inside c.group_lead_of.result c.is_empty.ensures c.if-is_empty.false c.min-lead.ensures)).floor
 
-pub groups_in_some-loop-part-init : goal.groups_in_some-loop-part-init
-groups_in_some-loop-part-init g t c =
+pub unit_plans::groups_in_some-loop-part-init : goal.unit_plans::groups_in_some-loop-part-init
+unit_plans::groups_in_some-loop-part-init g t c =
     let release = c.args.snapshot.now.release in
     let may : ℕ → Bool = may_be g.S.ConceptSet.items_of c.args.candidates.now in
     record {
@@ -914,8 +644,8 @@ groups_in_some-loop-part-init g t c =
       work = some_start c.args.visits.now.count;
     }
 
-pub groups_in_some-loop-part-preserved : goal.groups_in_some-loop-part-preserved
-groups_in_some-loop-part-preserved g t c =
+pub unit_plans::groups_in_some-loop-part-preserved : goal.unit_plans::groups_in_some-loop-part-preserved
+unit_plans::groups_in_some-loop-part-preserved g t c =
     let release = c.args.snapshot.now.release in
     let indexed = c.args.indexes.now in
     let may : ℕ → Bool = may_be g.S.ConceptSet.items_of c.args.candidates.now in
@@ -943,8 +673,8 @@ groups_in_some-loop-part-preserved g t c =
           (omega (arith, c.in_ok-next.ensures.floor, c.add.ensures.grows));
     }
 
-pub groups_in_some-returns-in_err-groups-2-clause-within : goal.groups_in_some-returns-in_err-groups-2-clause-within
-groups_in_some-returns-in_err-groups-2-clause-within g t c =
+pub unit_plans::groups_in_some-returns-in_err-groups-2-clause-within : goal.unit_plans::groups_in_some-returns-in_err-groups-2-clause-within
+unit_plans::groups_in_some-returns-in_err-groups-2-clause-within g t c =
     let release = c.args.snapshot.now.release in
     let indexed = c.args.indexes.now in
     let may : ℕ → Bool = may_be g.S.ConceptSet.items_of c.args.candidates.now in
@@ -968,8 +698,8 @@ groups_in_some-returns-in_err-groups-2-clause-within g t c =
       ap (λ (count : ℕ). count * all) (group_count-parts c.args.parts.now),
     )
 
-pub groups_in_some-returns-in_err-next-clause-within : goal.groups_in_some-returns-in_err-next-clause-within
-groups_in_some-returns-in_err-next-clause-within g t c =
+pub unit_plans::groups_in_some-returns-in_err-next-clause-within : goal.unit_plans::groups_in_some-returns-in_err-next-clause-within
+unit_plans::groups_in_some-returns-in_err-next-clause-within g t c =
     let indexed = c.args.indexes.now in
     let all : ℕ = total (group_sizes indexed c.args.choices.now (group_plans_of c.args.parts.now)) in
     omega (
@@ -979,8 +709,8 @@ groups_in_some-returns-in_err-next-clause-within g t c =
       ap (λ (count : ℕ). count * all) (group_count-parts c.args.parts.now),
     )
 
-pub groups_in_some-returns-clause-within : goal.groups_in_some-returns-clause-within
-groups_in_some-returns-clause-within g t c =
+pub unit_plans::groups_in_some-returns-clause-within : goal.unit_plans::groups_in_some-returns-clause-within
+unit_plans::groups_in_some-returns-clause-within g t c =
     let indexed = c.args.indexes.now in
     let all : ℕ = total (group_sizes indexed c.args.choices.now (group_plans_of c.args.parts.now)) in
     omega (
@@ -989,11 +719,11 @@ groups_in_some-returns-clause-within g t c =
       ap (λ (count : ℕ). count * all) (group_count-parts c.args.parts.now),
     )
 
-pub groups_in_some-returns-clause-floor : goal.groups_in_some-returns-clause-floor
-groups_in_some-returns-clause-floor g t c = (some_end c.loop-part.invariant.work (omega arith)).floor
+pub unit_plans::groups_in_some-returns-clause-floor : goal.unit_plans::groups_in_some-returns-clause-floor
+unit_plans::groups_in_some-returns-clause-floor g t c = (some_end c.loop-part.invariant.work (omega arith)).floor
 
-pub groups_in_some-returns-clause-items : goal.groups_in_some-returns-clause-items
-groups_in_some-returns-clause-items g t c =
+pub unit_plans::groups_in_some-returns-clause-items : goal.unit_plans::groups_in_some-returns-clause-items
+unit_plans::groups_in_some-returns-clause-items g t c =
     let release = c.args.snapshot.now.release in
     let may : ℕ → Bool = may_be g.S.ConceptSet.items_of c.args.candidates.now in
     any_done release may c.args.parts.now (g.S.ConceptSet.items_of c.loop-part.groups)
@@ -1001,3 +731,288 @@ groups_in_some-returns-clause-items g t c =
     ∙ ap (λ (parts : List UnitPlan). numbers_where (length (all_groups release))
     (λ n. may n && list_any (λ part. some_group_in release (group_means release (group_plan_of part)) (slice_get (all_groups release) n)) parts))
     (take_all c.loop-part.part-index c.args.parts.now (omega arith)))
+
+pub plans::members_of-returns-clause-items : goal.plans::members_of-returns-clause-items
+plans::members_of-returns-clause-items g t c =
+    let release = c.args.snapshot.now.release in
+    let may : ℕ → Bool = may_be g.S.ConceptSet.items_of c.args.candidates.now in
+    let plan : Plan = members_plan (plan_of c.args.operand.now) in
+    let some : List ℕ = components_of release (g.S.ConceptSet.items_of c.in_ok-from.from) in
+    kept_node release may plan some (g.S.ConceptSet.items_of c.in_ok-found.found)
+    (members_node release plan some (plan_of c.args.operand.now) (g.S.ConceptSet.items_of c.in_ok-from.from) refl c.in_ok-from.ensures.items refl)
+    (c.in_ok-found.ensures.items
+    ∙ ap (λ (refsets : List ℕ). filter may (components_of release refsets)) (c.as_slice-refsets.ensures.value ∙ c.in_ok-numbers.ensures))
+
+-- the reference sets are concepts
+
+pub plans::members_of-members_way-way-requires : goal.plans::members_of-members_way-way-requires
+plans::members_of-members_way-way-requires g t c =
+    let from = c.in_ok-from.from in
+    subst (λ (numbers : List ℕ). All (λ number. number < length c.args.indexes.now.concepts) numbers)
+    (sym (c.as_slice-refsets.ensures.value ∙ c.in_ok-numbers.ensures))
+    (subst (λ (count : ℕ). All (λ number. number < count) (g.S.ConceptSet.items_of from))
+    (c.in_ok-from.ensures.bound ∙ ap (λ (ids : List ℕ). length ids) (sym c.requires.index.concepts))
+    (all_below (g.S.ConceptSet.bound_of from) (g.S.ConceptSet.items_of from) (g.met.S.ConceptSet.rising from)))
+
+pub plans::members_of-members_within-requires-clause-below : goal.plans::members_of-members_within-requires-clause-below
+plans::members_of-members_within-requires-clause-below g t c =
+    let from = c.in_ok-from.from in
+    subst (λ (numbers : List ℕ). All (λ number. number < length c.args.indexes.now.concepts) numbers)
+    (sym (c.as_slice-refsets.ensures.value ∙ c.in_ok-numbers.ensures))
+    (subst (λ (count : ℕ). All (λ number. number < count) (g.S.ConceptSet.items_of from))
+    (c.in_ok-from.ensures.bound ∙ ap (λ (ids : List ℕ). length ids) (sym c.requires.index.concepts))
+    (all_below (g.S.ConceptSet.bound_of from) (g.S.ConceptSet.items_of from) (g.met.S.ConceptSet.rising from)))
+
+pub plans::execute_node-returns-in-Empty-clause-items : goal.plans::execute_node-returns-in-Empty-clause-items
+plans::execute_node-returns-in-Empty-clause-items g t c =
+    let release = c.args.snapshot.now.release in
+    let may : ℕ → Bool = may_be g.S.ConceptSet.items_of c.args.candidates.now in
+    found_for g.S.ConceptSet.items_of c.no_concept.result
+    (λ found is. empty_within release may (plan_of c.args.plan.now) found (ap plan_of c.in-Empty.is) is) c.no_concept.ensures.items
+
+pub plans::execute_node-returns-in_ok-every-in-All-clause-items : goal.plans::execute_node-returns-in_ok-every-in-All-clause-items
+plans::execute_node-returns-in_ok-every-in-All-clause-items g t c =
+    let release = c.args.snapshot.now.release in
+    let may : ℕ → Bool = may_be g.S.ConceptSet.items_of c.args.candidates.now in
+    let all = all_node release (plan_of c.args.plan.now) (g.S.ConceptSet.items_of c.in_ok-every-in-All.every) (ap plan_of c.in-All.is) c.in_ok-every-in-All.ensures.items in
+    found_for g.S.ConceptSet.items_of c.restricted.result
+    (λ found is. kept_node release may (plan_of c.args.plan.now) (g.S.ConceptSet.items_of c.in_ok-every-in-All.every) found all is)
+    c.restricted.ensures.items
+
+pub plans::execute_node-returns-in_ok-one-in-One-clause-items : goal.plans::execute_node-returns-in_ok-one-in-One-clause-items
+plans::execute_node-returns-in_ok-one-in-One-clause-items g t c =
+    let release = c.args.snapshot.now.release in
+    let may : ℕ → Bool = may_be g.S.ConceptSet.items_of c.args.candidates.now in
+    let all = one_node release (plan_of c.args.plan.now) (g.S.ConceptSet.items_of c.in_ok-one-in-One.one) c.in-One.id
+    (ap plan_of c.in-One.is) c.in_ok-one-in-One.ensures.items in
+    found_for g.S.ConceptSet.items_of c.restricted-in-One.result
+    (λ found is. kept_node release may (plan_of c.args.plan.now) (g.S.ConceptSet.items_of c.in_ok-one-in-One.one) found all is)
+    c.restricted-in-One.ensures.items
+
+pub plans::execute_node-returns-in-Walk-clause-items : goal.plans::execute_node-returns-in-Walk-clause-items
+plans::execute_node-returns-in-Walk-clause-items g t c =
+    let release = c.args.snapshot.now.release in
+    let may : ℕ → Bool = may_be g.S.ConceptSet.items_of c.args.candidates.now in
+    found_as g.S.ConceptSet.items_of c.walk_from.result
+    (meant_within release may (plan_of c.args.plan.now) (walk_plan c.in-Walk.operator (plan_of c.deref.result.now))
+    (ap plan_of c.in-Walk.is ∙ ap (λ (plan : ConceptPlan). walk_plan c.in-Walk.operator (plan_of plan)) (sym c.deref.ensures)))
+    c.walk_from.ensures.items
+
+pub plans::execute_node-returns-in-Members-clause-items : goal.plans::execute_node-returns-in-Members-clause-items
+plans::execute_node-returns-in-Members-clause-items g t c =
+    let release = c.args.snapshot.now.release in
+    let may : ℕ → Bool = may_be g.S.ConceptSet.items_of c.args.candidates.now in
+    found_as g.S.ConceptSet.items_of c.members_of.result
+    (meant_within release may (plan_of c.args.plan.now) (members_plan (plan_of c.deref-in-Members.result.now))
+    (ap plan_of c.in-Members.is ∙ ap (λ (plan : ConceptPlan). members_plan (plan_of plan)) (sym c.deref-in-Members.ensures)))
+    c.members_of.ensures.items
+
+pub plans::execute_node-returns-in-And-clause-items : goal.plans::execute_node-returns-in-And-clause-items
+plans::execute_node-returns-in-And-clause-items g t c =
+    let release = c.args.snapshot.now.release in
+    let may : ℕ → Bool = may_be g.S.ConceptSet.items_of c.args.candidates.now in
+    found_as g.S.ConceptSet.items_of c.in_all.result
+    (within_same release may (λ concept. list_all (λ part. means release (plan_of part) concept) c.deref-in-And.result.now) (means release (plan_of c.args.plan.now))
+    (and_node release (plan_of c.args.plan.now) (numbers_in release (λ concept. list_all (λ part. means release (plan_of part) concept) c.deref-in-And.result.now))
+    c.deref-in-And.result.now
+    (ap plan_of c.in-And.is ∙ plan_of-And c.in-And.parts ∙ ap (λ (parts : List ConceptPlan). and_plan (plans_of parts)) (sym c.deref-in-And.ensures.value)) refl))
+    c.in_all.ensures.items
+
+pub plans::execute_node-returns-in-Or-clause-items : goal.plans::execute_node-returns-in-Or-clause-items
+plans::execute_node-returns-in-Or-clause-items g t c =
+    let release = c.args.snapshot.now.release in
+    let may : ℕ → Bool = may_be g.S.ConceptSet.items_of c.args.candidates.now in
+    found_as g.S.ConceptSet.items_of c.in_some.result
+    (within_same release may (λ concept. list_any (λ part. means release (plan_of part) concept) c.deref-in-Or.result.now) (means release (plan_of c.args.plan.now))
+    (or_node release (plan_of c.args.plan.now) (numbers_in release (λ concept. list_any (λ part. means release (plan_of part) concept) c.deref-in-Or.result.now))
+    c.deref-in-Or.result.now
+    (ap plan_of c.in-Or.is ∙ plan_of-Or c.in-Or.parts ∙ ap (λ (parts : List ConceptPlan). or_plan (plans_of parts)) (sym c.deref-in-Or.ensures.value)) refl))
+    c.in_some.ensures.items
+
+pub plans::execute_node-returns-in-Units-clause-items : goal.plans::execute_node-returns-in-Units-clause-items
+plans::execute_node-returns-in-Units-clause-items g t c =
+    let release = c.args.snapshot.now.release in
+    let may : ℕ → Bool = may_be g.S.ConceptSet.items_of c.args.candidates.now in
+    found_as g.S.ConceptSet.items_of c.units_within.result
+    (within_same release may (has_groups release c.in-Units.count (group_means release (group_plan_of c.deref-in-Units.result.now))) (means release (plan_of c.args.plan.now))
+    (units_node release (plan_of c.args.plan.now) (numbers_in release (has_groups release c.in-Units.count (group_means release (group_plan_of c.deref-in-Units.result.now))))
+    c.in-Units.count (group_plan_of c.deref-in-Units.result.now)
+    (ap plan_of c.in-Units.is ∙ ap (λ (units : UnitPlan). units_plan c.in-Units.count (group_plan_of units)) (sym c.deref-in-Units.ensures)) refl))
+    c.units_within.ensures.items
+
+pub unit_plans::execute_group_node-returns-in-Nothing-clause-items : goal.unit_plans::execute_group_node-returns-in-Nothing-clause-items
+unit_plans::execute_group_node-returns-in-Nothing-clause-items g t c =
+    let release = c.args.snapshot.now.release in
+    let may : ℕ → Bool = may_be g.S.ConceptSet.items_of c.args.candidates.now in
+    found_for g.S.ConceptSet.items_of c.no_group.result
+    (λ found is. nothing_within release may (group_plan_of c.args.plan.now) found (ap group_plan_of c.in-Nothing.is) is) c.no_group.ensures.items
+
+pub unit_plans::execute_group_node-returns-in_ok-every-in-Every-clause-items : goal.unit_plans::execute_group_node-returns-in_ok-every-in-Every-clause-items
+unit_plans::execute_group_node-returns-in_ok-every-in-Every-clause-items g t c =
+    let release = c.args.snapshot.now.release in
+    let may : ℕ → Bool = may_be g.S.ConceptSet.items_of c.args.candidates.now in
+    let every = g.S.ConceptSet.items_of c.in_ok-every-in-Every.every in
+    let all = groups.every_node release (group_plan_of c.args.plan.now) every (ap group_plan_of c.in-Every.is) c.in_ok-every-in-Every.ensures.items in
+    found_for g.S.ConceptSet.items_of c.restricted.result
+    (λ found is. kept_groups release may (group_means release (group_plan_of c.args.plan.now)) every found all is) c.restricted.ensures.items
+
+pub unit_plans::execute_group_node-returns-in-And-clause-items : goal.unit_plans::execute_group_node-returns-in-And-clause-items
+unit_plans::execute_group_node-returns-in-And-clause-items g t c =
+    let release = c.args.snapshot.now.release in
+    let may : ℕ → Bool = may_be g.S.ConceptSet.items_of c.args.candidates.now in
+    found_as g.S.ConceptSet.items_of c.groups_in_all.result
+    (groups_same release may (λ pairs. list_all (λ part. group_means release (group_plan_of part) pairs) c.deref.result.now) (group_means release (group_plan_of c.args.plan.now))
+    (groups.and_node release (group_plan_of c.args.plan.now) (groups_where release (λ pairs. list_all (λ part. group_means release (group_plan_of part) pairs) c.deref.result.now)) c.deref.result.now
+    (ap group_plan_of c.in-And.is ∙ group_plan_of-And c.in-And.parts ∙ ap (λ (parts : List UnitPlan). and_group (group_plans_of parts)) (sym c.deref.ensures.value)) refl))
+    c.groups_in_all.ensures.items
+
+pub unit_plans::execute_group_node-returns-in-Or-clause-items : goal.unit_plans::execute_group_node-returns-in-Or-clause-items
+unit_plans::execute_group_node-returns-in-Or-clause-items g t c =
+    let release = c.args.snapshot.now.release in
+    let may : ℕ → Bool = may_be g.S.ConceptSet.items_of c.args.candidates.now in
+    found_as g.S.ConceptSet.items_of c.groups_in_some.result
+    (groups_same release may (λ pairs. list_any (λ part. group_means release (group_plan_of part) pairs) c.deref-in-Or.result.now) (group_means release (group_plan_of c.args.plan.now))
+    (groups.or_node release (group_plan_of c.args.plan.now) (groups_where release (λ pairs. list_any (λ part. group_means release (group_plan_of part) pairs) c.deref-in-Or.result.now)) c.deref-in-Or.result.now
+    (ap group_plan_of c.in-Or.is ∙ group_plan_of-Or c.in-Or.parts ∙ ap (λ (parts : List UnitPlan). or_group (group_plans_of parts)) (sym c.deref-in-Or.ensures.value)) refl))
+    c.groups_in_some.ensures.items
+
+pub plans::in_first_alone-returns-in_ok-found-in-Minus-clause-items : goal.plans::in_first_alone-returns-in_ok-found-in-Minus-clause-items
+plans::in_first_alone-returns-in_ok-found-in-Minus-clause-items g t c =
+    let release = c.args.snapshot.now.release in
+    let may : ℕ → Bool = may_be g.S.ConceptSet.items_of c.args.candidates.now in
+    minus_node release may (plan_of c.args.plan.now) (plan_of c.deref.result.now) (plan_of c.deref-in-Minus-4.result.now)
+    (g.S.ConceptSet.items_of c.in_ok-left-in-Minus.left) (g.S.ConceptSet.items_of c.in_ok-right-in-Minus.right)
+    (g.S.ConceptSet.items_of c.in_ok-found-in-Minus.found)
+    (ap plan_of c.in-Minus.is ∙ (λ i. minus_plan (plan_of (sym c.deref.ensures i)) (plan_of (sym c.deref-in-Minus-4.ensures i))))
+    c.in_ok-left-in-Minus.ensures.items c.in_ok-right-in-Minus.ensures.items c.in_ok-found-in-Minus.ensures.items
+
+pub dotted_plans::led_from-returns-in_ok-found-in-Values-clause-items : goal.dotted_plans::led_from-returns-in_ok-found-in-Values-clause-items
+dotted_plans::led_from-returns-in_ok-found-in-Values-clause-items g t c =
+    let release = c.args.snapshot.now.release in
+    let may : ℕ → Bool = may_be g.S.ConceptSet.items_of c.args.candidates.now in
+    kept_node release may (plan_of c.args.plan.now) (g.S.ConceptSet.items_of c.in_ok-led-in-Values.led) (g.S.ConceptSet.items_of c.in_ok-found-in-Values.found)
+    (values_node release (plan_of c.args.plan.now) (g.S.ConceptSet.items_of c.in_ok-led-in-Values.led)
+    (plan_of c.deref.result.now) c.deref-in-Values-2.result.now
+    (ap plan_of c.in-Values.is ∙ plan_of-Values c.in-Values.start c.in-Values.names
+    ∙ (λ i. values_plan (plan_of (sym c.deref.ensures i)) (plans_of (sym c.deref-in-Values-2.ensures.value i))))
+    (c.in_ok-led-in-Values.ensures.items (plan_of c.deref.result.now) c.in_ok-from-in-Values.ensures.items))
+    c.in_ok-found-in-Values.ensures.items
+
+pub dotted_plans::led_from-returns-in_err-led-in-Values-clause-within : goal.dotted_plans::led_from-returns-in_err-led-in-Values-clause-within
+dotted_plans::led_from-returns-in_err-led-in-Values-clause-within g t c =
+    let indexed = c.args.indexes.now in
+    let choices = c.args.choices.now in
+    let names = plans_of c.deref-in-Values-2.result.now in
+    let is = values_are c.in-Values.start c.in-Values.names c.in-Values.is c.deref.ensures c.deref-in-Values-2.ensures.value in
+    let behind =
+    c.plan_floor.ensures.rest
+    ∙ ap (λ (start : ConceptPlan). drop (leaves (plan_of start)) choices) (c.deref-in-Values.ensures ∙ sym c.deref.ensures) in
+    omega (
+      arith,
+      c.led_along.ensures.within,
+      c.execute_within.ensures.within,
+      along_from indexed (plan_count names) (length (g.S.ConceptSet.items_of c.in_ok-from-in-Values.from))
+          (size indexed choices (plan_of c.deref.result.now)) c.in_ok-from-in-Values.ensures.size,
+      ap (λ (plan : Plan). node_sum (own_number indexed) choices plan) is,
+      ap (λ (rest : List Choice). plans_sum (own_number indexed) rest names) behind,
+    )
+
+pub dotted_plans::led_from-returns-in_err-found-in-Values-clause-within : goal.dotted_plans::led_from-returns-in_err-found-in-Values-clause-within
+dotted_plans::led_from-returns-in_err-found-in-Values-clause-within g t c =
+    let indexed = c.args.indexes.now in
+    let choices = c.args.choices.now in
+    let names = plans_of c.deref-in-Values-2.result.now in
+    let is = values_are c.in-Values.start c.in-Values.names c.in-Values.is c.deref.ensures c.deref-in-Values-2.ensures.value in
+    let behind =
+    c.plan_floor.ensures.rest
+    ∙ ap (λ (start : ConceptPlan). drop (leaves (plan_of start)) choices) (c.deref-in-Values.ensures ∙ sym c.deref.ensures) in
+    omega (
+      arith,
+      c.led_along.ensures.within,
+      c.execute_within.ensures.within,
+      along_from indexed (plan_count names) (length (g.S.ConceptSet.items_of c.in_ok-from-in-Values.from))
+          (size indexed choices (plan_of c.deref.result.now)) c.in_ok-from-in-Values.ensures.size,
+      ap (λ (plan : Plan). node_sum (own_number indexed) choices plan) is,
+      ap (λ (rest : List Choice). plans_sum (own_number indexed) rest names) behind,
+    )
+
+pub dotted_plans::led_from-returns-in_ok-found-in-Values-clause-within : goal.dotted_plans::led_from-returns-in_ok-found-in-Values-clause-within
+dotted_plans::led_from-returns-in_ok-found-in-Values-clause-within g t c =
+    let indexed = c.args.indexes.now in
+    let choices = c.args.choices.now in
+    let names = plans_of c.deref-in-Values-2.result.now in
+    let is = values_are c.in-Values.start c.in-Values.names c.in-Values.is c.deref.ensures c.deref-in-Values-2.ensures.value in
+    let behind =
+    c.plan_floor.ensures.rest
+    ∙ ap (λ (start : ConceptPlan). drop (leaves (plan_of start)) choices) (c.deref-in-Values.ensures ∙ sym c.deref.ensures) in
+    omega (
+      arith,
+      c.led_along.ensures.within,
+      c.execute_within.ensures.within,
+      along_from indexed (plan_count names) (length (g.S.ConceptSet.items_of c.in_ok-from-in-Values.from))
+          (size indexed choices (plan_of c.deref.result.now)) c.in_ok-from-in-Values.ensures.size,
+      ap (λ (plan : Plan). node_sum (own_number indexed) choices plan) is,
+      ap (λ (rest : List Choice). plans_sum (own_number indexed) rest names) behind,
+    )
+
+pub dotted_plans::led_from-returns-in_ok-found-in-Values-clause-floor : goal.dotted_plans::led_from-returns-in_ok-found-in-Values-clause-floor
+dotted_plans::led_from-returns-in_ok-found-in-Values-clause-floor g t c =
+    let indexed = c.args.indexes.now in
+    let choices = c.args.choices.now in
+    let names = plans_of c.deref-in-Values-2.result.now in
+    let is = values_are c.in-Values.start c.in-Values.names c.in-Values.is c.deref.ensures c.deref-in-Values-2.ensures.value in
+    let behind =
+    c.plan_floor.ensures.rest
+    ∙ ap (λ (start : ConceptPlan). drop (leaves (plan_of start)) choices) (c.deref-in-Values.ensures ∙ sym c.deref.ensures) in
+    omega (
+      arith,
+      c.in_ok-led-in-Values.ensures.floor,
+      c.in_ok-from-in-Values.ensures.floor,
+      ap (λ (plan : Plan). node_sum (floor_number indexed) choices plan) is,
+      ap (λ (rest : List Choice). plans_sum (floor_number indexed) rest names) behind,
+    )
+
+pub plans::pairs_within-returns-in_ok-found-in-Pairs-clause-items : goal.plans::pairs_within-returns-in_ok-found-in-Pairs-clause-items
+plans::pairs_within-returns-in_ok-found-in-Pairs-clause-items g t c =
+    let release = c.args.snapshot.now.release in
+    let may : ℕ → Bool = may_be g.S.ConceptSet.items_of c.args.candidates.now in
+    let passes = value_passes release (test_plan_of c.in-Pairs.test) in
+    let one : ℕ → Bool = is_one_of c.args.indexes.now.concepts (g.S.ConceptSet.items_of c.in_ok-typed-in-Pairs.typed) in
+    let some : ℕ → Bool = λ concept. has_pairs c.in-Pairs.count one passes (pairs_of release c.in-Pairs.back concept) in
+    c.in_ok-found-in-Pairs.ensures.items
+    ∙ (λ i. numbers_within release may
+    (λ concept. has_pairs c.in-Pairs.count one (λ value. c.in_ok-tested-in-Pairs.ensures.passes value i) (pairs_of release c.in-Pairs.back concept)))
+    ∙ within_same release may some (means release (plan_of c.args.plan.now))
+    (pairs_node release (plan_of c.args.plan.now) (numbers_in release some)
+    c.in-Pairs.back c.in-Pairs.count (plan_of c.deref-in-Pairs.result.now) (test_plan_of c.in-Pairs.test)
+    c.args.indexes.now.concepts (g.S.ConceptSet.items_of c.in_ok-typed-in-Pairs.typed)
+    (ap plan_of c.in-Pairs.is
+    ∙ ap (λ (types : ConceptPlan). pairs_plan c.in-Pairs.back c.in-Pairs.count (plan_of types) (test_plan_of c.in-Pairs.test))
+    (sym c.deref-in-Pairs.ensures))
+    c.requires.index.concepts c.in_ok-typed-in-Pairs.ensures.items refl)
+
+pub unit_plans::groups_in_first_alone-returns-in_ok-groups-in-Minus-clause-items : goal.unit_plans::groups_in_first_alone-returns-in_ok-groups-in-Minus-clause-items
+unit_plans::groups_in_first_alone-returns-in_ok-groups-in-Minus-clause-items g t c =
+    let release = c.args.snapshot.now.release in
+    let may : ℕ → Bool = may_be g.S.ConceptSet.items_of c.args.candidates.now in
+    minus_groups release may (group_plan_of c.args.plan.now) (group_plan_of c.deref.result.now) (group_plan_of c.deref-in-Minus-4.result.now)
+    (g.S.ConceptSet.items_of c.in_ok-left-in-Minus.left) (g.S.ConceptSet.items_of c.in_ok-right-in-Minus.right)
+    (g.S.ConceptSet.items_of c.in_ok-groups-in-Minus.groups)
+    (ap group_plan_of c.in-Minus.is ∙ (λ i. minus_group (group_plan_of (sym c.deref.ensures i)) (group_plan_of (sym c.deref-in-Minus-4.ensures i))))
+    c.in_ok-left-in-Minus.ensures.items c.in_ok-right-in-Minus.ensures.items c.in_ok-groups-in-Minus.ensures.items
+
+pub unit_plans::groups_with_pairs-returns-in_ok-found-in-Pairs-clause-items : goal.unit_plans::groups_with_pairs-returns-in_ok-found-in-Pairs-clause-items
+unit_plans::groups_with_pairs-returns-in_ok-found-in-Pairs-clause-items g t c =
+    let release = c.args.snapshot.now.release in
+    let may : ℕ → Bool = may_be g.S.ConceptSet.items_of c.args.candidates.now in
+    let one : ℕ → Bool = is_one_of c.args.indexes.now.concepts (g.S.ConceptSet.items_of c.in_ok-typed-in-Pairs.typed) in
+    let some : List Pair → Bool = has_pairs c.in-Pairs.count one (value_passes release (test_plan_of c.in-Pairs.test)) in
+    c.in_ok-found-in-Pairs.ensures.items
+    ∙ (λ i. groups_within release may (has_pairs c.in-Pairs.count one (λ value. c.in_ok-tested-in-Pairs.ensures.passes value i)))
+    ∙ groups_same release may some (group_means release (group_plan_of c.args.plan.now))
+    (groups.pairs_node release (group_plan_of c.args.plan.now) (groups_where release some)
+    c.in-Pairs.count (plan_of c.deref-in-Pairs.result.now) (test_plan_of c.in-Pairs.test)
+    c.args.indexes.now.concepts (g.S.ConceptSet.items_of c.in_ok-typed-in-Pairs.typed)
+    (ap group_plan_of c.in-Pairs.is
+    ∙ ap (λ (types : ConceptPlan). pairs_group c.in-Pairs.count (plan_of types) (test_plan_of c.in-Pairs.test)) (sym c.deref-in-Pairs.ensures))
+    c.requires.index.concepts c.in_ok-typed-in-Pairs.ensures.items refl)

@@ -1,7 +1,7 @@
 use Rattle.std.proofs.Common.{arith}
 use Rattle.planner.proofs.LoopLemmas.{of_concepts}
 use Rattle.executor.proofs.WorkLemmas.{choices_more}
-use Rattle.executor.proofs.plans.choices_at.Goals as goal
+use Rattle.executor.proofs.joined_plans.choices_at.Goals as goal
 
 pub loop-before-preserved : goal.loop-before-preserved
 loop-before-preserved c =

@@ -18,11 +18,11 @@ use Rattle.executor.specs.Named.{HasNamed}
 use Rattle.pair_sets.specs.Within.{may_be}
 use Rattle.executor.proofs.PartWork.{concepts_read, groups_read}
 use Rattle.executor.proofs.WorkLemmas.{AllSoFar, SomeSoFar}
-use Rattle.executor.proofs.plans.+execute.Given as goal
+use Rattle.executor.proofs.+execute.Given as goal
 
 -- what is left of the part executed first, and of those so far
-abbrev pub invariant-in_all-loop-place : goal.invariant-in_all-loop-place
-invariant-in_all-loop-place g l = record {
+abbrev pub invariant-joined_plans::in_all-loop-place : goal.invariant-joined_plans::in_all-loop-place
+invariant-joined_plans::in_all-loop-place g l = record {
   items : g.S.ConceptSet.items_of l.found
       ≡ numbers_where (length l.snapshot.release.concepts)
       (λ n. (may_be g.S.ConceptSet.items_of l.candidates n && leads_off l.snapshot.release (slice_get l.parts l.lead) (get_or l.snapshot.release.concepts n 0))
@@ -33,8 +33,8 @@ invariant-in_all-loop-place g l = record {
 }
 
 -- what is in one of those so far
-abbrev pub invariant-in_some-loop-part : goal.invariant-in_some-loop-part
-invariant-in_some-loop-part g l = record {
+abbrev pub invariant-joined_plans::in_some-loop-part : goal.invariant-joined_plans::in_some-loop-part
+invariant-joined_plans::in_some-loop-part g l = record {
   items : g.S.ConceptSet.items_of l.found
       ≡ numbers_where (length l.snapshot.release.concepts)
       (λ n. may_be g.S.ConceptSet.items_of l.candidates n
@@ -46,8 +46,8 @@ invariant-in_some-loop-part g l = record {
 }
 
 -- the same of groups
-abbrev pub invariant-groups_in_all-loop-place : goal.invariant-groups_in_all-loop-place
-invariant-groups_in_all-loop-place g l = record {
+abbrev pub invariant-unit_plans::groups_in_all-loop-place : goal.invariant-unit_plans::groups_in_all-loop-place
+invariant-unit_plans::groups_in_all-loop-place g l = record {
   items : g.S.ConceptSet.items_of l.groups
       ≡ numbers_where (length (all_groups l.snapshot.release))
       (λ n. (may_be g.S.ConceptSet.items_of l.candidates n && some_group_in l.snapshot.release
@@ -59,8 +59,8 @@ invariant-groups_in_all-loop-place g l = record {
       l.fn.visits.count l.visits.count l.rest;
 }
 
-abbrev pub invariant-groups_in_some-loop-part : goal.invariant-groups_in_some-loop-part
-invariant-groups_in_some-loop-part g l = record {
+abbrev pub invariant-unit_plans::groups_in_some-loop-part : goal.invariant-unit_plans::groups_in_some-loop-part
+invariant-unit_plans::groups_in_some-loop-part g l = record {
   items : g.S.ConceptSet.items_of l.groups
       ≡ numbers_where (length (all_groups l.snapshot.release))
       (λ n. may_be g.S.ConceptSet.items_of l.candidates n
@@ -73,8 +73,8 @@ invariant-groups_in_some-loop-part g l = record {
 }
 
 -- where the names so far lead
-abbrev pub invariant-led_along-loop-name : goal.invariant-led_along-loop-name
-invariant-led_along-loop-name g l = record {
+abbrev pub invariant-dotted_plans::led_along-loop-name : goal.invariant-dotted_plans::led_along-loop-name
+invariant-dotted_plans::led_along-loop-name g l = record {
   items : (plan : Plan) → g.S.ConceptSet.items_of l.initial.found ≡ numbers_in l.snapshot.release (means l.snapshot.release plan)
       → g.S.ConceptSet.items_of l.found
       ≡ numbers_in l.snapshot.release (leads l.snapshot.release (means l.snapshot.release plan) (plans_of (take l.name-index l.names)));

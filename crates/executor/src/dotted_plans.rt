@@ -1,0 +1,123 @@
+//! Dotted attributes of a plan.
+ghost use Rattle.std.specs.Prelude.{true, ◌≡◌, ◌≤◌, ◌<◌, ◌+◌, ◌*◌, ◌-◌, ◌^◌, IfOk, IfSome, length, min};
+ghost use Rattle.postings.specs.Indexed.{IsIndexOf};
+ghost use Rattle.set_algebra.specs.Meaning.{leads, means};
+ghost use Rattle.set_algebra.specs.Plan.{Plan, plan_of, plans_of};
+ghost use Rattle.executor.specs.Kinds.{is_dotted};
+ghost use Rattle.planner.specs.Bounds.{own_number, values_bound};
+ghost use Rattle.planner.specs.Floors.{floor_number};
+ghost use Rattle.planner.specs.Leaves.{plan_count};
+ghost use Rattle.planner.specs.Nodes.{node_sum, plans_sum};
+ghost use Rattle.pair_sets.specs.Numbers.{numbers_in};
+ghost use Rattle.executor.specs.Named.{HasNamed};
+ghost use Rattle.pair_sets.specs.Within.{AreBelow, may_be, numbers_within};
+
+use crate::nodes::no_concept;
+use crate::plans::execute_within;
+use idset::ConceptSet;
+use pair_sets::{Candidates, Visits, restricted, values_along};
+use planner::{Choice, plan_floor};
+use postings::Indexes;
+use set_algebra::ConceptPlan;
+use snapshot::Snapshot;
+use std::alloc::{AllocError, Global};
+
+/// The candidates among the concepts that a plan of dotted attributes means.
+#[cycle(execute)]
+pub fn led_from<S: ConceptSet>(
+    alloc: Global,
+    plan: &ConceptPlan,
+    choices: &[Choice],
+    candidates: &Candidates<'_, S>,
+    snapshot: &Snapshot,
+    indexes: &Indexes,
+    visits: &mut Visits,
+) -> Result<S, AllocError>
+    requires plan { is_dotted plan.now ≡ true }
+    requires index { IsIndexOf indexes.now snapshot.now.release }
+    requires candidates { AreBelow S.bound_of (length snapshot.now.release.concepts) candidates.now }
+    ensures items { IfOk result (λ found. S.items_of found ≡ numbers_within snapshot.now.release (may_be S.items_of candidates.now) (means snapshot.now.release (plan_of plan.now))) }
+    ensures bound { IfOk result (λ found. S.bound_of found ≡ length snapshot.now.release.concepts) }
+    ensures grows { visits.old.count ≤ visits.new.count }
+    ensures within { visits.new.count ≤ visits.old.count + node_sum (own_number indexes.now) choices.now (plan_of plan.now) }
+    ensures floor { IfOk result (λ _. min (visits.old.count + node_sum (floor_number indexes.now) choices.now (plan_of plan.now)) (2 ^ 64 - 1) ≤ visits.new.count) }
+{
+    match plan {
+        ConceptPlan::Values(start, names) => {
+            let all = Candidates::All;
+            let from: S = execute_within(alloc, start, choices, &all, snapshot, indexes, visits)?;
+            let rest = plan_floor(start, choices, indexes).rest;
+            let led = led_along(alloc, from, names, rest, snapshot, indexes, visits)?;
+            let found = restricted(alloc, led, candidates)?;
+            Ok(found)
+        }
+        _ => no_concept(alloc, snapshot),
+    }
+}
+
+// The concepts to which dotted attributes lead from a set: the values of its attributes of the first name, of these those
+// of the second, and so on (Expression Constraint Language, "Refinements", dotted attributes).
+#[cycle(execute)]
+fn led_along<S: ConceptSet>(
+    alloc: Global,
+    from: S,
+    names: &[ConceptPlan],
+    choices: &[Choice],
+    snapshot: &Snapshot,
+    indexes: &Indexes,
+    visits: &mut Visits,
+) -> Result<S, AllocError>
+    requires index { IsIndexOf indexes.now snapshot.now.release }
+    requires bound { S.bound_of from ≡ length snapshot.now.release.concepts }
+    ensures items { IfOk result (λ found. (plan : Plan) → S.items_of from ≡ numbers_in snapshot.now.release (means snapshot.now.release plan)
+        → S.items_of found ≡ numbers_in snapshot.now.release (leads snapshot.now.release (means snapshot.now.release plan) (plans_of names.now))) }
+    ensures bound { IfOk result (λ found. S.bound_of found ≡ length snapshot.now.release.concepts) }
+    ensures grows { visits.old.count ≤ visits.new.count }
+    ensures within { visits.new.count ≤ visits.old.count + (values_bound indexes.now (plan_count (plans_of names.now)) (length (S.items_of from)) + plans_sum (own_number indexes.now) choices.now (plans_of names.now)) }
+    ensures floor { IfOk result (λ _. min (visits.old.count + plans_sum (floor_number indexes.now) choices.now (plans_of names.now)) (2 ^ 64 - 1) ≤ visits.new.count) }
+{
+    // the concepts rise, and the sources of all attribute rows are in force
+    snapshot.concept_count();
+    snapshot.attribute_count();
+    let mut found = from;
+    let mut known: Option<(&ConceptPlan, S)> = None;
+    let mut rest = choices;
+    for name in names {
+        let behind = plan_floor(name, rest, indexes).rest;
+        let named: S = named_by(alloc, name, rest, known, snapshot, indexes, visits)?;
+        found = values_along(alloc, snapshot, indexes, found, &named, visits)?;
+        known = Some((name, named));
+        rest = behind;
+    }
+    Ok(found)
+}
+
+// The concepts that the name of a dotted attribute means. Where the name before is the same, what it means is known; then the name
+// is left out, and its floor counted.
+#[cycle(execute)]
+fn named_by<S: ConceptSet>(
+    alloc: Global,
+    name: &ConceptPlan,
+    choices: &[Choice],
+    known: Option<(&ConceptPlan, S)>,
+    snapshot: &Snapshot,
+    indexes: &Indexes,
+    visits: &mut Visits,
+) -> Result<S, AllocError>
+    requires index { IsIndexOf indexes.now snapshot.now.release }
+    requires known { IfSome known (λ known. HasNamed snapshot.now.release (plan_of known.0.now) (S.items_of known.1) (S.bound_of known.1)) }
+    ensures named { IfOk result (λ found. HasNamed snapshot.now.release (plan_of name.now) (S.items_of found) (S.bound_of found)) }
+    ensures grows { visits.old.count ≤ visits.new.count }
+    ensures within { visits.new.count ≤ visits.old.count + node_sum (own_number indexes.now) choices.now (plan_of name.now) }
+    ensures floor { IfOk result (λ _. min (visits.old.count + node_sum (floor_number indexes.now) choices.now (plan_of name.now)) (2 ^ 64 - 1) ≤ visits.new.count) }
+{
+    if let Some((before, set)) = known {
+        if *before == *name {
+            visits.add(plan_floor(name, choices, indexes).floor);
+            return Ok(set);
+        }
+    }
+    let all = Candidates::All;
+    let found = execute_within(alloc, name, choices, &all, snapshot, indexes, visits)?;
+    Ok(found)
+}

@@ -1,0 +1,329 @@
+//! Going down a plan of groups.
+ghost use Rattle.std.specs.Prelude.{true, ◌≡◌, ◌≤◌, ◌<◌, ◌+◌, ◌*◌, ◌-◌, ◌^◌, IfOk, drop, length, min, slice_get, take};
+ghost use Rattle.std.specs.List.{list_all, list_any};
+ghost use Rattle.postings.specs.Groups.{all_groups};
+ghost use Rattle.postings.specs.Indexed.{IsIndexOf};
+ghost use Rattle.set_algebra.specs.Meaning.{group_means};
+ghost use Rattle.set_algebra.specs.Plan.{group_plan_of, group_plans_of};
+ghost use Rattle.executor.specs.Kinds.{is_minus_of_units, is_pairs_of_units};
+ghost use Rattle.planner.specs.Bounds.{own_number};
+ghost use Rattle.planner.specs.Floors.{floor_number};
+ghost use Rattle.planner.specs.Leaves.{group_count, groups_leaves};
+ghost use Rattle.planner.specs.Nodes.{group_sum, groups_sum};
+ghost use Rattle.planner.specs.Sizes.{group_size, group_sizes, total};
+ghost use Rattle.executor.specs.Lead.{leads_off_groups, of_lead};
+ghost use Rattle.pair_sets.specs.Within.{AreBelow, groups_within, may_be};
+
+use crate::counting::{group_leaf_limits, minus_reads};
+use crate::guesses::{group_lead_of, rows_of_types, unit_rows_without};
+use crate::nodes::{each_group, either, no_group};
+use crate::plans::{execute_within, tested_of};
+use constraint_tree::Cardinality;
+use idset::ConceptSet;
+use pair_sets::{
+    Candidates, RowTally, Tested, Visits, count_of_test, group_extent_of, group_extent_to_take,
+    groups_with_pairs_within, none_left, restricted, without,
+};
+use planner::{Choice, after_first, first_choice, plan_floor, unit_floor, unit_size};
+use postings::Indexes;
+use set_algebra::{ConceptPlan, UnitPlan, ValueTest};
+use snapshot::Snapshot;
+use std::alloc::{AllocError, Global};
+
+/// The candidates among the groups that a plan means, as a set of their numbers whose bound is the number of groups; they are
+/// no more than its size. Where there is no candidate the plan is left out, and its floor counted.
+#[cycle(execute)]
+pub fn execute_groups<S: ConceptSet>(
+    alloc: Global,
+    plan: &UnitPlan,
+    choices: &[Choice],
+    candidates: &Candidates<'_, S>,
+    snapshot: &Snapshot,
+    indexes: &Indexes,
+    visits: &mut Visits,
+) -> Result<S, AllocError>
+    requires index { IsIndexOf indexes.now snapshot.now.release }
+    requires candidates { AreBelow S.bound_of (length (all_groups snapshot.now.release)) candidates.now }
+    ensures items { IfOk result (λ found. S.items_of found ≡ groups_within snapshot.now.release (may_be S.items_of candidates.now) (group_means snapshot.now.release (group_plan_of plan.now))) }
+    ensures bound { IfOk result (λ found. S.bound_of found ≡ length (all_groups snapshot.now.release)) }
+    ensures grows { visits.old.count ≤ visits.new.count }
+    ensures within { visits.new.count ≤ visits.old.count + group_sum (own_number indexes.now) choices.now (group_plan_of plan.now) }
+    ensures floor { IfOk result (λ _. min (visits.old.count + group_sum (floor_number indexes.now) choices.now (group_plan_of plan.now)) (2 ^ 64 - 1) ≤ visits.new.count) }
+    ensures size { IfOk result (λ found. length (S.items_of found) ≤ group_size indexes.now choices.now (group_plan_of plan.now)) }
+{
+    // the concepts rise, and the sources of all attribute rows are in force
+    snapshot.concept_count();
+    snapshot.attribute_count();
+    if none_left(candidates) {
+        visits.add(unit_floor(plan, choices, indexes).floor);
+        let found = no_group(alloc, snapshot, indexes)?;
+        return Ok(found);
+    }
+    let found = execute_group_node(alloc, plan, choices, candidates, snapshot, indexes, visits)?;
+    Ok(found)
+}
+
+// The same of a plan that is not left out.
+#[cycle(execute)]
+#[tactic(auto, using(crate::proofs::Rules::node_parts))]
+fn execute_group_node<S: ConceptSet>(
+    alloc: Global,
+    plan: &UnitPlan,
+    choices: &[Choice],
+    candidates: &Candidates<'_, S>,
+    snapshot: &Snapshot,
+    indexes: &Indexes,
+    visits: &mut Visits,
+) -> Result<S, AllocError>
+    requires index { IsIndexOf indexes.now snapshot.now.release }
+    requires candidates { AreBelow S.bound_of (length (all_groups snapshot.now.release)) candidates.now }
+    ensures items { IfOk result (λ found. S.items_of found ≡ groups_within snapshot.now.release (may_be S.items_of candidates.now) (group_means snapshot.now.release (group_plan_of plan.now))) }
+    ensures bound { IfOk result (λ found. S.bound_of found ≡ length (all_groups snapshot.now.release)) }
+    ensures grows { visits.old.count ≤ visits.new.count }
+    ensures within { visits.new.count ≤ visits.old.count + group_sum (own_number indexes.now) choices.now (group_plan_of plan.now) }
+    ensures floor { IfOk result (λ _. min (visits.old.count + group_sum (floor_number indexes.now) choices.now (group_plan_of plan.now)) (2 ^ 64 - 1) ≤ visits.new.count) }
+{
+    match plan {
+        UnitPlan::Nothing => no_group(alloc, snapshot, indexes),
+        UnitPlan::Every => {
+            let every = each_group(alloc, snapshot, indexes)?;
+            restricted(alloc, every, candidates)
+        }
+        UnitPlan::And(parts) => {
+            groups_in_all(alloc, parts, choices, candidates, snapshot, indexes, visits)
+        }
+        UnitPlan::Or(parts) => {
+            groups_in_some(alloc, parts, choices, candidates, snapshot, indexes, visits)
+        }
+        UnitPlan::Minus(_, _) => {
+            groups_in_first_alone(alloc, plan, choices, candidates, snapshot, indexes, visits)
+        }
+        UnitPlan::Pairs { .. } => {
+            groups_with_pairs(alloc, plan, choices, candidates, snapshot, indexes, visits)
+        }
+    }
+}
+
+// The same of a plan of what the first of two plans means and the second does not. The second is executed for what is left.
+#[cycle(execute)]
+fn groups_in_first_alone<S: ConceptSet>(
+    alloc: Global,
+    plan: &UnitPlan,
+    choices: &[Choice],
+    candidates: &Candidates<'_, S>,
+    snapshot: &Snapshot,
+    indexes: &Indexes,
+    visits: &mut Visits,
+) -> Result<S, AllocError>
+    requires plan { is_minus_of_units plan.now ≡ true }
+    requires index { IsIndexOf indexes.now snapshot.now.release }
+    requires candidates { AreBelow S.bound_of (length (all_groups snapshot.now.release)) candidates.now }
+    ensures items { IfOk result (λ found. S.items_of found ≡ groups_within snapshot.now.release (may_be S.items_of candidates.now) (group_means snapshot.now.release (group_plan_of plan.now))) }
+    ensures bound { IfOk result (λ found. S.bound_of found ≡ length (all_groups snapshot.now.release)) }
+    ensures grows { visits.old.count ≤ visits.new.count }
+    ensures within { visits.new.count ≤ visits.old.count + group_sum (own_number indexes.now) choices.now (group_plan_of plan.now) }
+    ensures floor { IfOk result (λ _. min (visits.old.count + group_sum (floor_number indexes.now) choices.now (group_plan_of plan.now)) (2 ^ 64 - 1) ≤ visits.new.count) }
+{
+    match plan {
+        UnitPlan::Minus(first, second) => {
+            let left: S = execute_groups(
+                alloc, first, choices, candidates, snapshot, indexes, visits,
+            )?;
+            let rest = unit_floor(first, choices, indexes).rest;
+            let sizes = (
+                unit_size(first, choices, indexes),
+                unit_size(second, rest, indexes),
+            );
+            visits.add(minus_reads(left.count(), sizes));
+            let extent = group_extent_to_take(alloc, snapshot, indexes, candidates, &left, sizes)?;
+            let still = Candidates::Within(&left, extent);
+            let right: S = execute_groups(alloc, second, rest, &still, snapshot, indexes, visits)?;
+            let groups = without(alloc, &left, &right)?;
+            Ok(groups)
+        }
+        _ => no_group(alloc, snapshot, indexes),
+    }
+}
+
+// The same of a plan that counts pairs of a group.
+#[cycle(execute)]
+fn groups_with_pairs<S: ConceptSet>(
+    alloc: Global,
+    plan: &UnitPlan,
+    choices: &[Choice],
+    candidates: &Candidates<'_, S>,
+    snapshot: &Snapshot,
+    indexes: &Indexes,
+    visits: &mut Visits,
+) -> Result<S, AllocError>
+    requires plan { is_pairs_of_units plan.now ≡ true }
+    requires index { IsIndexOf indexes.now snapshot.now.release }
+    requires candidates { AreBelow S.bound_of (length (all_groups snapshot.now.release)) candidates.now }
+    ensures items { IfOk result (λ found. S.items_of found ≡ groups_within snapshot.now.release (may_be S.items_of candidates.now) (group_means snapshot.now.release (group_plan_of plan.now))) }
+    ensures bound { IfOk result (λ found. S.bound_of found ≡ length (all_groups snapshot.now.release)) }
+    ensures grows { visits.old.count ≤ visits.new.count }
+    ensures within { visits.new.count ≤ visits.old.count + group_sum (own_number indexes.now) choices.now (group_plan_of plan.now) }
+    ensures floor { IfOk result (λ _. min (visits.old.count + group_sum (floor_number indexes.now) choices.now (group_plan_of plan.now)) (2 ^ 64 - 1) ≤ visits.new.count) }
+{
+    match plan {
+        UnitPlan::Pairs { count, types, test } => {
+            let all = Candidates::All;
+            let of_types = after_first(choices);
+            let of_test = plan_floor(types, of_types, indexes).rest;
+            let typed: S = execute_within(alloc, types, of_types, &all, snapshot, indexes, visits)?;
+            let choice = first_choice(choices);
+            let others = rows_of_types(types, indexes);
+            let mut tally = RowTally::of(indexes, choice, false, others, candidates);
+            let tested: Tested<S> = tested_of(
+                alloc, test, of_test, snapshot, indexes, visits, &mut tally,
+            )?;
+            let limits = group_leaf_limits(
+                indexes,
+                choices,
+                *count,
+                types,
+                test,
+                typed.count(),
+                count_of_test(&tested),
+            );
+            let rows = tally.rows();
+            let found = groups_with_pairs_within(
+                alloc, snapshot, indexes, choice, limits, *count, &typed, tested, rows, candidates,
+                visits,
+            )?;
+            Ok(found)
+        }
+        _ => no_group(alloc, snapshot, indexes),
+    }
+}
+
+// The candidates among the groups that all of some plans mean; of no plans each candidate.
+#[cycle(execute)]
+fn groups_in_all<S: ConceptSet>(
+    alloc: Global,
+    parts: &[UnitPlan],
+    choices: &[Choice],
+    candidates: &Candidates<'_, S>,
+    snapshot: &Snapshot,
+    indexes: &Indexes,
+    visits: &mut Visits,
+) -> Result<S, AllocError>
+    requires index { IsIndexOf indexes.now snapshot.now.release }
+    requires candidates { AreBelow S.bound_of (length (all_groups snapshot.now.release)) candidates.now }
+    ensures items { IfOk result (λ found. S.items_of found ≡ groups_within snapshot.now.release (may_be S.items_of candidates.now) (λ pairs. list_all (λ part. group_means snapshot.now.release (group_plan_of part) pairs) parts.now)) }
+    ensures bound { IfOk result (λ found. S.bound_of found ≡ length (all_groups snapshot.now.release)) }
+    ensures grows { visits.old.count ≤ visits.new.count }
+    ensures within { visits.new.count ≤ visits.old.count + (2 * total (group_sizes indexes.now choices.now (group_plans_of parts.now)) + groups_sum (own_number indexes.now) choices.now (group_plans_of parts.now)) }
+    ensures floor { IfOk result (λ _. min (visits.old.count + groups_sum (floor_number indexes.now) choices.now (group_plans_of parts.now)) (2 ^ 64 - 1) ≤ visits.new.count) }
+{
+    if parts.is_empty() {
+        let every = each_group(alloc, snapshot, indexes)?;
+        let left = restricted(alloc, every, candidates)?;
+        return Ok(left);
+    }
+    let lead = group_lead_of(parts, indexes).min(parts.len() - 1);
+    let at = unit_choices_at(parts, choices, lead, indexes);
+    let mut groups: S = groups_led_by(
+        alloc, parts, lead, at, candidates, snapshot, indexes, visits,
+    )?;
+    let mut rest = choices;
+    for place in 0..parts.len() {
+        let part = &parts[place];
+        let behind = unit_floor(part, rest, indexes).rest;
+        if place != lead {
+            let rows = unit_rows_without(part, indexes);
+            let extent = group_extent_of(alloc, snapshot, indexes, &groups, rows)?;
+            let still = Candidates::Within(&groups, extent);
+            let next: S = execute_groups(alloc, part, rest, &still, snapshot, indexes, visits)?;
+            visits.add(next.count() as u64);
+            groups = next;
+        }
+        rest = behind;
+    }
+    Ok(groups)
+}
+
+// The choices of the leaves of some plans of groups, from those of the one at a place on.
+fn unit_choices_at<'a>(
+    parts: &[UnitPlan],
+    choices: &'a [Choice],
+    place: usize,
+    indexes: &Indexes,
+) -> &'a [Choice]
+    requires { place < length parts.now }
+    ensures { result.now ≡ drop (groups_leaves (group_plans_of (take place parts.now))) choices.now }
+{
+    let mut rest = choices;
+    for before in 0..place {
+        rest = unit_floor(&parts[before], rest, indexes).rest;
+    }
+    rest
+}
+
+// The candidates among the groups that the plan at a place means.
+#[cycle(execute)]
+fn groups_led_by<S: ConceptSet>(
+    alloc: Global,
+    parts: &[UnitPlan],
+    lead: usize,
+    choices: &[Choice],
+    candidates: &Candidates<'_, S>,
+    snapshot: &Snapshot,
+    indexes: &Indexes,
+    visits: &mut Visits,
+) -> Result<S, AllocError>
+    requires index { IsIndexOf indexes.now snapshot.now.release }
+    requires candidates { AreBelow S.bound_of (length (all_groups snapshot.now.release)) candidates.now }
+    requires lead { lead < length parts.now }
+    ensures items { IfOk result (λ found. S.items_of found ≡ groups_within snapshot.now.release (may_be S.items_of candidates.now) (leads_off_groups snapshot.now.release (slice_get parts.now lead))) }
+    ensures bound { IfOk result (λ found. S.bound_of found ≡ length (all_groups snapshot.now.release)) }
+    ensures grows { visits.old.count ≤ visits.new.count }
+    ensures within { visits.new.count ≤ visits.old.count + of_lead (λ part. group_size indexes.now choices.now (group_plan_of part) + group_sum (own_number indexes.now) choices.now (group_plan_of part)) (slice_get parts.now lead) }
+    ensures floor { IfOk result (λ _. min (visits.old.count + of_lead (λ part. group_sum (floor_number indexes.now) choices.now (group_plan_of part)) (slice_get parts.now lead)) (2 ^ 64 - 1) ≤ visits.new.count) }
+{
+    let groups: S = execute_groups(
+        alloc,
+        &parts[lead],
+        choices,
+        candidates,
+        snapshot,
+        indexes,
+        visits,
+    )?;
+    visits.add(groups.count() as u64);
+    Ok(groups)
+}
+
+// The candidates among the groups that one of some plans means; of no plans none.
+#[cycle(execute)]
+fn groups_in_some<S: ConceptSet>(
+    alloc: Global,
+    parts: &[UnitPlan],
+    choices: &[Choice],
+    candidates: &Candidates<'_, S>,
+    snapshot: &Snapshot,
+    indexes: &Indexes,
+    visits: &mut Visits,
+) -> Result<S, AllocError>
+    requires index { IsIndexOf indexes.now snapshot.now.release }
+    requires candidates { AreBelow S.bound_of (length (all_groups snapshot.now.release)) candidates.now }
+    ensures items { IfOk result (λ found. S.items_of found ≡ groups_within snapshot.now.release (may_be S.items_of candidates.now) (λ pairs. list_any (λ part. group_means snapshot.now.release (group_plan_of part) pairs) parts.now)) }
+    ensures bound { IfOk result (λ found. S.bound_of found ≡ length (all_groups snapshot.now.release)) }
+    ensures grows { visits.old.count ≤ visits.new.count }
+    ensures within { visits.new.count ≤ visits.old.count + (group_count (group_plans_of parts.now) * total (group_sizes indexes.now choices.now (group_plans_of parts.now)) + groups_sum (own_number indexes.now) choices.now (group_plans_of parts.now)) }
+    ensures floor { IfOk result (λ _. min (visits.old.count + groups_sum (floor_number indexes.now) choices.now (group_plans_of parts.now)) (2 ^ 64 - 1) ≤ visits.new.count) }
+{
+    // the concepts rise, and the sources of all attribute rows are in force
+    snapshot.concept_count();
+    snapshot.attribute_count();
+    let mut groups: S = no_group(alloc, snapshot, indexes)?;
+    let mut rest = choices;
+    for part in parts {
+        let behind = unit_floor(part, rest, indexes).rest;
+        let next: S = execute_groups(alloc, part, rest, candidates, snapshot, indexes, visits)?;
+        visits.add(groups.count() as u64 + next.count() as u64);
+        groups = either(alloc, &groups, &next)?;
+        rest = behind;
+    }
+    Ok(groups)
+}
