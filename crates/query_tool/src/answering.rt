@@ -37,7 +37,7 @@ pub fn answer_over(
     ensures err { OnErr result (output.new.items ≡ output.old.items) }
 {
     match constraint_of(alloc, line, output)? {
-        Some(constraint) => answer_constraint(alloc, snapshot, indexes, &constraint, output),
+        Some(constraint) => answer_constraint(alloc, snapshot, indexes, constraint, output),
         None => Ok(()),
     }
 }
@@ -62,7 +62,7 @@ pub fn answer_over_with(
                 alloc,
                 snapshot,
                 indexes,
-                &constraint,
+                constraint,
                 steps,
                 choices,
                 output,
@@ -85,7 +85,7 @@ pub fn explain_over(
     ensures err { OnErr result (output.new.items ≡ output.old.items) }
 {
     match constraint_of(alloc, line, output)? {
-        Some(constraint) => explain_constraint(alloc, snapshot, indexes, &constraint, output),
+        Some(constraint) => explain_constraint(alloc, snapshot, indexes, constraint, output),
         None => Ok(()),
     }
 }
@@ -111,8 +111,26 @@ fn constraint_of(
     }
 }
 
-// Appends what answers a constraint over a release.
+// Appends what answers a constraint over a release. (The constraint is dropped here, where there is one end, so that its lifetimes
+// are not followed to each end of a caller.)
 fn answer_constraint(
+    alloc: Global,
+    snapshot: &Snapshot,
+    indexes: &Indexes,
+    constraint: Constraint,
+    output: &mut Vec<u8>,
+) -> Result<(), AllocError>
+    requires { IsIndexOf indexes.now snapshot.now.release }
+    ensures ok { OnOk result (output.new.items ≡ output.old.items ++ constraint_answer snapshot.now (tree_of constraint)) }
+    ensures err { OnErr result (output.new.items ≡ output.old.items) }
+{
+    let answered = answer_by_least_plan(alloc, snapshot, indexes, &constraint, output);
+    drop(constraint);
+    answered
+}
+
+// The same by its own plan, with the choices of least bound.
+fn answer_by_least_plan(
     alloc: Global,
     snapshot: &Snapshot,
     indexes: &Indexes,
@@ -129,6 +147,32 @@ fn answer_constraint(
 
 // The same by its plan after some steps, with choices that are asked for.
 fn answer_with(
+    alloc: Global,
+    snapshot: &Snapshot,
+    indexes: &Indexes,
+    constraint: Constraint,
+    steps: &[Step<'_>],
+    choices: &[Choice],
+    output: &mut Vec<u8>,
+) -> Result<(), AllocError>
+    requires { IsIndexOf indexes.now snapshot.now.release }
+    ensures ok { OnOk result (output.new.items ≡ output.old.items ++ constraint_answer snapshot.now (tree_of constraint)) }
+    ensures err { OnErr result (output.new.items ≡ output.old.items) }
+{
+    let answered = answer_by_asked_plan(
+        alloc,
+        snapshot,
+        indexes,
+        &constraint,
+        steps,
+        choices,
+        output,
+    );
+    drop(constraint);
+    answered
+}
+
+fn answer_by_asked_plan(
     alloc: Global,
     snapshot: &Snapshot,
     indexes: &Indexes,
@@ -182,6 +226,22 @@ fn found_by<S: ConceptSet>(
 
 // Appends what explains a constraint over a release.
 fn explain_constraint(
+    alloc: Global,
+    snapshot: &Snapshot,
+    indexes: &Indexes,
+    constraint: Constraint,
+    output: &mut Vec<u8>,
+) -> Result<(), AllocError>
+    requires { IsIndexOf indexes.now snapshot.now.release }
+    ensures ok { OnOk result ((text : List ℕ) × Explains snapshot.now (tree_of constraint) text × (output.new.items ≡ output.old.items ++ text)) }
+    ensures err { OnErr result (output.new.items ≡ output.old.items) }
+{
+    let explained = explain_least_plan(alloc, snapshot, indexes, &constraint, output);
+    drop(constraint);
+    explained
+}
+
+fn explain_least_plan(
     alloc: Global,
     snapshot: &Snapshot,
     indexes: &Indexes,

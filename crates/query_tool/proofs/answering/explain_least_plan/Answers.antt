@@ -3,7 +3,7 @@ use Rattle.constraint_tree.specs.Tree.{tree_of}
 use Rattle.set_algebra.specs.Plan.{plan_of}
 use Rattle.answer_printer.specs.PlanText.{plan_text}
 use Rattle.query_tool.proofs.ExplanationLemmas.{explains}
-use Rattle.query_tool.proofs.answering.explain_constraint.Goals as goal
+use Rattle.query_tool.proofs.answering.explain_least_plan.Goals as goal
 
 pub returns-clause-ok : goal.returns-clause-ok
 returns-clause-ok c =
