@@ -46,7 +46,7 @@ there_item (y ∷ xs) x (zero, within, is) = or_left (y == x) (has_item xs x) (e
 there_item (y ∷ xs) x (suc k, within, is) = or_right (y == x) (has_item xs x) (there_item xs x (k, omega arith, is))
 
 -- an item of joined lists is an item of one
-has_item-append : (xs ys : List ℕ) (x : ℕ) → has_item (xs ++ ys) x ≡ (has_item xs x || has_item ys x)
+pub has_item-append : (xs ys : List ℕ) (x : ℕ) → has_item (xs ++ ys) x ≡ (has_item xs x || has_item ys x)
 has_item-append [] ys x = refl
 has_item-append (y ∷ xs) ys x = ap (λ (b : Bool). (y == x) || b) (has_item-append xs ys x) ∙ assoc (y == x) (has_item xs x) (has_item ys x)
   where

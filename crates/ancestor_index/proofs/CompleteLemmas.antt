@@ -25,7 +25,8 @@ range_rises count k within =
     let long = length-range_with_len 0 count in
     omega (arith, within, long, get_or-range_with_len 0 count k 0 (omega arith), get_or-range_with_len 0 count (k + 1) 0 (omega arith))
 
-rising : (count : ℕ) (test : ℕ → ℕ → Bool) → All IsStrictlyIncreasing (lists_where count test)
+-- the list of each concept rises
+pub rising : (count : ℕ) (test : ℕ → ℕ → Bool) → All IsStrictlyIncreasing (lists_where count test)
 rising count test k d within =
     let below : k < count = omega (arith, within, length-where count test) in
     let list = get_or_default (lists_where count test) k d [] within ∙ list_of-where count test k below in

@@ -1,5 +1,5 @@
 -- Joining the lists of concepts: their numbers in a list, and those of the long ones in a set.
-use Rattle.std.proofs.Common.{arith, ℕ, ◌≡◌, ◌<◌, ◌+◌, ◌∙◌, ◌++◌, ◌∷◌, ◌||◌, [], Bool, false, List, Option, None, Some, ap, append-nil, append_assoc, get_or, length, subst, sym, take}
+use Rattle.std.proofs.Common.{arith, ℕ, ◌≡◌, ◌<◌, ◌+◌, ◌∙◌, ◌++◌, ◌∷◌, ◌==◌, ◌||◌, [], Bool, false, true, List, Option, None, Some, ap, append-nil, append_assoc, get_or, length, refl, subst, sym, take}
 use Rattle.std.specs.Prelude.{All, Contains, IfSome}
 use Rattle.std.proofs.lemmas.Bool.Decides.{nat_tests}
 use Rattle.std.proofs.lemmas.Grind.{common_steps}
@@ -8,11 +8,11 @@ use Rattle.std.proofs.lemmas.List.Elements.{All-append, All-cons, All-nil, Conta
 use Rattle.std.proofs.lemmas.List.Concat.{flat_map-append}
 use Rattle.std.proofs.lemmas.List.Folds.{list_any-append}
 use Rattle.hierarchy.specs.KeyedLists.{AreItemsBelow, list_of}
-use Rattle.idset.specs.Sets.{IsRisingBelow, all_items, has_item, numbers_where}
-use Rattle.idset.proofs.Rising.{numbers_where-rising}
-use Rattle.ancestor_index.proofs.ClosureLemmas.{there_where}
+use Rattle.idset.specs.Sets.{IsRisingBelow, all_items, has_item, listed_numbers, numbers_where}
+use Rattle.idset.proofs.Rising.{numbers_where-rising, rising_is_where}
+use Rattle.ancestor_index.proofs.ClosureLemmas.{has_item-append, there_where}
 use Rattle.idset.specs.Words.{is_set}
-use Rattle.ancestor_index.specs.Gathered.{gathered_by}
+use Rattle.ancestor_index.specs.Gathered.{AreRisingBelow, gathered_by, joined_by}
 use Rattle.idset.proofs.Normal.{has_item-numbers_where, numbers_where-agree}
 
 -- what a set has with the numbers of words
@@ -72,3 +72,67 @@ pub items_more : (count : ℕ) (lists : List (List ℕ)) (list : List ℕ) → A
 items_more count lists list below own =
     let are_below = λ (items : List ℕ). All (λ item. item < count) items in
     All-append are_below lists (list ∷ []) below (All-cons are_below list [] own (All-nil are_below))
+
+-- ---- lists that are joined one after another
+-- concepts that rise are in order
+pub none_joined : (count : ℕ) (concepts : List ℕ) → IsRisingBelow count concepts → concepts ≡ listed_numbers count (concepts ++ [])
+none_joined count concepts rises =
+    rising_is_where count concepts (has_item (concepts ++ [])) rises (λ n below. ap (λ (xs : List ℕ). has_item xs n) (sym (append-nil concepts)))
+
+-- the lists of one concept more
+pub joined_more : (places : List ℕ) (lists : List (List ℕ)) (concepts : List ℕ) (i : ℕ) → i < length concepts
+    → joined_by places lists (take (i + 1) concepts) ≡ joined_by places lists (take i concepts) ++ list_of lists (get_or places (get_or concepts i 0) 0)
+joined_more places lists concepts i within =
+    let own = λ (concept : ℕ). list_of lists (get_or places concept 0) in
+    let concept = get_or concepts i 0 in
+    ap (joined_by places lists) (take_more concepts i 0 within)
+    ∙ flat_map-append own (take i concepts) (concept ∷ [])
+    ∙ ap (λ (last : List ℕ). joined_by places lists (take i concepts) ++ last) (append-nil (own concept))
+
+-- numbers in order and once each, with those of one list more
+pub listed_more : (count : ℕ) (concepts joined own : List ℕ) → all_items count (listed_numbers count (concepts ++ joined)) own ≡ listed_numbers count (concepts ++ (joined ++ own))
+listed_more count concepts joined own =
+    numbers_where-agree count (λ n. has_item (listed_numbers count (concepts ++ joined)) n || has_item own n) (has_item ((concepts ++ joined) ++ own))
+    (λ n below. (λ i. has_item-numbers_where count (has_item (concepts ++ joined)) n below i || has_item own n) ∙ sym (has_item-append (concepts ++ joined) own n))
+    ∙ ap (listed_numbers count) (append_assoc concepts joined own)
+
+-- the list at a place rises
+pub own_rises : (count place : ℕ) (lists : List (List ℕ)) (own : List ℕ) → AreRisingBelow count lists → place < length lists → own ≡ list_of lists place → IsRisingBelow count own
+own_rises count place lists own rise within is = subst (IsRisingBelow count) (sym is) (rise place [] within)
+
+-- what is joined of numbers in order with such a list
+pub joined_with : (count : ℕ) (all list own union : List ℕ) → list ≡ listed_numbers count all → IsRisingBelow count own
+    → ((bound : ℕ) → IsRisingBelow bound list → IsRisingBelow bound own → union ≡ all_items bound list own) → union ≡ all_items count (listed_numbers count all) own
+joined_with count all list own union is rises joined =
+    joined count (subst (IsRisingBelow count) (sym is) (numbers_where-rising count (has_item all))) rises ∙ (λ i. all_items count (is i) own)
+
+-- one list more that rises
+pub rising_more : (count : ℕ) (lists : List (List ℕ)) (list : List ℕ) → AreRisingBelow count lists → IsRisingBelow count list → AreRisingBelow count (lists ++ list ∷ [])
+rising_more count lists list rise own =
+    let rises = λ (xs : List ℕ). IsRisingBelow count xs in
+    All-append rises lists (list ∷ []) rise (All-cons rises list [] own (All-nil rises))
+
+-- concepts and their lists are the concepts, each with its list
+turned : (a b c d e : Bool) → (b || d) ≡ e → (a || (b || (c || d))) ≡ (a || (c || e))
+turned true b c d e is = refl
+turned false true true d e is = refl
+turned false true false d e is = is
+turned false false true d e is = refl
+turned false false false d e is = is
+
+joined_gathered : (places : List ℕ) (lists : List (List ℕ)) (concepts : List ℕ) (n : ℕ)
+    → has_item (concepts ++ joined_by places lists concepts) n ≡ has_item (gathered_by places lists concepts) n
+joined_gathered places lists [] n = refl
+joined_gathered places lists (concept ∷ concepts) n =
+    let own = list_of lists (get_or places concept 0) in
+    let joined = joined_by places lists concepts in
+    let rest : (has_item concepts n || has_item joined n) ≡ has_item (gathered_by places lists concepts) n =
+    sym (has_item-append concepts joined n) ∙ joined_gathered places lists concepts n in
+    ap (λ (b : Bool). (concept == n) || b) (has_item-append concepts (own ++ joined) n ∙ ap (λ (b : Bool). has_item concepts n || b) (has_item-append own joined n))
+    ∙ turned (concept == n) (has_item concepts n) (has_item own n) (has_item joined n) (has_item (gathered_by places lists concepts) n) rest
+    ∙ ap (λ (b : Bool). (concept == n) || b) (sym (has_item-append own (gathered_by places lists concepts) n))
+
+pub joined_listed : (count : ℕ) (places : List ℕ) (lists : List (List ℕ)) (concepts : List ℕ)
+    → listed_numbers count (concepts ++ joined_by places lists concepts) ≡ listed_numbers count (gathered_by places lists concepts)
+joined_listed count places lists concepts =
+    numbers_where-agree count (has_item (concepts ++ joined_by places lists concepts)) (has_item (gathered_by places lists concepts)) (λ n below. joined_gathered places lists concepts n)

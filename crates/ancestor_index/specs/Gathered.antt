@@ -1,6 +1,6 @@
 -- What is gathered of concepts with their lists, before it is brought in order.
-use Rattle.std.specs.Prelude.{ℕ, ◌≡◌, ◌<◌, ◌∷◌, ◌||◌, Bool, false, List, Option, None, Some, flat_map, slice_index}
-use Rattle.idset.specs.Sets.{has_item}
+use Rattle.std.specs.Prelude.{ℕ, ◌≡◌, ◌<◌, ◌∷◌, ◌||◌, Bool, false, List, Option, None, Some, All, flat_map, slice_index}
+use Rattle.idset.specs.Sets.{IsRisingBelow, has_item}
 use Rattle.hierarchy.specs.KeyedLists.{list_of}
 
 -- concepts, each with the concepts of its list, which is the list of its place
@@ -16,3 +16,11 @@ has_joined items_of (Some set) number = has_item (items_of set) number
 abbrev pub AreGathered : {S : Type 0} → (S → List ℕ) → ℕ → List ℕ → List ℕ → Option S → Type 0
 AreGathered items_of count all list joined =
     (number : ℕ) → number < count → has_item all number ≡ (has_item list number || has_joined items_of joined number)
+
+-- the lists of concepts, each of which is the list of its place, one behind the other
+abbrev pub joined_by : List ℕ → List (List ℕ) → List ℕ → List ℕ
+joined_by places lists concepts = flat_map (λ concept. list_of lists (slice_index places concept)) concepts
+
+-- each of some lists rises, below a count
+abbrev pub AreRisingBelow : ℕ → List (List ℕ) → Type 0
+AreRisingBelow count lists = All (λ list. IsRisingBelow count list) lists

@@ -6,15 +6,28 @@ ghost use Rattle.idset.specs.Sets.{IsRisingBelow, has_item, listed_numbers, numb
 ghost use Rattle.idset.specs.Words.{AreWordsBelow, MarkedBelow, is_set};
 ghost use Rattle.hierarchy.specs.KeyedLists.{AreItemsBelow, list_of};
 ghost use Rattle.ancestor_index.specs.HierarchyLists.{lists_where};
-ghost use Rattle.ancestor_index.specs.Gathered.{AreGathered, gathered_by, has_joined};
+ghost use Rattle.ancestor_index.specs.Gathered.{AreGathered, AreRisingBelow, gathered_by, has_joined};
 ghost use Rattle.ancestor_index.specs.Parents.{AreParentsBy};
 ghost use Rattle.ancestor_index.specs.Wide.{AreWide};
 
 use crate::rising::keep_rising;
 use crate::wide::WideLists;
 use hierarchy::KeyedLists;
-use idset::{ConceptSet, WordSet};
+use idset::{ConceptSet, WordSet, put_union};
 use std::alloc::{AllocError, Global};
+use std::mem::swap;
+
+// So many lists are joined one after another. To join more in that way, each with all that was joined before, could take
+// long: they are gathered and sorted.
+const FEW: usize = 8;
+
+// Where one list after another is joined, so that none asks for memory of its own.
+#[derive(Drop)]
+struct Room {
+    list: Vec<u32>,
+    // takes the list with one more that it is joined with
+    spare: Vec<u32>,
+}
 
 /// The ancestors of each concept, by the parents of each and an order in which parents come first.
 pub fn ancestor_lists(
@@ -64,26 +77,89 @@ fn ancestors_in_order(
     let count = order.len() as u32;
     let mut lists = KeyedLists::with_capacity(alloc, order.len(), order.len())?;
     let mut wide = WideLists::with_capacity(alloc, order.len())?;
-    let mut list = Vec::new(alloc);
+    let mut room = Room {
+        list: Vec::new(alloc),
+        spare: Vec::new(alloc),
+    };
     for concept in order {
         join(
             alloc,
-            &mut list,
+            &mut room,
             parents.of(*concept),
             places,
             &lists,
             &wide,
             count,
         )?;
-        wide.push(alloc, list.as_slice(), count)?;
-        lists = lists.push(list.as_slice())?;
+        wide.push(alloc, room.list.as_slice(), count)?;
+        lists = lists.push(room.list.as_slice())?;
     }
     Ok(lists)
 }
 
-// Leaves in `list` concepts, each with the concepts of its list, which is the list of its place, in rising order and
-// once each. Long lists are joined by their words.
+// Leaves in the room concepts, each with the concepts of its list, which is the list of its place, in rising order and
+// once each.
 fn join(
+    alloc: Global,
+    room: &mut Room,
+    concepts: &[u32],
+    places: &[u32],
+    lists: &KeyedLists,
+    wide: &WideLists,
+    count: u32,
+) -> Result<(), AllocError>
+    requires count { length places.now ≡ count }
+    requires concepts { All (λ concept. (concept < count) × (concept < length places.now) × (slice_index places.now concept < length lists.now)) concepts.now }
+    requires sorted { IsRisingBelow count concepts.now }
+    requires items { AreItemsBelow count lists.now }
+    requires rising { AreRisingBelow count lists.now }
+    requires wide { AreWide count lists.now wide.now.ends.items wide.now.words.items }
+    ensures { OnOk result (room.new.list.items ≡ listed_numbers count (gathered_by places.now lists.now concepts.now)) }
+{
+    if concepts.len() <= FEW && !has_long(concepts, places, lists, count) {
+        return join_few(room, concepts, places, lists, count);
+    }
+    join_many(alloc, &mut room.list, concepts, places, lists, wide, count)
+}
+
+// Whether one of the lists of concepts has more than a 32nd of all numbers.
+fn has_long(concepts: &[u32], places: &[u32], lists: &KeyedLists, count: u32) -> bool
+    requires { All (λ concept. (concept < count) × (concept < length places.now) × (slice_index places.now concept < length lists.now)) concepts.now }
+{
+    let most = (count / 32) as usize;
+    for concept in concepts {
+        if lists.of(places[*concept as usize]).len() > most {
+            return true;
+        }
+    }
+    false
+}
+
+// Joins few lists. They rise, so that they are joined without being sorted.
+fn join_few(
+    room: &mut Room,
+    concepts: &[u32],
+    places: &[u32],
+    lists: &KeyedLists,
+    count: u32,
+) -> Result<(), AllocError>
+    requires concepts { All (λ concept. (concept < count) × (concept < length places.now) × (slice_index places.now concept < length lists.now)) concepts.now }
+    requires sorted { IsRisingBelow count concepts.now }
+    requires rising { AreRisingBelow count lists.now }
+    ensures { OnOk result (room.new.list.items ≡ listed_numbers count (gathered_by places.now lists.now concepts.now)) }
+{
+    room.list.clear();
+    room.list.extend_from_slice(concepts)?;
+    for concept in concepts {
+        let own = lists.of(places[*concept as usize]);
+        put_union(room.list.as_slice(), own, &mut room.spare)?;
+        swap(&mut room.list, &mut room.spare);
+    }
+    Ok(())
+}
+
+// Joins any lists: sorted, and the long ones by their words.
+fn join_many(
     alloc: Global,
     list: &mut Vec<u32>,
     concepts: &[u32],

@@ -49,7 +49,7 @@ impl AncestorIndex {
         let parents = linked_lists(alloc, count, rows)?;
         let children = parents.turned(alloc, count)?;
         let ancestors = ancestor_lists(alloc, &parents, snapshot.parents_first())?;
-        let descendants = ancestors.turned(alloc, count)?;
+        let descendants = ancestors.turned_rising(alloc, count)?;
         let wide = wide_lists(alloc, &descendants, count)?;
         Ok(AncestorIndex {
             ancestors,

@@ -14,7 +14,7 @@ mod sorted_set;
 mod word_set;
 
 pub use concept_set::ConceptSet;
-pub use lists::has_number;
+pub use lists::{has_number, put_union};
 pub use marks::{is_marked, mark, marks_of, word_count};
 pub use mixed_set::MixedSet;
 pub use sorted_set::SortedSet;

@@ -3,13 +3,14 @@ use Rattle.std.specs.Prelude.{All, Contains}
 use Rattle.std.proofs.lemmas.List.{take_all}
 use Rattle.std.proofs.lemmas.List.Elements.{All-nil, Contains-get_or}
 use Rattle.hierarchy.specs.KeyedLists.{AreItemsBelow}
-use Rattle.idset.specs.Sets.{listed_numbers, numbers_where}
+use Rattle.idset.specs.Sets.{IsRisingBelow, listed_numbers, numbers_where}
+use Rattle.idset.proofs.Rising.{numbers_where-rising}
 use Rattle.hierarchy.specs.Hierarchy.{reaches}
 use Rattle.ancestor_index.specs.HierarchyLists.{is_child}
 use Rattle.ancestor_index.proofs.ClosureLemmas.{Turn, gathered_listed, length-where, order_below, own_parents, parent_placed}
-use Rattle.ancestor_index.specs.Gathered.{gathered_by}
+use Rattle.ancestor_index.specs.Gathered.{AreRisingBelow, gathered_by}
 use Rattle.ancestor_index.specs.Wide.{AreWide}
-use Rattle.ancestor_index.proofs.GatherLemmas.{items_more, where_below}
+use Rattle.ancestor_index.proofs.GatherLemmas.{items_more, rising_more, where_below}
 use Rattle.ancestor_index.proofs.ListLemmas.{map_more}
 use Rattle.ancestor_index.proofs.closure.ancestors_in_order.Goals as goal
 
@@ -34,6 +35,19 @@ join-requires-clause-concepts c = λ i d inside.
     let own : c.of.result.now ≡ numbers_where (length order) (is_child rows (get_or order c.loop-concept.concept-index 0)) = c.of.ensures ∙ own_parents turn in
     let placed = parent_placed turn (get_or c.of.result.now i d) (subst (λ (xs : List ℕ). Contains xs (get_or c.of.result.now i d)) own (Contains-get_or c.of.result.now i d inside)) in
     (omega (arith, placed.near, c.requires.len), placed.near, placed.early)
+
+pub join-requires-clause-sorted : goal.join-requires-clause-sorted
+join-requires-clause-sorted c =
+    let order = c.args.order.now in
+    let rows = c.requires.parents.0 in
+    let given = c.requires.parents.1 in
+    let turn : Turn rows c.args.parents.now order c.args.places.now c.loop-concept.lists c.loop-concept.concept-index =
+    record { given = given; len = c.requires.len; placed = c.requires.places; within = c.loop-concept-test.true; known = c.loop-concept.invariant.known rows given } in
+    let own : c.of.result.now ≡ numbers_where (length order) (is_child rows (get_or order c.loop-concept.concept-index 0)) = c.of.ensures ∙ own_parents turn in
+    subst (IsRisingBelow (length order)) (sym own) (numbers_where-rising (length order) (is_child rows (get_or order c.loop-concept.concept-index 0)))
+
+pub join-requires-clause-rising : goal.join-requires-clause-rising
+join-requires-clause-rising c = c.loop-concept.invariant.rising
 
 pub join-requires-clause-items : goal.join-requires-clause-items
 join-requires-clause-items c = c.loop-concept.invariant.items
@@ -68,6 +82,9 @@ loop-concept-preserved c =
           c.in_ok-lists-2.ensures
           ∙ (λ i. c.loop-concept.invariant.known rows given i ++ made i ∷ [])
           ∙ sym (map_more (λ concept. numbers_where count (reaches rows concept)) order k 0 c.loop-concept-test.true);
+      rising = subst (AreRisingBelow count) (sym c.in_ok-lists-2.ensures)
+          (rising_more count c.loop-concept.lists list c.loop-concept.invariant.rising
+          (subst (IsRisingBelow count) (sym (c.as_slice-in-loop-concept.ensures.value ∙ c.in_ok-join.ensures)) (numbers_where-rising count _)));
       items = subst (AreItemsBelow count) (sym c.in_ok-lists-2.ensures) (items_more count c.loop-concept.lists list c.loop-concept.invariant.items below);
       wide = subst (λ (lists : List (List ℕ)). AreWide count lists c.push.new.self.ends.items c.push.new.self.words.items) (sym c.in_ok-lists-2.ensures)
           (subst (λ (pushed : List ℕ). AreWide count (c.loop-concept.lists ++ pushed ∷ []) c.push.new.self.ends.items c.push.new.self.words.items) same
@@ -77,6 +94,7 @@ loop-concept-preserved c =
 pub loop-concept-init : goal.loop-concept-init
 loop-concept-init c = record {
   known = λ rows given. c.in_ok-lists.ensures;
+  rising = subst (AreRisingBelow (length c.args.order.now)) (sym c.in_ok-lists.ensures) (All-nil (λ (list : List ℕ). IsRisingBelow (length c.args.order.now) list));
   items = subst (AreItemsBelow (length c.args.order.now)) (sym c.in_ok-lists.ensures) (All-nil (λ (items : List ℕ). All (λ item. item < length c.args.order.now) items));
   wide = subst (λ (lists : List (List ℕ)). AreWide (length c.args.order.now) lists c.in_ok-wide.wide.ends.items c.in_ok-wide.wide.words.items) (sym c.in_ok-lists.ensures)
       (c.in_ok-wide.ensures (length c.args.order.now));

@@ -2,6 +2,7 @@ use Rattle.std.proofs.Common.{ℕ, ◌≡◌, List, length, map, take}
 use Rattle.hierarchy.specs.Hierarchy.{reaches}
 use Rattle.hierarchy.specs.KeyedLists.{AreItemsBelow}
 use Rattle.idset.specs.Sets.{numbers_where}
+use Rattle.ancestor_index.specs.Gathered.{AreRisingBelow}
 use Rattle.ancestor_index.specs.Parents.{AreParentsBy}
 use Rattle.ancestor_index.specs.Wide.{AreWide}
 use Rattle.ancestor_index.proofs.closure.ancestors_in_order.Given as goal
@@ -11,5 +12,6 @@ invariant-loop-concept l = record {
   known : (rows : List (ℕ × ℕ)) → AreParentsBy rows l.parents l.order
       → l.lists ≡ map (λ concept. numbers_where (length l.order) (reaches rows concept)) (take l.concept-index l.order);
   items : AreItemsBelow (length l.order) l.lists;
+  rising : AreRisingBelow (length l.order) l.lists;
   wide : AreWide (length l.order) l.lists l.wide.ends.items l.wide.words.items;
 }

@@ -1,4 +1,6 @@
 use Rattle.std.proofs.Common.{ℕ, ◌≡◌, ◌<◌, ◌^◌, ◌∙◌, List, length, sym, subst, ap, arith}
+use Rattle.std.specs.Prelude.{All}
+use Rattle.std.specs.List.Sorted.{IsStrictlyIncreasing}
 use Rattle.hierarchy.specs.Hierarchy.{IsWithin, reaches}
 use Rattle.hierarchy.specs.KeyedLists.{turned, turned_from}
 use Rattle.hierarchy.proofs.KeyedLemmas.{length-lists_by}
@@ -6,6 +8,7 @@ use Rattle.ancestor_index.specs.HierarchyLists.{is_child, lists_where}
 use Rattle.ancestor_index.specs.Wide.{AreWide}
 use Rattle.ancestor_index.proofs.BuildLemmas.{ancestors_told, given_parents, hierarchy_told, order_count, turned_where, where_below}
 use Rattle.ancestor_index.proofs.ClosureLemmas.{length-where}
+use Rattle.ancestor_index.proofs.CompleteLemmas.{rising}
 use Rattle.ancestor_index.proofs.index.AncestorIndex.build.Goals as goal
 
 pub linked_lists-requires : goal.linked_lists-requires
@@ -36,8 +39,8 @@ ancestor_lists-requires-clause-parents c =
           (c.in_ok-parents.ensures ∙ (λ i. lists_where (c.concept_count-count.ensures.count i) (is_child rows))) first,
     )
 
-pub turned-requires-2-clause-items : goal.turned-requires-2-clause-items
-turned-requires-2-clause-items c =
+pub turned_rising-requires-clause-items : goal.turned_rising-requires-clause-items
+turned_rising-requires-clause-items c =
     let rows = c.isa_rows-rows.result.now in
     let count = c.concept_count-count.result in
     let all = length c.args.snapshot.now.release.concepts in
@@ -45,8 +48,8 @@ turned-requires-2-clause-items c =
     (c.parents_first.ensures rows c.isa_rows-rows.ensures.rows c.isa_rows-rows.ensures.within) c.in_ok-ancestors.ensures in
     where_below count (reaches rows) c.in_ok-ancestors.ancestors ancestors
 
-pub turned-requires-2-clause-few : goal.turned-requires-2-clause-few
-turned-requires-2-clause-few c =
+pub turned_rising-requires-clause-few : goal.turned_rising-requires-clause-few
+turned_rising-requires-clause-few c =
     let fit : c.concept_count-count.result < 2 ^ 32 = c.concept_count-count.type_inv in
     let rows = c.isa_rows-rows.result.now in
     let count = c.concept_count-count.result in
@@ -54,6 +57,15 @@ turned-requires-2-clause-few c =
     let ancestors = ancestors_told all count rows c.in_ok-parents.parents c.in_ok-ancestors.ancestors c.parents_first.result.now c.concept_count-count.ensures.count c.isa_rows-rows.ensures.within c.in_ok-parents.ensures
     (c.parents_first.ensures rows c.isa_rows-rows.ensures.rows c.isa_rows-rows.ensures.within) c.in_ok-ancestors.ensures in
     omega (arith, ap (λ (lists : List (List ℕ)). length lists) ancestors, length-where count (reaches rows), fit)
+
+pub turned_rising-requires-clause-rising : goal.turned_rising-requires-clause-rising
+turned_rising-requires-clause-rising c =
+    let rows = c.isa_rows-rows.result.now in
+    let count = c.concept_count-count.result in
+    let all = length c.args.snapshot.now.release.concepts in
+    let ancestors = ancestors_told all count rows c.in_ok-parents.parents c.in_ok-ancestors.ancestors c.parents_first.result.now c.concept_count-count.ensures.count c.isa_rows-rows.ensures.within c.in_ok-parents.ensures
+    (c.parents_first.ensures rows c.isa_rows-rows.ensures.rows c.isa_rows-rows.ensures.within) c.in_ok-ancestors.ensures in
+    subst (λ (lists : List (List ℕ)). All IsStrictlyIncreasing lists) (sym ancestors) (rising count (reaches rows))
 
 pub wide_lists-requires-clause-items : goal.wide_lists-requires-clause-items
 wide_lists-requires-clause-items c =

@@ -4,7 +4,7 @@ use Rattle.idset.specs.Sets.{has_item}
 use Rattle.idset.proofs.Normal.{numbers_where-agree}
 use Rattle.idset.specs.declared.word_set.WordSet.{WordSet}
 use Rattle.ancestor_index.proofs.GatherLemmas.{rises_below}
-use Rattle.ancestor_index.proofs.closure.join.Goals as goal
+use Rattle.ancestor_index.proofs.closure.join_many.Goals as goal
 
 pub add_joined-requires : goal.add_joined-requires
 add_joined-requires c =

@@ -1,0 +1,8 @@
+use Rattle.std.proofs.Common.{◌≡◌, ◌++◌, take}
+use Rattle.idset.specs.Sets.{listed_numbers}
+use Rattle.ancestor_index.specs.Gathered.{joined_by}
+use Rattle.ancestor_index.proofs.closure.join_few.Given as goal
+
+abbrev pub invariant-loop-concept : goal.invariant-loop-concept
+invariant-loop-concept l =
+    l.room.list.items ≡ listed_numbers (l.count) (l.concepts ++ joined_by l.places l.lists (take l.concept-index l.concepts))
