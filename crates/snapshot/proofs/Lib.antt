@@ -26,6 +26,7 @@ mod TakingLemmas
 pub mod VersionLemmas
 mod WentLemmas
 mod ChosenItemLemmas
+mod ConcreteLemmas
 mod CompareLemmas
 mod ReadFromLemmas
 mod LimitLemmas

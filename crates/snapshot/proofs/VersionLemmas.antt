@@ -1,6 +1,6 @@
 -- The versions of components that have several rows: their codes, their first rows, the latest ones, and the choices.
 use Rattle.std.proofs.lemmas.Grind.{common_steps}
-use Rattle.std.proofs.Common.{ℕ, ◌≡◌, ◌<◌, ◌≤◌, ◌/◌, ◌^◌, ◌&&◌, ◌==◌, List, get_or, true, nat_lt, Option, arith, lit≤, IfSome, eq-eqb, All, map, rules, [], ◌∷◌, ◌++◌, length, Bool, false, not, nat_eq, None, Some, position, sym, ◌∙◌, ap, refl, append_assoc, append-nil, Contains, eqb-true, ◌+◌, set, take, suc, length-set, ◌||◌}
+use Rattle.std.proofs.Common.{ℕ, ◌≡◌, ◌<◌, ◌≤◌, ◌/◌, ◌^◌, ◌&&◌, ◌==◌, List, get_or, true, nat_lt, Option, arith, lit≤, IfSome, eq-eqb, All, map, rules, [], ◌∷◌, ◌++◌, length, Bool, false, not, None, Some, position, sym, ◌∙◌, ap, refl, append_assoc, append-nil, Contains, eqb-true, ◌+◌, set, take, suc, length-set, ◌||◌}
 use Rattle.std.specs.List.Sorted.{IsStrictlyIncreasing}
 use Rattle.std.proofs.lemmas.Bool.Decides.{nat_tests}
 use Rattle.std.proofs.lemmas.List.Folds.{list_any_at, Any-from_list_any, list_any_more, list_any-append}

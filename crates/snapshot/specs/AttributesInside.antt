@@ -1,26 +1,25 @@
 -- What the attributes that the program holds say, and what they keep.
-use Rattle.std.specs.Prelude.{ℕ, ⊤, List, map, All}
-use Rattle.rf2_rows.specs.Release.{Attribute, Value, concept_value, number_value, text_value}
+use Rattle.std.specs.Prelude.{◌<◌, ⊤, List, map, All, length, slice_index_or}
+use Rattle.rf2_rows.specs.Release.{Attribute, Value, concept_value}
 use Rattle.rf2_rows.specs.Rows.{value_lent}
-use Rattle.snapshot.specs.Spans.{IsSpanOf, text_at}
+use Rattle.snapshot.specs.ConcreteValues.{Concrete, concrete_value, no_text}
 use Rattle.snapshot.specs.declared.attributes.KeptRow.{KeptRow}
 use Rattle.snapshot.specs.declared.attributes.ReadRow.{ReadRow}
 use Rattle.snapshot.specs.declared.attributes.KeptValue.{KeptValue}
-use Rattle.snapshot.specs.declared.attributes.KeptValue.TheVariants.{Concept, Decimal, Other}
+use Rattle.snapshot.specs.declared.attributes.KeptValue.TheVariants.{Concept, Concrete as ConcreteAt}
 use Rattle.snapshot.specs.declared.attributes.Attributes.TheInside.{Inside}
 
--- the value that is kept: another text stands at its span in the buffer
-abbrev pub value_in : List ℕ → KeptValue → Value
-value_in texts (Concept concept) = concept_value concept
-value_in texts (Decimal decimal) = number_value decimal.0
-value_in texts (Other span) = text_value (text_at texts span)
+-- the value that is kept: one that is no concept stands at its place among those values
+abbrev pub value_in : List Concrete → KeptValue → Value
+value_in values (Concept concept) = concept_value concept
+value_in values (ConcreteAt place) = concrete_value (slice_index_or values place no_text)
 
-abbrev pub attribute_in : List ℕ → KeptRow → Attribute
-attribute_in texts row = record {
+abbrev pub attribute_in : List Concrete → KeptRow → Attribute
+attribute_in values row = record {
   source = row.source;
   type_id = row.type_id;
   group = row.group;
-  value = value_in texts row.value;
+  value = value_in values row.value;
 }
 
 -- the attribute that a lent row is
@@ -28,16 +27,15 @@ abbrev pub attribute_read : ReadRow → Attribute
 attribute_read row = record { source = row.source; type_id = row.type_id; group = row.group; value = value_lent row.value }
 
 abbrev pub attributes_in : Inside → List Attribute
-attributes_in inside = map (attribute_in inside.texts.items) inside.rows.items
+attributes_in inside = map (attribute_in inside.concrete) inside.rows.items
 
--- a text stands within the buffer
-abbrev pub IsWithinTexts : List ℕ → KeptValue → Type 0
-IsWithinTexts texts (Concept concept) = ⊤
-IsWithinTexts texts (Decimal decimal) = ⊤
-IsWithinTexts texts (Other span) = IsSpanOf texts span
+-- a value that is no concept stands among those values
+abbrev pub IsWithinValues : List Concrete → KeptValue → Type 0
+IsWithinValues values (Concept concept) = ⊤
+IsWithinValues values (ConcreteAt place) = place < length values
 
-abbrev pub IsPlacedIn : List ℕ → KeptRow → Type 0
-IsPlacedIn texts row = IsWithinTexts texts row.value
+abbrev pub IsPlacedIn : List Concrete → KeptRow → Type 0
+IsPlacedIn values row = IsWithinValues values row.value
 
 abbrev pub AreAttributesPlaced : Inside → Type 0
-AreAttributesPlaced inside = All (IsPlacedIn inside.texts.items) inside.rows.items
+AreAttributesPlaced inside = All (IsPlacedIn inside.concrete) inside.rows.items

@@ -4,6 +4,8 @@ pub mod Buckets
 pub mod Chosen
 pub mod Compared
 pub mod ConceptsInside
+pub mod ConcreteInside
+pub mod ConcreteValues
 pub mod Contents
 pub mod FaultNumbers
 pub mod Faults

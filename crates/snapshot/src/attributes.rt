@@ -1,27 +1,27 @@
-//! Attribute rows in the order in which they were read, with the texts of their values in one buffer.
-ghost use Rattle.std.specs.Prelude.{ℕ, ◌≡◌, ◌<◌, ◌&&◌, ◌++◌, ◌∷◌, List, [], IfOk, OnOk, length, slice_index_or};
+//! Attribute rows in the order in which they were read.
+ghost use Rattle.std.specs.Prelude.{◌≡◌, ◌<◌, ◌&&◌, ◌++◌, ◌∷◌, List, [], IfOk, OnOk, length, slice_index_or};
 ghost use Rattle.rf2_rows.specs.Release.{Attribute};
 ghost use Rattle.rf2_rows.specs.Rows.{value_lent};
-ghost use Rattle.snapshot.specs.AttributesInside.{IsWithinTexts, attribute_read, value_in};
+ghost use Rattle.snapshot.specs.AttributesInside.{IsWithinValues, attribute_read, value_in};
 ghost use Rattle.hierarchy.specs.Members.{has};
 ghost use Rattle.snapshot.specs.Kept.{attributes_among, is_value_among};
 ghost use Rattle.snapshot.specs.Listed.{in_list, items_chosen};
+ghost use Rattle.snapshot.specs.ConcreteValues.{Concrete};
 ghost use Rattle.snapshot.specs.Spans.{Extends};
 
 use crate::concepts::Concepts;
+use crate::concrete_values::ConcreteValues;
 use crate::row_lists::{Listing, chosen_items};
-use crate::spans::{Span, push_bytes};
-use rf2_rows::{Decimal, Value};
+use rf2_rows::Value;
 use sctid::SctId;
 use std::alloc::{AllocError, Global};
 use std::marker::Model;
 
-/// The value of an attribute, whose text stands in the buffer of all texts.
+/// The value of an attribute: a concept, or where it stands among the values that are none.
 #[derive(Clone, Copy)]
 pub enum KeptValue {
     Concept(SctId),
-    Decimal(Decimal),
-    Other(Span),
+    Concrete(usize),
 }
 
 /// An attribute row: its source, type, group and value.
@@ -46,8 +46,8 @@ pub struct ReadRow<'a> {
 #[derive(Drop)]
 pub struct Attributes {
     rows: Vec<KeptRow>,
-    // the texts of values, one behind the other
-    texts: Vec<u8>,
+    // the values that are no concepts
+    concrete: ConcreteValues,
 }
 
 impl Model for Attributes {
@@ -69,7 +69,7 @@ impl Attributes {
     {
         Attributes {
             rows: Vec::new(alloc),
-            texts: Vec::new(alloc),
+            concrete: ConcreteValues::new(alloc),
         }
     }
 
@@ -90,7 +90,7 @@ impl Attributes {
             source: row.source,
             type_id: row.type_id,
             group: row.group,
-            value: lend_value(self.texts.as_slice(), row.value),
+            value: lend_value(&self.concrete, row.value),
         }
     }
 
@@ -104,7 +104,7 @@ impl Attributes {
     ) -> Result<(), AllocError>
         ensures { OnOk result (self.new ≡ self.old ++ record { source = source; type_id = type_id; group = group; value = value_lent value.now } ∷ []) }
     {
-        let kept = keep_value(&mut self.texts, value)?;
+        let kept = keep_value(&mut self.concrete, value)?;
         self.rows.push(KeptRow {
             source,
             type_id,
@@ -134,8 +134,8 @@ impl Attributes {
         Ok(())
     }
 
-    /// Leaves the rows of some concepts whose values are no concepts or among these. The texts of the
-    /// others leave with the buffer, where the rows are sorted.
+    /// Leaves the rows of some concepts whose values are no concepts or among these. The values of the
+    /// others that are none leave where the rows are sorted.
     pub fn retain_among(&mut self, concepts: &Concepts)
         ensures { self.new ≡ attributes_among concepts.now self.old }
     {
@@ -143,44 +143,50 @@ impl Attributes {
     }
 }
 
-/// Puts the text of a value behind the others.
-pub fn keep_value(texts: &mut Vec<u8>, value: &Value<'_>) -> Result<KeptValue, AllocError>
-    ensures grown { Extends texts.old.items texts.new.items }
-    ensures value { IfOk result (λ kept. value_in texts.new.items kept ≡ value_lent value.now) }
-    ensures within { IfOk result (λ kept. IsWithinTexts texts.new.items kept) }
+/// Keeps a value, behind the others if it is no concept.
+pub fn keep_value(concrete: &mut ConcreteValues, value: &Value<'_>) -> Result<KeptValue, AllocError>
+    ensures grown { Extends concrete.old concrete.new }
+    ensures value { IfOk result (λ kept. value_in concrete.new kept ≡ value_lent value.now) }
+    ensures within { IfOk result (λ kept. IsWithinValues concrete.new kept) }
 {
     match value {
         Value::Concept(concept) => Ok(KeptValue::Concept(*concept)),
-        Value::Decimal(decimal) => Ok(KeptValue::Decimal(*decimal)),
-        Value::Other(text) => Ok(KeptValue::Other(push_bytes(texts, text)?)),
+        Value::Decimal(decimal) => {
+            let place = concrete.push_decimal(*decimal)?;
+            Ok(KeptValue::Concrete(place))
+        }
+        Value::Other(text) => {
+            let place = concrete.push_text(text)?;
+            Ok(KeptValue::Concrete(place))
+        }
     }
 }
 
 /// A value that is kept, with its text lent.
-pub fn lend_value(texts: &[u8], value: KeptValue) -> Value<'_>
-    requires { IsWithinTexts texts.now value }
-    ensures { value_lent result ≡ value_in texts.now value }
+pub fn lend_value(concrete: &ConcreteValues, value: KeptValue) -> Value<'_>
+    requires { IsWithinValues concrete.now value }
+    ensures { value_lent result ≡ value_in concrete.now value }
 {
     match value {
         KeptValue::Concept(concept) => Value::Concept(concept),
-        KeptValue::Decimal(decimal) => Value::Decimal(decimal),
-        KeptValue::Other(text) => Value::Other(text.bytes_in(texts)),
+        KeptValue::Concrete(place) => concrete.value(place),
     }
 }
 
 // Whether a row is of one of some concepts, and its value is no concept or one of them.
 fn is_row_among(concepts: &Concepts, row: &KeptRow) -> bool
-    ensures { (texts : List ℕ) → result ≡ (has concepts.now row.now.source && is_value_among concepts.now (value_in texts row.now.value)) }
+    ensures { (values : List Concrete) → result ≡ (has concepts.now row.now.source && is_value_among concepts.now (value_in values row.now.value)) }
 {
     concepts.has(row.source.number()) && is_value_among(concepts, row.value)
 }
 
 // Whether a value is no concept, or one of some concepts.
+#[tactic(auto, using(crate::proofs::AttributeLemmas::concrete_counts))]
 fn is_value_among(concepts: &Concepts, value: KeptValue) -> bool
-    ensures { (texts : List ℕ) → result ≡ is_value_among concepts.now (value_in texts value) }
+    ensures { (values : List Concrete) → result ≡ is_value_among concepts.now (value_in values value) }
 {
     match value {
         KeptValue::Concept(concept) => concepts.has(concept.number()),
-        KeptValue::Decimal(_) | KeptValue::Other(_) => true,
+        KeptValue::Concrete(_) => true,
     }
 }

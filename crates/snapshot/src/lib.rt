@@ -5,6 +5,7 @@ mod attributes;
 mod choosing;
 mod comparing;
 mod concepts;
+mod concrete_values;
 mod fault;
 mod held_release;
 mod kept_names;
