@@ -47,8 +47,11 @@ impl FirstKeys {
     pub fn clear(&mut self, alloc: Global)
         ensures { self.new ≡ [] }
     {
+        // none is behind the few where these have room for more
+        if self.few.len() >= FEW {
+            self.others = FirstMet::new(alloc);
+        }
         self.few.clear();
-        self.others = FirstMet::new(alloc);
     }
 
     /// How many keys there are.

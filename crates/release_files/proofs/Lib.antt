@@ -1,4 +1,5 @@
 pub mod Examples
+mod FeedLemmas
 pub mod HeldLemmas
 pub mod Parts
 pub mod PieceLemmas

@@ -1,3 +1,4 @@
+pub mod Feeds
 pub mod Held
 pub mod Lines
 pub mod PieceLines

@@ -5,9 +5,8 @@ ghost use Rattle.release_files.specs.Held.{BeginsWithPart, GrowsBy, IsEndedPart,
 ghost use Rattle.release_files.specs.Lines.{HasNoFeed};
 ghost use Rattle.release_files.specs.Source.{CountsFailures};
 
-use crate::lines::LINE_FEED;
+use crate::feeds::first_feed;
 use crate::source::{FileSource, SourceFault};
-use bstr::ByteSlice;
 use std::alloc::{AllocError, Global};
 use std::marker::Model;
 
@@ -203,7 +202,7 @@ fn ended_length(bytes: &[u8], searched: usize) -> Option<usize>
         (0 < count) × (count ≤ length bytes.now) × IsEndedPart (take count bytes.now)) }
 {
     let rest = &bytes[searched..];
-    match rest.find_byte(LINE_FEED) {
+    match first_feed(rest) {
         Some(at) => Some(searched + at + 1),
         None => None,
     }

@@ -2,6 +2,7 @@
 //! row to a line, lines ended by CR LF).
 #![tactic(auto)]
 
+mod feeds;
 mod held;
 mod lines;
 mod memory_files;

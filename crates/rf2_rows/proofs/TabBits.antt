@@ -33,8 +33,8 @@ tab_bits-padded [] zero = refl
 tab_bits-padded [] (suc count) = let rest = tab_bits-padded [] count in omega (arith, rest)
 tab_bits-padded (byte ∷ bytes) count = ap (λ n. cond (eqb byte 9) 1 0 + 2 * n) (tab_bits-padded bytes count)
 
-pub padded_block : (bytes : List ℕ) (k : ℕ) → tab_bits (bytes ++ drop k (replicate 32 0)) ≡ tab_bits bytes
-padded_block bytes k = ap (λ zeros. tab_bits (bytes ++ zeros)) (drop-replicate k 32 0) ∙ tab_bits-padded bytes (32 - k)
+pub padded_block : (bytes : List ℕ) (k : ℕ) → tab_bits (bytes ++ drop k (replicate 64 0)) ≡ tab_bits bytes
+padded_block bytes k = ap (λ zeros. tab_bits (bytes ++ zeros)) (drop-replicate k 64 0) ∙ tab_bits-padded bytes (64 - k)
 
 module _ (line : List ℕ) where
   pub tabs_in-shifted : (from to k : ℕ) → from + k ≤ to → tabs_in line from to / 2 ^ k ≡ tabs_in line (from + k) to
@@ -44,9 +44,9 @@ module _ (line : List ℕ) where
   pub tabs_in-past : (from to : ℕ) → length line ≤ to → tabs_in line from to ≡ tab_bits (drop from line)
   tabs_in-past from to past = ap tab_bits (take_all (to - from) (drop from line) (omega (arith, length-drop from line)))
 
-  -- the tabs of the last 32 bytes, without those before a place
-  pub tabs_in-last : (from : ℕ) → 32 ≤ length line → from < length line → length line < from + 32 → tab_bits (take 32 (drop (length line - 32) line)) / 2 ^ (from + 32 - length line) ≡ tabs_in line from (from + 32)
-  tabs_in-last from long in_line last = grind (arith, (tabs_in-shifted (length line - 32) (length line) (from + 32 - length line)), (tabs_in-past from (length line)), (tabs_in-past from (from + 32)))
+  -- the tabs of the last 64 bytes, without those before a place
+  pub tabs_in-last : (from : ℕ) → 64 ≤ length line → from < length line → length line < from + 64 → tab_bits (take 64 (drop (length line - 64) line)) / 2 ^ (from + 64 - length line) ≡ tabs_in line from (from + 64)
+  tabs_in-last from long in_line last = grind (arith, (tabs_in-shifted (length line - 64) (length line) (from + 64 - length line)), (tabs_in-past from (length line)), (tabs_in-past from (from + 64)))
 
 -- where a bit is set, a tab stands among the bytes
 some_tab : (bytes : List ℕ) → 0 < tab_bits bytes → prefix_len (λ byte. not (byte == 9)) bytes < length bytes
@@ -75,7 +75,7 @@ module _ (line : List ℕ) (from to : ℕ) where
       let bytes = take (to - from) (drop from line) in
       grind (arith, nat_tests, size, (prefix_len-le-length (λ byte. not (byte == 9)) bytes), (byte_at (k - from)), (prefix_len_passes (λ byte. not (byte == 9)) bytes (k - from) 0))
 
-  first_tab : to ≤ from + 32 → 0 < tabs_in line from to → FirstTab line from to (next_tab line from to)
+  first_tab : to ≤ from + 64 → 0 < tabs_in line from to → FirstTab line from to (next_tab line from to)
   first_tab few some =
       let bytes = take (to - from) (drop from line) in
       let counted : count_trailing_zeros 64 (tabs_in line from to) ≡ prefix_len (λ (byte : ℕ). not (byte == 9)) bytes = trailing_mask_l (λ byte. byte == 9) 64 bytes (omega (arith, size)) some in
@@ -106,7 +106,7 @@ module _ (line : List ℕ) where
   last_part start le clear = grind (arith, (slice_split_none (λ byte. byte == 9) (drop start line)), (All-from_get_or (λ byte. (byte == 9) ≡ false) (drop start line) 0), (get_or-drop start line), clear, (length-drop start line), (take_rest line start))
 
 -- what `grind` takes where the fields of a line are put into a list: of the lowest bit that is left, and of the parts
-pub lowest_tab : (line : List ℕ) (from to : ℕ) → to ≤ from + 32 → 0 < tabs_in line from to
+pub lowest_tab : (line : List ℕ) (from to : ℕ) → to ≤ from + 64 → 0 < tabs_in line from to
     → (tabs_in line from to ≡ tabs_in line from to) × (next_tab line from to < to) × (next_tab line from to < length line)
     × (tabs_in line from to / 2 ^ count_trailing_zeros 64 (tabs_in line from to) / 2 ≡ tabs_in line (next_tab line from to + 1) to)
 lowest_tab line from to few some =
@@ -114,7 +114,7 @@ lowest_tab line from to few some =
     let lane = count_trailing_zeros 64 (tabs_in line from to) in
     (refl, tab.before, tab.in_line, grind (arith, (div-div-eq-div-mul (tabs_in line from to) (2 ^ lane) 2), (pow-suc 2 lane), (tabs_in-shifted line from to (suc lane)), tab.before))
 
-pub next_field : (line : List ℕ) (start from to : ℕ) → start ≤ from → NoTab line start from → to ≤ from + 32 → 0 < tabs_in line from to
+pub next_field : (line : List ℕ) (start from to : ℕ) → start ≤ from → NoTab line start from → to ≤ from + 64 → 0 < tabs_in line from to
     → take (next_tab line from to - start) (drop start line) ∷ parts_from line (next_tab line from to + 1) ≡ parts_from line start
 next_field line start from to ahead clear few some = search (rules, first_tab, next_part)
 

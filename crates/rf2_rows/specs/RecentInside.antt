@@ -2,10 +2,10 @@
 use Rattle.std.specs.Prelude.{◌≡◌, None, IfSome}
 use Rattle.rf2_rows.specs.Columns.{cause_of, id_format}
 use Rattle.rf2_rows.specs.Numbers.{number_of}
-use Rattle.rf2_rows.specs.declared.recent.Recent.TheInside.{Inside}
+use Rattle.rf2_rows.specs.declared.recent.ReadConcept.TheInside.{Inside}
 use Rattle.sctid.specs.declared.Part.TheVariants.{Concept}
 
 -- a concept that is kept is the one that the text names
 abbrev pub IsOfText : Inside → Type 0
-IsOfText recent =
-    IfSome recent.concept (λ concept. (cause_of (id_format Concept) recent.text.items ≡ None) × (concept ≡ number_of recent.text.items))
+IsOfText read =
+    IfSome read.concept (λ concept. (cause_of (id_format Concept) read.text.items ≡ None) × (concept ≡ number_of read.text.items))

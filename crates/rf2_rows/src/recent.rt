@@ -1,5 +1,5 @@
 //! Identifiers that stand in one row after another: those of modules, types and modifiers.
-ghost use Rattle.std.specs.Prelude.{◌≡◌, None, IfSome};
+ghost use Rattle.std.specs.Prelude.{◌≡◌, true, None, IfSome, length};
 ghost use Rattle.rf2_rows.specs.Columns.{cause_of, id_format};
 ghost use Rattle.rf2_rows.specs.Numbers.{number_of};
 ghost use Rattle.rf2_rows.specs.Rows.{IsReading, column_fault};
@@ -10,33 +10,24 @@ use crate::fields::identifier;
 use arrayvec::ArrayVec;
 use sctid::{Part, SctId};
 use std::marker::Model;
+use std::mem::swap;
 
-/// The concept that a column had last, with its text: where the next text is the same, it is not
-/// read again. Contracts see the concept.
+// The identifiers of SNOMED CT's own metadata have so many digits.
+const METADATA_DIGITS: usize = 18;
+
+/// The two concepts that a column had last: where the next text is that of one of them, it is not read again. Many
+/// columns have two by turns, as that of a description's type.
 #[derive(Drop)]
 pub struct Recent {
-    text: ArrayVec<u8, 18>,
-    concept: Option<SctId>,
-}
-
-impl Model for Recent {
-    ghost use Rattle.std.specs.Prelude.{ℕ, Option};
-    ghost use Rattle.rf2_rows.specs.RecentInside.{IsOfText};
-
-    ghost Value = { Option ℕ };
-
-    ghost view = { λ recent. recent.concept };
-
-    ghost invariant = { IsOfText };
+    last: ReadConcept,
+    other: ReadConcept,
 }
 
 impl Recent {
-    pub fn new() -> Recent
-        ensures { result ≡ None }
-    {
+    pub fn new() -> Recent {
         Recent {
-            text: ArrayVec::new(),
-            concept: None,
+            last: ReadConcept::none(),
+            other: ReadConcept::none(),
         }
     }
 
@@ -44,22 +35,93 @@ impl Recent {
     pub fn read(&mut self, text: &[u8], column: u8) -> Result<SctId, RowFault>
         ensures { IsReading (column_fault column (cause_of (id_format Concept) text.now)) (number_of text.now) result }
     {
-        match self.concept {
-            Some(concept) if self.text.as_slice() == text => Ok(concept),
-            _ => self.read_anew(text, column),
+        if let Some(concept) = self.last.concept_of(text) {
+            return Ok(concept);
         }
+        if let Some(concept) = self.other.concept_of(text) {
+            return Ok(concept);
+        }
+        self.read_anew(text, column)
     }
 
-    // Reads an identifier and keeps it with its text.
+    // Reads an identifier and keeps it with its text, in place of the one that was read before the last.
     fn read_anew(&mut self, text: &[u8], column: u8) -> Result<SctId, RowFault>
         ensures { IsReading (column_fault column (cause_of (id_format Concept) text.now)) (number_of text.now) result }
     {
         let concept = identifier(text, Part::Concept, column)?;
         let mut kept = ArrayVec::new();
         if kept.try_extend_from_slice(text).is_ok() {
-            self.text = kept;
-            self.concept = Some(concept);
+            swap(&mut self.last, &mut self.other);
+            self.last = ReadConcept {
+                text: kept,
+                concept: Some(concept),
+            };
         }
         Ok(concept)
+    }
+}
+
+/// A concept that was read, with its text, or none. Contracts see the concept.
+#[derive(Drop)]
+struct ReadConcept {
+    text: ArrayVec<u8, METADATA_DIGITS>,
+    concept: Option<SctId>,
+}
+
+impl Model for ReadConcept {
+    ghost use Rattle.std.specs.Prelude.{ℕ, Option};
+    ghost use Rattle.rf2_rows.specs.RecentInside.{IsOfText};
+
+    ghost Value = { Option ℕ };
+
+    ghost view = { λ read. read.concept };
+
+    ghost invariant = { IsOfText };
+}
+
+impl ReadConcept {
+    // None.
+    fn none() -> ReadConcept
+        ensures { result ≡ None }
+    {
+        ReadConcept {
+            text: ArrayVec::new(),
+            concept: None,
+        }
+    }
+
+    // The concept, if this is its text.
+    fn concept_of(&self, text: &[u8]) -> Option<SctId>
+        ensures { IfSome result (λ concept. (cause_of (id_format Concept) text.now ≡ None) × (concept ≡ number_of text.now)) }
+    {
+        match self.concept {
+            Some(concept) if is_same(self.text.as_slice(), text) => Some(concept),
+            _ => None,
+        }
+    }
+}
+
+// Whether two texts are the same. Two of the length of most are compared as a whole.
+fn is_same(one: &[u8], other: &[u8]) -> bool
+    ensures { result ≡ true → one.now ≡ other.now }
+{
+    if one.len() == METADATA_DIGITS && other.len() == METADATA_DIGITS {
+        return is_same_start(one, other);
+    }
+    one == other
+}
+
+// Whether the first bytes of two texts that have no others are the same.
+fn is_same_start(one: &[u8], other: &[u8]) -> bool
+    requires one { length one.now ≡ 18 }
+    requires other { length other.now ≡ 18 }
+    ensures { result ≡ true → one.now ≡ other.now }
+{
+    match (
+        one.first_chunk::<METADATA_DIGITS>(),
+        other.first_chunk::<METADATA_DIGITS>(),
+    ) {
+        (Some(one), Some(other)) => one == other,
+        _ => false,
     }
 }

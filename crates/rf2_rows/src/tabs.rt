@@ -1,4 +1,4 @@
-//! Cutting a line at its tabs, 32 bytes at a time.
+//! Cutting a line at its tabs, 64 bytes at a time.
 ghost use Rattle.std.specs.Prelude.{◌≡◌, ◌+◌, ◌<◌, ◌≤◌, ◌++◌, [], length, IsNone, IfSome};
 ghost use Rattle.rf2_rows.specs.Parts.{texts_of};
 ghost use Rattle.rf2_rows.specs.Rows.{fields_of};
@@ -33,7 +33,7 @@ pub fn push_fields<'a>(fields: &mut Fields<'a>, line: &'a [u8]) -> Option<()>
     while looked < line.len() {
         let marks = tabs_from(line, looked);
         start = push_ended(fields, line, start, looked, marks)?;
-        looked += 32;
+        looked += 64;
     }
     match fields.try_push(&line[start..]) {
         Ok(()) => Some(()),
@@ -41,7 +41,7 @@ pub fn push_fields<'a>(fields: &mut Fields<'a>, line: &'a [u8]) -> Option<()>
     }
 }
 
-// Adds the fields that end at the tabs among 32 bytes of a line, which are marked, one bit to a byte.
+// Adds the fields that end at the tabs among 64 bytes of a line, which are marked, one bit to a byte.
 // Tells where the field behind them starts, or `None` where there is no room.
 #[inline]
 #[tactic(auto, using(crate::proofs::TabBits::fields_cut))]
@@ -54,11 +54,11 @@ fn push_ended<'a>(
 ) -> Option<usize>
     requires ahead { start ≤ from }
     requires in_line { from < length line.now }
-    requires marked { marks ≡ tabs_in line.now from (from + 32) }
+    requires marked { marks ≡ tabs_in line.now from (from + 64) }
     requires clear { NoTab line.now start from }
     ensures more { IsNone result → 10 < length (texts_of fields.old.items ++ parts_from line.now start) }
     ensures parts { IfSome result (λ next. texts_of fields.new.items ++ parts_from line.now next ≡ texts_of fields.old.items ++ parts_from line.now start) }
-    ensures next { IfSome result (λ next. (next ≤ from + 32) × (next ≤ length line.now) × NoTab line.now next (from + 32)) }
+    ensures next { IfSome result (λ next. (next ≤ from + 64) × (next ≤ length line.now) × NoTab line.now next (from + 64)) }
 {
     let mut start = start;
     let mut place = from;
@@ -77,19 +77,19 @@ fn push_ended<'a>(
     Some(start)
 }
 
-// The tabs among the next 32 bytes of a line, or as many as there are, one bit to a byte.
+// The tabs among the next 64 bytes of a line, or as many as there are, one bit to a byte.
 #[inline]
 #[tactic(auto, using(crate::proofs::TabBits::shifts))]
 fn tabs_from(line: &[u8], from: usize) -> u64
     requires { from < length line.now }
-    ensures { result ≡ tabs_in line.now from (from + 32) }
+    ensures { result ≡ tabs_in line.now from (from + 64) }
 {
     let length = line.len();
-    if length - from >= 32 {
-        tabs(u8x32::from_slice(&line[from..]))
-    } else if length >= 32 {
-        // the last 32 bytes, without those that were looked at before
-        tabs(u8x32::from_slice(&line[length - 32..])) >> (from + 32 - length)
+    if length - from >= 64 {
+        tabs(u8x64::from_slice(&line[from..]))
+    } else if length >= 64 {
+        // the last 64 bytes, without those that were looked at before
+        tabs(u8x64::from_slice(&line[length - 64..])) >> (from + 64 - length)
     } else {
         tabs_of_short(line) >> from
     }
@@ -98,18 +98,18 @@ fn tabs_from(line: &[u8], from: usize) -> u64
 // The tabs of a line that is shorter than a block.
 #[tactic(auto, using(crate::proofs::TabBits::padded_block))]
 fn tabs_of_short(line: &[u8]) -> u64
-    requires { length line.now < 32 }
+    requires { length line.now < 64 }
     ensures { result ≡ tab_bits line.now }
 {
-    let mut block = [0; 32];
+    let mut block = [0; 64];
     block[..line.len()].copy_from_slice(line);
-    tabs(u8x32::from_array(block))
+    tabs(u8x64::from_array(block))
 }
 
-// The tabs among 32 bytes.
+// The tabs among 64 bytes.
 #[inline]
-fn tabs(block: u8x32) -> u64
+fn tabs(block: u8x64) -> u64
     ensures { result ≡ tab_bits block }
 {
-    block.simd_eq(u8x32::splat(b'\t')).to_bitmask()
+    block.simd_eq(u8x64::splat(b'\t')).to_bitmask()
 }

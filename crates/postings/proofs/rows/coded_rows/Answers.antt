@@ -49,7 +49,7 @@ loop-n-preserved c =
     let here : slice_get rows n ≡ Some row = c.attribute_row-row.ensures.row in
     let types = c.loop-n.types.numbers in
     let more = insert_key nat_eq types read.type_id in
-    let grown : c.place_of.new.self.numbers ≡ more = c.in_ok-type_place.ensures.numbers in
+    let grown : c.place_near.new.self.numbers ≡ more = c.in_ok-type_place.ensures.numbers in
     let placed : slice_get more c.in_ok-type_place.type_place ≡ Some read.type_id =
     ap (λ (keys : List ℕ). slice_get keys c.in_ok-type_place.type_place) (sym grown) ∙ c.in_ok-type_place.ensures.place in
     let coded : CodedRow = record {

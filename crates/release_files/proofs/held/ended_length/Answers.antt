@@ -12,11 +12,11 @@ returns-in-Some c =
     let searched = c.args.searched in
     let at = c.in-Some.at in
     let found = rw (take_rest bytes searched) at c.in-Some.ensures in
-    let below : at < length (drop searched bytes) = found.0.high in
+    let below : at < length (drop searched bytes) = found.0 in
     let clear : HasNoFeed (take (searched + at) bytes) =
-    clear_further bytes searched at c.requires.clear (omega arith) (λ k low. found.0.before k (omega arith) low) in
+    clear_further bytes searched at c.requires.clear (omega arith) found.1 in
     let fits : searched + at < length bytes = omega (arith, length-drop searched bytes) in
-    let is : eqb (get_or bytes (searched + at) 0) 10 ≡ true = rw (get_or-drop searched bytes at 0) at found.1 in (
+    let is : eqb (get_or bytes (searched + at) 0) 10 ≡ true = rw (get_or-drop searched bytes at 0) at found.2 in (
       omega arith,
       omega arith,
       subst (λ (n : ℕ). IsEndedPart (take n bytes)) (sym (add-one (searched + at))) (ended_part bytes (searched + at) fits clear is),
@@ -29,5 +29,5 @@ returns-in-None c =
     let found = rw (take_rest bytes searched) at c.in-None.ensures in
     let long = length (drop searched bytes) in
     let clear : HasNoFeed (take (searched + long) bytes) =
-    clear_further bytes searched long c.requires.clear (omega arith) (λ k low. found k (omega arith) low) in
+    clear_further bytes searched long c.requires.clear (omega arith) found in
     subst HasNoFeed (take_all (searched + long) bytes (omega (arith, length-drop searched bytes))) clear

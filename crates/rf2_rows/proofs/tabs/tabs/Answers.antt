@@ -4,4 +4,4 @@ use Rattle.std.proofs.lemmas.Simd.{bitmask_splat}
 use Rattle.rf2_rows.proofs.tabs.tabs.Goals as goal
 
 pub returns : goal.returns
-returns c = bitmask_splat w8 eqb c.args.block 32 9 c.fits-block.0 (omega arith)
+returns c = bitmask_splat w8 eqb c.args.block 64 9 c.fits-block.0 (omega arith)

@@ -1,0 +1,7 @@
+-- The lanes are compared with line feeds.
+use Rattle.std.proofs.Common.{eqb, w8, arith}
+use Rattle.std.proofs.lemmas.Simd.{bitmask_splat}
+use Rattle.release_files.proofs.feeds.feeds.Goals as goal
+
+pub returns : goal.returns
+returns c = bitmask_splat w8 eqb c.args.block 64 10 c.fits-block.0 (omega arith)

@@ -1,0 +1,46 @@
+//! Looking for the line feed that ends a line, 64 bytes at a time.
+ghost use Rattle.std.specs.Prelude.{◌≡◌, ◌+◌, ◌≤◌, drop, length, take};
+ghost use Rattle.release_files.specs.Feeds.{IsFirstFeed, feed_bits};
+
+use crate::lines::LINE_FEED;
+use bstr::ByteSlice;
+use std::simd::prelude::*;
+
+const BLOCK: usize = 64;
+
+/// Where the first line feed of some bytes stands, if there is one. It stands near: a line has two blocks or three.
+#[inline]
+pub fn first_feed(bytes: &[u8]) -> Option<usize>
+    ensures { IsFirstFeed bytes.now result }
+{
+    let mut place = 0;
+    while bytes.len() - place >= BLOCK {
+        let feeds = feeds_at(bytes, place);
+        if feeds != 0 {
+            return Some(place + feeds.trailing_zeros() as usize);
+        }
+        place += BLOCK;
+    }
+    let rest = &bytes[place..];
+    match rest.find_byte(LINE_FEED) {
+        Some(at) => Some(place + at),
+        None => None,
+    }
+}
+
+// The line feeds among the 64 bytes from a place on, one bit to a byte.
+#[inline]
+fn feeds_at(bytes: &[u8], place: usize) -> u64
+    requires { place + 64 ≤ length bytes.now }
+    ensures { result ≡ feed_bits (take 64 (drop place bytes.now)) }
+{
+    feeds(u8x64::from_slice(&bytes[place..]))
+}
+
+// The line feeds among 64 bytes.
+#[inline]
+fn feeds(block: u8x64) -> u64
+    ensures { result ≡ feed_bits block }
+{
+    block.simd_eq(u8x64::splat(LINE_FEED)).to_bitmask()
+}
