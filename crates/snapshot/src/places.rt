@@ -44,7 +44,7 @@ pub trait PlaceTaker {
 
 /// The files of a release as places, which can be gone over more than once.
 pub trait PlaceSource {
-    ghost use Rattle.std.specs.Prelude.{◌≡◌, ◌≢◌, ◌<◌, ◌≤◌, ℕ, Bool, List, Option, IfErr, IfSome, OnOk};
+    ghost use Rattle.std.specs.Prelude.{◌≡◌, ◌≢◌, ◌<◌, ◌≤◌, ◌-◌, ℕ, Bool, List, Option, IfErr, IfSome, OnOk};
     ghost use Rattle.release_files.specs.Source.{FileText};
     ghost use Rattle.snapshot.specs.Files.{Place};
     ghost use Rattle.snapshot.specs.Taking.{FailsAtRead, FailsOnlyBelow, FaultOf, FileIs, RaisesOnlyAtDevice, StopsAt, TakesAll};
@@ -70,7 +70,7 @@ pub trait PlaceSource {
 
     /// The place of the last file, or 0 where there is none.
     fn last_file(&self) -> usize
-        ensures { 0 < file_count self.now → result < file_count self.now };
+        ensures { result ≡ file_count self.now - 1 };
 
     /// Goes over the places in turn, from the first one on.
     fn take_places<T: PlaceTaker>(&mut self, taker: &mut T) -> Result<(), LoadFault>
