@@ -10,6 +10,7 @@ ghost use Rattle.ancestor_index.specs.Gathered.{AreGathered, AreRisingBelow, gat
 ghost use Rattle.ancestor_index.specs.Parents.{AreParentsBy};
 ghost use Rattle.ancestor_index.specs.Wide.{AreWide};
 
+use crate::grown::with_list;
 use crate::rising::keep_rising;
 use crate::wide::WideLists;
 use hierarchy::KeyedLists;
@@ -92,7 +93,7 @@ fn ancestors_in_order(
             count,
         )?;
         wide.push(alloc, room.list.as_slice(), count)?;
-        lists = lists.push(room.list.as_slice())?;
+        lists = with_list(lists, room.list.as_slice())?;
     }
     Ok(lists)
 }
@@ -281,7 +282,7 @@ fn reordered(alloc: Global, lists: &KeyedLists, places: &[u32]) -> Result<KeyedL
 {
     let mut found = KeyedLists::with_capacity(alloc, places.len(), lists.item_count())?;
     for place in places {
-        found = found.push(lists.of(*place))?;
+        found = with_list(found, lists.of(*place))?;
     }
     Ok(found)
 }

@@ -39,7 +39,7 @@ impl Model for AncestorIndex {
 
 impl AncestorIndex {
     /// The hierarchy of a release, whose concepts are numbered in rising order. Takes time and memory
-    /// linear in the pairs of a concept and an ancestor.
+    /// linear in the pairs of a concept and an ancestor; 2^32 of them or more are answered as want of memory.
     pub fn build(alloc: Global, snapshot: &Snapshot) -> Result<AncestorIndex, AllocError>
         ensures hierarchy { IfOk result (λ index. index ≡ hierarchy_of snapshot.now.release) }
         ensures rising { IsStrictlyIncreasing snapshot.now.release.concepts }

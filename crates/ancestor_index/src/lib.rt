@@ -6,6 +6,7 @@
 #![tactic(auto)]
 
 mod closure;
+mod grown;
 mod index;
 mod laws;
 mod linked;

@@ -1,5 +1,5 @@
 //! What rows between concepts lead to, as lists.
-ghost use Rattle.std.specs.Prelude.{◌≡◌, IfOk};
+ghost use Rattle.std.specs.Prelude.{◌≡◌, ◌<◌, ◌^◌, IfOk, length};
 ghost use Rattle.hierarchy.specs.Hierarchy.{IsWithin};
 ghost use Rattle.ancestor_index.specs.HierarchyLists.{is_child, lists_where};
 
@@ -7,14 +7,15 @@ use crate::rising::rising_lists;
 use hierarchy::KeyedLists;
 use std::alloc::{AllocError, Global};
 
-/// For each concept the concepts that some rows lead to, in rising order and once each. Both ends of
-/// each row are below `count`.
+/// For each concept the concepts that some rows, fewer than 2^32, lead to, in rising order and once each.
+/// Both ends of each row are below `count`.
 pub fn linked_lists(
     alloc: Global,
     count: u32,
     rows: &[(u32, u32)],
 ) -> Result<KeyedLists, AllocError>
-    requires { IsWithin count rows.now }
+    requires within { IsWithin count rows.now }
+    requires few { length rows.now < 2 ^ 32 }
     ensures { IfOk result (λ lists. lists ≡ lists_where count (is_child rows.now)) }
 {
     let by_row = KeyedLists::from_pairs(alloc, count, rows)?;

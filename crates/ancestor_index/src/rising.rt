@@ -3,6 +3,7 @@ ghost use Rattle.std.specs.Prelude.{ℕ, ◌≡◌, ◌<◌, ◌^◌, All, IfOk,
 ghost use Rattle.idset.specs.Sets.{listed_numbers};
 ghost use Rattle.hierarchy.specs.KeyedLists.{AreItemsBelow};
 
+use crate::grown::with_list;
 use hierarchy::KeyedLists;
 use std::alloc::{AllocError, Global};
 
@@ -18,7 +19,7 @@ pub fn rising_lists(alloc: Global, lists: &KeyedLists, bound: u32) -> Result<Key
         list.clear();
         list.extend_from_slice(lists.of(key))?;
         keep_rising(&mut list);
-        rising = rising.push(list.as_slice())?;
+        rising = with_list(rising, list.as_slice())?;
     }
     Ok(rising)
 }

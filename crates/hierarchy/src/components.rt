@@ -14,7 +14,8 @@ pub fn component_ranks(
     rows: &[(u32, u32)],
     count: u32,
 ) -> Result<Vec<u32>, AllocError>
-    requires { IsWithin count rows.now }
+    requires within { IsWithin count rows.now }
+    requires few { length rows.now < 2 ^ 32 }
 {
     let up = KeyedLists::from_pairs(alloc, count, rows)?;
     let down = up.turned(alloc, count)?;
@@ -35,7 +36,8 @@ pub fn rows_from(
     concept: u32,
     count: u32,
 ) -> Result<Vec<u32>, AllocError>
-    requires { IsWithin count rows.now }
+    requires within { IsWithin count rows.now }
+    requires few { length rows.now < 2 ^ 32 }
 {
     let up = places_by_child(alloc, rows, count)?;
     let mut seen = vec![in alloc; false; count as usize]?;
@@ -56,12 +58,13 @@ pub fn rows_from(
 
 // The places of each concept's rows.
 fn places_by_child(alloc: Global, rows: &[(u32, u32)], count: u32) -> Result<KeyedLists, AllocError>
-    requires { IsWithin count rows.now }
+    requires within { IsWithin count rows.now }
+    requires few { length rows.now < 2 ^ 32 }
     ensures { IfOk result (λ places. length places ≡ count) }
 {
     let mut pairs = Vec::with_capacity(alloc, rows.len())?;
     for (place, row) in rows.iter().enumerate() {
-        pairs.push((row.0, u32::try_from(place).unwrap_or(u32::MAX)))?;
+        pairs.push((row.0, place as u32))?;
     }
     KeyedLists::from_pairs(alloc, count, pairs.as_slice())
 }

@@ -1,6 +1,6 @@
 //! Cycles among is-a rows. A search that is not proved suggests where to look, and what it suggests
 //! is tested here: a wrong suggestion would cost time and no answer.
-ghost use Rattle.std.specs.Prelude.{◌≡◌, ◌<◌, ◌↔◌, ◌⊎◌, ℕ, false, true, List, All, Contains, IfOk, IfSome, IfNone, IsTrue, length, vec_len};
+ghost use Rattle.std.specs.Prelude.{◌≡◌, ◌<◌, ◌^◌, ◌↔◌, ◌⊎◌, ℕ, false, true, List, All, Contains, IfOk, IfSome, IfNone, IsTrue, length, vec_len};
 ghost use Rattle.std.specs.Bool.{OnFalse, OnTrue};
 ghost use Rattle.hierarchy.specs.Hierarchy.{IsWithin, Reaches};
 ghost use Rattle.hierarchy.specs.Search.{IsMarked, IsFollowed, MarksReached, NoneFalls, rank_in, unmarked_count};
@@ -8,13 +8,15 @@ ghost use Rattle.hierarchy.specs.Search.{IsMarked, IsFollowed, MarksReached, Non
 use crate::components::{component_ranks, rows_from};
 use std::alloc::{AllocError, Global};
 
-/// The least of `count` concepts that reaches itself by the rows, each a child and its parent.
+/// The least of `count` concepts that reaches itself by the rows, each a child and its parent. There are
+/// fewer than 2^32 rows.
 pub fn least_cyclic(
     alloc: Global,
     rows: &[(u32, u32)],
     count: u32,
 ) -> Result<Option<u32>, AllocError>
-    requires { IsWithin count rows.now }
+    requires within { IsWithin count rows.now }
+    requires few { length rows.now < 2 ^ 32 }
     ensures none { IfOk result (λ found. IfNone found ((c : ℕ) → c < count → ¬ Reaches rows.now c c)) }
     ensures found { IfOk result (λ found. IfSome found (λ c. (c < count) × Reaches rows.now c c)) }
     ensures least { IfOk result (λ found. IfSome found (λ c. (d : ℕ) → d < c → ¬ Reaches rows.now d d)) }
@@ -77,6 +79,7 @@ fn reaches_itself(
     count: u32,
 ) -> Result<bool, AllocError>
     requires within { IsWithin count rows.now }
+    requires few { length rows.now < 2 ^ 32 }
     requires below { concept < count }
     ensures { IfOk result (λ reaches. IsTrue reaches ↔ Reaches rows.now concept concept) }
 {

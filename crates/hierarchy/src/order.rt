@@ -9,14 +9,16 @@ use crate::keyed_lists::KeyedLists;
 use std::alloc::{AllocError, Global};
 
 /// An order of `count` concepts in which each row, a child and its parent, leads to a concept that
-/// stands before; or none, where a concept reaches itself. Takes time linear in the rows.
+/// stands before; or none, where a concept reaches itself. There are fewer than 2^32 rows. Takes time
+/// linear in the rows.
 #[tactic(auto, using(crate::proofs::WayLemmas::parents_below, crate::proofs::Rules::order_by))]
 pub fn parents_first(
     alloc: Global,
     rows: &[(u32, u32)],
     count: u32,
 ) -> Result<Option<Vec<u32>>, AllocError>
-    requires { IsWithin count rows.now }
+    requires within { IsWithin count rows.now }
+    requires few { length rows.now < 2 ^ 32 }
     ensures order { IfOk result (λ found. IfSome found (λ order. IsParentsFirst count rows.now order.items)) }
     ensures cycle { IfOk result (λ found. IfNone found ((concept : ℕ) × (concept < count) × Reaches rows.now concept concept)) }
 {

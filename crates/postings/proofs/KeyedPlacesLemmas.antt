@@ -1,5 +1,5 @@
 -- Places by their keys, one by one, and the lists that they make.
-use Rattle.std.proofs.Common.{ℕ, ◌+◌, ◌==◌, ◌≡◌, ◌≢◌, ◌<◌, ◌++◌, ◌∷◌, [], ◌∙◌, ⊎_elim, Bool}
+use Rattle.std.proofs.Common.{ℕ, ◌+◌, ◌==◌, ◌≡◌, ◌≢◌, ◌≤◌, ◌<◌, ◌++◌, ◌∷◌, [], ◌∙◌, ⊎_elim, Bool}
 use Rattle.std.proofs.Common.{true, false, cond, List, length, get_or, map, take, nat_lt, refl, sym, ap, arith, length-take}
 use Rattle.std.specs.List.{filter}
 use Rattle.std.proofs.lemmas.Bool.{cases_eq, eq-eqb, lt-ltb, ltb-true, ne_eqb}
@@ -35,6 +35,11 @@ keyed_places-more count keys i within =
     ap (keyed_places count 0) (take_more keys i 0 within)
     ∙ keyed_places-append count 0 (take i keys) (get_or keys i 0 ∷ [])
     ∙ ap (λ (at : ℕ). keyed_places count 0 (take i keys) ++ keyed_place count at (get_or keys i 0)) (omega (arith, length-take i keys))
+
+-- there are no more of them than keys
+pub length-keyed_places : (count place : ℕ) (keys : List ℕ) → length (keyed_places count place keys) ≤ length keys
+length-keyed_places count place [] = omega arith
+length-keyed_places count place (key ∷ keys) = grind (arith, cond, keyed_places, (length-keyed_places count (place + 1) keys))
 
 -- all keys are below the count
 pub keyed_below : (count place : ℕ) (keys : List ℕ) → AreKeysBelow count (keyed_places count place keys)

@@ -4,7 +4,7 @@ ghost use Rattle.hierarchy.specs.Hierarchy.{IsWithin};
 ghost use Rattle.hierarchy.specs.KeyedLists.{AreItemsBelow, AreKeysBelow, lists_by, turned as turned_of};
 
 use crate::hierarchy_tests::is_parents_first;
-use hierarchy::{KeyedLists, least_cyclic, parents_first};
+use hierarchy::{KeyedLists, PushFault, least_cyclic, parents_first};
 use std::alloc::{AllocError, Global};
 use std::test::Fail;
 
@@ -47,6 +47,7 @@ fn are_listed(
     turned: &[&[u32]],
 ) -> Result<bool, AllocError>
     requires keys { AreKeysBelow count pairs.now }
+    requires few_pairs { length pairs.now < 2 ^ 32 }
     requires items { AreItemsBelow count (lists_by count pairs.now) }
     requires few { length (lists_by count pairs.now) < 2 ^ 32 }
     requires few_turned { length (turned_of count (lists_by count pairs.now)) < 2 ^ 32 }
@@ -65,7 +66,7 @@ fn lists_pairs_by_key(rt: HostRuntime) -> Result<(), Fail> {
 }
 
 // Three lists, one behind the other.
-fn pushed(alloc: Global) -> Result<KeyedLists, AllocError> {
+fn pushed(alloc: Global) -> Result<KeyedLists, PushFault> {
     KeyedLists::with_capacity(alloc, 3, 3)?
         .push(&[5, 1])?
         .push(&[])?
@@ -73,14 +74,14 @@ fn pushed(alloc: Global) -> Result<KeyedLists, AllocError> {
 }
 
 // Whether the three lists lie one behind the other.
-fn are_pushed(alloc: Global) -> Result<bool, AllocError> {
+fn are_pushed(alloc: Global) -> Result<bool, PushFault> {
     let lists = pushed(alloc)?;
     Ok(lists.flat() == [5, 1, 7].as_slice() && lists.item_count() == 3)
 }
 
 #[test]
 fn pushes_lists(rt: HostRuntime) -> Result<(), Fail> {
-    assert!(rt; are_pushed(rt.alloc())?);
+    assert!(rt; are_pushed(rt.alloc()) == Ok(true));
     Ok(())
 }
 
@@ -90,7 +91,8 @@ fn ordered(
     rows: &[(u32, u32)],
     count: u32,
 ) -> Result<(bool, Option<u32>), AllocError>
-    requires { IsWithin count rows.now }
+    requires within { IsWithin count rows.now }
+    requires few { length rows.now < 2 ^ 32 }
 {
     let has_order = match parents_first(alloc, rows, count)? {
         Some(order) => is_parents_first(order.as_slice(), count, rows),

@@ -3,7 +3,7 @@ use Rattle.std.proofs.Common.{rules, lt-ltb, ℕ, ◌≡◌, ◌≤◌, ◌<◌,
 use Rattle.std.proofs.lemmas.Grind.{common_steps}
 use Rattle.std.specs.List.{position_or_len}
 use Rattle.std.specs.List.Sorted.{IsStrictlyIncreasing}
-use Rattle.std.proofs.lemmas.List.Sums.{position_or_len_is, passes_at_first}
+use Rattle.std.proofs.lemmas.List.Sums.{count_by-le-length, length-filter, position_or_len_is, passes_at_first}
 use Rattle.std.proofs.lemmas.List.Elements.{All-map, filter_passes}
 use Rattle.std.proofs.lemmas.List.Folds.{map_fixed}
 use Rattle.std.proofs.lemmas.List.Recursion.{found_at, found_nowhere}
@@ -131,6 +131,10 @@ pub IsWithin-numbered : (concepts : List ℕ) (ends : List (ℕ × ℕ)) → IsW
 IsWithin-numbered concepts ends =
     subst (IsWithin (length concepts)) (numbered_rows concepts ends)
     (All-map (λ (row : ℕ × ℕ). (row.0 < length concepts) × (row.1 < length concepts)) (row_by (place_of concepts)) (rows_among concepts ends) (λ k d within. grind (arith, (ends_among concepts ends k d within), place_below)))
+
+-- there are no more of them than rows
+pub length-numbered : (concepts : List ℕ) (ends : List (ℕ × ℕ)) → length (filter_map (numbered_row concepts) ends) ≤ length ends
+length-numbered concepts ends = rw (← numbered_rows concepts ends) (grind (arith, common_steps, nat_tests, length-map, length-filter, count_by-le-length))
 
 -- rows of numbers of concepts are told apart by the concepts' identifiers
 pub numbers_again : (concepts : List ℕ) → IsStrictlyIncreasing concepts → (rows : List (ℕ × ℕ)) → IsWithin (length concepts) rows

@@ -28,8 +28,8 @@ contents_in inside = record {
 }
 
 -- the concepts rise; the numbers in rows are those of concepts; the lines are those of the concepts; parents come
--- first in the order of the concepts; the attribute rows are sorted by source, few enough to number; and their
--- values that are concepts are in force
+-- first in the order of the concepts; the attribute rows are sorted by source, few enough to number; their values
+-- that are concepts are in force; and there are few is-a rows and member rows
 abbrev pub IsNumbered : Inside → Type 0
 IsNumbered inside =
     IsStrictlyIncreasing inside.concepts
@@ -40,3 +40,5 @@ IsNumbered inside =
     × IsSortedBySource inside.concepts inside.attributes
     × (length inside.attributes.rows < 2 ^ 31)
     × All (λ (row : Attribute). is_value_among inside.concepts row.value ≡ true) (in_file_order inside.concepts inside.attributes)
+    × (length inside.isa.items < 2 ^ 31)
+    × (length inside.members.items < 2 ^ 31)

@@ -102,10 +102,11 @@ impl Snapshot {
     }
 
     /// Child and parent of each is-a row in force by their numbers, in the order of the files and
-    /// their lines.
+    /// their lines: fewer than 2^31 rows.
     pub fn isa_rows(&self) -> &[(u32, u32)]
         ensures rows { map (row_of_numbers self.now.release.concepts) result.now ≡ self.now.release.isa }
         ensures within { IsWithin (length self.now.release.concepts) result.now }
+        ensures few { length result.now < 2 ^ 31 }
     {
         self.isa.as_slice()
     }
@@ -122,10 +123,11 @@ impl Snapshot {
     }
 
     /// Reference set and component of each member row in force by their numbers, in the order of the
-    /// files and their lines (Release File Specification, "Simple reference set").
+    /// files and their lines: fewer than 2^31 rows (Release File Specification, "Simple reference set").
     pub fn member_rows(&self) -> &[(u32, u32)]
         ensures rows { map (row_of_numbers self.now.release.concepts) result.now ≡ self.now.release.members }
         ensures within { IsWithin (length self.now.release.concepts) result.now }
+        ensures few { length result.now < 2 ^ 31 }
     {
         self.members.as_slice()
     }

@@ -364,6 +364,7 @@ fn number_hierarchy(
     concepts: &Concepts,
     ends: &[(SctId, SctId)],
 ) -> Result<NumberedHierarchy, LoadFault>
+    requires { length ends.now < 2 ^ 31 }
     ensures rows { IfOk result (λ hierarchy. hierarchy.isa.items ≡ filter_map (numbered_row concepts.now) ends.now) }
     ensures order { IfOk result (λ hierarchy. IsParentsFirst (length concepts.now) hierarchy.isa.items hierarchy.order.items) }
     ensures acyclic { OnOk result (first_cyclic concepts.now (rows_among concepts.now ends.now) ≡ None) }
@@ -379,6 +380,7 @@ fn number_hierarchy(
 // The fault that names the least concept that reaches itself.
 fn cycle_fault(alloc: Global, concepts: &Concepts, rows: &[(u32, u32)]) -> LoadFault
     requires within { IsWithin (length concepts.now) rows.now }
+    requires few { length rows.now < 2 ^ 32 }
     requires cyclic { (concept : ℕ) × (concept < length concepts.now) × Reaches rows.now concept concept }
     ensures { IsLeastCycle result concepts.now rows.now }
 {

@@ -8,7 +8,7 @@ use Rattle.ancestor_index.proofs.BuildLemmas.{parents_listed}
 use Rattle.ancestor_index.proofs.linked.linked_lists.Goals as goal
 
 pub rising_lists-requires-clause-items : goal.rising_lists-requires-clause-items
-rising_lists-requires-clause-items c = parents_below c.args.count c.args.rows.now c.in_ok-by_row.by_row c.requires c.in_ok-by_row.ensures
+rising_lists-requires-clause-items c = parents_below c.args.count c.args.rows.now c.in_ok-by_row.by_row c.requires.within c.in_ok-by_row.ensures
 
 pub rising_lists-requires-clause-few : goal.rising_lists-requires-clause-few
 rising_lists-requires-clause-few c =

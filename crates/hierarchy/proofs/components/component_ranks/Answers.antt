@@ -5,7 +5,7 @@ use Rattle.hierarchy.proofs.WayLemmas.{parents_below}
 use Rattle.hierarchy.proofs.components.component_ranks.Goals as goal
 
 pub turned-requires-clause-items : goal.turned-requires-clause-items
-turned-requires-clause-items c = parents_below c.args.count c.args.rows.now c.in_ok-up.up c.requires c.in_ok-up.ensures
+turned-requires-clause-items c = parents_below c.args.count c.args.rows.now c.in_ok-up.up c.requires.within c.in_ok-up.ensures
 
 pub turned-requires-clause-few : goal.turned-requires-clause-few
 turned-requires-clause-few c = omega (arith, ap (λ (xs : List (List ℕ)). length xs) c.in_ok-up.ensures, length-lists_by c.args.count c.args.rows.now, c.ranges.count.fits)

@@ -1,5 +1,9 @@
+use Rattle.std.proofs.Common.{◌≡◌, length}
 use Rattle.hierarchy.specs.KeyedLists.{AreKeysBelow}
 use Rattle.hierarchy.proofs.components.places_by_child.Given as goal
 
 abbrev pub invariant-loop-place : goal.invariant-loop-place
-invariant-loop-place l = AreKeysBelow l.count l.pairs.items
+invariant-loop-place l = record {
+  keys : AreKeysBelow l.count l.pairs.items;
+  each : length l.pairs.items ≡ l.place;
+}

@@ -1,14 +1,23 @@
-use Rattle.std.proofs.Common.{ℕ, List, ◌≡◌, ◌∙◌, sym, ap, subst}
+use Rattle.std.proofs.Common.{ℕ, List, length, ◌≡◌, ◌∙◌, sym, ap, subst, arith}
 use Rattle.std.proofs.lemmas.Result.{IfOk-weaker}
 use Rattle.hierarchy.specs.KeyedLists.{AreKeysBelow, lists_by}
 use Rattle.postings.specs.Places.{places_by}
-use Rattle.postings.proofs.KeyedPlacesLemmas.{keyed_below, places_by_keyed}
+use Rattle.postings.proofs.KeyedPlacesLemmas.{keyed_below, length-keyed_places, places_by_keyed}
 use Rattle.postings.proofs.lists.places_by_key.Goals as goal
 
-pub from_pairs-requires : goal.from_pairs-requires
-from_pairs-requires c =
+pub from_pairs-requires-clause-keys : goal.from_pairs-requires-clause-keys
+from_pairs-requires-clause-keys c =
     subst (λ (pairs : List (ℕ × ℕ)). AreKeysBelow c.args.count pairs) (sym (c.as_slice.ensures.value ∙ c.in_ok-pairs.ensures))
     (keyed_below c.args.count 0 c.args.keys.now)
+
+pub from_pairs-requires-clause-few : goal.from_pairs-requires-clause-few
+from_pairs-requires-clause-few c =
+    omega (
+      arith,
+      ap (λ (pairs : List (ℕ × ℕ)). length pairs) (c.as_slice.ensures.value ∙ c.in_ok-pairs.ensures),
+      length-keyed_places c.args.count 0 c.args.keys.now,
+      c.requires,
+    )
 
 pub returns : goal.returns
 returns c =

@@ -1,10 +1,10 @@
 use Rattle.std.proofs.lemmas.Bool.Decides.{nat_tests}
 use Rattle.std.proofs.lemmas.Grind.{common_steps}
-use Rattle.std.proofs.Common.{arith, string_bytes}
+use Rattle.std.proofs.Common.{ℕ, ◌<◌, ◌^◌, List, ap, arith, length, string_bytes}
 use Rattle.snapshot.specs.ListsInside.{listed_in}
 use Rattle.snapshot.specs.Sorted.{in_file_order}
 use Rattle.snapshot.proofs.FinishLemmas.{attributes_among-values, finished-Ok, finished-Err, length-attributes_among, length-rising}
-use Rattle.snapshot.proofs.NumberingLemmas.{IsWithin-numbered}
+use Rattle.snapshot.proofs.NumberingLemmas.{IsWithin-numbered, length-numbered}
 use Rattle.snapshot.proofs.load.finish.Goals as goal
 
 pub new-requires-clause-few : goal.new-requires-clause-few
@@ -17,7 +17,20 @@ pub lists_among-requires-clause-few_attributes : goal.lists_among-requires-claus
 lists_among-requires-clause-few_attributes c = omega (arith, c.requires.few, c.requires.few_attributes)
 
 pub invariant_of-result : goal.invariant_of-result
-invariant_of-result c = grind (arith, common_steps, nat_tests, IsWithin-numbered, attributes_among-values, length-attributes_among)
+invariant_of-result c =
+    let concepts = c.in_ok-concepts.concepts in
+    let few_isa : length c.in-Ok.hierarchy.isa.items < 2 ^ 31 =
+    omega (arith, ap (λ (rows : List (ℕ × ℕ)). length rows) c.in-Ok.ensures.rows, length-numbered concepts c.as_slice.result.now, ap (λ (rows : List (ℕ × ℕ)). length rows) c.as_slice.ensures.value, c.requires.few, c.requires.few_isa) in
+    let few_members : length c.in_ok-lists-in-Ok.lists.members.items < 2 ^ 31 =
+    omega (
+      arith,
+      ap (λ (rows : List (ℕ × ℕ)). length rows) c.in_ok-lists-in-Ok.ensures.members,
+      length-numbered concepts c.as_slice-in-Ok.result.now,
+      ap (λ (rows : List (ℕ × ℕ)). length rows) c.as_slice-in-Ok.ensures.value,
+      c.requires.few,
+      c.requires.few_members,
+    ) in
+    grind (arith, common_steps, nat_tests, few_isa, few_members, IsWithin-numbered, attributes_among-values, length-attributes_among)
 
 pub returns-in_ok-lists-in-Ok-clause-ok : goal.returns-in_ok-lists-in-Ok-clause-ok
 returns-in_ok-lists-in-Ok-clause-ok c =

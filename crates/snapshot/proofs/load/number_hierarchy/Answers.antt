@@ -2,16 +2,22 @@ use Rattle.std.proofs.lemmas.Bool.Decides.{nat_tests}
 use Rattle.std.proofs.lemmas.Grind.{common_steps}
 use Rattle.std.proofs.Common.{arith}
 use Rattle.snapshot.proofs.FinishLemmas.{least_cycle}
-use Rattle.snapshot.proofs.NumberingLemmas.{IsWithin-numbered, first_cyclic-None}
+use Rattle.snapshot.proofs.NumberingLemmas.{IsWithin-numbered, first_cyclic-None, length-numbered}
 use Rattle.hierarchy.proofs.WayLemmas.{ordered_acyclic}
 use Rattle.snapshot.proofs.load.number_hierarchy.Goals as goal
 
 -- the rows that the search is given are those by the numbers of the concepts
-pub parents_first-requires : goal.parents_first-requires
-parents_first-requires c = grind (arith, common_steps, nat_tests, IsWithin-numbered)
+pub parents_first-requires-clause-within : goal.parents_first-requires-clause-within
+parents_first-requires-clause-within c = grind (arith, common_steps, nat_tests, IsWithin-numbered)
+
+pub parents_first-requires-clause-few : goal.parents_first-requires-clause-few
+parents_first-requires-clause-few c = grind (arith, common_steps, nat_tests, length-numbered)
 
 pub cycle_fault-requires-clause-within : goal.cycle_fault-requires-clause-within
 cycle_fault-requires-clause-within c = grind (arith, common_steps, nat_tests, IsWithin-numbered)
+
+pub cycle_fault-requires-clause-few : goal.cycle_fault-requires-clause-few
+cycle_fault-requires-clause-few c = grind (arith, common_steps, nat_tests, length-numbered)
 
 pub returns-in-Some-clause-acyclic : goal.returns-in-Some-clause-acyclic
 returns-in-Some-clause-acyclic c =

@@ -11,8 +11,8 @@ use Rattle.ancestor_index.proofs.ClosureLemmas.{length-where}
 use Rattle.ancestor_index.proofs.CompleteLemmas.{rising}
 use Rattle.ancestor_index.proofs.index.AncestorIndex.build.Goals as goal
 
-pub linked_lists-requires : goal.linked_lists-requires
-linked_lists-requires c = subst (λ (n : ℕ). IsWithin n c.isa_rows-rows.result.now) (sym c.concept_count-count.ensures.count) c.isa_rows-rows.ensures.within
+pub linked_lists-requires-clause-within : goal.linked_lists-requires-clause-within
+linked_lists-requires-clause-within c = subst (λ (n : ℕ). IsWithin n c.isa_rows-rows.result.now) (sym c.concept_count-count.ensures.count) c.isa_rows-rows.ensures.within
 
 pub turned-requires-clause-items : goal.turned-requires-clause-items
 turned-requires-clause-items c =
