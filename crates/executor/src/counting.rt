@@ -1,12 +1,14 @@
 //! The visits of a node beside its parts, which are counted before the node reads. What it reads is told to each function, and what
 //! is counted lies between the floor and the own bound of the node.
-ghost use Rattle.std.specs.Prelude.{◌≡◌, ◌≤◌, ◌+◌, ◌-◌, ◌^◌, false, length, min};
+ghost use Rattle.std.specs.Prelude.{◌≡◌, ◌≤◌, ◌<◌, ◌+◌, ◌-◌, ◌*◌, ◌==◌, ◌^◌, false, length, min};
 ghost use Rattle.constraint_tree.specs.declared.operator.Cardinality.{Cardinality as cardinality};
 ghost use Rattle.postings.specs.Groups.{groups_in};
 ghost use Rattle.set_algebra.specs.Plan.{group_plan_of, members_plan, pairs_group, pairs_plan, plan_of, test_plan_of, units_plan, walk_plan};
-ghost use Rattle.planner.specs.Bounds.{group_own_bound, own_bound};
+ghost use Rattle.planner.specs.Alternatives.{leaf_bound, passed_over};
+ghost use Rattle.planner.specs.Bounds.{capped, group_own_bound, members_bound, own_bound, walk_bound};
+ghost use Rattle.planner.specs.Counts.{leaf_of, one_of};
 ghost use Rattle.planner.specs.Floors.{group_own_floor, own_floor};
-ghost use Rattle.planner.specs.Leaves.{test_choices, type_choices};
+ghost use Rattle.planner.specs.Leaves.{first_choice, test_choices, type_choices};
 ghost use Rattle.planner.specs.Sizes.{group_size, size, test_size};
 
 use constraint_tree::{Cardinality, Operator};
@@ -31,6 +33,7 @@ pub fn count_walk(
     ensures grows { visits.old.count ≤ visits.new.count }
     ensures within { visits.new.count ≤ visits.old.count + own_bound indexes.now _choices.now (walk_plan operator (plan_of operand.now)) }
     ensures floor { min (visits.old.count + own_floor indexes.now _choices.now (walk_plan operator (plan_of operand.now))) (2 ^ 64 - 1) ≤ visits.new.count }
+    ensures counted { min (visits.old.count + min (items + from) (capped (walk_bound indexes.now operator (one_of (plan_of operand.now)) from))) (2 ^ 64 - 1) ≤ visits.new.count }
 {
     let limits = walk_limits(indexes, operator, operand, from as u64);
     visits.add_node(items.saturating_add(from as u64), limits);
@@ -49,6 +52,7 @@ pub fn count_members(
     ensures grows { visits.old.count ≤ visits.new.count }
     ensures within { visits.new.count ≤ visits.old.count + own_bound indexes.now _choices.now (members_plan (plan_of operand.now)) }
     ensures floor { min (visits.old.count + own_floor indexes.now _choices.now (members_plan (plan_of operand.now))) (2 ^ 64 - 1) ≤ visits.new.count }
+    ensures counted { min (visits.old.count + min (items + from) (capped (members_bound indexes.now (one_of (plan_of operand.now)) from))) (2 ^ 64 - 1) ≤ visits.new.count }
 {
     let limits = members_limits(indexes, operand, from as u64);
     visits.add_node(items.saturating_add(from as u64), limits);
@@ -71,6 +75,7 @@ pub fn concept_leaf_limits(
     ensures within { result.bound ≤ own_bound indexes.now choices.now (pairs_plan back count (plan_of types.now) (test_plan_of test.now)) }
     ensures floor { own_floor indexes.now choices.now (pairs_plan back count (plan_of types.now) (test_plan_of test.now)) ≤ result.floor }
     ensures ordered { result.floor ≤ result.bound }
+    ensures bound { result.bound ≡ capped (leaf_bound (leaf_of indexes.now (length indexes.now.concepts) back count (plan_of types.now) (test_plan_of test.now) type_count test_count) (first_choice choices.now)) }
 {
     let all = indexes.concept_count() as u64;
     let sizes = (type_count as u64, test_count as u64);
@@ -94,6 +99,7 @@ pub fn group_leaf_limits(
     ensures within { result.bound ≤ group_own_bound indexes.now choices.now (pairs_group count (plan_of types.now) (test_plan_of test.now)) }
     ensures floor { group_own_floor indexes.now choices.now (pairs_group count (plan_of types.now) (test_plan_of test.now)) ≤ result.floor }
     ensures ordered { result.floor ≤ result.bound }
+    ensures bound { result.bound ≡ capped (leaf_bound (leaf_of indexes.now (length (groups_in indexes.now)) false count (plan_of types.now) (test_plan_of test.now) type_count test_count) (first_choice choices.now)) }
 {
     let all = indexes.group_count() as u64;
     let sizes = (type_count as u64, test_count as u64);
@@ -114,6 +120,7 @@ pub fn count_units(
     requires { groups ≤ group_size indexes.now _choices.now (group_plan_of units.now) }
     ensures grows { visits.old.count ≤ visits.new.count }
     ensures within { visits.new.count ≤ visits.old.count + own_bound indexes.now _choices.now (units_plan count (group_plan_of units.now)) }
+    ensures counted { min (visits.old.count + min items (capped (groups + passed_over (count.min == 0) (length indexes.now.concepts)))) (2 ^ 64 - 1) ≤ visits.new.count }
 {
     let limits = units_limits(count, indexes.concept_count() as u64, groups);
     visits.add_node(items, limits);
@@ -123,7 +130,9 @@ pub fn count_units(
 /// found once, and what the second finds of it; and where there is room the first twice more, to see how many rows it has.
 pub fn minus_reads(left: u32, sizes: (u64, u64)) -> u64
     requires { left ≤ sizes.0 }
-    ensures { result ≤ sizes.0 + sizes.1 }
+    ensures within { result ≤ sizes.0 + sizes.1 }
+    ensures room { left * 3 ≤ sizes.0 + sizes.1 → result ≡ left * 3 }
+    ensures none { sizes.0 + sizes.1 < left * 3 → result ≡ left + min sizes.1 left }
 {
     let thrice = left as u64 * 3;
     if thrice <= sizes.0.saturating_add(sizes.1) {

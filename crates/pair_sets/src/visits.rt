@@ -1,5 +1,5 @@
 //! The count of what is read.
-ghost use Rattle.std.specs.Prelude.{◌≡◌, ◌≤◌, ◌+◌, ◌-◌, ◌^◌, min};
+ghost use Rattle.std.specs.Prelude.{◌≡◌, ◌≤◌, ◌+◌, ◌-◌, ◌^◌, max, min};
 
 use set_algebra::NodeLimits;
 
@@ -27,6 +27,7 @@ impl Visits {
         ensures grows { self.old.count ≤ self.new.count }
         ensures within { self.new.count ≤ self.old.count + limits.bound }
         ensures floor { min (self.old.count + limits.floor) (2 ^ 64 - 1) ≤ self.new.count }
+        ensures counted { self.new.count ≡ min (self.old.count + max (min items limits.bound) limits.floor) (2 ^ 64 - 1) }
     {
         self.add(items.min(limits.bound).max(limits.floor));
     }

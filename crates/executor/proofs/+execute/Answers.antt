@@ -269,28 +269,37 @@ joined_plans::in_all-returns-clause-items g t c =
 
 pub joined_plans::in_all-returns-in_err-found-clause-within : goal.joined_plans::in_all-returns-in_err-found-clause-within
 joined_plans::in_all-returns-in_err-found-clause-within g t c =
+    let inside = lead_inside c.lead_of.result c.is_empty.ensures c.if-is_empty.false c.min-lead.ensures in
     omega (
       arith,
       c.led_by.ensures.within,
-      first_within of_concepts (concepts_read c.args.indexes.now) c.args.parts.now c.min-lead.result c.choices_at-at.ensures (lead_inside c.lead_of.result c.is_empty.ensures c.if-is_empty.false c.min-lead.ensures),
+      first_within of_concepts (concepts_read c.args.indexes.now) c.args.parts.now c.min-lead.result c.choices_at-at.ensures inside,
     )
 
 pub joined_plans::in_all-returns-in_err-extent-clause-within : goal.joined_plans::in_all-returns-in_err-extent-clause-within
-joined_plans::in_all-returns-in_err-extent-clause-within g t c = omega (arith, all_most c.loop-place.invariant.work (lead_inside c.lead_of.result c.is_empty.ensures c.if-is_empty.false c.min-lead.ensures))
+joined_plans::in_all-returns-in_err-extent-clause-within g t c =
+    let inside = lead_inside c.lead_of.result c.is_empty.ensures c.if-is_empty.false c.min-lead.ensures in
+    omega (arith, all_most c.loop-place.invariant.work inside)
 
 pub joined_plans::in_all-returns-in_err-next-clause-within : goal.joined_plans::in_all-returns-in_err-next-clause-within
 joined_plans::in_all-returns-in_err-next-clause-within g t c =
+    let inside = lead_inside c.lead_of.result c.is_empty.ensures c.if-is_empty.false c.min-lead.ensures in
     omega (
       arith,
-      all_next {next = c.execute_within.new.visits.count} c.loop-place.invariant.work (lead_inside c.lead_of.result c.is_empty.ensures c.if-is_empty.false c.min-lead.ensures) c.index-parts-place.result c.loop-place-test.true c.index-parts-place.is c.if-place-lead.true
+      all_next {next = c.execute_within.new.visits.count} c.loop-place.invariant.work inside c.index-parts-place.result
+          c.loop-place-test.true c.index-parts-place.is c.if-place-lead.true
           (omega (arith, c.execute_within.ensures.within)),
     )
 
 pub joined_plans::in_all-returns-clause-within : goal.joined_plans::in_all-returns-clause-within
-joined_plans::in_all-returns-clause-within g t c = omega (arith, (all_end c.loop-place.invariant.work (omega arith) (lead_inside c.lead_of.result c.is_empty.ensures c.if-is_empty.false c.min-lead.ensures)).within)
+joined_plans::in_all-returns-clause-within g t c =
+    let inside = lead_inside c.lead_of.result c.is_empty.ensures c.if-is_empty.false c.min-lead.ensures in
+    omega (arith, (all_end c.loop-place.invariant.work (omega arith) inside).within)
 
 pub joined_plans::in_all-returns-clause-floor : goal.joined_plans::in_all-returns-clause-floor
-joined_plans::in_all-returns-clause-floor g t c = (all_end c.loop-place.invariant.work (omega arith) (lead_inside c.lead_of.result c.is_empty.ensures c.if-is_empty.false c.min-lead.ensures)).floor
+joined_plans::in_all-returns-clause-floor g t c =
+    let inside = lead_inside c.lead_of.result c.is_empty.ensures c.if-is_empty.false c.min-lead.ensures in
+    (all_end c.loop-place.invariant.work (omega arith) inside).floor
 
 pub joined_plans::in_some-loop-part-init : goal.joined_plans::in_some-loop-part-init
 joined_plans::in_some-loop-part-init g t c =
@@ -449,7 +458,8 @@ dotted_plans::led_along-returns-in_err-found-clause-within g t c =
     let more = along_le indexed (c.loop-name.name-index + 1) (length c.args.names.now) first (omega (arith, c.loop-name-test.true)) in
     omega (
       arith,
-      some_next {next = c.values_along.new.visits.count} c.loop-name.invariant.work c.name-item.result c.loop-name-test.true c.name-item.is (found + length indexed.rows)
+      some_next {next = c.values_along.new.visits.count} c.loop-name.invariant.work c.name-item.result c.loop-name-test.true
+          c.name-item.is (found + length indexed.rows)
           (omega (arith, read, more)) (omega (arith, c.named_by.ensures.within, c.values_along.ensures.within)),
       ap (λ (count : ℕ). values_bound indexed count first) (plan_count-parts c.args.names.now),
     )
@@ -611,28 +621,37 @@ unit_plans::groups_in_all-returns-clause-items g t c =
 
 pub unit_plans::groups_in_all-returns-in_err-groups-clause-within : goal.unit_plans::groups_in_all-returns-in_err-groups-clause-within
 unit_plans::groups_in_all-returns-in_err-groups-clause-within g t c =
+    let inside = lead_inside c.group_lead_of.result c.is_empty.ensures c.if-is_empty.false c.min-lead.ensures in
     omega (
       arith,
       c.groups_led_by.ensures.within,
-      first_within of_groups (groups_read c.args.indexes.now) c.args.parts.now c.min-lead.result c.unit_choices_at-at.ensures (lead_inside c.group_lead_of.result c.is_empty.ensures c.if-is_empty.false c.min-lead.ensures),
+      first_within of_groups (groups_read c.args.indexes.now) c.args.parts.now c.min-lead.result c.unit_choices_at-at.ensures inside,
     )
 
 pub unit_plans::groups_in_all-returns-in_err-extent-clause-within : goal.unit_plans::groups_in_all-returns-in_err-extent-clause-within
-unit_plans::groups_in_all-returns-in_err-extent-clause-within g t c = omega (arith, all_most c.loop-place.invariant.work (lead_inside c.group_lead_of.result c.is_empty.ensures c.if-is_empty.false c.min-lead.ensures))
+unit_plans::groups_in_all-returns-in_err-extent-clause-within g t c =
+    let inside = lead_inside c.group_lead_of.result c.is_empty.ensures c.if-is_empty.false c.min-lead.ensures in
+    omega (arith, all_most c.loop-place.invariant.work inside)
 
 pub unit_plans::groups_in_all-returns-in_err-next-clause-within : goal.unit_plans::groups_in_all-returns-in_err-next-clause-within
 unit_plans::groups_in_all-returns-in_err-next-clause-within g t c =
+    let inside = lead_inside c.group_lead_of.result c.is_empty.ensures c.if-is_empty.false c.min-lead.ensures in
     omega (
       arith,
-      all_next {next = c.execute_groups.new.visits.count} c.loop-place.invariant.work (lead_inside c.group_lead_of.result c.is_empty.ensures c.if-is_empty.false c.min-lead.ensures) c.index-parts-place.result c.loop-place-test.true c.index-parts-place.is c.if-place-lead.true
+      all_next {next = c.execute_groups.new.visits.count} c.loop-place.invariant.work inside c.index-parts-place.result
+          c.loop-place-test.true c.index-parts-place.is c.if-place-lead.true
           (omega (arith, c.execute_groups.ensures.within)),
     )
 
 pub unit_plans::groups_in_all-returns-clause-within : goal.unit_plans::groups_in_all-returns-clause-within
-unit_plans::groups_in_all-returns-clause-within g t c = omega (arith, (all_end c.loop-place.invariant.work (omega arith) (lead_inside c.group_lead_of.result c.is_empty.ensures c.if-is_empty.false c.min-lead.ensures)).within)
+unit_plans::groups_in_all-returns-clause-within g t c =
+    let inside = lead_inside c.group_lead_of.result c.is_empty.ensures c.if-is_empty.false c.min-lead.ensures in
+    omega (arith, (all_end c.loop-place.invariant.work (omega arith) inside).within)
 
 pub unit_plans::groups_in_all-returns-clause-floor : goal.unit_plans::groups_in_all-returns-clause-floor
-unit_plans::groups_in_all-returns-clause-floor g t c = (all_end c.loop-place.invariant.work (omega arith) (lead_inside c.group_lead_of.result c.is_empty.ensures c.if-is_empty.false c.min-lead.ensures)).floor
+unit_plans::groups_in_all-returns-clause-floor g t c =
+    let inside = lead_inside c.group_lead_of.result c.is_empty.ensures c.if-is_empty.false c.min-lead.ensures in
+    (all_end c.loop-place.invariant.work (omega arith) inside).floor
 
 pub unit_plans::groups_in_some-loop-part-init : goal.unit_plans::groups_in_some-loop-part-init
 unit_plans::groups_in_some-loop-part-init g t c =
@@ -774,7 +793,8 @@ pub plans::execute_node-returns-in_ok-every-in-All-clause-items : goal.plans::ex
 plans::execute_node-returns-in_ok-every-in-All-clause-items g t c =
     let release = c.args.snapshot.now.release in
     let may : ℕ → Bool = may_be g.S.ConceptSet.items_of c.args.candidates.now in
-    let all = all_node release (plan_of c.args.plan.now) (g.S.ConceptSet.items_of c.in_ok-every-in-All.every) (ap plan_of c.in-All.is) c.in_ok-every-in-All.ensures.items in
+    let every = g.S.ConceptSet.items_of c.in_ok-every-in-All.every in
+    let all = all_node release (plan_of c.args.plan.now) every (ap plan_of c.in-All.is) c.in_ok-every-in-All.ensures.items in
     found_for g.S.ConceptSet.items_of c.restricted.result
     (λ found is. kept_node release may (plan_of c.args.plan.now) (g.S.ConceptSet.items_of c.in_ok-every-in-All.every) found all is)
     c.restricted.ensures.items
@@ -811,33 +831,39 @@ pub plans::execute_node-returns-in-And-clause-items : goal.plans::execute_node-r
 plans::execute_node-returns-in-And-clause-items g t c =
     let release = c.args.snapshot.now.release in
     let may : ℕ → Bool = may_be g.S.ConceptSet.items_of c.args.candidates.now in
+    let plan : Plan = plan_of c.args.plan.now in
+    let parts = c.deref-in-And.result.now in
+    let some : ℕ → Bool = λ concept. list_all (λ part. means release (plan_of part) concept) parts in
+    let is = ap plan_of c.in-And.is ∙ plan_of-And c.in-And.parts
+    ∙ ap (λ (parts : List ConceptPlan). and_plan (plans_of parts)) (sym c.deref-in-And.ensures.value) in
     found_as g.S.ConceptSet.items_of c.in_all.result
-    (within_same release may (λ concept. list_all (λ part. means release (plan_of part) concept) c.deref-in-And.result.now) (means release (plan_of c.args.plan.now))
-    (and_node release (plan_of c.args.plan.now) (numbers_in release (λ concept. list_all (λ part. means release (plan_of part) concept) c.deref-in-And.result.now))
-    c.deref-in-And.result.now
-    (ap plan_of c.in-And.is ∙ plan_of-And c.in-And.parts ∙ ap (λ (parts : List ConceptPlan). and_plan (plans_of parts)) (sym c.deref-in-And.ensures.value)) refl))
+    (within_same release may some (means release plan) (and_node release plan (numbers_in release some) parts is refl))
     c.in_all.ensures.items
 
 pub plans::execute_node-returns-in-Or-clause-items : goal.plans::execute_node-returns-in-Or-clause-items
 plans::execute_node-returns-in-Or-clause-items g t c =
     let release = c.args.snapshot.now.release in
     let may : ℕ → Bool = may_be g.S.ConceptSet.items_of c.args.candidates.now in
+    let plan : Plan = plan_of c.args.plan.now in
+    let parts = c.deref-in-Or.result.now in
+    let some : ℕ → Bool = λ concept. list_any (λ part. means release (plan_of part) concept) parts in
+    let is = ap plan_of c.in-Or.is ∙ plan_of-Or c.in-Or.parts
+    ∙ ap (λ (parts : List ConceptPlan). or_plan (plans_of parts)) (sym c.deref-in-Or.ensures.value) in
     found_as g.S.ConceptSet.items_of c.in_some.result
-    (within_same release may (λ concept. list_any (λ part. means release (plan_of part) concept) c.deref-in-Or.result.now) (means release (plan_of c.args.plan.now))
-    (or_node release (plan_of c.args.plan.now) (numbers_in release (λ concept. list_any (λ part. means release (plan_of part) concept) c.deref-in-Or.result.now))
-    c.deref-in-Or.result.now
-    (ap plan_of c.in-Or.is ∙ plan_of-Or c.in-Or.parts ∙ ap (λ (parts : List ConceptPlan). or_plan (plans_of parts)) (sym c.deref-in-Or.ensures.value)) refl))
+    (within_same release may some (means release plan) (or_node release plan (numbers_in release some) parts is refl))
     c.in_some.ensures.items
 
 pub plans::execute_node-returns-in-Units-clause-items : goal.plans::execute_node-returns-in-Units-clause-items
 plans::execute_node-returns-in-Units-clause-items g t c =
     let release = c.args.snapshot.now.release in
     let may : ℕ → Bool = may_be g.S.ConceptSet.items_of c.args.candidates.now in
+    let plan : Plan = plan_of c.args.plan.now in
+    let units = c.deref-in-Units.result.now in
+    let some : ℕ → Bool = has_groups release c.in-Units.count (group_means release (group_plan_of units)) in
+    let is = ap plan_of c.in-Units.is ∙ ap (λ (units : UnitPlan). units_plan c.in-Units.count (group_plan_of units)) (sym c.deref-in-Units.ensures) in
     found_as g.S.ConceptSet.items_of c.units_within.result
-    (within_same release may (has_groups release c.in-Units.count (group_means release (group_plan_of c.deref-in-Units.result.now))) (means release (plan_of c.args.plan.now))
-    (units_node release (plan_of c.args.plan.now) (numbers_in release (has_groups release c.in-Units.count (group_means release (group_plan_of c.deref-in-Units.result.now))))
-    c.in-Units.count (group_plan_of c.deref-in-Units.result.now)
-    (ap plan_of c.in-Units.is ∙ ap (λ (units : UnitPlan). units_plan c.in-Units.count (group_plan_of units)) (sym c.deref-in-Units.ensures)) refl))
+    (within_same release may some (means release plan)
+    (units_node release plan (numbers_in release some) c.in-Units.count (group_plan_of units) is refl))
     c.units_within.ensures.items
 
 pub unit_plans::execute_group_node-returns-in-Nothing-clause-items : goal.unit_plans::execute_group_node-returns-in-Nothing-clause-items
@@ -860,20 +886,26 @@ pub unit_plans::execute_group_node-returns-in-And-clause-items : goal.unit_plans
 unit_plans::execute_group_node-returns-in-And-clause-items g t c =
     let release = c.args.snapshot.now.release in
     let may : ℕ → Bool = may_be g.S.ConceptSet.items_of c.args.candidates.now in
+    let plan : GroupPlan = group_plan_of c.args.plan.now in
+    let parts = c.deref.result.now in
+    let some : List Pair → Bool = λ pairs. list_all (λ part. group_means release (group_plan_of part) pairs) parts in
+    let is = ap group_plan_of c.in-And.is ∙ group_plan_of-And c.in-And.parts
+    ∙ ap (λ (parts : List UnitPlan). and_group (group_plans_of parts)) (sym c.deref.ensures.value) in
     found_as g.S.ConceptSet.items_of c.groups_in_all.result
-    (groups_same release may (λ pairs. list_all (λ part. group_means release (group_plan_of part) pairs) c.deref.result.now) (group_means release (group_plan_of c.args.plan.now))
-    (groups.and_node release (group_plan_of c.args.plan.now) (groups_where release (λ pairs. list_all (λ part. group_means release (group_plan_of part) pairs) c.deref.result.now)) c.deref.result.now
-    (ap group_plan_of c.in-And.is ∙ group_plan_of-And c.in-And.parts ∙ ap (λ (parts : List UnitPlan). and_group (group_plans_of parts)) (sym c.deref.ensures.value)) refl))
+    (groups_same release may some (group_means release plan) (groups.and_node release plan (groups_where release some) parts is refl))
     c.groups_in_all.ensures.items
 
 pub unit_plans::execute_group_node-returns-in-Or-clause-items : goal.unit_plans::execute_group_node-returns-in-Or-clause-items
 unit_plans::execute_group_node-returns-in-Or-clause-items g t c =
     let release = c.args.snapshot.now.release in
     let may : ℕ → Bool = may_be g.S.ConceptSet.items_of c.args.candidates.now in
+    let plan : GroupPlan = group_plan_of c.args.plan.now in
+    let parts = c.deref-in-Or.result.now in
+    let some : List Pair → Bool = λ pairs. list_any (λ part. group_means release (group_plan_of part) pairs) parts in
+    let is = ap group_plan_of c.in-Or.is ∙ group_plan_of-Or c.in-Or.parts
+    ∙ ap (λ (parts : List UnitPlan). or_group (group_plans_of parts)) (sym c.deref-in-Or.ensures.value) in
     found_as g.S.ConceptSet.items_of c.groups_in_some.result
-    (groups_same release may (λ pairs. list_any (λ part. group_means release (group_plan_of part) pairs) c.deref-in-Or.result.now) (group_means release (group_plan_of c.args.plan.now))
-    (groups.or_node release (group_plan_of c.args.plan.now) (groups_where release (λ pairs. list_any (λ part. group_means release (group_plan_of part) pairs) c.deref-in-Or.result.now)) c.deref-in-Or.result.now
-    (ap group_plan_of c.in-Or.is ∙ group_plan_of-Or c.in-Or.parts ∙ ap (λ (parts : List UnitPlan). or_group (group_plans_of parts)) (sym c.deref-in-Or.ensures.value)) refl))
+    (groups_same release may some (group_means release plan) (groups.or_node release plan (groups_where release some) parts is refl))
     c.groups_in_some.ensures.items
 
 pub plans::in_first_alone-returns-in_ok-found-in-Minus-clause-items : goal.plans::in_first_alone-returns-in_ok-found-in-Minus-clause-items

@@ -14,3 +14,6 @@ returns-clause-within c =
       walk_more c.args.indexes.now c.args.operator (one_of (plan_of c.args.operand.now)) c.args.from
           (size c.args.indexes.now c.args._choices.now (plan_of c.args.operand.now)) c.requires,
     )
+
+pub returns-clause-counted : goal.returns-clause-counted
+returns-clause-counted c = omega (arith, c.add_node.ensures.counted, c.saturating_add.ensures, c.walk_limits-limits.ensures.bound)

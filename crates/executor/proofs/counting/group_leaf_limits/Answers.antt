@@ -1,7 +1,9 @@
-use Rattle.std.proofs.Common.{ℕ, false, length, ap, arith}
+use Rattle.std.proofs.Common.{ℕ, ◌∙◌, false, length, ap, arith}
 use Rattle.postings.specs.Groups.{groups_in}
 use Rattle.set_algebra.specs.Plan.{plan_of, test_plan_of}
+use Rattle.set_algebra.specs.declared.choice.Choice.{Choice}
 use Rattle.planner.specs.Alternatives.{leaf_bound}
+use Rattle.planner.specs.Bounds.{capped}
 use Rattle.planner.specs.Counts.{leaf_of}
 use Rattle.planner.specs.Floors.{leaf_floor}
 use Rattle.planner.specs.Leaves.{test_choices, type_choices}
@@ -37,3 +39,12 @@ returns-clause-floor c =
       c.leaf_limits.ensures.floor,
       ap (leaf_floor indexed false (plan_of c.args.types.now) (test_plan_of c.args.test.now)) c.first_choice-choice.ensures,
     )
+
+pub returns-clause-bound : goal.returns-clause-bound
+returns-clause-bound c =
+    let indexed = c.args.indexes.now in
+    let types = plan_of c.args.types.now in
+    let test = test_plan_of c.args.test.now in
+    c.leaf_limits.ensures.bound
+    ∙ ap (λ (all : ℕ). capped (leaf_bound (leaf_of indexed all false c.args.count types test c.args.type_count c.args.test_count) c.first_choice-choice.result)) c.group_count-all.ensures.count
+    ∙ ap (λ (choice : Choice). capped (leaf_bound (leaf_of indexed (length (groups_in indexed)) false c.args.count types test c.args.type_count c.args.test_count) choice)) c.first_choice-choice.ensures
