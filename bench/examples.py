@@ -79,6 +79,17 @@ def queries():
             case(f"the gate's copy of {name}", it.read(), read(name))
 
 
+def refusal():
+    stored = f"{ROOT}/crates/refused_folders"
+    texts = {}
+    for name in ("args", "stdin", "stdout", "stderr", "status"):
+        with open(f"{stored}/{name}", "rb") as it:
+            texts[name] = it.read()
+    words = texts["args"].decode().split()
+    ended = subprocess.run([PROGRAM, *words], input=texts["stdin"], cwd=f"{stored}/data", capture_output=True, timeout=60)
+    case("packages with a conflict", (ended.returncode, ended.stdout, ended.stderr), (int(texts["status"]), texts["stdout"], texts["stderr"]))
+
+
 def scripts():
     status, rows = run(f"{EXAMPLES}/refset.sh", "<100005:105000=*", "108003", "900000000000207008", EDITION)
     cells = [line.split("\t") for line in rows.split("\r\n")]
@@ -129,6 +140,7 @@ def module():
 
 
 queries()
+refusal()
 scripts()
 module()
 print(f"{passed} passed, {failed} failed")

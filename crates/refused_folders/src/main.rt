@@ -1,0 +1,9 @@
+//! The program once more, for a stored run over the folders of two packages that are refused (`data`, `args`, `status`).
+#![tactic(auto)]
+
+use query_tool::start;
+use std::process::ExitCode;
+
+fn main(rt: HostRuntime) -> ExitCode {
+    ExitCode::from(start(&rt).code())
+}
