@@ -58,15 +58,7 @@ pub fn answer_over_with(
 {
     match constraint_of(alloc, line, output)? {
         Some(constraint) => {
-            answer_with(
-                alloc,
-                snapshot,
-                indexes,
-                constraint,
-                steps,
-                choices,
-                output,
-            )
+            answer_with(alloc, snapshot, indexes, constraint, steps, choices, output)
         }
         None => Ok(()),
     }
