@@ -5,8 +5,12 @@ use Rattle.std.proofs.lemmas.Bool.{both_ways, cases_lt, eq-eqb, eqb-true, ne_eqb
 use Rattle.std.proofs.lemmas.List.{take_all}
 use Rattle.std.proofs.lemmas.Option.{slice_get_cases, slice_get_read}
 use Rattle.postings.specs.Indexed.{Indexed}
+use Rattle.set_algebra.specs.Plan.{Plan, Plans, values_plan}
 use Rattle.set_algebra.specs.declared.choice.Choice.{Choice}
-use Rattle.planner.specs.Bounds.{values_bound}
+use Rattle.planner.specs.Bounds.{own_number, values_bound}
+use Rattle.planner.specs.Leaves.{leaves, plan_count}
+use Rattle.planner.specs.Nodes.{node_sum, plans_sum}
+use Rattle.planner.specs.Sizes.{size}
 use Rattle.planner.proofs.ListLemmas.{drop_further}
 use Rattle.planner.proofs.LoopLemmas.{Sort, Sum}
 use Rattle.executor.specs.Lead.{of_lead}
@@ -395,3 +399,20 @@ along_le indexed (suc place) (suc further) first before =
 pub along_from : (indexed : Indexed) (place few many : ℕ) → few ≤ many → values_bound indexed place few ≤ values_bound indexed place many
 along_from indexed zero few many more = omega arith
 along_from indexed (suc place) few many more = omega (arith, more, along_one indexed place few, along_one indexed place many)
+
+-- what dotted attributes read: their start, and what is read along their names from so many
+pub led_reads : (indexed : Indexed) (choices : List Choice) {plan start : Plan} {names : Plans} {rest : List Choice} (old between new found : ℕ)
+    → plan ≡ values_plan start names → rest ≡ drop (leaves start) choices
+    → between ≤ old + node_sum (own_number indexed) choices start
+    → new ≤ between + (values_bound indexed (plan_count names) found + plans_sum (own_number indexed) rest names)
+    → found ≤ size indexed choices start
+    → new ≤ old + node_sum (own_number indexed) choices plan
+led_reads indexed choices {start = start} {names = names} old between new found is behind first along few =
+    omega (
+      arith,
+      first,
+      along,
+      along_from indexed (plan_count names) found (size indexed choices start) few,
+      ap (λ (plan : Plan). node_sum (own_number indexed) choices plan) is,
+      ap (λ (rest : List Choice). plans_sum (own_number indexed) rest names) behind,
+    )

@@ -124,7 +124,8 @@ impl<'a> PlaceSource for MemoryPlaces<'a> {
 // Goes over the files that have a kind, in turn.
 fn take_files<T: PlaceTaker>(files: &[NamedBytes<'_>], taker: &mut T) -> Result<(), LoadFault>
     ensures ok { OnOk result (TakesAll T.takes taker.old (places_from 0 (map file_text files.now)) taker.new) }
-    ensures err { IfErr result (λ fault. fault ≢ LoadFault.Memory → StopsAt T.takes T.refuses taker.old (places_from 0 (map file_text files.now)) taker.new fault) }
+    ensures err { IfErr result (λ fault. fault ≢ LoadFault.Memory
+        → StopsAt T.takes T.refuses taker.old (places_from 0 (map file_text files.now)) taker.new fault) }
     ensures own { IfErr result (λ fault. is_device fault ≡ false) }
     ensures named { IfErr result (FileIs (λ file. file < length files.now)) }
     ensures found { IfErr result (λ fault. fault ≢ LoadFault.NoConceptFile) }
@@ -145,7 +146,8 @@ fn take_named<T: PlaceTaker>(
     taker: &mut T,
 ) -> Result<(), LoadFault>
     ensures ok { OnOk result (TakesAll T.takes taker.old (places_of_file file (file_text named.now)) taker.new) }
-    ensures err { IfErr result (λ fault. fault ≢ LoadFault.Memory → StopsAt T.takes T.refuses taker.old (places_of_file file (file_text named.now)) taker.new fault) }
+    ensures err { IfErr result (λ fault. fault ≢ LoadFault.Memory
+        → StopsAt T.takes T.refuses taker.old (places_of_file file (file_text named.now)) taker.new fault) }
     ensures own { IfErr result (λ fault. is_device fault ≡ false) }
     ensures named { IfErr result (FileIs (λ at. at ≡ file)) }
     ensures found { IfErr result (λ fault. fault ≢ LoadFault.NoConceptFile) }
@@ -164,7 +166,8 @@ fn take_file<T: PlaceTaker>(
     taker: &mut T,
 ) -> Result<(), LoadFault>
     ensures ok { OnOk result (TakesAll T.takes taker.old (places_of_lines file kind (lines_of bytes.now)) taker.new) }
-    ensures err { IfErr result (λ fault. fault ≢ LoadFault.Memory → StopsAt T.takes T.refuses taker.old (places_of_lines file kind (lines_of bytes.now)) taker.new fault) }
+    ensures err { IfErr result (λ fault. fault ≢ LoadFault.Memory
+        → StopsAt T.takes T.refuses taker.old (places_of_lines file kind (lines_of bytes.now)) taker.new fault) }
     ensures own { IfErr result (λ fault. is_device fault ≡ false) }
     ensures named { IfErr result (FileIs (λ at. at ≡ file)) }
     ensures found { IfErr result (λ fault. fault ≢ LoadFault.NoConceptFile) }
@@ -190,7 +193,8 @@ fn take_lines<T: PlaceTaker>(
     taker: &mut T,
 ) -> Result<(), LoadFault>
     ensures ok { OnOk result (TakesAll T.takes taker.old (map (later_line file kind) lines.entry) taker.new) }
-    ensures err { IfErr result (λ fault. fault ≢ LoadFault.Memory → StopsAt T.takes T.refuses taker.old (map (later_line file kind) lines.entry) taker.new fault) }
+    ensures err { IfErr result (λ fault. fault ≢ LoadFault.Memory
+        → StopsAt T.takes T.refuses taker.old (map (later_line file kind) lines.entry) taker.new fault) }
     ensures own { IfErr result (λ fault. is_device fault ≡ false) }
     ensures named { IfErr result (FileIs (λ at. at ≡ file)) }
     ensures found { IfErr result (λ fault. fault ≢ LoadFault.NoConceptFile) }

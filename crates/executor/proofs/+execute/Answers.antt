@@ -40,7 +40,7 @@ use Rattle.executor.proofs.PartWork.{concepts_found, concepts_read, few_found, f
 use Rattle.pair_sets.proofs.WithinLemmas.{all_of_none, all_within, none_within, some_of_none, some_within}
 use Rattle.pair_sets.proofs.WithinLemmas.{kept_groups, kept_set}
 use Rattle.executor.proofs.WithinNodes.{any_done, empty_within, found_as, found_for, groups_led_again, groups_led_all, groups_same, kept_node, led_again, led_all, meant_within, minus_groups, minus_node, nothing_within, walk_of_part, within_same}
-use Rattle.executor.proofs.WorkLemmas.{all_end, all_most, all_next, all_pass, all_start, all_turn, along_from, along_le, along_more, first_within, joined_reads, lead_inside, lead_is, no_parts, some_end, some_next, some_start, some_turn}
+use Rattle.executor.proofs.WorkLemmas.{all_end, all_most, all_next, all_pass, all_start, all_turn, along_le, along_more, first_within, joined_reads, lead_inside, lead_is, led_reads, no_parts, some_end, some_next, some_start, some_turn}
 use Rattle.executor.proofs.+execute.Goals as goal
 use Rattle.executor.proofs.+execute.Goals.{joined_plans::in_all-then-place-lead+in_ok-extent+in_ok-next, joined_plans::in_all-else-place-lead, unit_plans::groups_in_all-then-place-lead+in_ok-extent+in_ok-next, unit_plans::groups_in_all-else-place-lead}
 
@@ -932,60 +932,30 @@ dotted_plans::led_from-returns-in_ok-found-in-Values-clause-items g t c =
 
 pub dotted_plans::led_from-returns-in_err-led-in-Values-clause-within : goal.dotted_plans::led_from-returns-in_err-led-in-Values-clause-within
 dotted_plans::led_from-returns-in_err-led-in-Values-clause-within g t c =
-    let indexed = c.args.indexes.now in
-    let choices = c.args.choices.now in
-    let names = plans_of c.deref-in-Values-2.result.now in
-    let is = values_are c.in-Values.start c.in-Values.names c.in-Values.is c.deref.ensures c.deref-in-Values-2.ensures.value in
-    let behind =
-    c.plan_floor.ensures.rest
-    ∙ ap (λ (start : ConceptPlan). drop (leaves (plan_of start)) choices) (c.deref-in-Values.ensures ∙ sym c.deref.ensures) in
-    omega (
-      arith,
-      c.led_along.ensures.within,
-      c.execute_within.ensures.within,
-      along_from indexed (plan_count names) (length (g.S.ConceptSet.items_of c.in_ok-from-in-Values.from))
-          (size indexed choices (plan_of c.deref.result.now)) c.in_ok-from-in-Values.ensures.size,
-      ap (λ (plan : Plan). node_sum (own_number indexed) choices plan) is,
-      ap (λ (rest : List Choice). plans_sum (own_number indexed) rest names) behind,
-    )
+    led_reads c.args.indexes.now c.args.choices.now c.args.visits.now.count c.execute_within.new.visits.count c.led_along.new.visits.count
+    (length (g.S.ConceptSet.items_of c.in_ok-from-in-Values.from))
+    (values_are c.in-Values.start c.in-Values.names c.in-Values.is c.deref.ensures c.deref-in-Values-2.ensures.value)
+    (c.plan_floor.ensures.rest
+    ∙ ap (λ (start : ConceptPlan). drop (leaves (plan_of start)) c.args.choices.now) (c.deref-in-Values.ensures ∙ sym c.deref.ensures))
+    c.execute_within.ensures.within c.led_along.ensures.within c.in_ok-from-in-Values.ensures.size
 
 pub dotted_plans::led_from-returns-in_err-found-in-Values-clause-within : goal.dotted_plans::led_from-returns-in_err-found-in-Values-clause-within
 dotted_plans::led_from-returns-in_err-found-in-Values-clause-within g t c =
-    let indexed = c.args.indexes.now in
-    let choices = c.args.choices.now in
-    let names = plans_of c.deref-in-Values-2.result.now in
-    let is = values_are c.in-Values.start c.in-Values.names c.in-Values.is c.deref.ensures c.deref-in-Values-2.ensures.value in
-    let behind =
-    c.plan_floor.ensures.rest
-    ∙ ap (λ (start : ConceptPlan). drop (leaves (plan_of start)) choices) (c.deref-in-Values.ensures ∙ sym c.deref.ensures) in
-    omega (
-      arith,
-      c.led_along.ensures.within,
-      c.execute_within.ensures.within,
-      along_from indexed (plan_count names) (length (g.S.ConceptSet.items_of c.in_ok-from-in-Values.from))
-          (size indexed choices (plan_of c.deref.result.now)) c.in_ok-from-in-Values.ensures.size,
-      ap (λ (plan : Plan). node_sum (own_number indexed) choices plan) is,
-      ap (λ (rest : List Choice). plans_sum (own_number indexed) rest names) behind,
-    )
+    led_reads c.args.indexes.now c.args.choices.now c.args.visits.now.count c.execute_within.new.visits.count c.led_along.new.visits.count
+    (length (g.S.ConceptSet.items_of c.in_ok-from-in-Values.from))
+    (values_are c.in-Values.start c.in-Values.names c.in-Values.is c.deref.ensures c.deref-in-Values-2.ensures.value)
+    (c.plan_floor.ensures.rest
+    ∙ ap (λ (start : ConceptPlan). drop (leaves (plan_of start)) c.args.choices.now) (c.deref-in-Values.ensures ∙ sym c.deref.ensures))
+    c.execute_within.ensures.within c.led_along.ensures.within c.in_ok-from-in-Values.ensures.size
 
 pub dotted_plans::led_from-returns-in_ok-found-in-Values-clause-within : goal.dotted_plans::led_from-returns-in_ok-found-in-Values-clause-within
 dotted_plans::led_from-returns-in_ok-found-in-Values-clause-within g t c =
-    let indexed = c.args.indexes.now in
-    let choices = c.args.choices.now in
-    let names = plans_of c.deref-in-Values-2.result.now in
-    let is = values_are c.in-Values.start c.in-Values.names c.in-Values.is c.deref.ensures c.deref-in-Values-2.ensures.value in
-    let behind =
-    c.plan_floor.ensures.rest
-    ∙ ap (λ (start : ConceptPlan). drop (leaves (plan_of start)) choices) (c.deref-in-Values.ensures ∙ sym c.deref.ensures) in
-    omega (
-      arith,
-      c.led_along.ensures.within,
-      c.execute_within.ensures.within,
-      along_from indexed (plan_count names) (length (g.S.ConceptSet.items_of c.in_ok-from-in-Values.from))
-          (size indexed choices (plan_of c.deref.result.now)) c.in_ok-from-in-Values.ensures.size,
-      ap (λ (plan : Plan). node_sum (own_number indexed) choices plan) is,
-      ap (λ (rest : List Choice). plans_sum (own_number indexed) rest names) behind,
-    )
+    led_reads c.args.indexes.now c.args.choices.now c.args.visits.now.count c.execute_within.new.visits.count c.led_along.new.visits.count
+    (length (g.S.ConceptSet.items_of c.in_ok-from-in-Values.from))
+    (values_are c.in-Values.start c.in-Values.names c.in-Values.is c.deref.ensures c.deref-in-Values-2.ensures.value)
+    (c.plan_floor.ensures.rest
+    ∙ ap (λ (start : ConceptPlan). drop (leaves (plan_of start)) c.args.choices.now) (c.deref-in-Values.ensures ∙ sym c.deref.ensures))
+    c.execute_within.ensures.within c.led_along.ensures.within c.in_ok-from-in-Values.ensures.size
 
 pub dotted_plans::led_from-returns-in_ok-found-in-Values-clause-floor : goal.dotted_plans::led_from-returns-in_ok-found-in-Values-clause-floor
 dotted_plans::led_from-returns-in_ok-found-in-Values-clause-floor g t c =
@@ -1023,7 +993,8 @@ plans::pairs_within-returns-in_ok-found-in-Pairs-clause-items g t c =
     (sym c.deref-in-Pairs.ensures))
     c.requires.index.concepts c.in_ok-typed-in-Pairs.ensures.items refl)
 
-pub unit_plans::groups_in_first_alone-returns-in_ok-groups-in-Minus-clause-items : goal.unit_plans::groups_in_first_alone-returns-in_ok-groups-in-Minus-clause-items
+pub unit_plans::groups_in_first_alone-returns-in_ok-groups-in-Minus-clause-items :
+    goal.unit_plans::groups_in_first_alone-returns-in_ok-groups-in-Minus-clause-items
 unit_plans::groups_in_first_alone-returns-in_ok-groups-in-Minus-clause-items g t c =
     let release = c.args.snapshot.now.release in
     let may : ℕ → Bool = may_be g.S.ConceptSet.items_of c.args.candidates.now in

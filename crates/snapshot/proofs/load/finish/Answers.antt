@@ -20,7 +20,14 @@ pub invariant_of-result : goal.invariant_of-result
 invariant_of-result c =
     let concepts = c.in_ok-concepts.concepts in
     let few_isa : length c.in-Ok.hierarchy.isa.items < 2 ^ 31 =
-    omega (arith, ap (λ (rows : List (ℕ × ℕ)). length rows) c.in-Ok.ensures.rows, length-numbered concepts c.as_slice.result.now, ap (λ (rows : List (ℕ × ℕ)). length rows) c.as_slice.ensures.value, c.requires.few, c.requires.few_isa) in
+    omega (
+      arith,
+      ap (λ (rows : List (ℕ × ℕ)). length rows) c.in-Ok.ensures.rows,
+      length-numbered concepts c.as_slice.result.now,
+      ap (λ (rows : List (ℕ × ℕ)). length rows) c.as_slice.ensures.value,
+      c.requires.few,
+      c.requires.few_isa,
+    ) in
     let few_members : length c.in_ok-lists-in-Ok.lists.members.items < 2 ^ 31 =
     omega (
       arith,
@@ -37,10 +44,15 @@ returns-in_ok-lists-in-Ok-clause-ok c =
     let listed = listed_in c.args.read.lists in
     let concepts = c.in_ok-concepts.concepts in
     let lists = c.in_ok-lists-in-Ok.lists in
-    finished-Ok (string_bytes c.args.language) c.args.files c.args.read.count listed concepts c.in-Ok.hierarchy.isa.items (in_file_order concepts lists.attributes) lists.members.items lists.lines.names c.saturating_sub.result
-    (grind (arith, c.in_ok-concepts.ensures, c.rising.ensures.rising)) (grind (arith, c.in-Ok.ensures.rows, c.as_slice.ensures.value)) c.in_ok-lists-in-Ok.ensures.attributes (grind (arith, c.in_ok-lists-in-Ok.ensures.members, c.as_slice-in-Ok.ensures.value)) c.in_ok-lists-in-Ok.ensures.names
+    finished-Ok (string_bytes c.args.language) c.args.files c.args.read.count listed concepts c.in-Ok.hierarchy.isa.items
+    (in_file_order concepts lists.attributes) lists.members.items lists.lines.names c.saturating_sub.result
+    (grind (arith, c.in_ok-concepts.ensures, c.rising.ensures.rising)) (grind (arith, c.in-Ok.ensures.rows, c.as_slice.ensures.value))
+    c.in_ok-lists-in-Ok.ensures.attributes
+    (grind (arith, c.in_ok-lists-in-Ok.ensures.members, c.as_slice-in-Ok.ensures.value)) c.in_ok-lists-in-Ok.ensures.names
     (grind (arith, c.in-Ok.ensures.acyclic, c.as_slice.ensures.value)) (omega (arith, c.in_ok-lists-in-Ok.ensures.sorted.count))
 
 pub returns-in-Err-clause-err : goal.returns-in-Err-clause-err
 returns-in-Err-clause-err c =
-    finished-Err (string_bytes c.args.language) c.args.files c.args.read.count (listed_in c.args.read.lists) c.in_ok-concepts.concepts c.in-Err.fault (grind (arith, c.in_ok-concepts.ensures, c.rising.ensures.rising)) (grind (arith, c.in-Err.ensures.cycle, c.as_slice.ensures.value))
+    finished-Err (string_bytes c.args.language) c.args.files c.args.read.count (listed_in c.args.read.lists) c.in_ok-concepts.concepts
+    c.in-Err.fault (grind (arith, c.in_ok-concepts.ensures, c.rising.ensures.rising))
+    (grind (arith, c.in-Err.ensures.cycle, c.as_slice.ensures.value))
