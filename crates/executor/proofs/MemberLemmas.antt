@@ -20,8 +20,15 @@ use Rattle.executor.specs.Members.{components_of, is_in_one_of}
 use Rattle.pair_sets.proofs.WithinLemmas.{restricted_to}
 use Rattle.pair_sets.specs.Numbers.{numbers_in}
 use Rattle.pair_sets.specs.Tested.{is_one_of}
-use Rattle.pair_sets.proofs.ListLemmas.{any_agree, any_append}
+use Rattle.pair_sets.proofs.ListLemmas.{all_below, any_agree, any_append}
 use Rattle.pair_sets.proofs.Normal.{in_force_kept, numbers_in-agree}
+
+-- the numbers of a set, as a list, are below its bound
+pub numbers_below : {count bound : ℕ} {items numbers : List ℕ} → IsRisingBelow bound items → bound ≡ count → numbers ≡ items
+    → All (λ number. number < count) numbers
+numbers_below {count} {bound} {items} rises bound_is numbers_are =
+    subst (λ (some : List ℕ). All (λ number. number < count) some) (sym numbers_are)
+    (subst (λ (most : ℕ). All (λ number. number < most) items) bound_is (all_below bound items rises))
 
 -- ---- the components of some reference sets, and those of the member rows
 any_or : {X : Type 0} (f g : X → Bool) (xs : List X) → list_any (λ x. f x || g x) xs ≡ (list_any f xs || list_any g xs)

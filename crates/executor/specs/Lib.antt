@@ -5,3 +5,4 @@ pub mod Lead
 pub mod Members
 pub mod Named
 pub mod Steps
+pub mod WithUnits

@@ -13,10 +13,10 @@ ghost use Rattle.executor.specs.Lead.{leads_off, of_lead};
 ghost use Rattle.pair_sets.specs.Within.{AreBelow, may_be, numbers_within};
 
 use crate::guesses::{lead_of, rows_without};
-use crate::nodes::{each_concept, either, no_concept};
+use crate::nodes::{either, every_candidate, no_concept};
 use crate::plans::{execute_tallied, execute_within};
 use idset::ConceptSet;
-use pair_sets::{Candidates, RowTally, Visits, extent_of, restricted};
+use pair_sets::{Candidates, RowTally, Visits, extent_of};
 use planner::{Choice, plan_floor};
 use postings::Indexes;
 use set_algebra::ConceptPlan;
@@ -44,9 +44,8 @@ pub fn in_all<S: ConceptSet>(
     ensures floor { IfOk result (λ _. min (visits.old.count + plans_sum (floor_number indexes.now) choices.now (plans_of parts.now)) (2 ^ 64 - 1) ≤ visits.new.count) }
 {
     if parts.is_empty() {
-        let every = each_concept(alloc, snapshot)?;
-        let left = restricted(alloc, every, candidates)?;
-        return Ok(left);
+        let every = every_candidate(alloc, snapshot, candidates)?;
+        return Ok(every);
     }
     let lead = lead_of(parts, indexes).min(parts.len() - 1);
     let at = choices_at(parts, choices, lead, indexes);

@@ -7,6 +7,7 @@
 mod counting;
 mod dotted_plans;
 mod family;
+mod found;
 mod guesses;
 mod joined_plans;
 mod led;

@@ -1,13 +1,15 @@
 //! The nodes without parts, and those that join sets.
-ghost use Rattle.std.specs.Prelude.{◌≡◌, ◌==◌, ◌&&◌, [], IfOk, length};
+ghost use Rattle.std.specs.Prelude.{◌≡◌, ◌==◌, ◌&&◌, [], IfOk, filter, length};
 ghost use Rattle.std.specs.List.{range_with_len};
-ghost use Rattle.idset.specs.Sets.{all_items, common_items};
+ghost use Rattle.idset.specs.Sets.{all_items};
 ghost use Rattle.constraint_tree.specs.Walks.{has_concept};
 ghost use Rattle.postings.specs.Groups.{all_groups};
 ghost use Rattle.postings.specs.Indexed.{IsIndexOf};
 ghost use Rattle.pair_sets.specs.Numbers.{numbers_in};
+ghost use Rattle.pair_sets.specs.Within.{AreBelow, may_be};
 
 use idset::ConceptSet;
+use pair_sets::{Candidates, restricted};
 use postings::Indexes;
 use snapshot::Snapshot;
 use std::alloc::{AllocError, Global};
@@ -20,12 +22,18 @@ pub fn no_concept<S: ConceptSet>(alloc: Global, snapshot: &Snapshot) -> Result<S
     S::from_items(alloc, &[], snapshot.concept_count())
 }
 
-/// Each concept in force.
-pub fn each_concept<S: ConceptSet>(alloc: Global, snapshot: &Snapshot) -> Result<S, AllocError>
-    ensures items { IfOk result (λ found. S.items_of found ≡ range_with_len 0 (length snapshot.now.release.concepts)) }
+/// The candidates among the concepts in force.
+pub fn every_candidate<S: ConceptSet>(
+    alloc: Global,
+    snapshot: &Snapshot,
+    candidates: &Candidates<'_, S>,
+) -> Result<S, AllocError>
+    requires { AreBelow S.bound_of (length snapshot.now.release.concepts) candidates.now }
+    ensures items { IfOk result (λ found. S.items_of found ≡ filter (may_be S.items_of candidates.now) (range_with_len 0 (length snapshot.now.release.concepts))) }
     ensures bound { IfOk result (λ found. S.bound_of found ≡ length snapshot.now.release.concepts) }
 {
-    S::every(alloc, snapshot.concept_count())
+    let every = S::every(alloc, snapshot.concept_count())?;
+    restricted(alloc, every, candidates)
 }
 
 /// No group.
@@ -41,17 +49,20 @@ pub fn no_group<S: ConceptSet>(
     S::from_items(alloc, &[], group_count(snapshot, indexes))
 }
 
-/// Each group.
-pub fn each_group<S: ConceptSet>(
+/// The candidates among the groups.
+pub fn every_candidate_group<S: ConceptSet>(
     alloc: Global,
     snapshot: &Snapshot,
     indexes: &Indexes,
+    candidates: &Candidates<'_, S>,
 ) -> Result<S, AllocError>
-    requires { IsIndexOf indexes.now snapshot.now.release }
-    ensures items { IfOk result (λ found. S.items_of found ≡ range_with_len 0 (length (all_groups snapshot.now.release))) }
+    requires index { IsIndexOf indexes.now snapshot.now.release }
+    requires candidates { AreBelow S.bound_of (length (all_groups snapshot.now.release)) candidates.now }
+    ensures items { IfOk result (λ found. S.items_of found ≡ filter (may_be S.items_of candidates.now) (range_with_len 0 (length (all_groups snapshot.now.release)))) }
     ensures bound { IfOk result (λ found. S.bound_of found ≡ length (all_groups snapshot.now.release)) }
 {
-    S::every(alloc, group_count(snapshot, indexes))
+    let every = S::every(alloc, group_count(snapshot, indexes))?;
+    restricted(alloc, every, candidates)
 }
 
 /// How many groups all concepts have.
@@ -64,12 +75,24 @@ pub fn group_count(snapshot: &Snapshot, indexes: &Indexes) -> u32
     indexes.group_count()
 }
 
-/// The concept in force with an identifier, if there is one.
-pub fn one_concept<S: ConceptSet>(
+/// The concept in force with an identifier, if there is one and it is a candidate.
+pub fn one_candidate<S: ConceptSet>(
     alloc: Global,
     snapshot: &Snapshot,
     id: u64,
+    candidates: &Candidates<'_, S>,
 ) -> Result<S, AllocError>
+    requires { AreBelow S.bound_of (length snapshot.now.release.concepts) candidates.now }
+    ensures items { IfOk result (λ found. S.items_of found ≡ filter (may_be S.items_of candidates.now)
+        (numbers_in snapshot.now.release (λ concept. has_concept snapshot.now.release concept && (concept == id)))) }
+    ensures bound { IfOk result (λ found. S.bound_of found ≡ length snapshot.now.release.concepts) }
+{
+    let one = one_concept(alloc, snapshot, id)?;
+    restricted(alloc, one, candidates)
+}
+
+// The concept in force with an identifier, if there is one.
+fn one_concept<S: ConceptSet>(alloc: Global, snapshot: &Snapshot, id: u64) -> Result<S, AllocError>
     ensures items { IfOk result (λ found. S.items_of found ≡ numbers_in snapshot.now.release (λ concept. has_concept snapshot.now.release concept && (concept == id))) }
     ensures bound { IfOk result (λ found. S.bound_of found ≡ length snapshot.now.release.concepts) }
 {
@@ -78,15 +101,6 @@ pub fn one_concept<S: ConceptSet>(
         Some(concept) => S::from_items(alloc, &[concept], count),
         None => S::from_items(alloc, &[], count),
     }
-}
-
-/// The concepts in both of two sets.
-pub fn common<S: ConceptSet>(alloc: Global, one: &S, other: &S) -> Result<S, AllocError>
-    requires bound { S.bound_of one.now ≡ S.bound_of other.now }
-    ensures items { IfOk result (λ found. S.items_of found ≡ common_items (S.items_of one.now) (S.items_of other.now)) }
-    ensures bound { IfOk result (λ found. S.bound_of found ≡ S.bound_of one.now) }
-{
-    one.and(alloc, other)
 }
 
 /// The concepts in one of two sets, or in both.

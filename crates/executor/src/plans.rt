@@ -14,19 +14,19 @@ ghost use Rattle.pair_sets.specs.Numbers.{numbers_in};
 ghost use Rattle.pair_sets.specs.Tested.{IsTestBelow, found_for, passes_of};
 ghost use Rattle.pair_sets.specs.Within.{AreBelow, may_be, numbers_within};
 
-use crate::counting::{concept_leaf_limits, count_members, count_units, minus_reads};
+use crate::counting::{concept_leaf_limits, minus_reads};
 use crate::dotted_plans::led_from;
+use crate::found::{members_found, units_found};
 use crate::guesses::{guess_of_groups, rows_of_types};
 use crate::joined_plans::{in_all, in_some};
-use crate::nodes::{common, each_concept, no_concept, one_concept};
-use crate::reference_sets::{members_way, members_within};
+use crate::nodes::{every_candidate, no_concept, one_candidate};
 use crate::unit_plans::execute_groups;
 use crate::walk_plans::walk_from;
 use constraint_tree::Cardinality;
 use idset::ConceptSet;
 use pair_sets::{
     Candidates, RowTally, Tested, Visits, count_of_test, extent_to_take, groups_of, none_left,
-    restricted, with_groups, with_pairs_within, without,
+    with_pairs_within, without,
 };
 use planner::{Choice, PhysicalPlan, after_first, first_choice, plan_floor, plan_size, unit_size};
 use postings::Indexes;
@@ -154,14 +154,8 @@ fn execute_node<S: ConceptSet>(
     tally_named(plan, snapshot, tally);
     match plan {
         ConceptPlan::Empty => no_concept(alloc, snapshot),
-        ConceptPlan::All => {
-            let every = each_concept(alloc, snapshot)?;
-            restricted(alloc, every, candidates)
-        }
-        ConceptPlan::One(id) => {
-            let one = one_concept(alloc, snapshot, *id)?;
-            restricted(alloc, one, candidates)
-        }
+        ConceptPlan::All => every_candidate(alloc, snapshot, candidates),
+        ConceptPlan::One(id) => one_candidate(alloc, snapshot, *id, candidates),
         ConceptPlan::Walk(operator, operand) => walk_from(
             alloc, *operator, operand, choices, candidates, snapshot, indexes, visits, tally,
         ),
@@ -212,11 +206,9 @@ fn members_of<S: ConceptSet>(
 {
     let all = Candidates::All;
     let from: S = execute_within(alloc, operand, choices, &all, snapshot, indexes, visits)?;
-    let numbers = from.items(alloc)?;
-    let refsets = numbers.as_slice();
-    let way = members_way(indexes, refsets, candidates);
-    count_members(indexes, choices, operand, from.count(), way.items, visits);
-    let found = members_within(alloc, snapshot, indexes, refsets, candidates, way)?;
+    let found = members_found(
+        alloc, operand, choices, &from, candidates, snapshot, indexes, visits,
+    )?;
     Ok(found)
 }
 
@@ -364,26 +356,29 @@ fn units_within<S: ConceptSet>(
                 alloc, units, choices, &theirs, snapshot, indexes, visits,
             )?;
             let items = extent.items_of_groups(groups.count());
-            count_units(indexes, choices, count, units, most, items, visits);
-            let some = with_groups(alloc, snapshot, indexes, count, &groups)?;
-            let found = common(alloc, &some, *wanted)?;
+            let found = units_found(
+                alloc, count, units, choices, &groups, most, items, candidates, snapshot, indexes,
+                visits,
+            )?;
             return Ok(found);
         }
     }
     let all = Candidates::All;
     let groups: S = execute_groups(alloc, units, choices, &all, snapshot, indexes, visits)?;
-    let found_groups = groups.count() as u64;
-    count_units(
-        indexes,
-        choices,
+    let most = groups.count() as u64;
+    let found = units_found(
+        alloc,
         count,
         units,
-        found_groups,
+        choices,
+        &groups,
+        most,
         u64::MAX,
+        candidates,
+        snapshot,
+        indexes,
         visits,
-    );
-    let some = with_groups(alloc, snapshot, indexes, count, &groups)?;
-    let found = restricted(alloc, some, candidates)?;
+    )?;
     Ok(found)
 }
 

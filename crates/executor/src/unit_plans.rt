@@ -16,13 +16,13 @@ ghost use Rattle.pair_sets.specs.Within.{AreBelow, groups_within, may_be};
 
 use crate::counting::{group_leaf_limits, minus_reads};
 use crate::guesses::{group_lead_of, rows_of_types, unit_rows_without};
-use crate::nodes::{each_group, either, no_group};
+use crate::nodes::{either, every_candidate_group, no_group};
 use crate::plans::{execute_within, tested_of};
 use constraint_tree::Cardinality;
 use idset::ConceptSet;
 use pair_sets::{
     Candidates, RowTally, Tested, Visits, count_of_test, group_extent_of, group_extent_to_take,
-    groups_with_pairs_within, none_left, restricted, without,
+    groups_with_pairs_within, none_left, without,
 };
 use planner::{Choice, after_first, first_choice, plan_floor, unit_floor, unit_size};
 use postings::Indexes;
@@ -85,10 +85,7 @@ fn execute_group_node<S: ConceptSet>(
 {
     match plan {
         UnitPlan::Nothing => no_group(alloc, snapshot, indexes),
-        UnitPlan::Every => {
-            let every = each_group(alloc, snapshot, indexes)?;
-            restricted(alloc, every, candidates)
-        }
+        UnitPlan::Every => every_candidate_group(alloc, snapshot, indexes, candidates),
         UnitPlan::And(parts) => {
             groups_in_all(alloc, parts, choices, candidates, snapshot, indexes, visits)
         }
@@ -217,9 +214,8 @@ fn groups_in_all<S: ConceptSet>(
     ensures floor { IfOk result (λ _. min (visits.old.count + groups_sum (floor_number indexes.now) choices.now (group_plans_of parts.now)) (2 ^ 64 - 1) ≤ visits.new.count) }
 {
     if parts.is_empty() {
-        let every = each_group(alloc, snapshot, indexes)?;
-        let left = restricted(alloc, every, candidates)?;
-        return Ok(left);
+        let every = every_candidate_group(alloc, snapshot, indexes, candidates)?;
+        return Ok(every);
     }
     let lead = group_lead_of(parts, indexes).min(parts.len() - 1);
     let at = unit_choices_at(parts, choices, lead, indexes);

@@ -9,15 +9,14 @@ ghost use Rattle.planner.specs.Nodes.{node_sum};
 ghost use Rattle.executor.specs.Asked.{AreEnough, asked_lists};
 ghost use Rattle.pair_sets.specs.Within.{AreBelow, may_be, numbers_within};
 
-use crate::counting::count_walk;
-use crate::family::Step;
+use crate::found::walk_found;
 use crate::guesses::rows_without;
-use crate::led::{enough_for, led_among, walk_within};
+use crate::led::enough_for;
 use crate::plans::execute_within;
-use crate::walk_ways::{items_enough, items_from_all, items_unlisted, walk_way};
+use crate::walk_ways::items_enough;
 use constraint_tree::Operator;
 use idset::ConceptSet;
-use pair_sets::{Candidates, RowTally, Visits, extent_of, restricted};
+use pair_sets::{Candidates, RowTally, Visits, extent_of};
 use planner::Choice;
 use postings::Indexes;
 use set_algebra::ConceptPlan;
@@ -94,49 +93,10 @@ fn walk_among<S: ConceptSet>(
     ensures within { visits.new.count ≤ visits.old.count + node_sum (own_number indexes.now) choices.now (walk_plan operator (plan_of operand.now)) }
     ensures floor { IfOk result (λ _. min (visits.old.count + node_sum (floor_number indexes.now) choices.now (walk_plan operator (plan_of operand.now))) (2 ^ 64 - 1) ≤ visits.new.count) }
 {
-    // the concepts rise, and the sources of all attribute rows are in force
-    snapshot.concept_count();
-    snapshot.attribute_count();
     let from: S = execute_within(alloc, operand, choices, enough, snapshot, indexes, visits)?;
-    let hierarchy = indexes.hierarchy();
-    if let Candidates::Within(wanted, _) = candidates {
-        let asked = items_unlisted(hierarchy, operator, from.count(), from.bound(), candidates);
-        if let Some(items) = asked {
-            tally.forget();
-            let read = from.count();
-            let items = items.saturating_add(before);
-            count_walk(indexes, choices, operator, operand, read, items, visits);
-            let found = led_among(alloc, hierarchy, operator, &from, *wanted)?;
-            return Ok(found);
-        }
-    }
-    if from.count() == from.bound() {
-        tally.forget();
-        let all = from.count();
-        let items = items_from_all(hierarchy, operator, all).saturating_add(before);
-        count_walk(indexes, choices, operator, operand, all, items, visits);
-        let led = led_among(alloc, hierarchy, operator, &from, &from)?;
-        let left = restricted(alloc, led, candidates)?;
-        return Ok(left);
-    }
-    let concepts = from.items(alloc)?;
-    let own = concepts.as_slice();
-    let way = walk_way(hierarchy, operator, own, from.bound(), candidates);
-    if own.len() != 1 || way.asks_candidates || Step::of(operator).is_apart() {
-        tally.forget();
-    }
-    let items = way.items.saturating_add(before);
-    count_walk(
-        indexes,
-        choices,
-        operator,
-        operand,
-        from.count(),
-        items,
-        visits,
-    );
-    let found = walk_within(
-        alloc, snapshot, hierarchy, operator, &from, own, candidates, way, tally,
+    let found = walk_found(
+        alloc, operator, operand, choices, &from, before, candidates, snapshot, indexes, visits,
+        tally,
     )?;
     Ok(found)
 }

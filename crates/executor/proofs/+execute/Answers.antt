@@ -1,6 +1,6 @@
-use Rattle.std.proofs.Common.{ℕ, List, ◌<◌, subst, ◌+◌, ◌*◌, ◌≤◌, ◌∙◌, ◌&&◌, Bool, true, drop, length, get_or, sym, ap, refl, arith, take, mul-le-mul_right, le_of_lt, Option}
+use Rattle.std.proofs.Common.{ℕ, List, ◌<◌, subst, ◌+◌, ◌*◌, ◌≤◌, ◌∙◌, ◌&&◌, ◌==◌, Bool, true, drop, length, get_or, sym, ap, refl, arith, take, mul-le-mul_right, le_of_lt, Option}
 use Rattle.std.specs.Prelude.{◌-◌, ◌^◌, All, IfOk, filter, min, slice_get}
-use Rattle.std.specs.List.{list_all, list_any}
+use Rattle.std.specs.List.{list_all, list_any, range_with_len}
 use Rattle.std.proofs.lemmas.List.{nil_from_length, take_all}
 use Rattle.std.proofs.lemmas.Option.{slice_get_read}
 use Rattle.set_algebra.specs.declared.plan.ConceptPlan.{ConceptPlan}
@@ -15,11 +15,9 @@ use Rattle.idset.specs.Sets.{has_item, numbers_where}
 use Rattle.postings.specs.Groups.{all_groups}
 use Rattle.pair_sets.specs.Groups.{groups_where, some_group_in}
 use Rattle.pair_sets.specs.Numbers.{numbers_in}
-use Rattle.ancestor_index.specs.HierarchyLists.{Hierarchy}
-use Rattle.executor.specs.Asked.{AreEnough, asked_lists}
+use Rattle.constraint_tree.specs.Walks.{has_concept}
 use Rattle.executor.specs.Members.{components_of}
-use Rattle.executor.specs.Steps.{led_to}
-use Rattle.pair_sets.proofs.ListLemmas.{all_below}
+use Rattle.executor.specs.WithUnits.{with_units}
 use Rattle.executor.specs.Lead.{leads_off, leads_off_groups}
 use Rattle.pair_sets.specs.Within.{groups_within, may_be, numbers_within}
 use Rattle.rf2_rows.specs.Pairs.{Pair}
@@ -32,7 +30,6 @@ use Rattle.planner.specs.Sizes.{group_sizes, size, sizes, total}
 use Rattle.planner.proofs.FloorLemmas.{floor-le-bound, group_floor-le-bound}
 use Rattle.planner.proofs.LoopLemmas.{concept_sum, of_concepts, of_groups, unit_sum}
 use Rattle.planner.proofs.PartLemmas.{group_count-parts, plan_count-parts, values_are}
-use Rattle.executor.proofs.AskedLemmas.{led_from_all}
 use Rattle.executor.proofs.GroupNodeLemmas as groups
 use Rattle.pair_sets.proofs.LeafLemmas.{sources_known}
 use Rattle.executor.proofs.NodeLemmas.{all_node, and_node, members_node, name_step, one_node, or_node, outside_passes, pairs_node, units_node, values_node, within_passes}
@@ -102,69 +99,23 @@ unit_plans::execute_groups-returns-in_err-found-clause-within g t c =
       group_floor-le-bound c.args.indexes.now c.args.choices.now (group_plan_of c.args.plan.now),
     )
 
-pub walk_plans::walk_among-walk_way-way-requires-clause-below : goal.walk_plans::walk_among-walk_way-way-requires-clause-below
-walk_plans::walk_among-walk_way-way-requires-clause-below g t c =
-    let from = c.in_ok-from.from in
-    subst (λ (numbers : List ℕ). All (λ number. number < c.bound-3.result) numbers) (sym (c.as_slice-own.ensures.value ∙ c.in_ok-concepts.ensures))
-    (subst (λ (count : ℕ). All (λ number. number < count) (g.S.ConceptSet.items_of from)) (sym c.bound-3.ensures)
-    (all_below (g.S.ConceptSet.bound_of from) (g.S.ConceptSet.items_of from) (g.met.S.ConceptSet.rising from)))
-
--- where the candidates are asked one by one
-
-pub walk_plans::walk_among-returns-in-Some-clause-items : goal.walk_plans::walk_among-returns-in-Some-clause-items
-walk_plans::walk_among-returns-in-Some-clause-items g t c =
-    let may : ℕ → Bool = may_be g.S.ConceptSet.items_of c.args.candidates.now in
-    let enough : ℕ → Bool = may_be g.S.ConceptSet.items_of c.args.enough.now in
-    let from = c.in_ok-from.from in
-    let led : List ℕ = led_to c.hierarchy-hierarchy.result.now (g.S.ConceptSet.bound_of from) c.args.operator (g.S.ConceptSet.items_of from) in
-    walk_of_part c.args.snapshot.now.release (plan_of c.args.operand.now) c.args.operator c.hierarchy-hierarchy.result.now (g.S.ConceptSet.bound_of from)
-    may enough (g.S.ConceptSet.items_of from) (g.S.ConceptSet.items_of c.in_ok-found.found)
-    (c.hierarchy-hierarchy.ensures ∙ c.requires.index.hierarchy) c.in_ok-from.ensures.bound
-    (subst (λ (hierarchy : Hierarchy). AreEnough (asked_lists hierarchy c.args.operator) may enough) (sym c.hierarchy-hierarchy.ensures) c.requires.enough)
-    c.in_ok-from.ensures.items
-    (c.in_ok-found.ensures.items
-    ∙ ap (λ (candidates : Candidates _). filter (may_be g.S.ConceptSet.items_of candidates) led) (sym c.in-Within.is))
-
--- where each concept is asked, since it leads from all
-
-pub walk_plans::walk_among-returns-then-count-bound-clause-items : goal.walk_plans::walk_among-returns-then-count-bound-clause-items
-walk_plans::walk_among-returns-then-count-bound-clause-items g t c =
-    let may : ℕ → Bool = may_be g.S.ConceptSet.items_of c.args.candidates.now in
-    let enough : ℕ → Bool = may_be g.S.ConceptSet.items_of c.args.enough.now in
-    let from = c.in_ok-from.from in
-    let count = g.S.ConceptSet.bound_of from in
-    let items = g.S.ConceptSet.items_of from in
-    let hierarchy = c.hierarchy-hierarchy.result.now in
-    let over = c.hierarchy-hierarchy.ensures ∙ c.requires.index.hierarchy in
-    walk_of_part c.args.snapshot.now.release (plan_of c.args.operand.now) c.args.operator hierarchy count may enough
-    items (g.S.ConceptSet.items_of c.in_ok-left.left) over c.in_ok-from.ensures.bound
-    (subst (λ (hierarchy : Hierarchy). AreEnough (asked_lists hierarchy c.args.operator) may enough) (sym c.hierarchy-hierarchy.ensures) c.requires.enough)
-    c.in_ok-from.ensures.items
-    (c.in_ok-left.ensures.items
-    ∙ ap (filter may) (c.in_ok-led.ensures.items
-    ∙ led_from_all count hierarchy (record { release = c.args.snapshot.now.release; hierarchy_is = over; count_is = c.in_ok-from.ensures.bound })
-    c.args.operator items (g.met.S.ConceptSet.rising from) (omega (arith, c.count-2.ensures, c.bound-2.ensures, c.if-count-bound.true))))
-
 pub walk_plans::walk_among-returns-clause-items : goal.walk_plans::walk_among-returns-clause-items
 walk_plans::walk_among-returns-clause-items g t c =
     let may : ℕ → Bool = may_be g.S.ConceptSet.items_of c.args.candidates.now in
     let enough : ℕ → Bool = may_be g.S.ConceptSet.items_of c.args.enough.now in
     let from = c.in_ok-from.from in
-    walk_of_part c.args.snapshot.now.release (plan_of c.args.operand.now) c.args.operator c.hierarchy-hierarchy.result.now (g.S.ConceptSet.bound_of from)
-    may enough (g.S.ConceptSet.items_of from) (g.S.ConceptSet.items_of c.in_ok-found-2.found)
-    (c.hierarchy-hierarchy.ensures ∙ c.requires.index.hierarchy) c.in_ok-from.ensures.bound
-    (subst (λ (hierarchy : Hierarchy). AreEnough (asked_lists hierarchy c.args.operator) may enough) (sym c.hierarchy-hierarchy.ensures) c.requires.enough)
-    c.in_ok-from.ensures.items c.in_ok-found-2.ensures.items
-
--- the reference sets are concepts
+    walk_of_part c.args.snapshot.now.release (plan_of c.args.operand.now) c.args.operator c.args.indexes.now.hierarchy (g.S.ConceptSet.bound_of from)
+    may enough (g.S.ConceptSet.items_of from) (g.S.ConceptSet.items_of c.in_ok-found.found)
+    c.requires.index.hierarchy c.in_ok-from.ensures.bound c.requires.enough c.in_ok-from.ensures.items c.in_ok-found.ensures.items
 
 pub plans::units_within-returns-then-has_few_groups-clause-items : goal.plans::units_within-returns-then-has_few_groups-clause-items
 plans::units_within-returns-then-has_few_groups-clause-items g t c =
     let release = c.args.snapshot.now.release in
-    units_of_candidates release c.concept_count-found_groups.ensures.rising c.args.count (group_means release (group_plan_of c.args.units.now))
+    let some : List ℕ = with_units release c.args.count (g.S.ConceptSet.items_of c.in_ok-groups.groups) in
+    units_of_candidates release c.concept_count-most.ensures.rising c.args.count (group_means release (group_plan_of c.args.units.now))
     (g.S.ConceptSet.items_of c.in-Within.wanted.now) (g.S.ConceptSet.items_of c.in_ok-own.own) (g.S.ConceptSet.items_of c.in_ok-groups.groups)
-    (g.S.ConceptSet.items_of c.in_ok-some.some) (g.S.ConceptSet.items_of c.in_ok-found.found)
-    c.in_ok-own.ensures.groups c.in_ok-groups.ensures.items c.in_ok-some.ensures.items c.in_ok-found.ensures.items
+    some (g.S.ConceptSet.items_of c.in_ok-found.found) c.in_ok-own.ensures.groups c.in_ok-groups.ensures.items refl
+    (c.in_ok-found.ensures.items ∙ ap (λ (candidates : Candidates _). filter (may_be g.S.ConceptSet.items_of candidates) some) c.in-Within.is)
     ∙ ap (λ (candidates : Candidates _). numbers_within release (may_be g.S.ConceptSet.items_of candidates)
     (has_groups release c.args.count (group_means release (group_plan_of c.args.units.now)))) (sym c.in-Within.is)
 
@@ -172,11 +123,11 @@ pub plans::units_within-returns-clause-items : goal.plans::units_within-returns-
 plans::units_within-returns-clause-items g t c =
     let release = c.args.snapshot.now.release in
     let may : ℕ → Bool = may_be g.S.ConceptSet.items_of c.args.candidates.now in
+    let some : List ℕ = with_units release c.args.count (g.S.ConceptSet.items_of c.in_ok-groups-2.groups) in
     kept_set release may (has_groups release c.args.count (group_means release (group_plan_of c.args.units.now)))
-    (g.S.ConceptSet.items_of c.in_ok-some-2.some) (g.S.ConceptSet.items_of c.in_ok-found-2.found)
-    (units_found release c.concept_count-found_groups.ensures.rising c.args.count (group_means release (group_plan_of c.args.units.now))
-    (g.S.ConceptSet.items_of c.in_ok-groups-2.groups) (g.S.ConceptSet.items_of c.in_ok-some-2.some)
-    c.in_ok-groups-2.ensures.items c.in_ok-some-2.ensures.items)
+    some (g.S.ConceptSet.items_of c.in_ok-found-2.found)
+    (units_found release c.concept_count-most.ensures.rising c.args.count (group_means release (group_plan_of c.args.units.now))
+    (g.S.ConceptSet.items_of c.in_ok-groups-2.groups) some c.in_ok-groups-2.ensures.items refl)
     c.in_ok-found-2.ensures.items
 
 pub joined_plans::led_by-returns-clause-items : goal.joined_plans::led_by-returns-clause-items
@@ -555,8 +506,8 @@ pub unit_plans::groups_in_all-returns-then-is_empty-clause-items : goal.unit_pla
 unit_plans::groups_in_all-returns-then-is_empty-clause-items g t c =
     let release = c.args.snapshot.now.release in
     let may : ℕ → Bool = may_be g.S.ConceptSet.items_of c.args.candidates.now in
-    kept_groups release may (λ pairs. true) (g.S.ConceptSet.items_of c.in_ok-every.every) (g.S.ConceptSet.items_of c.in_ok-left.left)
-    (c.in_ok-every.ensures.items ∙ groups.each_where release) c.in_ok-left.ensures.items
+    kept_groups release may (λ pairs. true) (range_with_len 0 (length (all_groups release))) (g.S.ConceptSet.items_of c.in_ok-every.every)
+    (groups.each_where release) c.in_ok-every.ensures.items
     ∙ ap (λ (parts : List UnitPlan). groups_within release may (λ pairs. list_all (λ part. group_means release (group_plan_of part) pairs) parts))
     (sym (nil_from_length c.args.parts.now (no_parts c.is_empty.ensures c.if-is_empty.true)))
 
@@ -759,28 +710,7 @@ plans::members_of-returns-clause-items g t c =
     let some : List ℕ = components_of release (g.S.ConceptSet.items_of c.in_ok-from.from) in
     kept_node release may plan some (g.S.ConceptSet.items_of c.in_ok-found.found)
     (members_node release plan some (plan_of c.args.operand.now) (g.S.ConceptSet.items_of c.in_ok-from.from) refl c.in_ok-from.ensures.items refl)
-    (c.in_ok-found.ensures.items
-    ∙ ap (λ (refsets : List ℕ). filter may (components_of release refsets)) (c.as_slice-refsets.ensures.value ∙ c.in_ok-numbers.ensures))
-
--- the reference sets are concepts
-
-pub plans::members_of-members_way-way-requires : goal.plans::members_of-members_way-way-requires
-plans::members_of-members_way-way-requires g t c =
-    let from = c.in_ok-from.from in
-    subst (λ (numbers : List ℕ). All (λ number. number < length c.args.indexes.now.concepts) numbers)
-    (sym (c.as_slice-refsets.ensures.value ∙ c.in_ok-numbers.ensures))
-    (subst (λ (count : ℕ). All (λ number. number < count) (g.S.ConceptSet.items_of from))
-    (c.in_ok-from.ensures.bound ∙ ap (λ (ids : List ℕ). length ids) (sym c.requires.index.concepts))
-    (all_below (g.S.ConceptSet.bound_of from) (g.S.ConceptSet.items_of from) (g.met.S.ConceptSet.rising from)))
-
-pub plans::members_of-members_within-requires-clause-below : goal.plans::members_of-members_within-requires-clause-below
-plans::members_of-members_within-requires-clause-below g t c =
-    let from = c.in_ok-from.from in
-    subst (λ (numbers : List ℕ). All (λ number. number < length c.args.indexes.now.concepts) numbers)
-    (sym (c.as_slice-refsets.ensures.value ∙ c.in_ok-numbers.ensures))
-    (subst (λ (count : ℕ). All (λ number. number < count) (g.S.ConceptSet.items_of from))
-    (c.in_ok-from.ensures.bound ∙ ap (λ (ids : List ℕ). length ids) (sym c.requires.index.concepts))
-    (all_below (g.S.ConceptSet.bound_of from) (g.S.ConceptSet.items_of from) (g.met.S.ConceptSet.rising from)))
+    c.in_ok-found.ensures.items
 
 pub plans::execute_node-returns-in-Empty-clause-items : goal.plans::execute_node-returns-in-Empty-clause-items
 plans::execute_node-returns-in-Empty-clause-items g t c =
@@ -789,25 +719,24 @@ plans::execute_node-returns-in-Empty-clause-items g t c =
     found_for g.S.ConceptSet.items_of c.no_concept.result
     (λ found is. empty_within release may (plan_of c.args.plan.now) found (ap plan_of c.in-Empty.is) is) c.no_concept.ensures.items
 
-pub plans::execute_node-returns-in_ok-every-in-All-clause-items : goal.plans::execute_node-returns-in_ok-every-in-All-clause-items
-plans::execute_node-returns-in_ok-every-in-All-clause-items g t c =
+pub plans::execute_node-returns-in-All-clause-items : goal.plans::execute_node-returns-in-All-clause-items
+plans::execute_node-returns-in-All-clause-items g t c =
     let release = c.args.snapshot.now.release in
     let may : ℕ → Bool = may_be g.S.ConceptSet.items_of c.args.candidates.now in
-    let every = g.S.ConceptSet.items_of c.in_ok-every-in-All.every in
-    let all = all_node release (plan_of c.args.plan.now) every (ap plan_of c.in-All.is) c.in_ok-every-in-All.ensures.items in
-    found_for g.S.ConceptSet.items_of c.restricted.result
-    (λ found is. kept_node release may (plan_of c.args.plan.now) (g.S.ConceptSet.items_of c.in_ok-every-in-All.every) found all is)
-    c.restricted.ensures.items
+    let every : List ℕ = range_with_len 0 (length release.concepts) in
+    found_for g.S.ConceptSet.items_of c.every_candidate.result
+    (λ found is. kept_node release may (plan_of c.args.plan.now) every found (all_node release (plan_of c.args.plan.now) every (ap plan_of c.in-All.is) refl) is)
+    c.every_candidate.ensures.items
 
-pub plans::execute_node-returns-in_ok-one-in-One-clause-items : goal.plans::execute_node-returns-in_ok-one-in-One-clause-items
-plans::execute_node-returns-in_ok-one-in-One-clause-items g t c =
+pub plans::execute_node-returns-in-One-clause-items : goal.plans::execute_node-returns-in-One-clause-items
+plans::execute_node-returns-in-One-clause-items g t c =
     let release = c.args.snapshot.now.release in
     let may : ℕ → Bool = may_be g.S.ConceptSet.items_of c.args.candidates.now in
-    let all = one_node release (plan_of c.args.plan.now) (g.S.ConceptSet.items_of c.in_ok-one-in-One.one) c.in-One.id
-    (ap plan_of c.in-One.is) c.in_ok-one-in-One.ensures.items in
-    found_for g.S.ConceptSet.items_of c.restricted-in-One.result
-    (λ found is. kept_node release may (plan_of c.args.plan.now) (g.S.ConceptSet.items_of c.in_ok-one-in-One.one) found all is)
-    c.restricted-in-One.ensures.items
+    let one : List ℕ = numbers_in release (λ concept. has_concept release concept && (concept == c.in-One.id)) in
+    found_for g.S.ConceptSet.items_of c.one_candidate.result
+    (λ found is. kept_node release may (plan_of c.args.plan.now) one found
+    (one_node release (plan_of c.args.plan.now) one c.in-One.id (ap plan_of c.in-One.is) refl) is)
+    c.one_candidate.ensures.items
 
 pub plans::execute_node-returns-in-Walk-clause-items : goal.plans::execute_node-returns-in-Walk-clause-items
 plans::execute_node-returns-in-Walk-clause-items g t c =
@@ -873,14 +802,15 @@ unit_plans::execute_group_node-returns-in-Nothing-clause-items g t c =
     found_for g.S.ConceptSet.items_of c.no_group.result
     (λ found is. nothing_within release may (group_plan_of c.args.plan.now) found (ap group_plan_of c.in-Nothing.is) is) c.no_group.ensures.items
 
-pub unit_plans::execute_group_node-returns-in_ok-every-in-Every-clause-items : goal.unit_plans::execute_group_node-returns-in_ok-every-in-Every-clause-items
-unit_plans::execute_group_node-returns-in_ok-every-in-Every-clause-items g t c =
+pub unit_plans::execute_group_node-returns-in-Every-clause-items : goal.unit_plans::execute_group_node-returns-in-Every-clause-items
+unit_plans::execute_group_node-returns-in-Every-clause-items g t c =
     let release = c.args.snapshot.now.release in
     let may : ℕ → Bool = may_be g.S.ConceptSet.items_of c.args.candidates.now in
-    let every = g.S.ConceptSet.items_of c.in_ok-every-in-Every.every in
-    let all = groups.every_node release (group_plan_of c.args.plan.now) every (ap group_plan_of c.in-Every.is) c.in_ok-every-in-Every.ensures.items in
-    found_for g.S.ConceptSet.items_of c.restricted.result
-    (λ found is. kept_groups release may (group_means release (group_plan_of c.args.plan.now)) every found all is) c.restricted.ensures.items
+    let every : List ℕ = range_with_len 0 (length (all_groups release)) in
+    found_for g.S.ConceptSet.items_of c.every_candidate_group.result
+    (λ found is. kept_groups release may (group_means release (group_plan_of c.args.plan.now)) every found
+    (groups.every_node release (group_plan_of c.args.plan.now) every (ap group_plan_of c.in-Every.is) refl) is)
+    c.every_candidate_group.ensures.items
 
 pub unit_plans::execute_group_node-returns-in-And-clause-items : goal.unit_plans::execute_group_node-returns-in-And-clause-items
 unit_plans::execute_group_node-returns-in-And-clause-items g t c =

@@ -1,0 +1,11 @@
+-- Concepts by how many of their groups are among some (Expression Constraint Language, "Cardinality").
+use Rattle.std.specs.Prelude.{ℕ, List, length}
+use Rattle.rf2_rows.specs.Release.{Release}
+use Rattle.idset.specs.Sets.{numbers_where}
+use Rattle.constraint_tree.specs.Passing.{lies_in}
+use Rattle.constraint_tree.specs.declared.operator.Cardinality.{Cardinality}
+use Rattle.pair_sets.specs.Owned.{groups_owned}
+
+-- the concepts so many of whose groups are among some
+abbrev pub with_units : Release → Cardinality → List ℕ → List ℕ
+with_units release count groups = numbers_where (length release.concepts) (λ number. lies_in count (groups_owned release groups number))
