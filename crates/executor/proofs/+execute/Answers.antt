@@ -1,5 +1,5 @@
-use Rattle.std.proofs.Common.{ℕ, List, ◌<◌, subst, ◌+◌, ◌*◌, ◌≤◌, ◌∙◌, ◌&&◌, ◌==◌, Bool, true, drop, length, get_or, sym, ap, refl, arith, take, mul-le-mul_right, le_of_lt, Option}
-use Rattle.std.specs.Prelude.{◌-◌, ◌^◌, All, IfOk, filter, min, slice_get}
+use Rattle.std.proofs.Common.{ℕ, List, ◌+◌, ◌*◌, ◌≤◌, ◌∙◌, ◌&&◌, ◌==◌, Bool, true, drop, length, get_or, sym, ap, refl, arith, take, mul-le-mul_right, le_of_lt, Option}
+use Rattle.std.specs.Prelude.{filter, slice_get}
 use Rattle.std.specs.List.{list_all, list_any, range_with_len}
 use Rattle.std.proofs.lemmas.List.{nil_from_length, take_all}
 use Rattle.std.proofs.lemmas.Option.{slice_get_read}
@@ -22,11 +22,11 @@ use Rattle.executor.specs.Lead.{leads_off, leads_off_groups}
 use Rattle.pair_sets.specs.Within.{groups_within, may_be, numbers_within}
 use Rattle.rf2_rows.specs.Pairs.{Pair}
 use Rattle.set_algebra.specs.declared.choice.Choice.{Choice}
-use Rattle.planner.specs.Bounds.{own_number, values_bound}
+use Rattle.planner.specs.Bounds.{values_bound}
 use Rattle.planner.specs.Floors.{floor_number}
-use Rattle.planner.specs.Leaves.{leaves, plan_count}
+use Rattle.planner.specs.Leaves.{leaves}
 use Rattle.planner.specs.Nodes.{node_sum, plans_sum}
-use Rattle.planner.specs.Sizes.{group_sizes, size, sizes, total}
+use Rattle.planner.specs.Sizes.{group_sizes, sizes, total}
 use Rattle.planner.proofs.FloorLemmas.{floor-le-bound, group_floor-le-bound}
 use Rattle.planner.proofs.LoopLemmas.{concept_sum, of_concepts, of_groups, unit_sum}
 use Rattle.planner.proofs.PartLemmas.{group_count-parts, plan_count-parts, values_are}

@@ -1,4 +1,4 @@
-use Rattle.std.proofs.Common.{ℕ, Bool, List, ◌∙◌, ap}
+use Rattle.std.proofs.Common.{ℕ, Bool, ◌∙◌, ap}
 use Rattle.std.specs.Prelude.{filter}
 use Rattle.ancestor_index.specs.HierarchyLists.{Hierarchy}
 use Rattle.executor.specs.Steps.{led_to}
