@@ -3,7 +3,6 @@ use Rattle.std.proofs.Common.{ℕ, suc, ◌+◌, ◌≡◌, ◌≤◌, ◌<◌, 
 use Rattle.std.proofs.Common.{refl, sym, ap, arith, append-nil, append_assoc}
 use Rattle.std.specs.List.{list_any, position_or_len}
 use Rattle.std.proofs.lemmas.List.Folds.{list_any-append}
-use Rattle.std.proofs.lemmas.List.Sums.{prefix_len-le-length}
 use Rattle.first_met.specs.FirstMet.{keys_behind}
 use Rattle.postings.proofs.DistinctLemmas.{position_or_len-append_found}
 
@@ -17,7 +16,7 @@ module _ {X : Type 0} (test : X → Bool) where
       [ true ↦ (λ _. refl) | false ↦ (λ below. passes_there xs (omega (arith, below))) ]) below
 
   -- and none is where its place is behind the list
-  pub passes_nowhere : (xs : List X) → length xs ≤ position_or_len test xs → list_any test xs ≡ false
+  passes_nowhere : (xs : List X) → length xs ≤ position_or_len test xs → list_any test xs ≡ false
   passes_nowhere [] past = refl
   passes_nowhere (x ∷ xs) past =
       (elim (test x) as (λ b. suc (length xs) ≤ cond (not b) (1 + position_or_len test xs) 0 → (b || list_any test xs) ≡ false)
@@ -76,7 +75,3 @@ module _ (few others : List ℕ) (key place : ℕ) (is : place ≡ position_or_l
       ∙ append-nil (few ++ key ∷ [])
       ∙ ap (λ (keys : List ℕ). few ++ keys_behind keys key) (sym none)
       ∙ others_more past
-
--- the place of a key is no further than there are keys
-pub place_near : (keys : List ℕ) (key : ℕ) → position_or_len (nat_eq key) keys ≤ length keys
-place_near keys key = prefix_len-le-length (λ other. not (nat_eq key other)) keys

@@ -23,7 +23,7 @@ use Rattle.postings.specs.declared.groups.RowMarks.{RowMarks}
 use Rattle.postings.specs.declared.row_indexes.RowIndexes.{RowIndexes}
 use Rattle.postings.specs.declared.rows.CodedRow.{CodedRow}
 use Rattle.postings.specs.declared.rows.CodedRows.{CodedRows}
-use Rattle.postings.specs.declared.rows.Types.{Types}
+use Rattle.snapshot.specs.declared.attribute_types.Types.{Types}
 use Rattle.postings.specs.declared.values.Values.{Values}
 use Rattle.postings.proofs.BlockLemmas.{blocks-same, items_by_place, map-flat_map}
 use Rattle.postings.proofs.CellLemmas.{long_cells}

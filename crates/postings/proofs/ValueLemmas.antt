@@ -2,26 +2,25 @@
 use Rattle.std.proofs.Common.{ℕ, ℤ, zero, suc, ◌+◌, ◌-◌, ◌==◌, ◌≡◌, ◌≤◌, ◌<◌, ◌++◌, ◌∷◌, [], ◌∙◌}
 use Rattle.std.proofs.Common.{◌⊎◌, inl, inr, Bool, true, false, List, length, get_or, map, nat_eq, Some, refl, sym}
 use Rattle.std.proofs.Common.{ap, filter, slice_index, subst, take, arith, length-append}
-use Rattle.std.specs.Prelude.{All, Contains, bytes_eq, is_some}
+use Rattle.std.specs.Prelude.{All, Contains, bytes_eq}
 use Rattle.std.specs.List.{AllByRecursion, IsDistinct, flat_map, slice_get}
 use Rattle.std.specs.List.Sorted.{IsStrictlyIncreasing, IsStrictlySortedBy}
 use Rattle.std.specs.Cmp.Lexicographic.{texts_ties}
 use Rattle.std.specs.Ordering.{int_cmp, int_eq}
-use Rattle.std.proofs.lemmas.Bool.{cases_lt, cases_order, eq-eqb, eqb-true, false_from_ne_true, ne_eqb, true≢false}
+use Rattle.std.proofs.lemmas.Bool.{cases_lt, cases_order, eq-eqb, false_from_ne_true, ne_eqb, true≢false}
 use Rattle.std.proofs.lemmas.List.{get_or-append-add, get_or_append_left, get_or-map, get_or_default, flat_map_more, length-map, take_more}
 use Rattle.std.proofs.lemmas.List.Elements.{All-append, All-cons, All-filter, All-head, All-map}
 use Rattle.std.proofs.lemmas.List.Elements.{All-nil, All-tail, Contains-append_left, Contains-append_right, Contains-append_cases}
 use Rattle.std.proofs.lemmas.List.Elements.{recursion_from_All}
-use Rattle.std.proofs.lemmas.List.Quantifiers.{position-Some}
 use Rattle.std.proofs.lemmas.Map.Keys.{IsDistinct-from_sorted, IsDistinct-from_apart, apart_from_distinct}
 use Rattle.std.proofs.lemmas.Option.{get_or_from_slice_get, slice_get-get_or, slice_get_within}
 use Rattle.rf2_rows.specs.Pairs.{value_eq}
 use Rattle.rf2_rows.specs.Release.{Attribute, Value, concept_value, number_value, text_value}
 use Rattle.rf2_rows.proofs.PairLemmas.{tells_same_value}
-use Rattle.snapshot.specs.Numbering.{concept_number}
-use Rattle.snapshot.proofs.NumberingLemmas.{contains_map, concept_number-has}
+use Rattle.snapshot.specs.AttributesBySource.{value_by_identifier}
+use Rattle.snapshot.proofs.NumberingLemmas.{contains_map}
 use Rattle.snapshot.specs.Kept.{is_value_among}
-use Rattle.hierarchy.proofs.ReleaseLemmas.{contains_had, had_contained}
+use Rattle.hierarchy.proofs.ReleaseLemmas.{contains_had}
 use Rattle.snapshot.proofs.RisingLemmas.{earlier_below}
 use Rattle.postings.specs.Indexed.{value_at, values_among}
 use Rattle.postings.specs.RowValues.{AreTables, decimals_at, decimals_of, text_cmp, texts_at, texts_of}
@@ -133,14 +132,7 @@ module _ (concepts : List ℕ) (decimals : List ℤ) (texts : List (List ℕ)) w
     ]
   ]
 
-  -- what is among the values is among the concepts, the decimals or the texts
-  pub had_concept : (concept : ℕ) → Contains values (concept_value concept) → Contains concepts concept
-  had_concept concept there = elim (cases_of (concept_value concept) there) [
-    | inl found ↦ let same : found.0 ≡ concept = cc (found.2) in subst (Contains concepts) same found.1
-    | inr (inl found) ↦ absurd (cc (found.2))
-    | inr (inr found) ↦ absurd (cc (found.2))
-  ]
-
+  -- a decimal or a text that is among the values is among the decimals or the texts
   pub had_decimal : (decimal : ℤ) → Contains values (number_value decimal) → Contains decimals decimal
   had_decimal decimal there = elim (cases_of (number_value decimal) there) [
     | inl found ↦ absurd (cc (found.2))
@@ -157,23 +149,13 @@ module _ (concepts : List ℕ) (decimals : List ℤ) (texts : List (List ℕ)) w
 
 -- ---- the places of values in their tables
 
--- a concept that is among the values has a place among the concepts
-pub concept_found : (concepts : List ℕ) (decimals : List ℤ) (texts : List (List ℕ)) (concept : ℕ)
-    → Contains (values_among concepts decimals texts) (concept_value concept) → is_some (concept_number concepts concept) ≡ true
-concept_found concepts decimals texts concept there =
-    ap is_some (concept_number-has concepts concept (had_contained concepts concept (had_concept concepts decimals texts concept there)))
-
--- and the place leads to it
-pub concept_placed : (concepts : List ℕ) (decimals : List ℤ) (texts : List (List ℕ)) (concept place : ℕ)
-    → concept_number concepts concept ≡ Some place → slice_get (values_among concepts decimals texts) place
-    ≡ Some (concept_value concept)
-concept_placed concepts decimals texts concept place found =
-    let at = position-Some (λ other. concept == other) concepts place 0 found in
-    let same : concept ≡ get_or concepts place 0 = eqb-true concept (get_or concepts place 0) at.1 in
-    slice_get-get_or (values_among concepts decimals texts) place (concept_value concept)
-    (omega (arith, at.0, length-values concepts decimals texts))
-    ∙ ap (λ (value : Value). Some value) (concept_at concepts decimals texts place (concept_value concept) at.0
-    ∙ ap concept_value (sym same))
+-- the number of a concept leads to it
+pub concept_placed : (concepts : List ℕ) (decimals : List ℤ) (texts : List (List ℕ)) (number : ℕ) → number < length concepts
+    → slice_get (values_among concepts decimals texts) number ≡ Some (concept_value (slice_index concepts number))
+concept_placed concepts decimals texts number below =
+    slice_get-get_or (values_among concepts decimals texts) number (concept_value 0)
+    (omega (arith, below, length-values concepts decimals texts))
+    ∙ ap (λ (value : Value). Some value) (concept_at concepts decimals texts number (concept_value 0) below)
 
 -- behind the concepts the place of a decimal among the decimals leads to it
 pub decimal_placed : (concepts : List ℕ) (decimals : List ℤ) (texts : List (List ℕ)) (decimal : ℤ) (place : ℕ)
@@ -250,6 +232,12 @@ module _ (concepts : List ℕ) (decimals : List ℤ) (texts : List (List ℕ)) w
       (values_there rows (All-tail (λ (row : Attribute). is_value_among concepts row.value ≡ true) row rows among)
       (λ decimal there. had_decimals decimal (Contains-append_right (decimals_at row.value) (decimals_of rows) decimal there))
       (λ text there. had_texts text (Contains-append_right (texts_at row.value) (texts_of rows) text there)))
+
+-- a value that is a concept by its number is no decimal and no text either
+pub same_decimals : (concepts : List ℕ) (value : Value) → decimals_at (value_by_identifier concepts value) ≡ decimals_at value
+same_decimals concepts (concept_value number) = refl
+same_decimals concepts (number_value decimal) = refl
+same_decimals concepts (text_value text) = refl
 
 -- the decimals and the texts of the rows up to behind a place
 module _ (rows : List Attribute) (n : ℕ) (row : Attribute) (here : slice_get rows n ≡ Some row) where

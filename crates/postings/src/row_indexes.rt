@@ -13,10 +13,10 @@ use crate::columns::{RowLists, row_lists};
 use crate::groups::{RowMarks, row_marks};
 use crate::lists::{places_among, places_by_key};
 use crate::mark::Mark;
-use crate::rows::{CodedRow, Types, coded_rows};
+use crate::rows::{CodedRow, coded_rows};
 use crate::values::Values;
 use hierarchy::KeyedLists;
-use snapshot::Snapshot;
+use snapshot::{Snapshot, Types};
 use std::alloc::{AllocError, Global};
 
 /// The attribute rows of a release, and the rows of each source, type, value and group. A row is told by the place

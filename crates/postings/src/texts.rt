@@ -4,8 +4,7 @@ ghost use Rattle.std.specs.List.Sorted.{IsStrictlySortedBy};
 ghost use Rattle.snapshot.specs.AttributesBySource.{attributes_by_source};
 ghost use Rattle.postings.specs.RowValues.{text_cmp, texts_of};
 
-use rf2_rows::Value;
-use snapshot::Snapshot;
+use snapshot::{NumberedValue, Snapshot};
 use std::alloc::{AllocError, Global};
 use std::marker::Model;
 
@@ -122,11 +121,11 @@ fn lent_texts(alloc: Global, snapshot: &Snapshot) -> Result<Vec<&[u8]>, AllocErr
 {
     let mut texts = Vec::new(alloc);
     for n in 0..snapshot.attribute_count() {
-        let row = snapshot.attribute_row(n);
+        let row = snapshot.attribute_numbers(n);
         match row.value {
-            Value::Other(text) => texts.push(text)?,
-            Value::Concept(_) => {}
-            Value::Decimal(_) => {}
+            NumberedValue::Other(text) => texts.push(text)?,
+            NumberedValue::Concept(_) => {}
+            NumberedValue::Decimal(_) => {}
         }
     }
     Ok(texts)

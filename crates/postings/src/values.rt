@@ -5,14 +5,14 @@ ghost use Rattle.std.specs.List.Sorted.{IsStrictlySortedBy};
 ghost use Rattle.std.specs.Ordering.{int_cmp};
 ghost use Rattle.rf2_rows.specs.Release.{Attribute, number_value, text_value};
 ghost use Rattle.rf2_rows.specs.Rows.{value_lent};
-ghost use Rattle.snapshot.specs.AttributesBySource.{attributes_by_source};
+ghost use Rattle.snapshot.specs.AttributesBySource.{IsNumberBelow, attributes_by_source, numbered_lent, value_by_identifier};
 ghost use Rattle.postings.specs.Indexed.{value_at};
 ghost use Rattle.postings.specs.RowValues.{AreTables, AreTablesOf, decimals_at, decimals_of};
 ghost use Rattle.postings.specs.ValueTables.{values_in};
 
 use crate::texts::{Texts, texts_among};
 use rf2_rows::{Decimal, Value};
-use snapshot::Snapshot;
+use snapshot::{NumberedValue, Snapshot};
 use std::alloc::{AllocError, Global};
 
 /// The decimals and the other texts among the values of attribute rows, rising and each once. Together with the concepts
@@ -51,7 +51,7 @@ fn decimals_among(alloc: Global, snapshot: &Snapshot) -> Result<Vec<i128>, Alloc
 {
     let mut decimals = Vec::new(alloc);
     for n in 0..snapshot.attribute_count() {
-        let row = snapshot.attribute_row(n);
+        let row = snapshot.attribute_numbers(n);
         add_decimal(&mut decimals, &row.value)?;
     }
     decimals.sort_unstable();
@@ -60,30 +60,33 @@ fn decimals_among(alloc: Global, snapshot: &Snapshot) -> Result<Vec<i128>, Alloc
 }
 
 // Adds a value that is a decimal.
-fn add_decimal(decimals: &mut Vec<i128>, value: &Value<'_>) -> Result<(), AllocError>
-    ensures { OnOk result (decimals.new.items ≡ decimals.old.items ++ decimals_at (value_lent value.now)) }
+fn add_decimal(decimals: &mut Vec<i128>, value: &NumberedValue<'_>) -> Result<(), AllocError>
+    ensures { OnOk result (decimals.new.items ≡ decimals.old.items ++ decimals_at (numbered_lent value.now)) }
 {
     match value {
-        Value::Decimal(decimal) => Ok(decimals.push(decimal.0)?),
-        Value::Concept(_) | Value::Other(_) => Ok(()),
+        NumberedValue::Decimal(decimal) => Ok(decimals.push(decimal.0)?),
+        NumberedValue::Concept(_) | NumberedValue::Other(_) => Ok(()),
     }
 }
 
 impl Values {
-    /// The number of a value that is among those of the table.
-    pub fn number(&self, snapshot: &Snapshot, value: &Value<'_>) -> u32
-        requires there { Contains (values_in snapshot.now.release.concepts self.now) (value_lent value.now) }
+    /// The number of a value that is among those of the table: a concept has its own.
+    pub fn number(&self, snapshot: &Snapshot, value: &NumberedValue<'_>) -> u32
+        requires there { Contains (values_in snapshot.now.release.concepts self.now)
+            (value_by_identifier snapshot.now.release.concepts (numbered_lent value.now)) }
+        requires below { IsNumberBelow (length snapshot.now.release.concepts) (numbered_lent value.now) }
         requires rising { AreTables self.now.decimals.items self.now.texts }
         requires few { length (values_in snapshot.now.release.concepts self.now) < 2 ^ 32 }
-        ensures { slice_get (values_in snapshot.now.release.concepts self.now) result ≡ Some (value_lent value.now) }
+        ensures { slice_get (values_in snapshot.now.release.concepts self.now) result
+            ≡ Some (value_by_identifier snapshot.now.release.concepts (numbered_lent value.now)) }
     {
         let concepts = snapshot.concept_count();
         match value {
-            Value::Concept(concept) => snapshot.index_of(concept.number()).unwrap(),
-            Value::Decimal(decimal) => {
+            NumberedValue::Concept(number) => *number,
+            NumberedValue::Decimal(decimal) => {
                 concepts + place_of(self.decimals.as_slice(), &decimal.0) as u32
             }
-            Value::Other(text) => {
+            NumberedValue::Other(text) => {
                 let place = self.texts.place_of(text);
                 concepts + (self.decimals.len() + place) as u32
             }

@@ -4,13 +4,12 @@ use Rattle.std.proofs.lemmas.Grind.{common_steps}
 use Rattle.std.proofs.Common.{ℕ, Bool, ◌≡◌, ◌≢◌, ◌≤◌, ◌+◌, ◌-◌, All, List, [], ◌∷◌, length, map, Option, None, Some, Result, Ok, Err, arith, false, true, cond, filter_map, refl}
 use Rattle.std.proofs.lemmas.List.{length-map}
 use Rattle.std.proofs.lemmas.Bool.{and_parts}
-use Rattle.std.proofs.lemmas.List.Elements.{All-cons, All-weaker, filter_passes}
+use Rattle.std.proofs.lemmas.List.Elements.{All-weaker, filter_passes}
 use Rattle.std.proofs.lemmas.List.Sums.{length-filter, count_by-le-length}
 use Rattle.std.specs.List.Sorted.{IsStrictlyIncreasing}
 use Rattle.snapshot.specs.LeastCycle.{IsLeastCycle}
 use Rattle.rf2_rows.specs.Release.{Attribute, Name}
 use Rattle.snapshot.specs.Contents.{Contents, IsFaultOf, first_cyclic, least_cyclic, unless_cyclic}
-use Rattle.hierarchy.specs.Members.{has}
 use Rattle.snapshot.specs.InForce.{put, rising, rows_among}
 use Rattle.snapshot.specs.Kept.{IsCycle, attributes_among, contents_from, finished, is_value_among, names_among, release_from}
 use Rattle.snapshot.specs.Listed.{Listed}
@@ -62,12 +61,7 @@ length-names_among concepts names = grind (arith, common_steps, nat_tests, count
 pub length-attributes_among : (concepts : List ℕ) (attributes : List Attribute) → length (attributes_among concepts attributes) ≤ length attributes
 length-attributes_among concepts attributes = grind (arith, common_steps, nat_tests, count_by-le-length, length-filter)
 
--- the sources of attributes of some concepts are these
-pub attributes_among-known : (concepts : List ℕ) (attributes : List Attribute) → All (λ (row : Attribute). has concepts row.source ≡ true) (attributes_among concepts attributes)
-attributes_among-known concepts [] = λ k d within. absurd (omega arith)
-attributes_among-known concepts (attribute ∷ attributes) = grind (arith, common_steps, nat_tests, All-cons, (attributes_among-known concepts attributes))
-
--- and their values that are concepts are among these
+-- the values of attributes of some concepts that are concepts are among these
 pub attributes_among-values : (concepts : List ℕ) (attributes : List Attribute) → All (λ (row : Attribute). is_value_among concepts row.value ≡ true) (attributes_among concepts attributes)
 attributes_among-values concepts attributes = grind (arith, common_steps, nat_tests, All-weaker, and_parts, filter_passes)
 

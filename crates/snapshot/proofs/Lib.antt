@@ -12,6 +12,7 @@ pub mod NameInLineLemmas
 pub mod NameLawLemmas
 pub mod NameLemmas
 pub mod NeighbourLemmas
+pub mod NumberedLemmas
 pub mod NumberingLemmas
 mod PassLemmas
 pub mod PassedLemmas
@@ -20,9 +21,11 @@ pub mod RisingLemmas
 mod SingleLemmas
 pub mod SortLemmas
 pub mod SortedLemmas
+pub mod SortingLemmas
 pub mod SpanLemmas
 pub mod SplitLemmas
 mod TakingLemmas
+pub mod TypeLemmas
 pub mod VersionLemmas
 mod WentLemmas
 mod ChosenItemLemmas

@@ -1,17 +1,17 @@
 -- Name rows keep their texts while the buffer grows.
-use Rattle.std.proofs.Common.{rules, arith, ℕ, ◌≡◌, ◌<◌, length, get_or, List, [], ◌∷◌, map, refl, IsUtf8, Bool, filter, ◌+◌, ◌++◌, ◌∙◌, All, Option, None, Some, set, take, length-append, slice_get, get_or-set_other, get_or-set_same, length-set}
+use Rattle.std.proofs.Common.{rules, arith, ℕ, ◌≡◌, ◌<◌, length, get_or, List, [], ◌∷◌, map, refl, ap, IsUtf8, Bool, filter, ◌+◌, ◌++◌, ◌∙◌, All, Option, None, Some, set, take, length-append, slice_get, get_or-set_other, get_or-set_same, length-set}
 use Rattle.std.proofs.lemmas.Bool.Decides.{nat_tests}
 use Rattle.std.proofs.lemmas.Grind.{common_steps}
 use Rattle.std.proofs.lemmas.Bool.{cases_Bool, cases_eq}
 use Rattle.snapshot.specs.NamesInside.{IsPlaced, name_in}
 use Rattle.std.proofs.lemmas.List.{get_or-map, get_or_read, length-map, get_or_append_left, take_more}
 use Rattle.rf2_rows.specs.Release.{Name}
-use Rattle.snapshot.specs.Spans.{Extends, no_span, AreSpansOf, StandsAt}
+use Rattle.snapshot.specs.Spans.{Extends, no_span, AreSpansOf, StandsAt, text_at}
 use Rattle.snapshot.specs.declared.names.NameRow.{NameRow}
 use Rattle.snapshot.proofs.ChosenItemLemmas.{map-marked}
 use Rattle.snapshot.proofs.SpanLemmas.{text-extends, text_span-extends, all-push, rows-push, span-extends, stands-extends}
 use Rattle.std.proofs.lemmas.Option.{IfSome_then, slice_get_within}
-use Rattle.snapshot.specs.KeptNames.{AreNoted, IsKept, name_kept}
+use Rattle.snapshot.specs.KeptNames.{AreNoted, IsKept, name_kept, term_span}
 use Rattle.snapshot.specs.declared.kept_names.KeptName.{KeptName}
 use Rattle.snapshot.specs.declared.spans.Span.{Span}
 
@@ -58,10 +58,28 @@ noted-set names texts spans place name span noted there stands = grind (arith, c
 -- one row more, while both grow
 module _ (texts grown : List ℕ) (languages more : List Span) (kept items : List KeptName) (row : KeptName) (extends : Extends texts grown) (extends_languages : Extends languages more) (pushed : items ≡ kept ++ row ∷ []) (are : All (IsKept texts languages) kept) where
   pub kept-push : IsKept grown more row → All (IsKept grown more) items
-  kept-push is = grind (arith, common_steps, nat_tests, all-push, length-append, span-extends)
+  kept-push is =
+      all-push (IsKept texts languages) (IsKept grown more) (λ row kept. record {
+        language = omega (arith, kept.language, ap length extends_languages.1, length-append languages extends_languages.0);
+        term = span-extends texts grown extends (term_span row) kept.term;
+      }) kept items row pushed are is
 
   pub names-push : AreSpansOf texts languages → (names : List Name) (place : ℕ) (name : Name) → map (name_kept texts languages) kept ≡ take place names
       → name_kept grown more row ≡ name → place < length names → name ≡ get_or names place name → map (name_kept grown more) items ≡ take (place + 1) names
   names-push placed names place name so_far is within there =
-      rows-push (name_kept texts languages) (name_kept grown more) (IsKept texts languages) (λ row is. grind (arith, common_steps, get_or_append_left, text-extends, (placed row.language no_span is.language), extends_languages.1, is.term)) kept items row (get_or names place name) pushed are (is ∙ there)
+      rows-push (name_kept texts languages) (name_kept grown more) (IsKept texts languages) same kept items row
+      (get_or names place name) pushed are (is ∙ there)
       ∙ grind (arith, so_far, (take_more names place name within))
+    where
+      same : (row : KeptName) → IsKept texts languages row → name_kept grown more row ≡ name_kept texts languages row
+      same row is =
+          let language : get_or more row.language no_span ≡ get_or languages row.language no_span =
+          ap (λ (spans : List Span). get_or spans row.language no_span) extends_languages.1
+          ∙ get_or_append_left languages extends_languages.0 no_span row.language is.language in
+          λ i. record {
+            id = row.id;
+            concept = row.concept;
+            language = ((ap (text_at grown) language
+                ∙ text-extends texts grown extends (get_or languages row.language no_span) (placed row.language no_span is.language)) i);
+            term = text-extends texts grown extends (term_span row) is.term i;
+          }

@@ -1,13 +1,14 @@
 -- In a sorted list a number stands more than once where it equals the one before it.
 use Rattle.std.proofs.lemmas.Grind.{common_steps}
-use Rattle.std.proofs.Common.{ℕ, zero, suc, ◌≡◌, ◌≢◌, ◌<◌, ◌≤◌, ◌+◌, ◌-◌, ◌==◌, ◌↔◌, inl, inr, List, [], ◌∷◌, ◌++◌, length, get_or, take, cond, nat_eq, nat_lt, sym, ◌∙◌, ap, subst, refl, arith, rules, All, AllPairs, Contains, IsPermutation, IsSorted, append-nil, nat_cmp, ltb-false, ltb-true, filter, true, not}
+use Rattle.std.proofs.Common.{ℕ, Bool, false, zero, suc, ◌≡◌, ◌≢◌, ◌<◌, ◌≤◌, ◌+◌, ◌-◌, ◌==◌, ◌↔◌, inl, inr, List, [], ◌∷◌, ◌++◌, length, get_or, take, cond, nat_eq, nat_lt, sym, ◌∙◌, ap, subst, refl, arith, rules, All, AllPairs, Contains, IsPermutation, IsSorted, append-nil, nat_cmp, ltb-false, ltb-true, filter, true, not}
 use Rattle.std.specs.List.{dedup}
 use Rattle.std.specs.List.Sorted.{IsNonDecreasing, IsStrictlyIncreasing}
+use Rattle.std.proofs.lemmas.Bool.{cases_Bool}
 use Rattle.std.proofs.lemmas.Bool.Decides.{nat_tests}
 use Rattle.std.proofs.lemmas.List.Elements.{All-cons, All-nil, All-contains}
 use Rattle.std.proofs.lemmas.List.Kept.{AllPairs-cons, Contains-dedup_nat, Contains-from_dedup}
-use Rattle.std.proofs.lemmas.List.Sorted.{IsNonDecreasingBy-from_sort, sum_by-IsPermutation, Contains-permutation}
-use Rattle.std.proofs.lemmas.List.Sums.{sum_by-cons, sum_by_more, sum_by_push}
+use Rattle.std.proofs.lemmas.List.Sorted.{IsNonDecreasingBy-from_sort, IsPermutation-sym, sum_by-IsPermutation, Contains-permutation}
+use Rattle.std.proofs.lemmas.List.Sums.{sum_by-append, sum_by-cons, sum_by_more, sum_by_push}
 use Rattle.std.proofs.lemmas.Map.Keys.{IsStrictlyIncreasing-dedup, non_decreasing_from_sorted, sorted_from_strictly_increasing}
 use Rattle.hierarchy.specs.Members.{has}
 use Rattle.hierarchy.proofs.ReleaseLemmas.{contains_had, had_contained, had_not, times}
@@ -85,17 +86,53 @@ rising_once xs up key =
         let below : x < y = up 0 (omega arith) in
         grind (arith, nat_tests, below, no_neighbour (y ∷ xs) (λ k within. earlier_below (x ∷ y ∷ xs) up (suc k) (suc (k + 1)) (omega arith) (omega arith)))
 
-module _ (keys sorted repeated : List ℕ) (moved : IsPermutation keys sorted) (up : IsSorted nat_cmp sorted) (are : repeated ≡ dedup nat_eq (equal_neighbours sorted)) where
-  -- the equal neighbours of a sorted list, each once, rise
-  pub repeated_rise : IsStrictlyIncreasing repeated
-  repeated_rise = rw are (IsStrictlyIncreasing-dedup (equal_neighbours sorted) (sorted_neighbours sorted (IsNonDecreasingBy-from_sort (λ x. x) sorted up)))
+-- so it does among the equal neighbours of the list before it was sorted
+pub times_again : (keys sorted : List ℕ) → IsPermutation keys sorted → IsSorted nat_cmp sorted → (key : ℕ) → times key (equal_neighbours sorted) ≡ times key keys - 1
+times_again keys sorted moved up key =
+    omega (
+      arith,
+      times-neighbours key sorted (IsNonDecreasingBy-from_sort (λ x. x) sorted up),
+      sum_by-IsPermutation (λ other. cond {A = ℕ} (other == key) 1 0) keys sorted moved,
+    )
 
-  -- they are the numbers that stand at least twice in the list before it was sorted
-  pub repeated_members : (key : ℕ) → Contains repeated key ↔ (2 ≤ times key keys)
-  repeated_members key =
-      let once_less = times-neighbours key sorted (IsNonDecreasingBy-from_sort (λ x. x) sorted up) in
-      let same = sum_by-IsPermutation (λ other. cond {A = ℕ} (other == key) 1 0) keys sorted moved in
-      (λ there. grind (arith, once_less, same, (times-some key (equal_neighbours sorted)), (Contains-from_dedup nat_eq (equal_neighbours sorted) key), are), λ twice. grind (arith, once_less, same, (stands key (equal_neighbours sorted)), (Contains-dedup_nat (equal_neighbours sorted) key), are))
+-- a sorted list, each number of it once, rises and has the numbers that it has
+module _ (keys sorted repeated : List ℕ) (moved : IsPermutation keys sorted) (up : IsSorted nat_cmp sorted) (are : repeated ≡ dedup nat_eq sorted) where
+  pub once_rises : IsStrictlyIncreasing repeated
+  once_rises = rw are (IsStrictlyIncreasing-dedup sorted up)
+
+  pub once_members : (key : ℕ) → Contains repeated key ↔ (1 ≤ times key keys)
+  once_members key = (
+    (λ there. times-some key keys (Contains-permutation sorted keys key (IsPermutation-sym keys sorted moved)
+        (Contains-from_dedup nat_eq sorted key (subst (λ (numbers : List ℕ). Contains numbers key) are there)))),
+    (λ some. subst (λ (numbers : List ℕ). Contains numbers key) (sym are)
+        (Contains-dedup_nat sorted key (Contains-permutation keys sorted key moved (stands key keys some)))),
+  )
+
+-- a number stands on one side of a bound alone
+times-side : (test : ℕ → Bool) (key : ℕ) (keys : List ℕ) → test key ≡ false → times key (filter test keys) ≡ 0
+times-side test key [] other = refl
+times-side test key (x ∷ keys) other = grind (arith, nat_tests, sum_by-cons, times-side test key keys other)
+
+-- both sides have all numbers
+pub length-sides : (test : ℕ → Bool) (keys : List ℕ) → length (filter test keys) + length (filter (λ x. not (test x)) keys) ≡ length keys
+length-sides test [] = refl
+length-sides test (x ∷ keys) = grind (arith, nat_tests, length-sides test keys)
+
+-- so it stands twice where it does so on either side
+pub twice_on_a_side : (bound : ℕ) (keys low high : List ℕ) → ((key : ℕ) → times key low ≡ times key (filter (λ x. nat_lt x bound) keys) - 1)
+    → ((key : ℕ) → times key high ≡ times key (filter (λ x. not (nat_lt x bound)) keys) - 1)
+    → (key : ℕ) → (1 ≤ times key (low ++ high)) ↔ (2 ≤ times key keys)
+twice_on_a_side bound keys low high lows highs key =
+    let both = sum_by-filter_both (λ x. nat_lt x bound) (λ x. not (nat_lt x bound)) (λ x. refl) (λ other. cond {A = ℕ} (other == key) 1 0) keys in
+    let all = sum_by-append (λ other. cond {A = ℕ} (other == key) 1 0) low high in
+    elim (cases_Bool (nat_lt key bound)) [
+      | inl below ↦
+          let none = times-side (λ x. not (nat_lt x bound)) key keys (ap not below) in
+          ((λ some. omega (arith, some, both, all, none, lows key, highs key)), (λ twice. omega (arith, twice, both, all, none, lows key, highs key)))
+      | inr above ↦
+          let none = times-side (λ x. nat_lt x bound) key keys above in
+          ((λ some. omega (arith, some, both, all, none, lows key, highs key)), (λ twice. omega (arith, twice, both, all, none, lows key, highs key)))
+    ]
 
 -- where no number is told, none stands twice
 pub none_twice : (repeated keys : List ℕ) → length repeated ≡ 0 → ((key : ℕ) → Contains repeated key ↔ (2 ≤ times key keys)) → (key : ℕ) → times key keys ≤ 1

@@ -26,6 +26,7 @@ pub mod Metadata
 pub mod Name
 pub mod NamesInside
 pub mod Noted
+pub mod NumberedInside
 pub mod Numbering
 pub mod Passed
 pub mod Pieces
@@ -38,4 +39,5 @@ pub mod SortedInside
 pub mod Spans
 pub mod Taken
 pub mod Taking
+pub mod ValueNumbers
 pub mod VersionsInside

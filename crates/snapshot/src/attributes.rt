@@ -1,16 +1,13 @@
 //! Attribute rows in the order in which they were read.
-ghost use Rattle.std.specs.Prelude.{◌≡◌, ◌<◌, ◌&&◌, ◌++◌, ◌∷◌, List, [], IfOk, OnOk, length, slice_index_or};
+ghost use Rattle.std.specs.Prelude.{◌≡◌, ◌<◌, ◌++◌, ◌∷◌, [], IfOk, OnOk, length, slice_index_or};
 ghost use Rattle.rf2_rows.specs.Release.{Attribute};
 ghost use Rattle.rf2_rows.specs.Rows.{value_lent};
 ghost use Rattle.snapshot.specs.AttributesInside.{IsWithinValues, attribute_read, value_in};
-ghost use Rattle.hierarchy.specs.Members.{has};
-ghost use Rattle.snapshot.specs.Kept.{attributes_among, is_value_among};
 ghost use Rattle.snapshot.specs.Listed.{in_list, items_chosen};
-ghost use Rattle.snapshot.specs.ConcreteValues.{Concrete};
+ghost use Rattle.snapshot.specs.ConcreteValues.{concrete_lent, concrete_value};
 ghost use Rattle.snapshot.specs.Spans.{Extends};
 
-use crate::concepts::Concepts;
-use crate::concrete_values::ConcreteValues;
+use crate::concrete_values::{ConcreteValues, LentConcrete};
 use crate::row_lists::{Listing, chosen_items};
 use rf2_rows::Value;
 use sctid::SctId;
@@ -19,7 +16,7 @@ use std::marker::Model;
 
 /// The value of an attribute: a concept, or where it stands among the values that are none.
 #[derive(Clone, Copy)]
-pub enum KeptValue {
+enum KeptValue {
     Concept(SctId),
     Concrete(usize),
 }
@@ -133,18 +130,10 @@ impl Attributes {
         )?;
         Ok(())
     }
-
-    /// Leaves the rows of some concepts whose values are no concepts or among these. The values of the
-    /// others that are none leave where the rows are sorted.
-    pub fn retain_among(&mut self, concepts: &Concepts)
-        ensures { self.new ≡ attributes_among concepts.now self.old }
-    {
-        self.rows.retain(|row| is_row_among(concepts, row));
-    }
 }
 
-/// Keeps a value, behind the others if it is no concept.
-pub fn keep_value(concrete: &mut ConcreteValues, value: &Value<'_>) -> Result<KeptValue, AllocError>
+// Keeps a value, behind the others if it is no concept.
+fn keep_value(concrete: &mut ConcreteValues, value: &Value<'_>) -> Result<KeptValue, AllocError>
     ensures grown { Extends concrete.old concrete.new }
     ensures value { IfOk result (λ kept. value_in concrete.new kept ≡ value_lent value.now) }
     ensures within { IfOk result (λ kept. IsWithinValues concrete.new kept) }
@@ -162,31 +151,23 @@ pub fn keep_value(concrete: &mut ConcreteValues, value: &Value<'_>) -> Result<Ke
     }
 }
 
-/// A value that is kept, with its text lent.
-pub fn lend_value(concrete: &ConcreteValues, value: KeptValue) -> Value<'_>
+// A value that is kept, with its text lent.
+fn lend_value(concrete: &ConcreteValues, value: KeptValue) -> Value<'_>
     requires { IsWithinValues concrete.now value }
     ensures { value_lent result ≡ value_in concrete.now value }
 {
     match value {
         KeptValue::Concept(concept) => Value::Concept(concept),
-        KeptValue::Concrete(place) => concrete.value(place),
+        KeptValue::Concrete(place) => as_value(concrete.value(place)),
     }
 }
 
-// Whether a row is of one of some concepts, and its value is no concept or one of them.
-fn is_row_among(concepts: &Concepts, row: &KeptRow) -> bool
-    ensures { (values : List Concrete) → result ≡ (has concepts.now row.now.source && is_value_among concepts.now (value_in values row.now.value)) }
-{
-    concepts.has(row.source.number()) && is_value_among(concepts, row.value)
-}
-
-// Whether a value is no concept, or one of some concepts.
-#[tactic(auto, using(crate::proofs::AttributeLemmas::concrete_counts))]
-fn is_value_among(concepts: &Concepts, value: KeptValue) -> bool
-    ensures { (values : List Concrete) → result ≡ is_value_among concepts.now (value_in values value) }
+// A value that is no concept as the value of an attribute.
+fn as_value(value: LentConcrete<'_>) -> Value<'_>
+    ensures { value_lent result ≡ concrete_value (concrete_lent value.entry) }
 {
     match value {
-        KeptValue::Concept(concept) => concepts.has(concept.number()),
-        KeptValue::Concrete(_) => true,
+        LentConcrete::Decimal(decimal) => Value::Decimal(decimal),
+        LentConcrete::Other(text) => Value::Other(text),
     }
 }

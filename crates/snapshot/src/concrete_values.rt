@@ -1,12 +1,11 @@
 //! The values of attributes that are no concepts, with their texts in one buffer.
-ghost use Rattle.std.specs.Prelude.{◌≡◌, ◌<◌, [], IfOk, length, slice_index_or};
-ghost use Rattle.rf2_rows.specs.Rows.{value_lent};
-ghost use Rattle.snapshot.specs.ConcreteValues.{a_number, a_text, concrete_value, no_text};
+ghost use Rattle.std.specs.Prelude.{◌≡◌, ◌≤◌, ◌<◌, ◌+◌, [], IfOk, length, slice_index_or};
+ghost use Rattle.snapshot.specs.ConcreteValues.{a_number, a_text, concrete_lent, no_text};
 ghost use Rattle.snapshot.specs.ConcreteInside.{IsPlaced, concrete_in};
 ghost use Rattle.snapshot.specs.Spans.{Extends};
 
 use crate::spans::{Span, push_bytes};
-use rf2_rows::{Decimal, Value};
+use rf2_rows::Decimal;
 use std::alloc::{AllocError, Global};
 use std::marker::Model;
 
@@ -15,6 +14,13 @@ use std::marker::Model;
 enum KeptConcrete {
     Decimal(Decimal),
     Other(Span),
+}
+
+/// A value that is no concept, with its text lent.
+#[derive(Clone, Copy)]
+pub enum LentConcrete<'a> {
+    Decimal(Decimal),
+    Other(&'a [u8]),
 }
 
 /// Values that are no concepts, one after another: few rows have one, and the others take no room for it. Contracts see
@@ -52,6 +58,7 @@ impl ConcreteValues {
     /// Adds a number, and answers its place.
     pub fn push_decimal(&mut self, decimal: Decimal) -> Result<usize, AllocError>
         ensures grown { Extends self.old self.new }
+        ensures count { length self.new ≤ length self.old + 1 }
         ensures within { IfOk result (λ place. place < length self.new) }
         ensures value { IfOk result (λ place. slice_index_or self.new place no_text ≡ a_number decimal.0) }
     {
@@ -63,6 +70,7 @@ impl ConcreteValues {
     /// Adds another text, and answers its place.
     pub fn push_text(&mut self, text: &[u8]) -> Result<usize, AllocError>
         ensures grown { Extends self.old self.new }
+        ensures count { length self.new ≤ length self.old + 1 }
         ensures within { IfOk result (λ place. place < length self.new) }
         ensures value { IfOk result (λ place. slice_index_or self.new place no_text ≡ a_text text.now) }
     {
@@ -73,21 +81,21 @@ impl ConcreteValues {
     }
 
     /// The value at a place, with its text lent.
-    pub fn value(&self, place: usize) -> Value<'_>
+    pub fn value(&self, place: usize) -> LentConcrete<'_>
         requires { place < length self.now }
-        ensures { value_lent result ≡ concrete_value (slice_index_or self.now place no_text) }
+        ensures { concrete_lent result ≡ slice_index_or self.now place no_text }
     {
         lend_concrete(self.texts.as_slice(), self.values[place])
     }
 }
 
 // A value that is kept, with its text lent.
-fn lend_concrete(texts: &[u8], value: KeptConcrete) -> Value<'_>
+fn lend_concrete(texts: &[u8], value: KeptConcrete) -> LentConcrete<'_>
     requires { IsPlaced texts.now value }
-    ensures { value_lent result ≡ concrete_value (concrete_in texts.now value) }
+    ensures { concrete_lent result ≡ concrete_in texts.now value }
 {
     match value {
-        KeptConcrete::Decimal(decimal) => Value::Decimal(decimal),
-        KeptConcrete::Other(text) => Value::Other(text.bytes_in(texts)),
+        KeptConcrete::Decimal(decimal) => LentConcrete::Decimal(decimal),
+        KeptConcrete::Other(text) => LentConcrete::Other(text.bytes_in(texts)),
     }
 }

@@ -2,7 +2,8 @@
 ghost use Rattle.std.specs.Prelude.{◌≡◌, ◌<◌, ◌^◌, ℕ, List, None, Some, true, map, length, slice_index};
 ghost use Rattle.std.specs.List.{slice_get};
 ghost use Rattle.std.specs.List.Sorted.{IsStrictlyIncreasing};
-ghost use Rattle.snapshot.specs.AttributesBySource.{attribute_of, attributes_by_source, with_source};
+ghost use Rattle.snapshot.specs.AttributesBySource.{IsNumberBelow, attribute_numbered, attribute_of, attributes_by_source};
+ghost use Rattle.snapshot.specs.AttributesBySource.{by_identifiers, numbered_lent, value_by_identifier, with_source};
 ghost use Rattle.snapshot.specs.Kept.{AreValuesInForce, is_value_among};
 ghost use Rattle.snapshot.specs.Line.{concept_line};
 ghost use Rattle.snapshot.specs.Name.{name_of, text_lent};
@@ -14,7 +15,8 @@ ghost use Rattle.hierarchy.specs.ParentsFirst.{IsParentsFirst};
 use crate::concepts::Concepts;
 use crate::lines::ConceptLines;
 use crate::report::Report;
-use crate::sorted_attributes::{AttributeRow, SortedAttributes};
+use crate::sorted_attributes::{AttributeNumbers, AttributeRow, NumberedValue, SortedAttributes};
+use rf2_rows::Value;
 use sctid::SctId;
 use std::marker::Model;
 
@@ -153,7 +155,23 @@ impl Snapshot {
         ensures source { result.source < length self.now.release.concepts }
         ensures value { is_value_among self.now.release.concepts (value_lent result.value) ≡ true }
     {
-        self.attributes.row(n as usize)
+        let row = self.attribute_numbers(n);
+        AttributeRow {
+            source: row.source,
+            type_id: row.type_id,
+            group: row.group,
+            value: identified_value(&self.concepts, row.value),
+        }
+    }
+
+    /// The same with a concept that is the value by its number, so that no identifier of it is read.
+    pub fn attribute_numbers(&self, n: u32) -> AttributeNumbers<'_>
+        requires { n < length self.now.release.attributes }
+        ensures row { slice_get (attributes_by_source self.now.release) n ≡ Some (by_identifiers self.now.release.concepts (attribute_numbered result)) }
+        ensures source { result.source < length self.now.release.concepts }
+        ensures value { IsNumberBelow (length self.now.release.concepts) (numbered_lent result.value) }
+    {
+        self.attributes.numbers(n as usize)
     }
 
     /// How many files the release was loaded from, and how many of its rows are in force or passed
@@ -176,5 +194,18 @@ impl Snapshot {
             names: self.lines.name_count() as u64,
             passed: self.passed,
         }
+    }
+}
+
+// A value with a concept by its identifier in place of its number.
+fn identified_value<'a>(concepts: &Concepts, value: NumberedValue<'a>) -> Value<'a>
+    requires { IsNumberBelow (length concepts.now) (numbered_lent value) }
+    ensures value { value_lent result ≡ value_by_identifier concepts.now (numbered_lent value.entry) }
+    ensures among { is_value_among concepts.now (value_lent result) ≡ true }
+{
+    match value {
+        NumberedValue::Concept(number) => Value::Concept(concepts.id_at(number)),
+        NumberedValue::Decimal(decimal) => Value::Decimal(decimal),
+        NumberedValue::Other(text) => Value::Other(text),
     }
 }

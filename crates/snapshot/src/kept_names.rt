@@ -9,14 +9,18 @@ use crate::spans::{Span, push_text};
 use sctid::SctId;
 use std::alloc::{AllocError, Global};
 
-/// A name row: the description, the concept that it names, its language code by the number of the span
-/// where this stands, and where its term stands.
+// No file within the limits of a load has a term of more bytes.
+const MOST_BYTES: usize = u32::MAX as usize;
+
+/// A name row: the description, the concept that it names, where its term starts and how many bytes it
+/// has, and its language code by the number of the span where this stands.
 #[derive(Clone, Copy)]
 pub struct KeptName {
     id: SctId,
     concept: SctId,
+    start: usize,
+    bytes: u32,
     language: u32,
-    term: Span,
 }
 
 /// The name rows, whose terms stand at spans as far as these are known. The other terms come behind the
@@ -60,12 +64,26 @@ fn keep_name(
 {
     let language = keep_language(name.language, texts, languages)?;
     let term = keep_term(name.term, span, texts)?;
+    let bytes = short_len(term)?;
     Ok(KeptName {
         id: name.id,
         concept: name.concept,
+        start: term.start(),
+        bytes,
         language,
-        term,
     })
+}
+
+// How many bytes a text has, in 32 bits.
+fn short_len(span: Span) -> Result<u32, AllocError>
+    requires { span.start ≤ span.end }
+    ensures { IfOk result (λ bytes. span.start + bytes ≡ span.end) }
+{
+    let bytes = span.len();
+    if bytes > MOST_BYTES {
+        return Err(AllocError);
+    }
+    Ok(bytes as u32)
 }
 
 // Where a term stands: at the span if this is known, and else behind the texts.

@@ -16,7 +16,8 @@ const DESCRIPTIONS: u64 = 10_223_372_036_854_775_808;
 
 const CONCRETE_VALUES: u64 = 11_223_372_036_854_775_808;
 
-const RELATIONSHIPS: u64 = 12_223_372_036_854_775_808;
+/// Those of relationships, which have about as many rows as all other kinds, are the greatest.
+pub const RELATIONSHIPS: u64 = 12_223_372_036_854_775_808;
 
 /// The keys of rows in the order in which they were read. Rows of one kind have one key where their
 /// identifiers are one. In the usual order of files and rows the keys rise.

@@ -1,6 +1,7 @@
 //! A release in memory: the rows in force of a list of Snapshot files, or the first fault of them.
 #![tactic(auto)]
 
+mod attribute_types;
 mod attributes;
 mod choosing;
 mod comparing;
@@ -15,6 +16,7 @@ mod limits;
 mod lines;
 mod load;
 mod names;
+mod numbered_attributes;
 mod numbering;
 mod pieces;
 mod places;
@@ -25,8 +27,10 @@ mod row_lists;
 mod rows;
 mod sorted_attributes;
 mod spans;
+mod value_number;
 mod versions;
 
+pub use crate::attribute_types::{Types, near_types};
 pub use crate::fault::LoadFault;
 pub use crate::held_release::Snapshot;
 pub use crate::laws::{
@@ -36,4 +40,4 @@ pub use crate::laws::{
 pub use crate::limits::Limits;
 pub use crate::load::list_names;
 pub use crate::report::Report;
-pub use crate::sorted_attributes::AttributeRow;
+pub use crate::sorted_attributes::{AttributeNumbers, AttributeRow, NumberedValue};

@@ -30,6 +30,7 @@ use crate::held_release::Snapshot;
 use crate::limits::Limits;
 use crate::lines::{ConceptLines, lines_among};
 use crate::names::Names;
+use crate::numbered_attributes::number_attributes;
 use crate::numbering::number_rows;
 use crate::pieces::PiecePlaces;
 use crate::places::{MemoryPlaces, PlaceSource};
@@ -278,6 +279,7 @@ fn finish(
     let concepts = Concepts::new(alloc, rising(concepts))?;
     match number_hierarchy(alloc, &concepts, isa_ends.as_slice()) {
         Ok(hierarchy) => {
+            drop(isa_ends);
             let NumberedHierarchy { isa, order } = hierarchy;
             let lists = lists_among(
                 alloc,
@@ -328,26 +330,41 @@ fn lists_among(
     concepts: &Concepts,
     names: Names,
     language: &str,
-    mut attributes: Attributes,
+    attributes: Attributes,
     member_ends: &[(SctId, SctId)],
 ) -> Result<Lists, AllocError>
     requires few { length names < 2 ^ 32 }
-    requires few_attributes { length attributes < 2 ^ 32 }
+    requires few_attributes { length attributes < 2 ^ 31 }
     ensures names { IfOk result (λ lists. lists.lines.names ≡ names_among concepts.now names) }
     ensures lines { IfOk result (λ lists. lists.lines.lines ≡ map (concept_line (name_among language.now lists.lines.names)) concepts.now) }
     ensures attributes { IfOk result (λ lists. in_file_order concepts.now lists.attributes ≡ attributes_among concepts.now attributes) }
     ensures sorted { IfOk result (λ lists. IsSortedBySource concepts.now lists.attributes) }
     ensures members { IfOk result (λ lists. lists.members.items ≡ filter_map (numbered_row concepts.now) member_ends.now) }
 {
-    let lines = lines_among(alloc, concepts, names, language)?;
-    attributes.retain_among(concepts);
-    let attributes = sort_by_source(alloc, concepts, &attributes)?;
+    let attributes = sorted_among(alloc, concepts, attributes)?;
     let members = number_rows(alloc, concepts, member_ends)?;
+    let lines = lines_among(alloc, concepts, names, language)?;
     Ok(Lists {
         lines,
         attributes,
         members,
     })
+}
+
+// The attribute rows of some concepts, sorted by source. What was read of them leaves before they are
+// sorted.
+fn sorted_among(
+    alloc: Global,
+    concepts: &Concepts,
+    attributes: Attributes,
+) -> Result<SortedAttributes, AllocError>
+    requires { length attributes < 2 ^ 31 }
+    ensures order { IfOk result (λ sorted. in_file_order concepts.now sorted ≡ attributes_among concepts.now attributes) }
+    ensures sorted { IfOk result (λ sorted. IsSortedBySource concepts.now sorted) }
+{
+    let numbered = number_attributes(alloc, concepts, &attributes)?;
+    drop(attributes);
+    sort_by_source(alloc, concepts, numbered)
 }
 
 // The is-a rows by the numbers of their ends.

@@ -1,10 +1,11 @@
 //! The numbers that stand in a list more than once.
-ghost use Rattle.std.specs.Prelude.{◌≡◌, ◌==◌, ◌≤◌, ◌+◌, ◌↔◌, ℕ, Contains, IfOk, count_by, filter, length};
+ghost use Rattle.std.specs.Prelude.{◌≡◌, ◌==◌, ◌≤◌, ◌+◌, ◌-◌, ◌↔◌, ℕ, Contains, IfOk, count_by, filter, length, nat_lt, not};
 ghost use Rattle.std.specs.Bool.{OnTrue};
 ghost use Rattle.std.specs.List.Sorted.{IsStrictlyIncreasing};
 ghost use Rattle.hierarchy.specs.Members.{has};
 ghost use Rattle.snapshot.specs.Repeated.{equal_neighbours};
 
+use crate::keys::RELATIONSHIPS;
 use crate::rising_keys::RisingKeys;
 use std::alloc::{AllocError, Global};
 
@@ -21,12 +22,66 @@ pub fn repeated_keys(alloc: Global, keys: &[u64]) -> Result<Vec<u64>, AllocError
     if rises(keys) {
         return Ok(Vec::new(alloc));
     }
-    let mut doubtful = doubtful_keys(alloc, keys)?;
+    let mut repeated = again_keys(alloc, keys)?;
     // needs no buffer, as a stable sort does
-    doubtful.sort_unstable();
-    let mut repeated = equal_neighbours(alloc, doubtful.as_slice())?;
+    repeated.sort_unstable();
     repeated.dedup();
     Ok(repeated)
+}
+
+// The keys that stand at least twice in a list, in any order and as often as may be. Where the keys
+// stand in no order, one part of them is sorted behind the other, so that never all are copied at once.
+fn again_keys(alloc: Global, keys: &[u64]) -> Result<Vec<u64>, AllocError>
+    ensures members { IfOk result (λ again. (key : ℕ) → (1 ≤ count_by (λ other. other == key) again.items) ↔ (2 ≤ count_by (λ other. other == key) keys.now)) }
+    ensures few { IfOk result (λ again. length again.items ≤ length keys.now) }
+{
+    if few_are_behind(keys) {
+        let doubtful = doubtful_keys(alloc, keys)?;
+        let again = sorted_neighbours(alloc, doubtful)?;
+        return Ok(again);
+    }
+    let below = keys_below(alloc, keys, RELATIONSHIPS)?;
+    let mut again = sorted_neighbours(alloc, below)?;
+    let others = keys_from(alloc, keys, RELATIONSHIPS)?;
+    let others = sorted_neighbours(alloc, others)?;
+    again.extend_from_slice(others.as_slice())?;
+    Ok(again)
+}
+
+// Of some keys, each once less than it stands among them.
+fn sorted_neighbours(alloc: Global, mut keys: Vec<u64>) -> Result<Vec<u64>, AllocError>
+    ensures times { IfOk result (λ again. (key : ℕ) → count_by (λ other. other == key) again.items ≡ count_by (λ other. other == key) keys.items - 1) }
+    ensures few { IfOk result (λ again. length again.items ≤ length keys.items) }
+{
+    keys.sort_unstable();
+    let again = equal_neighbours(alloc, keys.as_slice())?;
+    Ok(again)
+}
+
+// The keys of a list below a bound.
+fn keys_below(alloc: Global, keys: &[u64], bound: u64) -> Result<Vec<u64>, AllocError>
+    ensures { IfOk result (λ below. below.items ≡ filter (λ key. nat_lt key bound) keys.now) }
+{
+    let mut below = Vec::new(alloc);
+    for key in keys {
+        if *key < bound {
+            below.push(*key)?;
+        }
+    }
+    Ok(below)
+}
+
+// The others.
+fn keys_from(alloc: Global, keys: &[u64], bound: u64) -> Result<Vec<u64>, AllocError>
+    ensures { IfOk result (λ others. others.items ≡ filter (λ key. not (nat_lt key bound)) keys.now) }
+{
+    let mut others = Vec::new(alloc);
+    for key in keys {
+        if bound <= *key {
+            others.push(*key)?;
+        }
+    }
+    Ok(others)
 }
 
 // Whether each key is below the next.
@@ -36,15 +91,11 @@ fn rises(keys: &[u64]) -> bool
     keys.is_sorted_by(|one, other| *one < *other)
 }
 
-// Keys of a list, among which those stand twice that do in the list: all that equal one that is behind,
-// or where many are, the whole list.
+// Keys of a list, among which those stand twice that do in the list: all that equal one that is behind.
 fn doubtful_keys(alloc: Global, keys: &[u64]) -> Result<Vec<u64>, AllocError>
     ensures twice { IfOk result (λ doubtful. (key : ℕ) → (2 ≤ count_by (λ other. other == key) doubtful.items) ↔ (2 ≤ count_by (λ other. other == key) keys.now)) }
     ensures few { IfOk result (λ doubtful. length doubtful.items ≤ length keys.now) }
 {
-    if !few_are_behind(keys) {
-        return Vec::from_slice(alloc, keys);
-    }
     let mut behind = keys_behind(alloc, keys)?;
     behind.sort_unstable();
     behind.dedup();

@@ -1,5 +1,5 @@
 //! Texts in a buffer, and the spans where they stand.
-ghost use Rattle.std.specs.Prelude.{◌≡◌, ◌++◌, IfOk, OnErr, OnOk, string_bytes};
+ghost use Rattle.std.specs.Prelude.{◌≡◌, ◌≤◌, ◌+◌, ◌++◌, IfOk, OnErr, OnOk, string_bytes};
 ghost use Rattle.snapshot.specs.Spans.{IsSpanOf, IsTextSpanOf, StandsAt, text_at};
 
 use std::alloc::AllocError;
@@ -12,6 +12,21 @@ pub struct Span {
 }
 
 impl Span {
+    /// Where it begins.
+    pub fn start(self) -> usize
+        ensures { result ≡ self.start }
+    {
+        self.start
+    }
+
+    /// How many bytes stand there.
+    pub fn len(self) -> usize
+        requires { self.start ≤ self.end }
+        ensures { self.start + result ≡ self.end }
+    {
+        self.end - self.start
+    }
+
     /// The bytes that stand there.
     pub fn bytes_in<'a>(self, texts: &'a [u8]) -> &'a [u8]
         requires { IsSpanOf texts.now self }

@@ -12,7 +12,7 @@ use Rattle.postings.specs.RowIndexes.{AreByType}
 use Rattle.postings.specs.ValueTables.{values_in}
 use Rattle.postings.specs.declared.row_indexes.RowIndexes.{RowIndexes}
 use Rattle.postings.specs.declared.rows.CodedRow.{CodedRow}
-use Rattle.postings.specs.declared.rows.Types.{Types}
+use Rattle.snapshot.specs.declared.attribute_types.Types.{Types}
 use Rattle.postings.specs.declared.values.Values.{Values}
 use Rattle.postings.proofs.IndexLemmas.{few_types}
 use Rattle.postings.proofs.KeptLemmas.{coded_kept, each_kept, many_groups, marked_are, one_number, units_are, units_below}

@@ -6,8 +6,7 @@ use Rattle.std.proofs.lemmas.List.{take_all}
 use Rattle.std.proofs.lemmas.Option.{get_or_from_slice_get, slice_get_within}
 use Rattle.postings.proofs.DistinctLemmas.{insert_key}
 use Rattle.rf2_rows.specs.Release.{Attribute, text_value}
-use Rattle.rf2_rows.specs.Rows.{value_lent}
-use Rattle.snapshot.specs.AttributesBySource.{attribute_of, attributes_by_source, with_source}
+use Rattle.snapshot.specs.AttributesBySource.{attribute_numbered, attributes_by_source, by_identifiers, numbered_lent, value_by_identifier}
 use Rattle.postings.specs.Coded.{IsCoded, row_coded}
 use Rattle.postings.specs.Indexed.{types_of, value_at}
 use Rattle.postings.specs.ValueTables.{values_in}
@@ -32,10 +31,13 @@ pub number-value-requires-clause-there : goal.number-value-requires-clause-there
 number-value-requires-clause-there c =
     let release = c.args.snapshot.now.release in
     let rows = attributes_by_source release in
-    let row = with_source release.concepts (attribute_of c.attribute_row-row.result) in
+    let row = by_identifiers release.concepts (attribute_numbered c.attribute_numbers-row.result) in
     let has : Attribute → Type 0 = λ row. Contains (values_in release.concepts c.in_ok-values.values) row.value in
-    subst has (get_or_from_slice_get rows c.loop-n.n row row c.attribute_row-row.ensures.row)
-    (c.in_ok-values.ensures.all c.loop-n.n row (slice_get_within rows c.loop-n.n row c.attribute_row-row.ensures.row))
+    subst has (get_or_from_slice_get rows c.loop-n.n row row c.attribute_numbers-row.ensures.row)
+    (c.in_ok-values.ensures.all c.loop-n.n row (slice_get_within rows c.loop-n.n row c.attribute_numbers-row.ensures.row))
+
+pub number-value-requires-clause-below : goal.number-value-requires-clause-below
+number-value-requires-clause-below c = c.attribute_numbers-row.ensures.value
 
 pub loop-n-preserved : goal.loop-n-preserved
 loop-n-preserved c =
@@ -44,9 +46,9 @@ loop-n-preserved c =
     let rows = attributes_by_source release in
     let values = values_in concepts c.in_ok-values.values in
     let n = c.loop-n.n in
-    let read = c.attribute_row-row.result in
-    let row = with_source concepts (attribute_of read) in
-    let here : slice_get rows n ≡ Some row = c.attribute_row-row.ensures.row in
+    let read = c.attribute_numbers-row.result in
+    let row = by_identifiers concepts (attribute_numbered read) in
+    let here : slice_get rows n ≡ Some row = c.attribute_numbers-row.ensures.row in
     let types = c.loop-n.types.numbers in
     let more = insert_key nat_eq types read.type_id in
     let grown : c.place_near.new.self.numbers ≡ more = c.in_ok-type_place.ensures.numbers in
@@ -60,15 +62,15 @@ loop-n-preserved c =
           c.number-value.result;
     } in
     let same_type : get_or more coded.type_place 0 ≡ read.type_id = get_or_from_slice_get more coded.type_place read.type_id 0 placed in
-    let same_value : value_at values coded.value ≡ value_lent read.value =
-    get_or_from_slice_get values coded.value (value_lent read.value) (text_value []) c.number-value.ensures in
+    let same_value : value_at values coded.value ≡ value_by_identifier concepts (numbered_lent read.value) =
+    get_or_from_slice_get values coded.value (value_by_identifier concepts (numbered_lent read.value)) (text_value []) c.number-value.ensures in
     let stands : row ≡ row_coded concepts more values coded = λ i. record row { type_id = sym same_type i; value = sym same_value i } in
     let is_coded : IsCoded concepts more values coded =
     record {
-      source = c.attribute_row-row.ensures.source;
+      source = c.attribute_numbers-row.ensures.source;
       type_place = slice_get_within more coded.type_place read.type_id placed;
       value =
-          slice_get_within values coded.value (value_lent read.value) c.number-value.ensures;
+          slice_get_within values coded.value (value_by_identifier concepts (numbered_lent read.value)) c.number-value.ensures;
     } in
     let pushed : c.push.new.self.items ≡ c.loop-n.rows.items ++ coded ∷ [] = c.in_ok-push.ensures.items in
     let invariant = c.loop-n.invariant in

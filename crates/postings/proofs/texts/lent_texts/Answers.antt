@@ -1,8 +1,7 @@
 use Rattle.std.proofs.Common.{ℕ, ◌++◌, ◌∷◌, [], ◌∙◌, Bor, List, Vec, Global, map, take, ap, sym}
 use Rattle.std.proofs.lemmas.List.{append-nil, map_push}
-use Rattle.rf2_rows.specs.Rows.{value_lent}
-use Rattle.rf2_rows.specs.declared.value.Value.{Value as LentValue}
-use Rattle.snapshot.specs.AttributesBySource.{attribute_of, attributes_by_source, with_source}
+use Rattle.snapshot.specs.AttributesBySource.{attribute_numbered, attributes_by_source, by_identifiers, numbered_lent, value_by_identifier}
+use Rattle.snapshot.specs.declared.sorted_attributes.NumberedValue.{NumberedValue}
 use Rattle.postings.specs.RowValues.{texts_at, texts_of}
 use Rattle.postings.proofs.ValueLemmas.{texts_more}
 use Rattle.postings.proofs.texts.lent_texts.Goals as goal
@@ -12,8 +11,8 @@ pub loop-n-preserved : goal.loop-n-preserved
 loop-n-preserved c =
     let release = c.args.snapshot.now.release in
     let before = texts_of (take c.loop-n.n (attributes_by_source release)) in
-    let row = with_source release.concepts (attribute_of c.attribute_row-row.result) in
-    let with : LentValue → List (List ℕ) = λ value. before ++ texts_at (value_lent value) in
+    let row = by_identifiers release.concepts (attribute_numbered c.attribute_numbers-row.result) in
+    let with : NumberedValue → List (List ℕ) = λ value. before ++ texts_at (value_by_identifier release.concepts (numbered_lent value)) in
     elim c.match-row.branch [
       | in-Other+in_ok-push-in-Other w ↦
           ap (λ (texts : Vec (Bor (List ℕ)) Global). map (λ text. text.now) texts.items) w.texts-is
@@ -21,17 +20,17 @@ loop-n-preserved c =
           ∙ map_push (λ (text : Bor (List ℕ)). text.now) c.loop-n.texts.items w.in-Other.text
           ∙ ap (λ (texts : List (List ℕ)). texts ++ w.in-Other.text.now ∷ []) c.loop-n.invariant
           ∙ ap with (sym w.in-Other.is)
-          ∙ sym (texts_more (attributes_by_source release) c.loop-n.n row c.attribute_row-row.ensures.row)
+          ∙ sym (texts_more (attributes_by_source release) c.loop-n.n row c.attribute_numbers-row.ensures.row)
       | in-Concept w ↦
           ap (λ (texts : Vec (Bor (List ℕ)) Global). map (λ text. text.now) texts.items) w.texts-is
           ∙ c.loop-n.invariant
           ∙ sym (append-nil before)
           ∙ ap with (sym w.in-Concept.is)
-          ∙ sym (texts_more (attributes_by_source release) c.loop-n.n row c.attribute_row-row.ensures.row)
+          ∙ sym (texts_more (attributes_by_source release) c.loop-n.n row c.attribute_numbers-row.ensures.row)
       | in-Decimal w ↦
           ap (λ (texts : Vec (Bor (List ℕ)) Global). map (λ text. text.now) texts.items) w.texts-is
           ∙ c.loop-n.invariant
           ∙ sym (append-nil before)
           ∙ ap with (sym w.in-Decimal.is)
-          ∙ sym (texts_more (attributes_by_source release) c.loop-n.n row c.attribute_row-row.ensures.row)
+          ∙ sym (texts_more (attributes_by_source release) c.loop-n.n row c.attribute_numbers-row.ensures.row)
     ]

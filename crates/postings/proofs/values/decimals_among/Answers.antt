@@ -9,19 +9,19 @@ use Rattle.std.proofs.lemmas.List.{take_all}
 use Rattle.std.proofs.lemmas.List.Filters.{dedup_is}
 use Rattle.std.proofs.lemmas.List.Kept.{Contains-dedup, Contains-from_dedup, IsStrictlySortedBy-dedup}
 use Rattle.std.proofs.lemmas.List.Sorted.{Contains-permutation, IsPermutation-sym}
-use Rattle.snapshot.specs.AttributesBySource.{attribute_of, attributes_by_source, with_source}
-use Rattle.postings.specs.RowValues.{decimals_at, decimals_of}
-use Rattle.postings.proofs.ValueLemmas.{decimals_more}
+use Rattle.snapshot.specs.AttributesBySource.{attribute_numbered, attributes_by_source, by_identifiers}
+use Rattle.postings.specs.RowValues.{decimals_of}
+use Rattle.postings.proofs.ValueLemmas.{decimals_more, same_decimals}
 use Rattle.postings.proofs.values.decimals_among.Goals as goal
 use Rattle.postings.proofs.values.decimals_among.Goals.{After-dedup}
 
 pub loop-n-preserved : goal.loop-n-preserved
 loop-n-preserved c =
     let release = c.args.snapshot.now.release in
-    let row = with_source release.concepts (attribute_of c.attribute_row-row.result) in
+    let read = attribute_numbered c.attribute_numbers-row.result in
     c.in_ok-add_decimal.ensures
-    ∙ ap (λ (decimals : List ℤ). decimals ++ decimals_at row.value) c.loop-n.invariant
-    ∙ sym (decimals_more (attributes_by_source release) c.loop-n.n row c.attribute_row-row.ensures.row)
+    ∙ (λ i. c.loop-n.invariant i ++ sym (same_decimals release.concepts read.value) i)
+    ∙ sym (decimals_more (attributes_by_source release) c.loop-n.n (by_identifiers release.concepts read) c.attribute_numbers-row.ensures.row)
 
 -- the decimals of all rows were gathered
 gathered : (c : After-dedup) → c.loop-n.decimals.items ≡ decimals_of (attributes_by_source c.args.snapshot.now.release)

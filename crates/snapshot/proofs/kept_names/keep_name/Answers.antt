@@ -1,6 +1,6 @@
 -- What the language code adds stays while the term is added behind it.
-use Rattle.std.proofs.Common.{arith, get_or, string_bytes}
-use Rattle.snapshot.specs.Spans.{no_span}
+use Rattle.std.proofs.Common.{◌+◌, ◌≡◌, ◌∙◌, arith, get_or, string_bytes}
+use Rattle.snapshot.specs.Spans.{no_span, text_at}
 use Rattle.snapshot.proofs.SpanLemmas.{extends-both, span-extends, text-extends}
 use Rattle.snapshot.proofs.kept_names.keep_name.Goals as goal
 
@@ -19,7 +19,10 @@ returns-clause-languages c = λ place default within.
 pub returns-clause-kept : goal.returns-clause-kept
 returns-clause-kept c = record {
   language = c.in_ok-language.ensures.within;
-  term = c.in_ok-term.ensures.span.placed;
+  term = record {
+    rise = omega arith;
+    within = omega (arith, c.in_ok-bytes.ensures, c.start.ensures, c.in_ok-term.ensures.span.placed.within);
+  };
 }
 
 pub returns-clause-name : goal.returns-clause-name
@@ -29,4 +32,8 @@ returns-clause-name c =
     let stays = text-extends (string_bytes c.keep_language.new.texts) (string_bytes c.keep_term.new.texts)
     c.in_ok-term.ensures.grown (get_or spans number no_span)
     (c.in_ok-language.ensures.languages number no_span c.in_ok-language.ensures.within) in
-    grind (arith, stays, c.in_ok-language.ensures.language, c.in_ok-term.ensures.span.same)
+    let end : c.start.result + c.in_ok-bytes.bytes ≡ c.in_ok-term.term.end = omega (arith, c.in_ok-bytes.ensures, c.start.ensures) in
+    let term : text_at (string_bytes c.keep_term.new.texts) (record { start = c.start.result; end = c.start.result + c.in_ok-bytes.bytes })
+    ≡ c.args.name.now.term.now =
+    (λ i. text_at (string_bytes c.keep_term.new.texts) (record { start = c.start.ensures i; end = end i })) ∙ c.in_ok-term.ensures.span.same in
+    grind (arith, stays, c.in_ok-language.ensures.language, term)

@@ -1,14 +1,13 @@
 use Rattle.std.proofs.Common.{ℕ, ℤ, ◌≡◌, ◌+◌, ◌<◌, ◌^◌, ◌∙◌, Some, ap, arith, length, List, subst, sym}
-use Rattle.std.specs.Prelude.{Contains, is_some}
+use Rattle.std.specs.Prelude.{Contains}
 use Rattle.std.specs.List.{slice_get}
 use Rattle.std.specs.List.Sorted.{IsStrictlySortedBy}
 use Rattle.std.specs.Ordering.{int_cmp}
 use Rattle.std.proofs.lemmas.Option.{slice_get_within}
-use Rattle.rf2_rows.specs.Rows.{value_lent}
-use Rattle.rf2_rows.specs.declared.value.Value.{Value as LentValue}
-use Rattle.snapshot.specs.Numbering.{concept_number}
+use Rattle.snapshot.specs.AttributesBySource.{IsNumberBelow, numbered_lent, value_by_identifier}
+use Rattle.snapshot.specs.declared.sorted_attributes.NumberedValue.{NumberedValue}
 use Rattle.postings.specs.ValueTables.{values_in}
-use Rattle.postings.proofs.ValueLemmas.{concept_found, concept_placed, decimal_placed, had_decimal, had_text, length-values, text_placed}
+use Rattle.postings.proofs.ValueLemmas.{concept_placed, decimal_placed, had_decimal, had_text, length-values, text_placed}
 use Rattle.postings.proofs.values.Values.number.Goals as goal
 use Rattle.postings.proofs.values.Values.number.Goals.{After-place_of, After-place_of-place}
 
@@ -44,7 +43,8 @@ pub place_of-requires-clause-there : goal.place_of-requires-clause-there
 place_of-requires-clause-there c =
     let concepts = c.args.snapshot.now.release.concepts in
     let tables = c.args.self.now in
-    let there = subst (λ (value : LentValue). Contains (values_in concepts tables) (value_lent value)) c.in-Decimal.is c.requires.there in
+    let has : NumberedValue → Type 0 = λ value. Contains (values_in concepts tables) (value_by_identifier concepts (numbered_lent value)) in
+    let there = subst has c.in-Decimal.is c.requires.there in
     subst (λ (decimals : List ℤ). Contains decimals c.in-Decimal.decimal.0) (sym c.as_slice.ensures.value)
     (had_decimal concepts tables.decimals.items tables.texts c.in-Decimal.decimal.0 there)
 
@@ -52,7 +52,8 @@ pub place_of-place-requires-clause-there : goal.place_of-place-requires-clause-t
 place_of-place-requires-clause-there c =
     let concepts = c.args.snapshot.now.release.concepts in
     let tables = c.args.self.now in
-    let there = subst (λ (value : LentValue). Contains (values_in concepts tables) (value_lent value)) c.in-Other.is c.requires.there in
+    let has : NumberedValue → Type 0 = λ value. Contains (values_in concepts tables) (value_by_identifier concepts (numbered_lent value)) in
+    let there = subst has c.in-Other.is c.requires.there in
     had_text concepts tables.decimals.items tables.texts c.in-Other.text.now there
 
 pub overflow_cast-result : goal.overflow_cast-result
@@ -81,21 +82,13 @@ overflow_add-result-in-Other-2 c =
       );
     }
 
-pub unwrap-requires : goal.unwrap-requires
-unwrap-requires c =
-    let concepts = c.args.snapshot.now.release.concepts in
-    let tables = c.args.self.now in
-    let there = subst (λ (value : LentValue). Contains (values_in concepts tables) (value_lent value)) c.in-Concept.is c.requires.there in
-    ap is_some (c.index_of.ensures ∙ ap (concept_number concepts) c.number.ensures.number)
-    ∙ concept_found concepts tables.decimals.items tables.texts c.in-Concept.concept there
-
 pub returns-in-Concept : goal.returns-in-Concept
 returns-in-Concept c =
     let concepts = c.args.snapshot.now.release.concepts in
     let tables = c.args.self.now in
-    concept_placed concepts tables.decimals.items tables.texts c.in-Concept.concept c.unwrap.result
-    (ap (concept_number concepts) (sym c.number.ensures.number) ∙ sym c.index_of.ensures ∙ c.unwrap.ensures)
-    ∙ ap (λ (value : LentValue). Some (value_lent value)) (sym c.in-Concept.is)
+    concept_placed concepts tables.decimals.items tables.texts c.in-Concept.number
+    (subst (λ (value : NumberedValue). IsNumberBelow (length concepts) (numbered_lent value)) c.in-Concept.is c.requires.below)
+    ∙ ap (λ (value : NumberedValue). Some (value_by_identifier concepts (numbered_lent value))) (sym c.in-Concept.is)
 
 pub returns-in-Decimal : goal.returns-in-Decimal
 returns-in-Decimal c =
@@ -104,7 +97,7 @@ returns-in-Decimal c =
     ap (λ (count : ℕ). slice_get (values_in concepts tables) (count + c.place_of.result)) c.concept_count-concepts.ensures.count
     ∙ decimal_placed concepts tables.decimals.items tables.texts c.in-Decimal.decimal.0 c.place_of.result
     (ap (λ (decimals : List ℤ). slice_get decimals c.place_of.result) (sym c.as_slice.ensures.value) ∙ c.place_of.ensures)
-    ∙ ap (λ (value : LentValue). Some (value_lent value)) (sym c.in-Decimal.is)
+    ∙ ap (λ (value : NumberedValue). Some (value_by_identifier concepts (numbered_lent value))) (sym c.in-Decimal.is)
 
 pub returns-in-Other : goal.returns-in-Other
 returns-in-Other c =
@@ -113,4 +106,4 @@ returns-in-Other c =
     let long : c.len.result ≡ length tables.decimals.items = omega (arith, c.len.ensures) in
     (λ i. slice_get (values_in concepts tables) (c.concept_count-concepts.ensures.count i + (long i + c.place_of-place.result)))
     ∙ text_placed concepts tables.decimals.items tables.texts c.in-Other.text.now c.place_of-place.result c.place_of-place.ensures
-    ∙ ap (λ (value : LentValue). Some (value_lent value)) (sym c.in-Other.is)
+    ∙ ap (λ (value : NumberedValue). Some (value_by_identifier concepts (numbered_lent value))) (sym c.in-Other.is)

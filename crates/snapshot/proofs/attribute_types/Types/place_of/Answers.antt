@@ -1,10 +1,9 @@
 use Rattle.std.proofs.Common.{ℕ, ◌≡◌, ◌∙◌, Some, ap, arith}
 use Rattle.std.specs.List.{slice_get}
-use Rattle.postings.specs.declared.rows.Types.{Types}
-use Rattle.postings.proofs.FirstKeyLemmas.{place_near}
-use Rattle.postings.proofs.RowLemmas.{placed_type}
-use Rattle.postings.proofs.rows.Types.place_of.Goals as goal
-use Rattle.postings.proofs.rows.Types.place_of.Goals.{then-is_new+in_ok-push, else-is_new}
+use Rattle.snapshot.specs.declared.attribute_types.Types.{Types}
+use Rattle.snapshot.proofs.TypeLemmas.{place_near, placed_type}
+use Rattle.snapshot.proofs.attribute_types.Types.place_of.Goals as goal
+use Rattle.snapshot.proofs.attribute_types.Types.place_of.Goals.{then-is_new+in_ok-push, else-is_new}
 
 pub overflow_cast-result : goal.overflow_cast-result
 overflow_cast-result c =

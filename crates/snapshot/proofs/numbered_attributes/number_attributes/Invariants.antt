@@ -1,0 +1,14 @@
+-- The rows so far are numbered.
+use Rattle.std.proofs.Common.{◌≡◌, ◌≤◌, length, map, take}
+use Rattle.snapshot.specs.AttributesBySource.{by_identifiers}
+use Rattle.snapshot.specs.Kept.{attributes_among}
+use Rattle.snapshot.specs.NumberedInside.{AreNumbered, numbered_in}
+use Rattle.snapshot.proofs.numbered_attributes.number_attributes.Given as goal
+
+abbrev pub invariant-loop-place : goal.invariant-loop-place
+invariant-loop-place l = record {
+  rows : map (by_identifiers l.concepts) (numbered_in l.numbered) ≡ attributes_among l.concepts (take l.place l.attributes);
+  numbered : AreNumbered (length l.concepts) l.numbered;
+  values : length l.numbered.concrete ≤ l.place;
+  count : length l.numbered.rows.items ≤ l.place;
+}
