@@ -10,7 +10,7 @@ use Rattle.set_algebra.specs.Meaning.{means}
 use Rattle.set_algebra.specs.Plan.{Plan}
 use Rattle.pair_sets.specs.Numbers.{numbers_in}
 use Rattle.pair_sets.proofs.Normal.{concepts_of, numbers_in-agree}
-use Rattle.query_tool.specs.Answer.{constraint_answer, HasAnAnswer, HasOneAnswer}
+use Rattle.query_service.specs.Answer.{constraint_answer, HasAnAnswer, HasOneAnswer}
 
 -- the concepts of a plan are those of a constraint that denotes what it means
 pub concepts_answered : (release : Release) (tree : Tree) (plan : Plan) (found : List ℕ)

@@ -11,7 +11,7 @@ use Rattle.set_algebra.specs.declared.choice.Choice.{Choice}
 use Rattle.planner.specs.Chosen.{least_choices}
 use Rattle.planner.specs.Offered.{AreLeast}
 use Rattle.answer_printer.specs.PlanText.{plan_text}
-use Rattle.query_tool.specs.Explanation.{Explains, executed_plan}
+use Rattle.query_service.specs.Explanation.{Explains, executed_plan}
 
 -- the text of the plan by which a constraint is answered explains it
 pub explains : (contents : Contents) (tree : Tree) (indexed : Indexed) (plan : Plan) (choices : List Choice) → IsIndexOf indexed contents.release

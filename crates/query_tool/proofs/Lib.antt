@@ -1,4 +1,3 @@
 mod AnswerLemmas
 mod ExplanationLemmas
 mod PromiseLemmas
-mod ServeLemmas

@@ -25,11 +25,12 @@ use Rattle.snapshot.specs.declared.fault.LoadFault.TheVariants.{NoConceptFile}
 use Rattle.command_line.specs.declared.words.Mode.{Mode}
 use Rattle.command_line.specs.declared.words.Mode.TheVariants.{Query}
 use Rattle.query_run.specs.Lines.{AreAnswers, AreWritten, query_lines}
-use Rattle.query_tool.specs.Answer.{IsAnswer}
+use Rattle.query_service.specs.Answer.{IsAnswer}
+use Rattle.query_service.specs.Serve.{EndsWith, IsAnswered, IsLoadOf, IsServed, IsTask, Task}
+use Rattle.query_service.specs.Streams.{Streams}
+use Rattle.query_service.specs.declared.service.Status.TheVariants.{Done}
+use Rattle.query_service.proofs.WrittenLemmas.{AreAnswers-weaker}
 use Rattle.query_tool.specs.Promise.{Answers, IsReleaseOf}
-use Rattle.query_tool.specs.Serve.{EndsWith, IsAnswered, IsLoadOf, IsServed, IsTask, Task}
-use Rattle.query_tool.specs.Streams.{Streams}
-use Rattle.query_tool.specs.declared.service.Status.TheVariants.{Done}
 use Rattle.streams.specs.declared.output.AnswerOutput.{Ghosts as Output}
 use Rattle.streams.specs.declared.input.QueryInput.{Ghosts as Input}
 
@@ -84,13 +85,6 @@ answer_said contents rise line text (inl (tree, is, same)) = inl (
 )
 answer_said contents rise line text (inr refused) = inr refused
 
--- those to all lines
-answers_said : (contents : Contents) → IsStrictlyIncreasing contents.release.concepts → (lines : List (List ℕ)) (text : List ℕ)
-    → AreAnswers (IsAnswer contents) lines text → AreAnswers (Answers contents) lines text
-answers_said contents rise [] text none = none
-answers_said contents rise (line ∷ lines) text (first, rest, answer, answers, same) =
-    (first, rest, answer_said contents rise line first answer, answers_said contents rise lines rest answers, same)
-
 -- what was written behind known bytes is known
 appended : (there : List ℕ) (after : Option (List ℕ)) (text : List ℕ) → Appends (Some there) after text → after ≡ Some (there ++ text)
 appended there None text none = absurd none
@@ -115,7 +109,8 @@ promise_kept rises r w e before after files language bytes there old new task as
       contents,
       record { names = task.names; in_order = loads.0; accepted = loads.1 },
       text,
-      answers_said contents (concepts_rise rises language (listed files task.names) contents loads.1) (query_lines bytes) text answers,
+      AreAnswers-weaker (IsAnswer contents) (Answers contents)
+          (answer_said contents (concepts_rise rises language (listed files task.names) contents loads.1)) (query_lines bytes) text answers,
       appended there (w.written after.output) text behind,
     )
 promise_kept rises r w e before after files language bytes there old new task asked (inr none) reads wrote = absurd none

@@ -10,8 +10,8 @@ use Rattle.constraint_tree.specs.Tree.{Tree}
 use Rattle.snapshot.specs.Contents.{Contents}
 use Rattle.answer_printer.specs.AnswerText.{refusal_text}
 use Rattle.query_run.specs.KeptLine.{kept_of}
-use Rattle.query_tool.specs.Answer.{IsAnswer, IsForLine, constraint_answer}
-use Rattle.query_tool.specs.Explanation.{Explains, IsExplanation}
+use Rattle.query_service.specs.Answer.{IsAnswer, IsForLine, constraint_answer}
+use Rattle.query_service.specs.Explanation.{Explains, IsExplanation}
 
 -- a line that is too long has no text but that
 long_text : (IsFor : Tree → List ℕ → Type 0) (line text : List ℕ) → most_bytes < length line → IsForLine IsFor line text → text ≡ refusal_text Long

@@ -16,9 +16,9 @@ use Rattle.snapshot.specs.Name.{name_of}
 use Rattle.snapshot.specs.Pieces.{AreInOrder, listed}
 use Rattle.answer_printer.specs.AnswerText.{answer_text, refusal_text}
 use Rattle.query_run.specs.Lines.{AreAnswers, query_lines}
-use Rattle.query_tool.specs.Serve.{EndsWith, IsTask, Task}
-use Rattle.query_tool.specs.Streams.{Streams}
-use Rattle.query_tool.specs.declared.service.Status.TheVariants.{Done}
+use Rattle.query_service.specs.Serve.{EndsWith, IsTask, Task}
+use Rattle.query_service.specs.Streams.{Streams}
+use Rattle.query_service.specs.declared.service.Status.TheVariants.{Done}
 use Rattle.streams.specs.declared.output.AnswerOutput.{Ghosts as Output}
 use Rattle.streams.specs.declared.input.QueryInput.{Ghosts as Input}
 use Rattle.command_line.specs.declared.words.Mode.TheVariants.{Query}

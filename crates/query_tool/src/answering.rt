@@ -8,8 +8,8 @@ ghost use Rattle.set_algebra.specs.Meaning.{means};
 ghost use Rattle.set_algebra.specs.Plan.{plan_of};
 ghost use Rattle.postings.specs.Indexed.{IsIndexOf};
 ghost use Rattle.answer_printer.specs.AnswerText.{refusal_text};
-ghost use Rattle.query_tool.specs.Answer.{IsAnswer, constraint_answer};
-ghost use Rattle.query_tool.specs.Explanation.{Explains, IsExplanation};
+ghost use Rattle.query_service.specs.Answer.{IsAnswer, constraint_answer};
+ghost use Rattle.query_service.specs.Explanation.{Explains, IsExplanation};
 
 use crate::plans::{asked_plan, least_plan};
 use answer_printer::{print_answer, print_fault, print_plan};

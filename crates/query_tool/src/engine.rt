@@ -10,8 +10,8 @@ ghost use Rattle.snapshot.specs.Files.{name_concepts};
 ghost use Rattle.snapshot.specs.Pieces.{AreInOrder, FailsAtFiles, IsUnlisted, has_kind_at, listed};
 ghost use Rattle.snapshot.specs.Taking.{FailsAtRead, FileIs, RaisesOnlyAtDevice, is_device};
 ghost use Rattle.release_files.specs.Source.{file_text};
-ghost use Rattle.query_tool.specs.Answer.{IsAnswer};
-ghost use Rattle.query_tool.specs.Explanation.{IsExplanation};
+ghost use Rattle.query_service.specs.Answer.{IsAnswer};
+ghost use Rattle.query_service.specs.Explanation.{IsExplanation};
 ghost use Rattle.query_tool.specs.FrontLaw.{same_front};
 
 use crate::answering::{answer_over, answer_over_with, explain_over};

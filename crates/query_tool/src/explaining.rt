@@ -3,7 +3,7 @@ ghost use Rattle.std.specs.Prelude.{◌≡◌, ◌+◌, ◌^◌, ◌≤◌, fals
 ghost use Rattle.std.specs.Io.KnownBytes.{IsAtEnd};
 ghost use Rattle.query_run.specs.Fault.{CountsTurns, EndsAt, HaveFailed};
 ghost use Rattle.query_run.specs.Lines.{AreWritten, query_lines};
-ghost use Rattle.query_tool.specs.Explanation.{IsExplanation};
+ghost use Rattle.query_service.specs.Explanation.{IsExplanation};
 ghost use Rattle.query_tool.specs.FrontLaw.{same_front_explained};
 
 use crate::engine::Engine;

@@ -4,8 +4,8 @@ ghost use Rattle.constraint_tree.specs.Depth.{most_deep};
 ghost use Rattle.constraint_tree.specs.Refusal.{IsConstraint};
 ghost use Rattle.constraint_tree.specs.Tree.{Tree};
 ghost use Rattle.set_algebra.specs.Depth.{plan_depth};
-ghost use Rattle.query_tool.specs.Explanation.{executed_plan};
-ghost use Rattle.query_tool.specs.Answer.{HasAnAnswer, HasOneAnswer};
+ghost use Rattle.query_service.specs.Explanation.{executed_plan};
+ghost use Rattle.query_service.specs.Answer.{HasAnAnswer, HasOneAnswer};
 ghost use Rattle.query_tool.specs.Promise.{KeepsThePromise};
 
 use ecl_parser::one_reading;

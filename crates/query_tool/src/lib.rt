@@ -1,5 +1,5 @@
-//! What the program does: it answers queries over a SNOMED CT release, one to a line of its input, tells
-//! the plan of each, or reports what a release has.
+//! What the program does: by its engine it answers queries over a SNOMED CT release, one to a line of its input,
+//! tells the plan of each, or reports what a release has.
 #![tactic(auto)]
 
 mod answering;
@@ -8,16 +8,17 @@ mod explaining;
 mod laws;
 mod plans;
 mod program;
-mod service;
+mod serving;
 mod writing;
 
 pub use crate::engine::Engine;
 pub use crate::explaining::run_explain;
 pub use crate::laws::{executed_plans_are_not_deep, one_answer, promise_is_kept};
 pub use crate::program::start;
-pub use crate::service::{Status, refuse_words, serve};
+pub use crate::serving::serve;
 pub use command_line::{Mode, Request, WordFault, read_words};
 pub use planner::Choice;
 pub use query_run::{RunFault, run};
+pub use query_service::{Status, refuse_words};
 pub use rewrites::{Rule, Step};
 pub use streams::{AnswerOutput, FolderSource, IoFault, QueryInput, StreamInput, StreamOutput};

@@ -10,7 +10,7 @@ ghost use Rattle.rewrites.specs.Steps.{all_applied};
 ghost use Rattle.planner.specs.Asked.{choices_with};
 ghost use Rattle.planner.specs.Chosen.{least_choices};
 ghost use Rattle.planner.specs.Offered.{AreLeast};
-ghost use Rattle.query_tool.specs.Explanation.{executed_plan};
+ghost use Rattle.query_service.specs.Explanation.{executed_plan};
 
 use constraint_tree::Constraint;
 use planner::{Choice, PhysicalPlan, choose, choose_with};

@@ -1,7 +1,8 @@
 //! The program over the words, the streams and the folders of the system.
 
-use crate::service::{Status, refuse_words, serve};
+use crate::serving::serve;
 use command_line::{Request, WordFault, read_words};
+use query_service::{Status, refuse_words};
 use std::fs::File;
 use std::io::ErrorKind;
 use std::{env, io};

@@ -5,7 +5,7 @@ ghost use Rattle.constraint_tree.specs.Tree.{tree_of};
 ghost use Rattle.postings.specs.Indexed.{IsIndexOf};
 ghost use Rattle.answer_printer.specs.AnswerText.{refusal_text};
 ghost use Rattle.streams.specs.Waiting.{LeavesAnswer, Puts, is_write};
-ghost use Rattle.query_tool.specs.Answer.{IsAnswer, constraint_answer};
+ghost use Rattle.query_service.specs.Answer.{IsAnswer, constraint_answer};
 
 use crate::answering::concepts_of;
 use answer_printer::{print_fault, write_answer};

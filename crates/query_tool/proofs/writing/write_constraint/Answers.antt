@@ -4,7 +4,7 @@ use Rattle.streams.proofs.WaitingLemmas.{LeavesAnswer-weaker}
 use Rattle.constraint_tree.specs.Tree.{tree_of}
 use Rattle.snapshot.specs.Name.{name_of}
 use Rattle.answer_printer.specs.AnswerText.{answer_text}
-use Rattle.query_tool.specs.Answer.{constraint_answer}
+use Rattle.query_service.specs.Answer.{constraint_answer}
 use Rattle.query_tool.proofs.writing.write_constraint.Goals as goal
 
 -- the answer of the concepts is that of the constraint

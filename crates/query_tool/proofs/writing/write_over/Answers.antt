@@ -2,7 +2,7 @@ use Rattle.std.proofs.Common.{inl}
 use Rattle.std.proofs.lemmas.Result.{IfErr-weaker}
 use Rattle.streams.proofs.WaitingLemmas.{LeavesAnswer-weaker}
 use Rattle.constraint_tree.specs.Tree.{tree_of}
-use Rattle.query_tool.specs.Answer.{IsAnswer}
+use Rattle.query_service.specs.Answer.{IsAnswer}
 use Rattle.query_tool.proofs.writing.write_over.Goals as goal
 
 -- what answers the constraint answers the line

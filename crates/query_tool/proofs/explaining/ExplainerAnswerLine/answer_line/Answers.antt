@@ -1,7 +1,7 @@
 use Rattle.std.proofs.Common.{◌++◌, ◌∙◌, List, ℕ, ap, subst, sym}
 use Rattle.std.proofs.lemmas.Result.{IfErr-weaker, on_ok_weaker}
 use Rattle.streams.proofs.WaitingLemmas.{LeavesAnswer-weaker}
-use Rattle.query_tool.specs.Explanation.{IsExplanation}
+use Rattle.query_service.specs.Explanation.{IsExplanation}
 use Rattle.query_tool.proofs.explaining.ExplainerAnswerLine.answer_line.Goals as goal
 
 -- the text that is put explains the line

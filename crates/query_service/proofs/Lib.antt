@@ -1,0 +1,2 @@
+mod ServeLemmas
+pub mod WrittenLemmas

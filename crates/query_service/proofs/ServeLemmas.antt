@@ -1,0 +1,185 @@
+-- What a request ends with, by the status and the faults that it met.
+use Rattle.std.proofs.Common.{ℕ, ◌≡◌, ◌≢◌, ◌<◌, ◌⊎◌, inl, inr, false, true, List, [], length, map, take, Option, None, Some, Result, Ok, Err, refl, sym, ap, subst, ◌∙◌}
+use Rattle.std.specs.Prelude.{IfSome}
+use Rattle.std.proofs.lemmas.Bool.{true≢false}
+use Rattle.std.proofs.lemmas.List.{length-map}
+use Rattle.std.specs.Io.KnownBytes.{Appends}
+use Rattle.snapshot.specs.Contents.{Contents, IsFaultOf, load_of}
+use Rattle.release_files.specs.Source.{FileText}
+use Rattle.snapshot.specs.Limits.{standard_limits}
+use Rattle.snapshot.specs.Pieces.{AreInOrder, FailsToList, listed}
+use Rattle.snapshot.specs.Taking.{FailsBelow, is_device}
+use Rattle.snapshot.specs.declared.fault.LoadFault.{LoadFault}
+use Rattle.snapshot.specs.declared.fault.LoadFault.TheVariants as load
+use Rattle.snapshot.specs.declared.limits.Limits.{Limits}
+use Rattle.answer_printer.specs.ReportText.{report_text}
+use Rattle.query_run.specs.Fault.{CountsTurns, HaveFailed}
+use Rattle.query_service.specs.Report.{report_of}
+use Rattle.sample_release.specs.SampleContents.{sample_contents}
+use Rattle.query_service.specs.Serve.{AnswersFiles, EndsWith, IsAskedFor, IsCut, IsLoadOf, IsLoadedFrom, IsServed, IsTask, ServesWith, Task, TellsLoadFault, fault_text, refusal_status_of, sample_task, status_of}
+use Rattle.query_service.specs.Streams.{IsTold, Streams, streams}
+use Rattle.query_run.specs.declared.running.RunFault.{RunFault}
+use Rattle.query_run.specs.declared.running.RunFault.TheVariants.{Read, Write, Memory, Turns}
+use Rattle.query_service.specs.declared.service.Status.{Status}
+use Rattle.query_service.specs.declared.service.Status.TheVariants.{Done, DeviceFault, WordsFault, ReleaseRefused, MemoryRefused}
+use Rattle.streams.specs.declared.output.AnswerOutput.{Ghosts as Output}
+use Rattle.streams.specs.declared.input.QueryInput.{Ghosts as Input}
+use Rattle.command_line.specs.declared.words.Mode.{Mode}
+use Rattle.command_line.specs.declared.words.Mode.TheVariants.{Sample, Query, Explain, Check}
+
+-- a fault that came while a release was served, and was told by its line
+pub stops_with : {R W E : Type 0} (r : Input R) (w : Output W) (e : Output E) (mode : Mode) (contents : Contents) (fault : RunFault) (status : Status) (before after : Streams R W E)
+    → status ≡ status_of fault → IsCut r w mode fault contents before after
+    → HaveFailed fault (r.has_failed after.input) (w.has_failed after.output) → CountsTurns fault (r.read_count before.input) (r.read_count after.input)
+    → IsTold e before.errors after.errors (fault_text fault) → ServesWith r w e mode contents status before after
+stops_with r w e mode contents fault status before after is cut failed turns told =
+    subst (λ (s : Status). ServesWith r w e mode contents s before after) (sym is) (by fault cut failed turns told)
+  where
+    by : (fault : RunFault) → IsCut r w mode fault contents before after
+        → HaveFailed fault (r.has_failed after.input) (w.has_failed after.output) → CountsTurns fault (r.read_count before.input) (r.read_count after.input)
+        → IsTold e before.errors after.errors (fault_text fault) → ServesWith r w e mode contents (status_of fault) before after
+    by (Read count) cut failed turns told = record { fault = Read count; ends = refl; served = cut; failed = failed; turns = turns; told = told }
+    by (Write count) cut failed turns told = record { fault = Write count; ends = refl; served = cut; failed = failed; turns = turns; told = told }
+    by (Memory count) cut failed turns told = record { fault = Memory count; ends = refl; served = cut; failed = failed; turns = turns; told = told }
+    by (Turns count) cut failed turns told = record { fault = Turns count; ends = refl; served = cut; failed = failed; turns = turns; told = told }
+
+-- files that were refused, and nothing was read or written
+pub refuses_with : {R W E : Type 0} (r : Input R) (w : Output W) (e : Output E) (task : Task) (fault : LoadFault) (status : Status) (input : R) (output : W) (before after : E)
+    → task.loaded ≡ Err fault → TellsLoadFault e task.names fault status before after
+    → EndsWith r w e task status (streams input output before) (streams input output after)
+refuses_with r w e task fault Done input output before after is told = absurd told
+refuses_with r w e task fault DeviceFault input output before after is told =
+    inr (record { fault = fault; ends = told.0; loaded = is; read = refl; written = refl; told = told.1 })
+refuses_with r w e task fault WordsFault input output before after is told = absurd told
+refuses_with r w e task fault ReleaseRefused input output before after is told =
+    inr (record { fault = fault; ends = told.0; loaded = is; read = refl; written = refl; told = told.1 })
+refuses_with r w e task fault MemoryRefused input output before after is told = inr (record { read = refl; written = refl; told = told })
+
+-- the release that is built in is served as one of files is
+serves_sample : {R W E : Type 0} (r : Input R) (w : Output W) (e : Output E) (contents : Contents) (status : Status) (before after : Streams R W E)
+    → ServesWith r w e Query contents status before after → ServesWith r w e Sample contents status before after
+serves_sample r w e contents Done before after done = record { served = done.served; sound = done.sound; told = done.told }
+serves_sample r w e contents DeviceFault before after stopped =
+    record { fault = stopped.fault; ends = stopped.ends; served = stopped.served; failed = stopped.failed; turns = stopped.turns; told = stopped.told }
+serves_sample r w e contents WordsFault before after none = none
+serves_sample r w e contents ReleaseRefused before after none = none
+serves_sample r w e contents MemoryRefused before after stopped =
+    record { fault = stopped.fault; ends = stopped.ends; served = stopped.served; failed = stopped.failed; turns = stopped.turns; told = stopped.told }
+
+-- a mode that answers the lines over files asks for the release of a source's files
+pub asked_of_files : {told : Option (List FileText)} {old new : ℕ} {language : List ℕ} {task : Task} (mode : Mode) → AnswersFiles mode
+    → IsLoadedFrom told old new language task → IsAskedFor told old new language mode task
+asked_of_files Sample files loaded = absurd files
+asked_of_files Query files loaded = loaded
+asked_of_files Explain files loaded = loaded
+asked_of_files Check files loaded = absurd files
+
+-- and unless it explains them it is that of queries
+pub serves_files : {R W E : Type 0} (r : Input R) (w : Output W) (e : Output E) (mode : Mode) (contents : Contents) (status : Status)
+    (before after : Streams R W E) → AnswersFiles mode → mode ≢ Explain → ServesWith r w e Query contents status before after
+    → ServesWith r w e mode contents status before after
+serves_files r w e Sample contents status before after files other served = absurd files
+serves_files r w e Query contents status before after files other served = served
+serves_files r w e Explain contents status before after files other served = absurd (other refl)
+serves_files r w e Check contents status before after files other served = absurd files
+
+-- what is loaded is one thing, and a fault of it that of what is loaded
+pub same_contents : (loaded : Result Contents LoadFault) (own contents : Contents) → loaded ≡ Ok own → loaded ≡ Ok contents → contents ≡ own
+same_contents loaded own contents is loads = let same : Ok contents ≡ Ok own = sym loads ∙ is in (cc)
+
+pub same_fault : (loaded : Result Contents LoadFault) (own : Contents) (fault : LoadFault) → loaded ≡ Ok own → IsFaultOf fault loaded → IsFaultOf fault (Ok own)
+same_fault loaded own fault is said other = sym is ∙ said other
+
+-- the release that is built in was loaded and served
+pub ends_sample : {R W E : Type 0} (r : Input R) (w : Output W) (e : Output E) (contents : Contents) (status : Status) (before after : Streams R W E)
+    → contents ≡ sample_contents → ServesWith r w e Query contents status before after → EndsWith r w e sample_task status before after
+ends_sample r w e contents status before after same served = inl (record {
+  contents = contents;
+  loaded = ap Ok (sym same);
+  ended = serves_sample r w e contents status before after served;
+})
+
+only_memory : (fault : LoadFault) → IsFaultOf fault (Ok sample_contents) → (fault ≡ load.Memory → ⊥) → ⊥
+only_memory fault said other = let clash : Ok sample_contents ≡ Err fault = said other in (cc)
+
+-- only for want of memory it is not
+pub refuses_sample : {R W E : Type 0} (r : Input R) (w : Output W) (e : Output E) (fault : LoadFault) (status : Status) (input : R) (output : W) (before after : E)
+    → IsFaultOf fault (Ok sample_contents) → TellsLoadFault e [] fault status before after → EndsWith r w e sample_task status (streams input output before) (streams input output after)
+refuses_sample r w e fault Done input output before after said told = absurd told
+refuses_sample r w e fault DeviceFault input output before after said told =
+    absurd (only_memory fault said (λ memory. let clash : MemoryRefused ≡ DeviceFault = ap refusal_status_of (sym memory) ∙ told.0 in (cc)))
+refuses_sample r w e fault WordsFault input output before after said told = absurd told
+refuses_sample r w e fault ReleaseRefused input output before after said told =
+    absurd (only_memory fault said (λ memory. let clash : MemoryRefused ≡ ReleaseRefused = ap refusal_status_of (sym memory) ∙ told.0 in (cc)))
+refuses_sample r w e fault MemoryRefused input output before after said told = inr (record { read = refl; written = refl; told = told })
+
+-- what a load of a source's files answered, where it tells its files
+pub loaded_whole : (told : Option (List FileText)) (limits : Limits) (language : List ℕ) (names : List (List ℕ)) (contents : Contents) → limits ≡ standard_limits
+    → IfSome told (λ known. load_of limits language (listed known names) ≡ Ok contents) → IfSome told (λ known. AreInOrder known names ⊎ ⊥)
+    → IfSome told (λ known. IsLoadOf known language names (Ok contents))
+loaded_whole None limits language names contents same loads ordered = tt
+loaded_whole (Some known) limits language names contents same loads (inl order) = (order, ap (λ (l : Limits). load_of l language (listed known names)) (sym same) ∙ loads)
+loaded_whole (Some known) limits language names contents same loads (inr none) = absurd none
+
+pub loaded_not : (told : Option (List FileText)) (limits : Limits) (language : List ℕ) (names : List (List ℕ)) (fault : LoadFault) → limits ≡ standard_limits
+    → IfSome told (λ known. is_device fault ≡ false → IsFaultOf fault (load_of limits language (listed known names)))
+    → IfSome told (λ known. AreInOrder known names ⊎ (names ≡ []) × ((fault ≡ load.Device None) ⊎ (fault ≡ load.Memory)))
+    → IfSome told (λ known. IsLoadOf known language names (Err fault))
+loaded_not None limits language names fault same said ordered = tt
+loaded_not (Some known) limits language names fault same said (inl order) =
+    λ other own. (order, ap (λ (l : Limits). load_of l language (listed known names)) (sym same) ∙ said own other)
+loaded_not (Some known) limits language names fault same said (inr (none, inl device)) = λ other own. absurd (true≢false (ap is_device (sym device) ∙ own))
+loaded_not (Some known) limits language names fault same said (inr (none, inr memory)) = λ other own. absurd (other memory)
+
+-- a failure of the device at one of some names was counted
+pub counts_device : {X : Type 0} (text : X → List ℕ) (items : List X) (old new : ℕ) (fault : LoadFault)
+    → (is_device fault ≡ true → FailsToList old new (map text items) fault ⊎ FailsBelow (length items) old new fault)
+    → is_device fault ≡ true → FailsToList old new (map text items) fault ⊎ FailsBelow (length (map text items)) old new fault
+counts_device text items old new fault said =
+    subst (λ (count : ℕ). is_device fault ≡ true → FailsToList old new (map text items) fault ⊎ FailsBelow count old new fault) (sym (length-map items text)) said
+
+-- what is said of want of memory behind a load
+pub loaded_no_more : (told : Option (List FileText)) (language : List ℕ) (names : List (List ℕ)) (fault : LoadFault) → fault ≡ load.Memory
+    → IfSome told (λ known. IsLoadOf known language names (Err fault))
+loaded_no_more None language names fault memory = tt
+loaded_no_more (Some known) language names fault memory = λ other own. absurd (other memory)
+
+-- a task is told by its mode and its language
+pub asked_as : (told : Option (List FileText)) (old new : ℕ) (lent language : List ℕ) (mode asked : Mode) (task : Task) → asked ≡ mode → lent ≡ language
+    → IsTask told old new lent mode task → IsTask told old new language asked task
+asked_as told old new lent language mode asked task is same task_is =
+    subst (λ (m : Mode). IsTask told old new language m task) (sym is) (subst (λ (code : List ℕ). IsTask told old new code mode task) same task_is)
+
+-- a report that was written whole
+pub ends_reported : {R W E : Type 0} (r : Input R) (w : Output W) (e : Output E) (task : Task) (contents : Contents) (text : List ℕ) (input : R) (before after : W) (errors : E)
+    → task.mode ≡ Check → task.loaded ≡ Ok contents → text ≡ report_text (report_of contents)
+    → Appends (w.written before) (w.written after) text → r.has_failed input ≡ false → w.has_failed after ≡ false
+    → EndsWith r w e task Done (streams input before errors) (streams input after errors)
+ends_reported r w e task contents text input before after errors mode loads is wrote reads writes = inl (record {
+  contents = contents;
+  loaded = loads;
+  ended = record {
+    served = subst (λ (m : Mode). IsServed r w m contents (streams input before errors) (streams input after errors)) (sym mode)
+        (record { read = refl; written = subst (λ (t : List ℕ). Appends (w.written before) (w.written after) t) is wrote });
+    sound = (reads, writes);
+    told = refl;
+  };
+})
+
+-- a report that was written in part
+pub ends_cut : {R W E : Type 0} (r : Input R) (w : Output W) (e : Output E) (task : Task) (contents : Contents) (text : List ℕ) (input : R) (before after : W) (errors told : E) (status : Status)
+    → task.mode ≡ Check → task.loaded ≡ Ok contents → text ≡ report_text (report_of contents) → status ≡ DeviceFault
+    → (place : ℕ) × (place < length text) × Appends (w.written before) (w.written after) (take place text)
+    → r.has_failed input ≡ false → w.has_failed after ≡ true → IsTold e errors told (fault_text (Write 0))
+    → EndsWith r w e task status (streams input before errors) (streams input after told)
+ends_cut r w e task contents text input before after errors told status mode loads is ends wrote reads fails line = inl (record {
+  contents = contents;
+  loaded = loads;
+  ended = stops_with r w e task.mode contents (Write 0) status (streams input before errors) (streams input after told) ends
+      (subst (λ (m : Mode). IsCut r w m (Write 0) contents (streams input before errors) (streams input after told)) (sym mode) (record {
+        is_write = refl;
+        read = refl;
+        written = subst (λ (t : List ℕ). (place : ℕ) × (place < length t) × Appends (w.written before) (w.written after) (take place t)) is wrote;
+      }))
+      (reads, fails) tt line;
+})

@@ -1,0 +1,43 @@
+use Rattle.std.proofs.Common.{Global, List, ℕ, Ok, Err, String, inl, map, refl, string_bytes, subst}
+use Rattle.query_service.specs.Serve.{Task, TellsLoadFault}
+use Rattle.query_service.proofs.ServeLemmas.{asked_of_files, counts_device, loaded_not, loaded_whole, refuses_with}
+use Rattle.query_service.proofs.service.answer_source.Goals as goal
+
+-- the release was loaded, and served by the run
+pub returns-in-Ok : goal.returns-in-Ok
+returns-in-Ok g c =
+    let names : List (List ℕ) = map string_bytes c.load_from.new.names.items in
+    let contents = g.Q.QueryEngine.contents c.in-Ok.engine in
+    let task : Task = record { mode = c.args.mode; loaded = Ok contents; names = names } in (
+      task,
+      record {
+        mode_is = refl;
+        loaded = asked_of_files c.args.mode c.requires.mode (record {
+          loaded = loaded_whole _ c.standard.result c.args.lang.now names contents c.standard.ensures c.in-Ok.ensures.ok c.in-Ok.ensures.names;
+          named = c.in-Ok.ensures.names;
+          device = record { failed = tt; calm = c.in-Ok.ensures.calm };
+        });
+      },
+      inl (record { contents = contents; loaded = refl; ended = c.answer_lines.ensures }),
+    )
+
+-- the files were refused
+pub returns : goal.returns
+returns g c =
+    let names : List (List ℕ) = map string_bytes c.load_from.new.names.items in
+    let task : Task = record { mode = c.args.mode; loaded = Err c.in-Err.fault; names = names } in (
+      task,
+      record {
+        mode_is = refl;
+        loaded = asked_of_files c.args.mode c.requires.mode (record {
+          loaded = loaded_not _ c.standard.result c.args.lang.now names c.in-Err.fault c.standard.ensures c.in-Err.ensures.err c.in-Err.ensures.names;
+          named = c.in-Err.ensures.names;
+          device = record {
+            failed = counts_device string_bytes c.load_from.new.names.items _ _ c.in-Err.fault c.in-Err.ensures.device;
+            calm = c.in-Err.ensures.calm;
+          };
+        });
+      },
+      refuses_with g.R.QueryInput g.W.AnswerOutput g.E.AnswerOutput task c.in-Err.fault c.refuse.result _ _ _ _ refl
+          (subst (λ (texts : List (String Global)). TellsLoadFault g.E.AnswerOutput (map string_bytes texts) c.in-Err.fault c.refuse.result c.args.errors.now c.refuse.new.errors) c.as_slice.ensures.value c.refuse.ensures),
+    )

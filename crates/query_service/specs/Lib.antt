@@ -1,0 +1,6 @@
+pub mod Answer
+pub mod Explanation
+pub mod Report
+pub mod Serve
+pub mod Streams
+pub mod WordRefusal

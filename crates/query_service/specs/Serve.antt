@@ -1,0 +1,208 @@
+-- What a request ends with: a status, and what it says of what was read, written and told.
+use Rattle.std.specs.Prelude.{ℕ, ◌≡◌, ◌≢◌, ◌⊎◌, ◌<◌, false, true, List, [], codes, length, take, IfErr, IfSome, Option, Result, Ok, Err, ⊤}
+use Rattle.std.specs.Io.KnownBytes.{Appends, IsAtEnd}
+use Rattle.snapshot.specs.Contents.{Contents, load_of}
+use Rattle.release_files.specs.Source.{FileText}
+use Rattle.snapshot.specs.Limits.{standard_limits}
+use Rattle.snapshot.specs.Pieces.{AreInOrder, FailsToList, IsUnlisted, listed}
+use Rattle.snapshot.specs.Taking.{FailsBelow, RaisesOnlyAtDevice, is_device}
+use Rattle.snapshot.specs.declared.fault.LoadFault.{LoadFault}
+use Rattle.snapshot.specs.declared.fault.LoadFault.TheVariants as load
+use Rattle.answer_printer.specs.LoadRefusal.{load_refusal}
+use Rattle.answer_printer.specs.ReportText.{report_text}
+use Rattle.query_run.specs.Fault.{CountsTurns, EndsAt, HaveFailed}
+use Rattle.query_run.specs.Lines.{Answers, AreWritten, query_lines}
+use Rattle.query_service.specs.Answer.{IsAnswer}
+use Rattle.query_service.specs.Explanation.{IsExplanation}
+use Rattle.query_service.specs.Report.{report_of}
+use Rattle.sample_release.specs.SampleContents.{sample_contents}
+use Rattle.query_service.specs.Streams.{IsTold, Streams}
+use Rattle.query_run.specs.declared.running.RunFault.{RunFault}
+use Rattle.query_run.specs.declared.running.RunFault.TheVariants.{Read, Write, Memory, Turns}
+use Rattle.query_service.specs.declared.service.Status.{Status}
+use Rattle.query_service.specs.declared.service.Status.TheVariants.{Done, DeviceFault, WordsFault, ReleaseRefused, MemoryRefused}
+use Rattle.streams.specs.declared.output.AnswerOutput.{Ghosts as Output}
+use Rattle.streams.specs.declared.input.QueryInput.{Ghosts as Input}
+use Rattle.command_line.specs.declared.words.Mode.{Mode}
+use Rattle.command_line.specs.declared.words.Mode.TheVariants.{Sample, Query, Explain, Check}
+
+-- the number that the program ends with
+abbrev pub status_code : Status → ℕ
+status_code Done = 0
+status_code DeviceFault = 1
+status_code WordsFault = 2
+status_code ReleaseRefused = 3
+status_code MemoryRefused = 4
+
+-- the status that a fault of a run ends with
+abbrev pub status_of : RunFault → Status
+status_of (Read count) = DeviceFault
+status_of (Write count) = DeviceFault
+status_of (Memory count) = MemoryRefused
+status_of (Turns count) = DeviceFault
+
+-- the line that tells of a fault of a run
+abbrev pub fault_text : RunFault → List ℕ
+fault_text (Read count) = codes "FAULT read\n"
+fault_text (Write count) = codes "FAULT write\n"
+fault_text (Memory count) = codes "FAULT memory\n"
+fault_text (Turns count) = codes "FAULT turns\n"
+
+-- the status that a fault of a load ends with
+abbrev pub refusal_status_of : LoadFault → Status
+refusal_status_of load.Memory = MemoryRefused
+refusal_status_of (load.Device place) = DeviceFault
+refusal_status_of fault = ReleaseRefused
+
+-- the line that tells that memory was refused before a release was loaded
+abbrev pub memory_text : List ℕ
+memory_text = codes "REFUSED memory\n"
+
+-- a task: what is done with a release, what its load answered, and the names of its files
+pub record Task : Type 0 where
+  pub mode : Mode
+  pub loaded : Result Contents LoadFault
+  pub names : List (List ℕ)
+
+-- what a load of files answered: their release, or their first fault, by the byte order of their names; or that
+-- memory was refused, or the device failed
+abbrev pub IsLoadOf : List FileText → List ℕ → List (List ℕ) → Result Contents LoadFault → Type 0
+IsLoadOf known language names (Ok contents) = AreInOrder known names × (load_of standard_limits language (listed known names) ≡ Ok contents)
+IsLoadOf known language names (Err fault) =
+    fault ≢ load.Memory → is_device fault ≡ false → AreInOrder known names × (load_of standard_limits language (listed known names) ≡ Err fault)
+
+-- where the device failed this was counted: it was to list the files, or to read one of these. Else no failure was counted
+pub record CountsDevice (old new : ℕ) (names : List (List ℕ)) (loaded : Result Contents LoadFault) : Type 0 where
+  pub failed : IfErr loaded (λ fault. is_device fault ≡ true → FailsToList old new names fault ⊎ FailsBelow (length names) old new fault)
+  pub calm : RaisesOnlyAtDevice loaded old new
+
+-- the files of a source were loaded, which had failed so often before and behind: their names were listed in byte order, or
+-- none were
+pub record IsLoadedFrom (told : Option (List FileText)) (old new : ℕ) (language : List ℕ) (task : Task) : Type 0 where
+  pub loaded : IfSome told (λ known. IsLoadOf known language task.names task.loaded)
+  pub named : IfSome told (λ known. AreInOrder known task.names ⊎ IsUnlisted task.loaded task.names)
+  pub device : CountsDevice old new task.names task.loaded
+
+-- the release that a mode asks for: the one that is built in, or that of the files of a source with the names of
+-- a language first
+abbrev pub IsAskedFor : Option (List FileText) → ℕ → ℕ → List ℕ → Mode → Task → Type 0
+IsAskedFor told old new language Sample task = task.loaded ≡ Ok sample_contents
+IsAskedFor told old new language Query task = IsLoadedFrom told old new language task
+IsAskedFor told old new language Explain task = IsLoadedFrom told old new language task
+IsAskedFor told old new language Check task = IsLoadedFrom told old new language task
+
+-- whether the lines of a mode are answered over the release of a source's files
+abbrev pub AnswersFiles : Mode → Type 0
+AnswersFiles Sample = ⊥
+AnswersFiles Query = ⊤
+AnswersFiles Explain = ⊤
+AnswersFiles Check = ⊥
+
+-- the task of a mode
+pub record IsTask (told : Option (List FileText)) (old new : ℕ) (language : List ℕ) (mode : Mode) (task : Task) : Type 0 where
+  pub mode_is : task.mode ≡ mode
+  pub loaded : IsAskedFor told old new language mode task
+
+-- the task of answering queries over the release that is built in
+abbrev pub sample_task : Task
+sample_task = record { mode = Sample; loaded = Ok sample_contents; names = [] }
+
+-- the query lines of an input to its end were answered, by what answers a line
+pub record IsAnswered {R W E : Type 0} (r : Input R) (w : Output W) (answers : Answers) (before after : Streams R W E) : Type 0 where
+  pub read : IsAtEnd (r.remaining after.input)
+  pub written : IfSome (r.remaining before.input) (λ bytes. AreWritten answers (query_lines bytes) (w.written before.output) (w.written after.output))
+
+-- the report was written, and nothing was read
+pub record IsReported {R W E : Type 0} (w : Output W) (contents : Contents) (before after : Streams R W E) : Type 0 where
+  pub read : after.input ≡ before.input
+  pub written : Appends (w.written before.output) (w.written after.output) (report_text (report_of contents))
+
+-- what a mode asks for was done with a release
+abbrev pub IsServed : {R W E : Type 0} → Input R → Output W → Mode → Contents → Streams R W E → Streams R W E → Type 0
+IsServed r w Sample contents before after = IsAnswered r w (IsAnswer contents) before after
+IsServed r w Query contents before after = IsAnswered r w (IsAnswer contents) before after
+IsServed r w Explain contents before after = IsAnswered r w (IsExplanation contents) before after
+IsServed r w Check contents before after = IsReported w contents before after
+
+-- a front of the report was written, not all of it, and nothing was read
+pub record IsReportCut {R W E : Type 0} (w : Output W) (fault : RunFault) (contents : Contents) (before after : Streams R W E) : Type 0 where
+  pub is_write : fault ≡ Write 0
+  pub read : after.input ≡ before.input
+  pub written : (place : ℕ) × (place < length (report_text (report_of contents)))
+      × Appends (w.written before.output) (w.written after.output) (take place (report_text (report_of contents)))
+
+-- what was read and written of what a mode asks for, where a fault came
+abbrev pub IsCut : {R W E : Type 0} → Input R → Output W → Mode → RunFault → Contents → Streams R W E → Streams R W E → Type 0
+IsCut r w Sample fault contents before after =
+    EndsAt fault (IsAnswer contents) (r.remaining before.input) (r.remaining after.input) (w.written before.output) (w.written after.output)
+IsCut r w Query fault contents before after =
+    EndsAt fault (IsAnswer contents) (r.remaining before.input) (r.remaining after.input) (w.written before.output) (w.written after.output)
+IsCut r w Explain fault contents before after =
+    EndsAt fault (IsExplanation contents) (r.remaining before.input) (r.remaining after.input) (w.written before.output) (w.written after.output)
+IsCut r w Check fault contents before after = IsReportCut w fault contents before after
+
+-- status 0: all was done, no stream has failed, and nothing was told
+pub record IsDone {R W E : Type 0} (r : Input R) (w : Output W) (mode : Mode) (contents : Contents) (before after : Streams R W E) : Type 0 where
+  pub served : IsServed r w mode contents before after
+  pub sound : (r.has_failed after.input ≡ false) × (w.has_failed after.output ≡ false)
+  pub told : after.errors ≡ before.errors
+
+-- status 1, or 4 where memory was refused in a run: what was read and written until the fault, of which
+-- stream it is, and the line that tells of it
+pub record IsStopped {R W E : Type 0} (r : Input R) (w : Output W) (e : Output E) (mode : Mode) (contents : Contents) (status : Status) (before after : Streams R W E) : Type 0 where
+  pub fault : RunFault
+  pub ends : status_of fault ≡ status
+  pub served : IsCut r w mode fault contents before after
+  pub failed : HaveFailed fault (r.has_failed after.input) (w.has_failed after.output)
+  pub turns : CountsTurns fault (r.read_count before.input) (r.read_count after.input)
+  pub told : IsTold e before.errors after.errors (fault_text fault)
+
+-- status 3, or 1 where the device failed: nothing was read or written, and the fault of the files was told
+pub record IsRefused {R W E : Type 0} (e : Output E) (task : Task) (status : Status) (before after : Streams R W E) : Type 0 where
+  pub fault : LoadFault
+  pub ends : refusal_status_of fault ≡ status
+  pub loaded : task.loaded ≡ Err fault
+  pub read : after.input ≡ before.input
+  pub written : after.output ≡ before.output
+  pub told : IsTold e before.errors after.errors (load_refusal task.names fault)
+
+-- status 4, before anything was served: nothing was read or written, and want of memory was told
+pub record IsStarved {R W E : Type 0} (e : Output E) (before after : Streams R W E) : Type 0 where
+  pub read : after.input ≡ before.input
+  pub written : after.output ≡ before.output
+  pub told : IsTold e before.errors after.errors memory_text
+
+-- what each status says of a release that was loaded
+abbrev pub ServesWith : {R W E : Type 0} → Input R → Output W → Output E → Mode → Contents → Status → Streams R W E → Streams R W E → Type 0
+ServesWith r w e mode contents Done before after = IsDone r w mode contents before after
+ServesWith r w e mode contents DeviceFault before after = IsStopped r w e mode contents DeviceFault before after
+ServesWith r w e mode contents WordsFault before after = ⊥
+ServesWith r w e mode contents ReleaseRefused before after = ⊥
+ServesWith r w e mode contents MemoryRefused before after = IsStopped r w e mode contents MemoryRefused before after
+
+-- the release that is asked for was loaded and served
+pub record IsLoadedAndServed {R W E : Type 0} (r : Input R) (w : Output W) (e : Output E) (task : Task) (status : Status) (before after : Streams R W E) : Type 0 where
+  pub contents : Contents
+  pub loaded : task.loaded ≡ Ok contents
+  pub ended : ServesWith r w e task.mode contents status before after
+
+-- what each status says where no release was served
+abbrev pub RefusesWith : {R W E : Type 0} → Output E → Task → Status → Streams R W E → Streams R W E → Type 0
+RefusesWith e task Done before after = ⊥
+RefusesWith e task DeviceFault before after = IsRefused e task DeviceFault before after
+RefusesWith e task WordsFault before after = ⊥
+RefusesWith e task ReleaseRefused before after = IsRefused e task ReleaseRefused before after
+RefusesWith e task MemoryRefused before after = IsStarved e before after
+
+-- a task ends with a status: its release was loaded and served, or it was refused
+abbrev pub EndsWith : {R W E : Type 0} → Input R → Output W → Output E → Task → Status → Streams R W E → Streams R W E → Type 0
+EndsWith r w e task status before after =
+    IsLoadedAndServed r w e task status before after ⊎ RefusesWith e task status before after
+
+-- what each status says where a fault of files with some names was to be told
+abbrev pub TellsLoadFault : {E : Type 0} → Output E → List (List ℕ) → LoadFault → Status → E → E → Type 0
+TellsLoadFault e names fault Done before after = ⊥
+TellsLoadFault e names fault DeviceFault before after = (refusal_status_of fault ≡ DeviceFault) × IsTold e before after (load_refusal names fault)
+TellsLoadFault e names fault WordsFault before after = ⊥
+TellsLoadFault e names fault ReleaseRefused before after = (refusal_status_of fault ≡ ReleaseRefused) × IsTold e before after (load_refusal names fault)
+TellsLoadFault e names fault MemoryRefused before after = IsTold e before after memory_text

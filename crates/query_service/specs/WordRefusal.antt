@@ -1,0 +1,37 @@
+-- What is written where the words of a command line are no request.
+use Rattle.std.specs.Prelude.{ℕ, ◌≡◌, ◌<◌, true, false, List, length, string_bytes, take}
+use Rattle.std.specs.Io.KnownBytes.{Appends}
+use Rattle.query_service.specs.Serve.{fault_text}
+use Rattle.query_service.specs.Streams.{IsTold, Outputs}
+use Rattle.query_run.specs.declared.running.RunFault.TheVariants.{Write, Memory as no_memory}
+use Rattle.query_service.specs.declared.service.Status.{Status}
+use Rattle.query_service.specs.declared.service.Status.TheVariants.{Done, DeviceFault, WordsFault, MemoryRefused}
+use Rattle.streams.specs.declared.output.AnswerOutput.{Ghosts as Output}
+use Rattle.command_line.specs.declared.words.WordFault.{WordFault}
+use Rattle.command_line.specs.declared.words.WordFault.TheVariants.{Usage, Help, Memory}
+
+-- the text that was called for was written, and nothing was told
+pub record IsCallAnswered {W E : Type 0} (w : Output W) (text : List ℕ) (before after : Outputs W E) : Type 0 where
+  pub written : Appends (w.written before.output) (w.written after.output) text
+  pub sound : w.has_failed after.output ≡ false
+  pub told : after.errors ≡ before.errors
+
+-- the output failed: a front of the text was written, not all of it, and the fault was told
+pub record IsCallCut {W E : Type 0} (w : Output W) (e : Output E) (text : List ℕ) (before after : Outputs W E) : Type 0 where
+  pub written : (place : ℕ) × (place < length text) × Appends (w.written before.output) (w.written after.output) (take place text)
+  pub failed : w.has_failed after.output ≡ true
+  pub told : IsTold e before.errors after.errors (fault_text (Write 0))
+
+-- a text was told, and nothing was written
+pub record IsToldAlone {W E : Type 0} (e : Output E) (text : List ℕ) (before after : Outputs W E) : Type 0 where
+  pub written : after.output ≡ before.output
+  pub told : IsTold e before.errors after.errors text
+
+-- what each status says: what was called for was written, or its output failed; words that are wrong, and want
+-- of memory, were told
+abbrev pub TellsWordFault : {W E : Type 0} → Output W → Output E → WordFault → Status → Outputs W E → Outputs W E → Type 0
+TellsWordFault w e (Help text) Done before after = IsCallAnswered w (string_bytes text) before after
+TellsWordFault w e (Help text) DeviceFault before after = IsCallCut w e (string_bytes text) before after
+TellsWordFault w e (Usage text) WordsFault before after = IsToldAlone e (string_bytes text) before after
+TellsWordFault w e Memory MemoryRefused before after = IsToldAlone e (fault_text (no_memory 0)) before after
+TellsWordFault w e fault status before after = ⊥

@@ -1,0 +1,8 @@
+//! What the program does with a request, its files and its streams, over any engine that answers queries.
+#![tactic(auto)]
+
+mod query_engine;
+mod service;
+
+pub use crate::query_engine::QueryEngine;
+pub use crate::service::{Status, refuse_words, serve};

@@ -1,0 +1,85 @@
+//! What the service needs of an engine.
+ghost use Rattle.std.specs.Prelude.{◌≡◌, ◌⊎◌, ℕ, false, IfErr, IfOk, IfSome, List, Ok, OnOk, map, string_bytes};
+ghost use Rattle.std.specs.Io.KnownBytes.{IsAtEnd};
+ghost use Rattle.release_files.specs.Source.{file_text};
+ghost use Rattle.snapshot.specs.Contents.{Contents, IsFaultOf, load_of};
+ghost use Rattle.snapshot.specs.Pieces.{AreInOrder, FailsAtFiles, IsUnlisted, listed};
+ghost use Rattle.snapshot.specs.Taking.{RaisesOnlyAtDevice, is_device};
+ghost use Rattle.query_run.specs.Fault.{CountsTurns, EndsAt, HaveFailed};
+ghost use Rattle.query_run.specs.Lines.{AreWritten, query_lines};
+ghost use Rattle.query_service.specs.Answer.{IsAnswer};
+ghost use Rattle.query_service.specs.Explanation.{IsExplanation};
+ghost use Rattle.query_service.specs.Report.{report_of};
+
+use query_run::{AnswerLine, RunFault};
+use release_files::{FileSource, NamedBytes};
+use snapshot::{Limits, LoadFault, Report};
+use std::alloc::Global;
+use streams::{AnswerOutput, QueryInput};
+
+/// A loaded release that answers query lines and explains them. Neither changes anything in it.
+pub trait QueryEngine: AnswerLine + Drop {
+    /// What the release contains.
+    ghost contents: { Self → Contents };
+
+    /// Loads the Snapshot files of a list, with the names of a language first, or answers the first fault, as
+    /// `Snapshot::load` does, or want of memory.
+    fn load(
+        alloc: Global,
+        files: &[NamedBytes<'_>],
+        lang: &str,
+        limits: Limits,
+    ) -> Result<Self, LoadFault>
+        ensures ok { IfOk result (λ engine. load_of limits lang.now (map file_text files.now) ≡ Ok (contents engine)) }
+        ensures err { IfErr result (λ fault. IsFaultOf fault (load_of limits lang.now (map file_text files.now))) };
+
+    /// Loads the files that a source lists, in the byte order of their names, as `Snapshot::load_from` does, and
+    /// leaves these in `names`.
+    fn load_from<S: FileSource>(
+        alloc: Global,
+        source: &mut S,
+        names: &mut Vec<String>,
+        lang: &str,
+        limits: Limits,
+    ) -> Result<Self, LoadFault>
+        ensures ok { IfSome (S.files source.old) (λ known. IfOk result (λ engine. load_of limits lang.now (listed known (map string_bytes names.new.items)) ≡ Ok (contents engine))) }
+        ensures err { IfSome (S.files source.old) (λ known. IfErr result (λ fault. is_device fault ≡ false → IsFaultOf fault (load_of limits lang.now (listed known (map string_bytes names.new.items))))) }
+        ensures names { IfSome (S.files source.old) (λ known. AreInOrder known (map string_bytes names.new.items) ⊎ IsUnlisted result (map string_bytes names.new.items)) }
+        ensures device { FailsAtFiles string_bytes names.new.items result (S.failure_count source.old) (S.failure_count source.new) }
+        ensures calm { RaisesOnlyAtDevice result (S.failure_count source.old) (S.failure_count source.new) };
+
+    /// Loads the same release, leaves the same names, and answers what the release has, in place of an engine.
+    fn report_from<S: FileSource>(
+        alloc: Global,
+        source: &mut S,
+        names: &mut Vec<String>,
+        lang: &str,
+        limits: Limits,
+    ) -> Result<Report, LoadFault>
+        ensures ok { IfOk result (λ report. (loaded : Contents) × (report ≡ report_of loaded)
+            × IfSome (S.files source.old) (λ known. load_of limits lang.now (listed known (map string_bytes names.new.items)) ≡ Ok loaded)) }
+        ensures err { IfSome (S.files source.old) (λ known. IfErr result (λ fault. is_device fault ≡ false → IsFaultOf fault (load_of limits lang.now (listed known (map string_bytes names.new.items))))) }
+        ensures names { IfSome (S.files source.old) (λ known. AreInOrder known (map string_bytes names.new.items) ⊎ IsUnlisted result (map string_bytes names.new.items)) }
+        ensures device { FailsAtFiles string_bytes names.new.items result (S.failure_count source.old) (S.failure_count source.new) }
+        ensures calm { RaisesOnlyAtDevice result (S.failure_count source.old) (S.failure_count source.new) };
+
+    /// Tells of each query line of an input, in order, how it is answered. It reads, writes and ends as `run` of
+    /// `query_run` does.
+    fn run_explain<R: QueryInput, W: AnswerOutput>(
+        &self,
+        alloc: Global,
+        input: &mut R,
+        output: &mut W,
+    ) -> Result<u64, RunFault>
+        requires input { R.has_failed input.old ≡ false }
+        requires output { W.has_failed output.old ≡ false }
+        ensures end { OnOk result (IsAtEnd (R.remaining input.new)) }
+        ensures answers { OnOk result (IfSome (R.remaining input.old) (λ bytes. AreWritten (IsExplanation (contents self.now)) (query_lines bytes) (W.written output.old) (W.written output.new))) }
+        ensures sound { OnOk result ((R.has_failed input.new ≡ false) × (W.has_failed output.new ≡ false)) }
+        ensures fault { IfErr result (λ fault. EndsAt fault (IsExplanation (contents self.now)) (R.remaining input.old) (R.remaining input.new) (W.written output.old) (W.written output.new)) }
+        ensures failed { IfErr result (λ fault. HaveFailed fault (R.has_failed input.new) (W.has_failed output.new)) }
+        ensures turns { IfErr result (λ fault. CountsTurns fault (R.read_count input.old) (R.read_count input.new)) };
+
+    /// What answers a line is what the definitions say of the release.
+    ghost answers_by_contents: { (engine : Self) (line text : List ℕ) → Self.answers engine line text → IsAnswer (contents engine) line text };
+}

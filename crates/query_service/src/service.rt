@@ -1,0 +1,453 @@
+//! What the program does with a request, its files and its streams.
+ghost use Rattle.std.specs.Prelude.{◌≡◌, ◌⊎◌, false, Err, IfErr, IfOk, IfSome, Ok, OnOk, map, string_bytes};
+ghost use Rattle.std.specs.Io.KnownBytes.{IsAtEnd};
+ghost use Rattle.rf2_rows.specs.Parts.{texts_of};
+ghost use Rattle.snapshot.specs.Contents.{Contents, IsFaultOf};
+ghost use Rattle.snapshot.specs.Pieces.{AreInOrder, FailsAtFiles, IsUnlisted};
+ghost use Rattle.snapshot.specs.Taking.{RaisesOnlyAtDevice};
+ghost use Rattle.sample_release.specs.SampleContents.{sample_contents};
+ghost use Rattle.answer_printer.specs.LoadRefusal.{load_refusal};
+ghost use Rattle.answer_printer.specs.ReportText.{report_text};
+ghost use Rattle.query_run.specs.Fault.{CountsTurns, EndsAt, HaveFailed};
+ghost use Rattle.query_run.specs.Lines.{AreWritten, query_lines};
+ghost use Rattle.query_service.specs.Answer.{IsAnswer};
+ghost use Rattle.query_service.specs.Report.{report_of};
+ghost use Rattle.query_service.specs.Serve.{AnswersFiles, EndsWith, IsLoadOf, IsTask, ServesWith, Task, TellsLoadFault, fault_text, memory_text, refusal_status_of, sample_task, status_code, status_of};
+ghost use Rattle.query_service.specs.Streams.{IsTold, outputs, streams};
+ghost use Rattle.query_service.specs.WordRefusal.{TellsWordFault};
+
+use crate::query_engine::QueryEngine;
+use answer_printer::{print_load_fault, print_report};
+use command_line::{Mode, Request, WordFault};
+use query_run::{RunFault, run};
+use release_files::FileSource;
+use sample_release::sample_files;
+use snapshot::{Limits, LoadFault, Report};
+use std::alloc::{AllocError, Global};
+use streams::{AnswerOutput, QueryInput, write_all};
+
+/// How the program ended.
+#[derive(Clone, Copy, Debug, PartialEq, Eq)]
+pub enum Status {
+    /// All that was asked for was done.
+    Done,
+    /// A folder, a file or a stream failed, or the input did not end.
+    DeviceFault,
+    /// The words of the command line are those of no command.
+    WordsFault,
+    /// The files are no release.
+    ReleaseRefused,
+    /// Memory was refused.
+    MemoryRefused,
+}
+
+impl Status {
+    /// The number that the program ends with, from 0 to 4.
+    pub fn code(self) -> u8
+        ensures { result ≡ status_code self }
+    {
+        match self {
+            Status::Done => 0,
+            Status::DeviceFault => 1,
+            Status::WordsFault => 2,
+            Status::ReleaseRefused => 3,
+            Status::MemoryRefused => 4,
+        }
+    }
+}
+
+/// Does what is asked of a release, by an engine `Q`: of the one that is built in, or of that of the files of a source.
+/// Answers the query lines of an input; at `Explain` tells the plan of each; or, at `Check`, writes what
+/// the release has, and reads nothing.
+/// Nothing is written before the release is loaded. What is refused, and a fault, is told by one line on
+/// `errors`, whose own failure changes nothing.
+pub fn serve<Q: QueryEngine, S: FileSource, R: QueryInput, W: AnswerOutput, E: AnswerOutput>(
+    alloc: Global,
+    request: &Request,
+    source: &mut S,
+    input: &mut R,
+    output: &mut W,
+    errors: &mut E,
+) -> Status
+    requires input { R.has_failed input.old ≡ false }
+    requires output { W.has_failed output.old ≡ false }
+    requires errors { E.AnswerOutput.has_failed errors.old ≡ false }
+    ensures served { (task : Task)
+        × IsTask (S.files source.old) (S.failure_count source.old) (S.failure_count source.new) (string_bytes request.now.lang) request.now.mode task
+        × EndsWith R.QueryInput W.AnswerOutput E.AnswerOutput task result (streams input.old output.old errors.old) (streams input.new output.new errors.new) }
+    ensures untouched { request.now.mode ≡ Mode.Sample → source.new ≡ source.old }
+{
+    let lang = request.lang.as_str();
+    match request.mode {
+        Mode::Sample => answer_sample::<Q, R, W, E>(alloc, input, output, errors),
+        Mode::Query => answer_source::<Q, S, R, W, E>(
+            alloc,
+            Mode::Query,
+            lang,
+            source,
+            input,
+            output,
+            errors,
+        ),
+        Mode::Explain => answer_source::<Q, S, R, W, E>(
+            alloc,
+            Mode::Explain,
+            lang,
+            source,
+            input,
+            output,
+            errors,
+        ),
+        Mode::Check => report_source::<Q, S, R, W, E>(alloc, lang, source, input, output, errors),
+    }
+}
+
+// Answers the query lines of an input over the release that is built in.
+fn answer_sample<Q: QueryEngine, R: QueryInput, W: AnswerOutput, E: AnswerOutput>(
+    alloc: Global,
+    input: &mut R,
+    output: &mut W,
+    errors: &mut E,
+) -> Status
+    requires input { R.has_failed input.old ≡ false }
+    requires output { W.has_failed output.old ≡ false }
+    requires errors { E.AnswerOutput.has_failed errors.old ≡ false }
+    ensures { EndsWith R.QueryInput W.AnswerOutput E.AnswerOutput sample_task result
+        (streams input.old output.old errors.old) (streams input.new output.new errors.new) }
+{
+    match sample_engine::<Q>(alloc) {
+        Ok(engine) => answer_and_drop(alloc, engine, input, output, errors),
+        Err(fault) => refuse(alloc, fault, &[], errors),
+    }
+}
+
+// The engine of the release that is built in.
+fn sample_engine<Q: QueryEngine>(alloc: Global) -> Result<Q, LoadFault>
+    ensures ok { IfOk result (λ engine. Q.contents engine ≡ sample_contents) }
+    ensures err { IfErr result (λ fault. IsFaultOf fault (Ok sample_contents)) }
+{
+    Q::load(alloc, &sample_files(), "en", Limits::standard())
+}
+
+// Answers the query lines of an input over the release of a source's files, or tells their plans.
+fn answer_source<Q: QueryEngine, S: FileSource, R: QueryInput, W: AnswerOutput, E: AnswerOutput>(
+    alloc: Global,
+    mode: Mode,
+    lang: &str,
+    source: &mut S,
+    input: &mut R,
+    output: &mut W,
+    errors: &mut E,
+) -> Status
+    requires mode { AnswersFiles mode }
+    requires input { R.has_failed input.old ≡ false }
+    requires output { W.has_failed output.old ≡ false }
+    requires errors { E.AnswerOutput.has_failed errors.old ≡ false }
+    ensures { (task : Task)
+        × IsTask (S.files source.old) (S.failure_count source.old) (S.failure_count source.new) lang.now mode task
+        × EndsWith R.QueryInput W.AnswerOutput E.AnswerOutput task result (streams input.old output.old errors.old) (streams input.new output.new errors.new) }
+{
+    let mut names = Vec::new(alloc);
+    match Q::load_from(alloc, source, &mut names, lang, Limits::standard()) {
+        Ok(engine) => answer_lines(alloc, mode, engine, input, output, errors),
+        Err(fault) => refuse(alloc, fault, names.as_slice(), errors),
+    }
+}
+
+// Answers the query lines of an input over a release, or tells their plans.
+fn answer_lines<Q: QueryEngine, R: QueryInput, W: AnswerOutput, E: AnswerOutput>(
+    alloc: Global,
+    mode: Mode,
+    engine: Q,
+    input: &mut R,
+    output: &mut W,
+    errors: &mut E,
+) -> Status
+    requires mode { AnswersFiles mode }
+    requires input { R.has_failed input.old ≡ false }
+    requires output { W.has_failed output.old ≡ false }
+    requires errors { E.AnswerOutput.has_failed errors.old ≡ false }
+    ensures { ServesWith R.QueryInput W.AnswerOutput E.AnswerOutput mode (Q.contents engine) result
+        (streams input.old output.old errors.old) (streams input.new output.new errors.new) }
+{
+    match mode {
+        Mode::Explain => explain_and_drop(alloc, engine, input, output, errors),
+        _ => answer_and_drop(alloc, engine, input, output, errors),
+    }
+}
+
+// Answers the query lines of an input over a release, and lets the release go.
+fn answer_and_drop<Q: QueryEngine, R: QueryInput, W: AnswerOutput, E: AnswerOutput>(
+    alloc: Global,
+    engine: Q,
+    input: &mut R,
+    output: &mut W,
+    errors: &mut E,
+) -> Status
+    requires input { R.has_failed input.old ≡ false }
+    requires output { W.has_failed output.old ≡ false }
+    requires errors { E.AnswerOutput.has_failed errors.old ≡ false }
+    ensures { ServesWith R.QueryInput W.AnswerOutput E.AnswerOutput Mode.Query (Q.contents engine) result
+        (streams input.old output.old errors.old) (streams input.new output.new errors.new) }
+{
+    let status = answer_all(alloc, &engine, input, output, errors);
+    drop(engine);
+    status
+}
+
+// Answers the query lines of an input over a release.
+fn answer_all<Q: QueryEngine, R: QueryInput, W: AnswerOutput, E: AnswerOutput>(
+    alloc: Global,
+    engine: &Q,
+    input: &mut R,
+    output: &mut W,
+    errors: &mut E,
+) -> Status
+    requires input { R.has_failed input.old ≡ false }
+    requires output { W.has_failed output.old ≡ false }
+    requires errors { E.AnswerOutput.has_failed errors.old ≡ false }
+    ensures { ServesWith R.QueryInput W.AnswerOutput E.AnswerOutput Mode.Query (Q.contents engine.now) result
+        (streams input.old output.old errors.old) (streams input.new output.new errors.new) }
+{
+    match run_answers(alloc, engine, input, output) {
+        Ok(_) => Status::Done,
+        Err(fault) => tell_fault(fault, errors),
+    }
+}
+
+// The run, which writes what the definitions say of the release.
+fn run_answers<Q: QueryEngine, R: QueryInput, W: AnswerOutput>(
+    alloc: Global,
+    engine: &Q,
+    input: &mut R,
+    output: &mut W,
+) -> Result<u64, RunFault>
+    requires input { R.has_failed input.old ≡ false }
+    requires output { W.has_failed output.old ≡ false }
+    ensures end { OnOk result (IsAtEnd (R.remaining input.new)) }
+    ensures answers { OnOk result (IfSome (R.remaining input.old) (λ bytes. AreWritten (IsAnswer (Q.contents engine.now)) (query_lines bytes) (W.written output.old) (W.written output.new))) }
+    ensures sound { OnOk result ((R.has_failed input.new ≡ false) × (W.has_failed output.new ≡ false)) }
+    ensures fault { IfErr result (λ fault. EndsAt fault (IsAnswer (Q.contents engine.now)) (R.remaining input.old) (R.remaining input.new) (W.written output.old) (W.written output.new)) }
+    ensures failed { IfErr result (λ fault. HaveFailed fault (R.has_failed input.new) (W.has_failed output.new)) }
+    ensures turns { IfErr result (λ fault. CountsTurns fault (R.read_count input.old) (R.read_count input.new)) }
+{
+    run(alloc, engine, input, output)
+}
+
+// Tells the plans of the query lines of an input over a release, and lets the release go.
+fn explain_and_drop<Q: QueryEngine, R: QueryInput, W: AnswerOutput, E: AnswerOutput>(
+    alloc: Global,
+    engine: Q,
+    input: &mut R,
+    output: &mut W,
+    errors: &mut E,
+) -> Status
+    requires input { R.has_failed input.old ≡ false }
+    requires output { W.has_failed output.old ≡ false }
+    requires errors { E.AnswerOutput.has_failed errors.old ≡ false }
+    ensures { ServesWith R.QueryInput W.AnswerOutput E.AnswerOutput Mode.Explain (Q.contents engine) result
+        (streams input.old output.old errors.old) (streams input.new output.new errors.new) }
+{
+    let status = explain_all(alloc, &engine, input, output, errors);
+    drop(engine);
+    status
+}
+
+// Tells the plans of the query lines of an input over a release.
+fn explain_all<Q: QueryEngine, R: QueryInput, W: AnswerOutput, E: AnswerOutput>(
+    alloc: Global,
+    engine: &Q,
+    input: &mut R,
+    output: &mut W,
+    errors: &mut E,
+) -> Status
+    requires input { R.has_failed input.old ≡ false }
+    requires output { W.has_failed output.old ≡ false }
+    requires errors { E.AnswerOutput.has_failed errors.old ≡ false }
+    ensures { ServesWith R.QueryInput W.AnswerOutput E.AnswerOutput Mode.Explain (Q.contents engine.now) result
+        (streams input.old output.old errors.old) (streams input.new output.new errors.new) }
+{
+    match engine.run_explain(alloc, input, output) {
+        Ok(_) => Status::Done,
+        Err(fault) => tell_fault(fault, errors),
+    }
+}
+
+// Writes what the release of a source's files has.
+fn report_source<Q: QueryEngine, S: FileSource, R: QueryInput, W: AnswerOutput, E: AnswerOutput>(
+    alloc: Global,
+    lang: &str,
+    source: &mut S,
+    input: &mut R,
+    output: &mut W,
+    errors: &mut E,
+) -> Status
+    requires input { R.has_failed input.old ≡ false }
+    requires output { W.has_failed output.old ≡ false }
+    requires errors { E.AnswerOutput.has_failed errors.old ≡ false }
+    ensures { (task : Task)
+        × IsTask (S.files source.old) (S.failure_count source.old) (S.failure_count source.new) lang.now Mode.Check task
+        × EndsWith R.QueryInput W.AnswerOutput E.AnswerOutput task result (streams input.old output.old errors.old) (streams input.new output.new errors.new) }
+{
+    let mut names = Vec::new(alloc);
+    match report::<Q, S>(alloc, lang, source, &mut names) {
+        Ok(text) => match write_all(text.as_slice(), output) {
+            Ok(()) => Status::Done,
+            Err(_) => tell_fault(RunFault::Write(0), errors),
+        },
+        Err(fault) => refuse(alloc, fault, names.as_slice(), errors),
+    }
+}
+
+// The text of the report of the release of a source's files, and their names.
+fn report<Q: QueryEngine, S: FileSource>(
+    alloc: Global,
+    lang: &str,
+    source: &mut S,
+    names: &mut Vec<String>,
+) -> Result<Vec<u8>, LoadFault>
+    ensures ok { IfOk result (λ text. (contents : Contents) × (text.items ≡ report_text (report_of contents))
+        × IfSome (S.files source.old) (λ known. IsLoadOf known lang.now (map string_bytes names.new.items) (Ok contents))) }
+    ensures err { IfErr result (λ fault. IfSome (S.files source.old) (λ known. IsLoadOf known lang.now (map string_bytes names.new.items) (Err fault))) }
+    ensures named { IfSome (S.files source.old) (λ known. AreInOrder known (map string_bytes names.new.items) ⊎ IsUnlisted result (map string_bytes names.new.items)) }
+    ensures device { FailsAtFiles string_bytes names.new.items result (S.failure_count source.old) (S.failure_count source.new) }
+    ensures calm { RaisesOnlyAtDevice result (S.failure_count source.old) (S.failure_count source.new) }
+{
+    match Q::report_from(alloc, source, names, lang, Limits::standard()) {
+        Ok(report) => Ok(printed(alloc, &report)?),
+        Err(fault) => Err(fault),
+    }
+}
+
+// The text of a report.
+fn printed(alloc: Global, report: &Report) -> Result<Vec<u8>, AllocError>
+    ensures { IfOk result (λ text. text.items ≡ report_text report.now) }
+{
+    let mut text = Vec::new(alloc);
+    print_report(alloc, report, &mut text)?;
+    Ok(text)
+}
+
+// Tells why files of some names are no release, or could not be read. Want of memory for the line is
+// told as want of memory.
+fn refuse<E: AnswerOutput>(
+    alloc: Global,
+    fault: LoadFault,
+    names: &[String],
+    errors: &mut E,
+) -> Status
+    requires { E.AnswerOutput.has_failed errors.old ≡ false }
+    ensures { TellsLoadFault E.AnswerOutput (map string_bytes names.now) fault result errors.old errors.new }
+{
+    match refusal(alloc, fault, names) {
+        Ok(line) => {
+            tell(line.as_slice(), errors);
+            refusal_status(&fault)
+        }
+        Err(_) => tell_memory(errors),
+    }
+}
+
+// The line that tells why files of some names are no release, or could not be read.
+fn refusal(alloc: Global, fault: LoadFault, names: &[String]) -> Result<Vec<u8>, AllocError>
+    ensures { IfOk result (λ line. line.items ≡ load_refusal (map string_bytes names.now) fault) }
+{
+    let texts = lent_texts(alloc, names)?;
+    let mut line = Vec::new(alloc);
+    print_load_fault(alloc, fault, texts.as_slice(), &mut line)?;
+    Ok(line)
+}
+
+// Texts, lent one by one.
+fn lent_texts<'a>(alloc: Global, texts: &'a [String]) -> Result<Vec<&'a str>, AllocError>
+    ensures { IfOk result (λ lent. texts_of lent.items ≡ map string_bytes texts.now) }
+{
+    let mut lent = Vec::new(alloc);
+    for text in texts {
+        lent.push(text.as_str())?;
+    }
+    Ok(lent)
+}
+
+/// Writes the help or the version that was called for, or tells on `errors` why words are no request.
+/// Where the output fails, that is told.
+pub fn refuse_words<W: AnswerOutput, E: AnswerOutput>(
+    fault: &WordFault,
+    output: &mut W,
+    errors: &mut E,
+) -> Status
+    requires output { W.AnswerOutput.has_failed output.old ≡ false }
+    requires errors { E.AnswerOutput.has_failed errors.old ≡ false }
+    ensures { TellsWordFault W.AnswerOutput E.AnswerOutput fault.now result
+        (outputs output.old errors.old) (outputs output.new errors.new) }
+{
+    match fault {
+        WordFault::Help(text) => match write_all(text.as_bytes(), output) {
+            Ok(()) => Status::Done,
+            Err(_) => tell_fault(RunFault::Write(0), errors),
+        },
+        WordFault::Usage(text) => {
+            tell(text.as_bytes(), errors);
+            Status::WordsFault
+        }
+        WordFault::Memory => tell_fault(RunFault::Memory(0), errors),
+    }
+}
+
+// Tells of a fault by its line, and answers the status that it ends with.
+fn tell_fault<E: AnswerOutput>(fault: RunFault, errors: &mut E) -> Status
+    requires { E.AnswerOutput.has_failed errors.old ≡ false }
+    ensures status { result ≡ status_of fault }
+    ensures told { IsTold E.AnswerOutput errors.old errors.new (fault_text fault) }
+{
+    tell(fault_line(fault), errors);
+    fault_status(fault)
+}
+
+// Tells that memory was refused before a release was loaded.
+fn tell_memory<E: AnswerOutput>(errors: &mut E) -> Status
+    requires { E.AnswerOutput.has_failed errors.old ≡ false }
+    ensures status { result ≡ Status.MemoryRefused }
+    ensures told { IsTold E.AnswerOutput errors.old errors.new memory_text }
+{
+    tell(b"REFUSED memory\n", errors);
+    Status::MemoryRefused
+}
+
+// Writes a line as far as it can be written.
+fn tell<E: AnswerOutput>(line: &[u8], errors: &mut E)
+    requires { E.AnswerOutput.has_failed errors.old ≡ false }
+    ensures { IsTold E.AnswerOutput errors.old errors.new line.now }
+{
+    let _ = write_all(line, errors);
+}
+
+fn refusal_status(fault: &LoadFault) -> Status
+    ensures { result ≡ refusal_status_of fault.now }
+{
+    match fault {
+        LoadFault::Memory => Status::MemoryRefused,
+        LoadFault::Device { .. } => Status::DeviceFault,
+        _ => Status::ReleaseRefused,
+    }
+}
+
+fn fault_line(fault: RunFault) -> &'static [u8]
+    ensures { result.now ≡ fault_text fault }
+{
+    match fault {
+        RunFault::Read(_) => b"FAULT read\n",
+        RunFault::Write(_) => b"FAULT write\n",
+        RunFault::Memory(_) => b"FAULT memory\n",
+        RunFault::Turns(_) => b"FAULT turns\n",
+    }
+}
+
+fn fault_status(fault: RunFault) -> Status
+    ensures { result ≡ status_of fault }
+{
+    match fault {
+        RunFault::Memory(_) => Status::MemoryRefused,
+        _ => Status::DeviceFault,
+    }
+}

@@ -1,0 +1,95 @@
+//! The service, by the engine.
+ghost use Rattle.std.specs.Prelude.{◌≡◌, false, string_bytes};
+ghost use Rattle.query_service.specs.Report.{report_of};
+ghost use Rattle.query_service.specs.Serve.{EndsWith, IsTask, Task};
+ghost use Rattle.query_service.specs.Streams.{streams};
+
+use crate::engine::Engine;
+use crate::explaining::run_explain;
+use command_line::{Mode, Request};
+use query_run::RunFault;
+use query_service::{QueryEngine, Status};
+use release_files::{FileSource, NamedBytes};
+use snapshot::{Limits, LoadFault, Report, Snapshot};
+use std::alloc::Global;
+use streams::{AnswerOutput, QueryInput};
+
+impl QueryEngine for Engine {
+    ghost contents = { λ engine. engine };
+
+    ghost answers_by_contents = { λ engine line text answered. answered };
+
+    fn load(
+        alloc: Global,
+        files: &[NamedBytes<'_>],
+        lang: &str,
+        limits: Limits,
+    ) -> Result<Engine, LoadFault> {
+        Engine::load(alloc, files, lang, limits)
+    }
+
+    fn load_from<S: FileSource>(
+        alloc: Global,
+        source: &mut S,
+        names: &mut Vec<String>,
+        lang: &str,
+        limits: Limits,
+    ) -> Result<Engine, LoadFault> {
+        Engine::load_from(alloc, source, names, lang, limits)
+    }
+
+    fn report_from<S: FileSource>(
+        alloc: Global,
+        source: &mut S,
+        names: &mut Vec<String>,
+        lang: &str,
+        limits: Limits,
+    ) -> Result<Report, LoadFault> {
+        match Snapshot::load_from(alloc, source, names, lang, limits) {
+            Ok(snapshot) => Ok(report_and_drop(snapshot)),
+            Err(fault) => Err(fault),
+        }
+    }
+
+    fn run_explain<R: QueryInput, W: AnswerOutput>(
+        &self,
+        alloc: Global,
+        input: &mut R,
+        output: &mut W,
+    ) -> Result<u64, RunFault> {
+        run_explain(alloc, self, input, output)
+    }
+}
+
+// What a release has, which is let go.
+fn report_and_drop(snapshot: Snapshot) -> Report
+    ensures { result ≡ report_of snapshot }
+{
+    let report = snapshot.report();
+    drop(snapshot);
+    report
+}
+
+/// Does what is asked of a release: of the one that is built in, or of that of the files of a source.
+/// Answers the query lines of an input; at `Explain` tells the plan of each; or, at `Check`, writes what
+/// the release has, and reads nothing.
+/// Nothing is written before the release is loaded. What is refused, and a fault, is told by one line on
+/// `errors`, whose own failure changes nothing.
+pub fn serve<S: FileSource, R: QueryInput, W: AnswerOutput, E: AnswerOutput>(
+    alloc: Global,
+    request: &Request,
+    source: &mut S,
+    input: &mut R,
+    output: &mut W,
+    errors: &mut E,
+) -> Status
+    requires input { R.has_failed input.old ≡ false }
+    requires output { W.has_failed output.old ≡ false }
+    requires errors { E.AnswerOutput.has_failed errors.old ≡ false }
+    ensures served { (task : Task)
+        × IsTask (S.files source.old) (S.failure_count source.old) (S.failure_count source.new) (string_bytes request.now.lang) request.now.mode task
+        × EndsWith R.QueryInput W.AnswerOutput E.AnswerOutput task result (streams input.old output.old errors.old) (streams input.new output.new errors.new) }
+    ensures untouched { request.now.mode ≡ Mode.Sample → source.new ≡ source.old }
+{
+    query_service::serve::<Engine, S, R, W, E>(alloc, request, source, input, output, errors)
+}
