@@ -21,7 +21,7 @@ use Rattle.snapshot.proofs.NumberingLemmas.{Reaches-map, contains_map, numbers_a
 use Rattle.hierarchy.proofs.ReleaseLemmas.{contains_had, had_contained}
 use Rattle.hierarchy.proofs.WayLemmas.{contained_items_of, items_of-contained}
 use Rattle.ancestor_index.specs.HierarchyLists.{hierarchy_of, is_child, lists_where}
-use Rattle.ancestor_index.specs.Parents.{AreParentsBy}
+use Rattle.ancestor_index.specs.inside.Parents.{AreParentsBy}
 use Rattle.ancestor_index.proofs.ClosureLemmas.{both_ways, item_there, length-where, list_of-where, row_there, there_item, there_row, there_where}
 
 -- lists by tests that agree are the same

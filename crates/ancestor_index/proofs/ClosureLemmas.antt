@@ -11,8 +11,8 @@ use Rattle.idset.specs.Sets.{has_item, listed_numbers, numbers_where}
 use Rattle.idset.proofs.Normal.{has_item-numbers_where, has_item-numbers_where_past, numbers_where-agree}
 use Rattle.hierarchy.specs.KeyedLists.{list_of}
 use Rattle.ancestor_index.specs.HierarchyLists.{is_child, lists_where}
-use Rattle.ancestor_index.specs.Gathered.{gathered_by}
-use Rattle.ancestor_index.specs.Parents.{AreParentsBy}
+use Rattle.ancestor_index.specs.inside.Gathered.{gathered_by}
+use Rattle.ancestor_index.specs.inside.Parents.{AreParentsBy}
 
 -- ---- tests that compute
 pub both_ways : (a b : Bool) → (a ≡ true → b ≡ true) → (b ≡ true → a ≡ true) → a ≡ b

@@ -12,7 +12,7 @@ use Rattle.idset.specs.Sets.{IsRisingBelow, all_items, has_item, listed_numbers,
 use Rattle.idset.proofs.Rising.{numbers_where-rising, rising_is_where}
 use Rattle.ancestor_index.proofs.ClosureLemmas.{has_item-append, there_where}
 use Rattle.idset.specs.Words.{is_set}
-use Rattle.ancestor_index.specs.Gathered.{AreRisingBelow, gathered_by, joined_by}
+use Rattle.ancestor_index.specs.inside.Gathered.{AreRisingBelow, gathered_by, joined_by}
 use Rattle.idset.proofs.Normal.{has_item-numbers_where, numbers_where-agree}
 
 -- what a set has with the numbers of words
@@ -113,12 +113,12 @@ rising_more count lists list rise own =
     All-append rises lists (list ∷ []) rise (All-cons rises list [] own (All-nil rises))
 
 -- concepts and their lists are the concepts, each with its list
-turned : (a b c d e : Bool) → (b || d) ≡ e → (a || (b || (c || d))) ≡ (a || (c || e))
-turned true b c d e is = refl
-turned false true true d e is = refl
-turned false true false d e is = is
-turned false false true d e is = refl
-turned false false false d e is = is
+swapped : (a b c d e : Bool) → (b || d) ≡ e → (a || (b || (c || d))) ≡ (a || (c || e))
+swapped true b c d e is = refl
+swapped false true true d e is = refl
+swapped false true false d e is = is
+swapped false false true d e is = refl
+swapped false false false d e is = is
 
 joined_gathered : (places : List ℕ) (lists : List (List ℕ)) (concepts : List ℕ) (n : ℕ)
     → has_item (concepts ++ joined_by places lists concepts) n ≡ has_item (gathered_by places lists concepts) n
@@ -129,7 +129,7 @@ joined_gathered places lists (concept ∷ concepts) n =
     let rest : (has_item concepts n || has_item joined n) ≡ has_item (gathered_by places lists concepts) n =
     sym (has_item-append concepts joined n) ∙ joined_gathered places lists concepts n in
     ap (λ (b : Bool). (concept == n) || b) (has_item-append concepts (own ++ joined) n ∙ ap (λ (b : Bool). has_item concepts n || b) (has_item-append own joined n))
-    ∙ turned (concept == n) (has_item concepts n) (has_item own n) (has_item joined n) (has_item (gathered_by places lists concepts) n) rest
+    ∙ swapped (concept == n) (has_item concepts n) (has_item own n) (has_item joined n) (has_item (gathered_by places lists concepts) n) rest
     ∙ ap (λ (b : Bool). (concept == n) || b) (sym (has_item-append own (gathered_by places lists concepts) n))
 
 pub joined_listed : (count : ℕ) (places : List ℕ) (lists : List (List ℕ)) (concepts : List ℕ)

@@ -1,6 +1,4 @@
-pub mod Gathered
-pub mod HierarchyLists
-pub mod IndexInside
-pub mod Parents
-pub mod Wide
 pub mod Complete
+pub mod HierarchyLists
+pub mod inside
+pub mod Wide

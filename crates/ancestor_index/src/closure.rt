@@ -6,8 +6,8 @@ ghost use Rattle.idset.specs.Sets.{IsRisingBelow, has_item, listed_numbers, numb
 ghost use Rattle.idset.specs.Words.{AreWordsBelow, MarkedBelow, is_set};
 ghost use Rattle.hierarchy.specs.KeyedLists.{AreItemsBelow, list_of};
 ghost use Rattle.ancestor_index.specs.HierarchyLists.{lists_where};
-ghost use Rattle.ancestor_index.specs.Gathered.{AreGathered, AreRisingBelow, gathered_by, has_joined};
-ghost use Rattle.ancestor_index.specs.Parents.{AreParentsBy};
+ghost use Rattle.ancestor_index.specs.inside.Gathered.{AreGathered, AreRisingBelow, gathered_by, has_joined};
+ghost use Rattle.ancestor_index.specs.inside.Parents.{AreParentsBy};
 ghost use Rattle.ancestor_index.specs.Wide.{AreWide};
 
 use crate::grown::with_list;

@@ -30,7 +30,7 @@ impl Model for AncestorIndex {
 
     ghost Value = { Hierarchy };
 
-    ghost use Rattle.ancestor_index.specs.IndexInside.{hierarchy_in, HasWide};
+    ghost use Rattle.ancestor_index.specs.inside.IndexInside.{hierarchy_in, HasWide};
 
     ghost view = { hierarchy_in };
 

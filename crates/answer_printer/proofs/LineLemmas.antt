@@ -3,11 +3,11 @@ use Rattle.std.proofs.Common.{ℕ, suc, ◌+◌, ◌++◌, ◌∷◌, [], ◌≡
 use Rattle.std.proofs.Math.Seq.{drop-nil}
 use Rattle.set_algebra.specs.declared.plan.ConceptPlan.{ConceptPlan}
 use Rattle.set_algebra.specs.declared.plan.UnitPlan.{UnitPlan}
-use Rattle.set_algebra.specs.Plan.{group_plan_of, group_plans_of, plan_of, plans_of}
+use Rattle.set_algebra.specs.Plan.{unit_plan_of, unit_plans_of, plan_of, plans_of}
 use Rattle.set_algebra.specs.declared.choice.Choice.{Choice}
 use Rattle.planner.proofs.ListLemmas.{drop_further}
 use Rattle.planner.proofs.LoopLemmas.{Joined, Sort, joined_end, joined_turn, of_concepts, of_groups}
-use Rattle.answer_printer.specs.PlanLines.{before_bound, first_bound, with_bounds}
+use Rattle.answer_printer.specs.inside.PlanLines.{before_bound, first_bound, with_bounds}
 use Rattle.answer_printer.specs.PlanText.{bound_line, group_outline, groups_outline, outline, plans_outline}
 
 -- behind the first, so many more
@@ -77,8 +77,8 @@ concept_outlines spaces = record {
 
 abbrev pub unit_outlines : List ℕ → Outlines UnitPlan of_groups
 unit_outlines spaces = record {
-  of_part = λ choices part. group_outline before_bound spaces choices (group_plan_of part);
-  of_parts = λ choices parts. groups_outline before_bound spaces choices (group_plans_of parts);
+  of_part = λ choices part. group_outline before_bound spaces choices (unit_plan_of part);
+  of_parts = λ choices parts. groups_outline before_bound spaces choices (unit_plans_of parts);
   none = λ choices. refl;
   more = λ choices part parts. refl;
 }

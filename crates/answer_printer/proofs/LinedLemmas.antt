@@ -3,13 +3,13 @@ use Rattle.std.proofs.Common.{ℕ, suc, ◌+◌, ◌++◌, ◌∷◌, [], ◌≡
 use Rattle.std.specs.List.{flat_map}
 use Rattle.std.proofs.lemmas.List.{drop_at}
 use Rattle.std.proofs.lemmas.List.Concat.{flat_map-append}
-use Rattle.set_algebra.specs.Plan.{Plan, empty_plan, all_plan, one_plan, walk_plan, members_plan, and_plan, or_plan, minus_plan, values_plan, pairs_plan, units_plan, Plans, no_plans, plan_then, GroupPlan, nothing_group, every_group, and_group, or_group, minus_group, pairs_group, GroupPlans, no_groups, group_then, TestPlan, within_plan, outside_plan, number_plan}
+use Rattle.set_algebra.specs.Plan.{Plan, empty_plan, all_plan, one_plan, walk_plan, members_plan, and_plan, or_plan, minus_plan, values_plan, pairs_plan, units_plan, Plans, no_plans, plan_then, PlanOfUnits, nothing_unit, every_unit, and_units, or_units, minus_units, pairs_units, PlansOfUnits, no_unit_plans, unit_plan_then, TestPlan, within_plan, outside_plan, number_plan}
 use Rattle.postings.specs.Indexed.{Indexed}
 use Rattle.set_algebra.specs.declared.choice.Choice.{Choice}
 use Rattle.planner.specs.Bounds.{capped, group_own_bound, own_bound, own_bounds, own_list}
 use Rattle.planner.specs.Leaves.{group_leaves, leaves, test_choices, type_choices}
 use Rattle.planner.specs.Nodes.{group_list, groups_list, node_list, plans_list, test_list}
-use Rattle.answer_printer.specs.PlanLines.{before_bound, with_bounds}
+use Rattle.answer_printer.specs.inside.PlanLines.{before_bound, with_bounds}
 use Rattle.answer_printer.specs.PlanText.{bound_line, group_outline, group_words, groups_outline, node_line, node_words, outline, plan_lines, plans_outline, test_outline}
 use Rattle.answer_printer.proofs.LineLemmas.{with_bounds-append}
 
@@ -53,7 +53,7 @@ module _ (indexed : Indexed) where
       (bound_line (spaces ++ node_words choices plan) (capped (own_bound indexed choices plan)) ∷ lines)
   plan_lined spaces choices plan inner = node_lined (spaces ++ node_words choices plan) (capped (own_bound indexed choices plan)) inner
 
-  unit_lined : (spaces : List ℕ) (choices : List Choice) (plan : GroupPlan) {others : List (List ℕ)} {bounds : List ℕ} {lines : List (List ℕ)}
+  unit_lined : (spaces : List ℕ) (choices : List Choice) (plan : PlanOfUnits) {others : List (List ℕ)} {bounds : List ℕ} {lines : List (List ℕ)}
       → AreLined others bounds lines
       → AreLined ((spaces ++ group_words choices plan) ∷ others) (capped (group_own_bound indexed choices plan) ∷ bounds)
       (bound_line (spaces ++ group_words choices plan) (capped (group_own_bound indexed choices plan)) ∷ lines)
@@ -89,25 +89,25 @@ module _ (indexed : Indexed) where
     plans_lined spaces choices (plan_then first rest) =
         both_lined (lined spaces choices first) (plans_lined spaces (drop (leaves first) choices) rest)
 
-    group_lined : (spaces : List ℕ) (choices : List Choice) (plan : GroupPlan)
+    group_lined : (spaces : List ℕ) (choices : List Choice) (plan : PlanOfUnits)
         → AreLined (group_outline before_bound spaces choices plan) (group_list (own_list indexed) choices plan)
         (group_outline (node_line indexed) spaces choices plan)
-    group_lined spaces choices nothing_group = unit_lined spaces choices nothing_group none_lined
-    group_lined spaces choices every_group = unit_lined spaces choices every_group none_lined
-    group_lined spaces choices (and_group parts) = unit_lined spaces choices (and_group parts) (groups_lined (32 ∷ spaces) choices parts)
-    group_lined spaces choices (or_group parts) = unit_lined spaces choices (or_group parts) (groups_lined (32 ∷ spaces) choices parts)
-    group_lined spaces choices (minus_group first second) =
-        unit_lined spaces choices (minus_group first second)
+    group_lined spaces choices nothing_unit = unit_lined spaces choices nothing_unit none_lined
+    group_lined spaces choices every_unit = unit_lined spaces choices every_unit none_lined
+    group_lined spaces choices (and_units parts) = unit_lined spaces choices (and_units parts) (groups_lined (32 ∷ spaces) choices parts)
+    group_lined spaces choices (or_units parts) = unit_lined spaces choices (or_units parts) (groups_lined (32 ∷ spaces) choices parts)
+    group_lined spaces choices (minus_units first second) =
+        unit_lined spaces choices (minus_units first second)
         (both_lined (group_lined (32 ∷ spaces) choices first) (group_lined (32 ∷ spaces) (drop (group_leaves first) choices) second))
-    group_lined spaces choices (pairs_group count types test) =
-        unit_lined spaces choices (pairs_group count types test)
+    group_lined spaces choices (pairs_units count types test) =
+        unit_lined spaces choices (pairs_units count types test)
         (both_lined (lined (32 ∷ spaces) (type_choices choices) types) (test_lined (32 ∷ spaces) (test_choices choices types) test))
 
-    groups_lined : (spaces : List ℕ) (choices : List Choice) (parts : GroupPlans)
+    groups_lined : (spaces : List ℕ) (choices : List Choice) (parts : PlansOfUnits)
         → AreLined (groups_outline before_bound spaces choices parts) (groups_list (own_list indexed) choices parts)
         (groups_outline (node_line indexed) spaces choices parts)
-    groups_lined spaces choices no_groups = none_lined
-    groups_lined spaces choices (group_then first rest) =
+    groups_lined spaces choices no_unit_plans = none_lined
+    groups_lined spaces choices (unit_plan_then first rest) =
         both_lined (group_lined spaces choices first) (groups_lined spaces (drop (group_leaves first) choices) rest)
 
     test_lined : (spaces : List ℕ) (choices : List Choice) (test : TestPlan)

@@ -1,8 +1,7 @@
 pub mod AnswerText
+pub mod inside
 pub mod LoadRefusal
-pub mod PlanLines
 pub mod PlanText
-pub mod Prefix
 pub mod ReportText
 pub mod ToldName
 pub mod WorkedTexts

@@ -7,7 +7,7 @@ use Rattle.constraint_tree.specs.declared.operator.Cardinality.{Cardinality}
 use Rattle.constraint_tree.specs.declared.operator.Operator.{Operator}
 use Rattle.constraint_tree.specs.declared.operator.Operator.TheVariants.{Descendants, DescendantsOrSelf, Children, ChildrenOrSelf, Ancestors, AncestorsOrSelf, Parents, ParentsOrSelf, Top, Bottom}
 use Rattle.constraint_tree.specs.Text.{compare_text, most_text}
-use Rattle.set_algebra.specs.Plan.{Plan, empty_plan, all_plan, one_plan, walk_plan, members_plan, and_plan, or_plan, minus_plan, values_plan, pairs_plan, units_plan, Plans, no_plans, plan_then, GroupPlan, nothing_group, every_group, and_group, or_group, minus_group, pairs_group, GroupPlans, no_groups, group_then, TestPlan, within_plan, outside_plan, number_plan}
+use Rattle.set_algebra.specs.Plan.{Plan, empty_plan, all_plan, one_plan, walk_plan, members_plan, and_plan, or_plan, minus_plan, values_plan, pairs_plan, units_plan, Plans, no_plans, plan_then, PlanOfUnits, nothing_unit, every_unit, and_units, or_units, minus_units, pairs_units, PlansOfUnits, no_unit_plans, unit_plan_then, TestPlan, within_plan, outside_plan, number_plan}
 use Rattle.postings.specs.Indexed.{Indexed}
 use Rattle.set_algebra.specs.declared.choice.Choice.{Choice}
 use Rattle.set_algebra.specs.declared.choice.Choice.TheVariants.{ByValue, ByType, Scan}
@@ -66,19 +66,19 @@ node_words choices (values_plan start names) = codes "values"
 node_words choices (pairs_plan back count types test) = pairs_words back ++ leaf_words count test (first_choice choices)
 node_words choices (units_plan count units) = codes "units " ++ count_words count
 
-abbrev pub group_words : List Choice → GroupPlan → List ℕ
-group_words choices nothing_group = codes "no-units"
-group_words choices every_group = codes "every-unit"
-group_words choices (and_group parts) = codes "unit-and"
-group_words choices (or_group parts) = codes "unit-or"
-group_words choices (minus_group first second) = codes "unit-minus"
-group_words choices (pairs_group count types test) = codes "unit-pairs " ++ leaf_words count test (first_choice choices)
+abbrev pub group_words : List Choice → PlanOfUnits → List ℕ
+group_words choices nothing_unit = codes "no-units"
+group_words choices every_unit = codes "every-unit"
+group_words choices (and_units parts) = codes "unit-and"
+group_words choices (or_units parts) = codes "unit-or"
+group_words choices (minus_units first second) = codes "unit-minus"
+group_words choices (pairs_units count types test) = codes "unit-pairs " ++ leaf_words count test (first_choice choices)
 
 -- ---- a text for each node
 -- what stands there of a node, by the spaces before it and the choices from its own first leaf on
 pub record NodeText : Type 0 where
   pub of_plan : List ℕ → List Choice → Plan → List ℕ
-  pub of_group : List ℕ → List Choice → GroupPlan → List ℕ
+  pub of_group : List ℕ → List Choice → PlanOfUnits → List ℕ
 
 -- of all nodes, a node before its children, which have one space more before them
 abbrev mutual
@@ -111,23 +111,23 @@ abbrev mutual
   plans_outline node spaces choices (plan_then first rest) =
       outline node spaces choices first ++ plans_outline node spaces (drop (leaves first) choices) rest
 
-  pub group_outline : NodeText → List ℕ → List Choice → GroupPlan → List (List ℕ)
-  group_outline node spaces choices nothing_group = node.of_group spaces choices nothing_group ∷ []
-  group_outline node spaces choices every_group = node.of_group spaces choices every_group ∷ []
-  group_outline node spaces choices (and_group parts) =
-      node.of_group spaces choices (and_group parts) ∷ groups_outline node (32 ∷ spaces) choices parts
-  group_outline node spaces choices (or_group parts) =
-      node.of_group spaces choices (or_group parts) ∷ groups_outline node (32 ∷ spaces) choices parts
-  group_outline node spaces choices (minus_group first second) =
-      node.of_group spaces choices (minus_group first second)
+  pub group_outline : NodeText → List ℕ → List Choice → PlanOfUnits → List (List ℕ)
+  group_outline node spaces choices nothing_unit = node.of_group spaces choices nothing_unit ∷ []
+  group_outline node spaces choices every_unit = node.of_group spaces choices every_unit ∷ []
+  group_outline node spaces choices (and_units parts) =
+      node.of_group spaces choices (and_units parts) ∷ groups_outline node (32 ∷ spaces) choices parts
+  group_outline node spaces choices (or_units parts) =
+      node.of_group spaces choices (or_units parts) ∷ groups_outline node (32 ∷ spaces) choices parts
+  group_outline node spaces choices (minus_units first second) =
+      node.of_group spaces choices (minus_units first second)
       ∷ (group_outline node (32 ∷ spaces) choices first ++ group_outline node (32 ∷ spaces) (drop (group_leaves first) choices) second)
-  group_outline node spaces choices (pairs_group count types test) =
-      node.of_group spaces choices (pairs_group count types test)
+  group_outline node spaces choices (pairs_units count types test) =
+      node.of_group spaces choices (pairs_units count types test)
       ∷ (outline node (32 ∷ spaces) (type_choices choices) types ++ test_outline node (32 ∷ spaces) (test_choices choices types) test)
 
-  pub groups_outline : NodeText → List ℕ → List Choice → GroupPlans → List (List ℕ)
-  groups_outline node spaces choices no_groups = []
-  groups_outline node spaces choices (group_then first rest) =
+  pub groups_outline : NodeText → List ℕ → List Choice → PlansOfUnits → List (List ℕ)
+  groups_outline node spaces choices no_unit_plans = []
+  groups_outline node spaces choices (unit_plan_then first rest) =
       group_outline node spaces choices first ++ groups_outline node spaces (drop (group_leaves first) choices) rest
 
   -- a test is no node

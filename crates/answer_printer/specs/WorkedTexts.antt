@@ -5,7 +5,7 @@ use Rattle.constraint_tree.specs.declared.operator.Compare.TheVariants.{Greater}
 use Rattle.constraint_tree.specs.Sample.{alpha, type_t, type_u, value_x}
 use Rattle.constraint_tree.specs.WorkedQueries.{at_least, two}
 use Rattle.set_algebra.specs.Lowering.{both_plan}
-use Rattle.set_algebra.specs.Plan.{Plan, all_plan, and_group, groups_from, number_plan, one_plan, pairs_plan, units_plan, within_plan}
+use Rattle.set_algebra.specs.Plan.{Plan, all_plan, and_units, units_from, number_plan, one_plan, pairs_plan, units_plan, within_plan}
 use Rattle.set_algebra.specs.WorkedPlans.{below_alpha_plan, u_group, x_group}
 use Rattle.planner.specs.Chosen.{least_choices}
 use Rattle.planner.specs.WorkedBounds.{indexed_sample}
@@ -30,7 +30,7 @@ TextByType =
 -- <100005:{104001=<<106004,105000=*}
 abbrev pub TextInBraces : Type 0
 TextInBraces =
-    HasText (both_plan below_alpha_plan (units_plan (at_least 1) (and_group (groups_from (x_group ∷ u_group ∷ [])))))
+    HasText (both_plan below_alpha_plan (units_plan (at_least 1) (and_units (units_from (x_group ∷ u_group ∷ [])))))
     (codes "PLAN 50\nand 12\n descendants 4\n  one 100005 0\n units 1..* 3\n  unit-and 18\n   unit-pairs 1..* within by type 4\n    one 104001 0\n    descendants-self 2\n     one 106004 0\n   unit-pairs 1..* within by type 7\n    one 105000 0\n    all 0\n")
 
 -- 100005,100005, of which one is left

@@ -5,7 +5,7 @@ ghost use Rattle.streams.specs.Waiting.{LeavesAnswer, Puts, WritesFront, is_writ
 ghost use Rattle.snapshot.specs.Line.{concept_line};
 ghost use Rattle.snapshot.specs.Name.{name_of};
 ghost use Rattle.answer_printer.specs.AnswerText.{answer_head, answer_text};
-ghost use Rattle.answer_printer.specs.Prefix.{IsPrefixOf};
+ghost use Rattle.answer_printer.specs.inside.Prefix.{IsPrefixOf};
 
 use crate::numbers::append_number;
 use idset::ConceptSet;

@@ -1,9 +1,9 @@
 //! The text of a plan: how it is executed, and how many items each node of it visits at most.
 ghost use Rattle.std.specs.Prelude.{◌≡◌, ◌++◌, ◌∷◌, IfOk, OnErr, OnOk, codes, drop, length};
-ghost use Rattle.set_algebra.specs.Plan.{group_plan_of, group_plans_of, plan_of, plans_of, test_plan_of};
+ghost use Rattle.set_algebra.specs.Plan.{unit_plan_of, unit_plans_of, plan_of, plans_of, test_plan_of};
 ghost use Rattle.planner.specs.Leaves.{group_leaves, groups_leaves, leaves, plans_leaves, test_leaves};
 ghost use Rattle.answer_printer.specs.AnswerText.{number_line};
-ghost use Rattle.answer_printer.specs.PlanLines.{before_bound, first_bound, with_bounds};
+ghost use Rattle.answer_printer.specs.inside.PlanLines.{before_bound, first_bound, with_bounds};
 ghost use Rattle.answer_printer.specs.PlanText.{bound_line, group_outline, group_words, groups_outline, node_words, outline, plan_text, plans_outline, test_outline};
 
 use crate::numbers::append_number;
@@ -123,9 +123,9 @@ fn write_units<'a>(
     bounds: &'a [u64],
     text: &mut Vec<u8>,
 ) -> Result<Left<'a>, AllocError>
-    ensures text { OnOk result (text.new.items ≡ text.old.items ++ with_bounds (group_outline before_bound spaces.now choices.now (group_plan_of plan.now)) bounds.now) }
-    ensures choices { IfOk result (λ left. left.choices.now ≡ drop (group_leaves (group_plan_of plan.now)) choices.now) }
-    ensures bounds { IfOk result (λ left. left.bounds.now ≡ drop (length (group_outline before_bound spaces.now choices.now (group_plan_of plan.now))) bounds.now) }
+    ensures text { OnOk result (text.new.items ≡ text.old.items ++ with_bounds (group_outline before_bound spaces.now choices.now (unit_plan_of plan.now)) bounds.now) }
+    ensures choices { IfOk result (λ left. left.choices.now ≡ drop (group_leaves (unit_plan_of plan.now)) choices.now) }
+    ensures bounds { IfOk result (λ left. left.bounds.now ≡ drop (length (group_outline before_bound spaces.now choices.now (unit_plan_of plan.now))) bounds.now) }
 {
     let behind = write_unit_line(plan, spaces, choices, bounds, text)?;
     let deeper = one_space_more(alloc, spaces)?;
@@ -213,9 +213,9 @@ fn write_unit_parts<'a>(
     bounds: &'a [u64],
     text: &mut Vec<u8>,
 ) -> Result<Left<'a>, AllocError>
-    ensures text { OnOk result (text.new.items ≡ text.old.items ++ with_bounds (groups_outline before_bound spaces.now choices.now (group_plans_of parts.now)) bounds.now) }
-    ensures choices { IfOk result (λ left. left.choices.now ≡ drop (groups_leaves (group_plans_of parts.now)) choices.now) }
-    ensures bounds { IfOk result (λ left. left.bounds.now ≡ drop (length (groups_outline before_bound spaces.now choices.now (group_plans_of parts.now))) bounds.now) }
+    ensures text { OnOk result (text.new.items ≡ text.old.items ++ with_bounds (groups_outline before_bound spaces.now choices.now (unit_plans_of parts.now)) bounds.now) }
+    ensures choices { IfOk result (λ left. left.choices.now ≡ drop (groups_leaves (unit_plans_of parts.now)) choices.now) }
+    ensures bounds { IfOk result (λ left. left.bounds.now ≡ drop (length (groups_outline before_bound spaces.now choices.now (unit_plans_of parts.now))) bounds.now) }
 {
     let mut left = Left { choices, bounds };
     for place in 0..parts.len() {
@@ -256,7 +256,7 @@ fn write_unit_line<'a>(
     bounds: &'a [u64],
     text: &mut Vec<u8>,
 ) -> Result<&'a [u64], AllocError>
-    ensures text { OnOk result (text.new.items ≡ text.old.items ++ bound_line (spaces.now ++ group_words choices.now (group_plan_of plan.now)) (first_bound bounds.now)) }
+    ensures text { OnOk result (text.new.items ≡ text.old.items ++ bound_line (spaces.now ++ group_words choices.now (unit_plan_of plan.now)) (first_bound bounds.now)) }
     ensures behind { IfOk result (λ behind. behind.now ≡ drop 1 bounds.now) }
 {
     text.extend_from_slice(spaces)?;

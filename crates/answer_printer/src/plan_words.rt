@@ -2,7 +2,7 @@
 ghost use Rattle.std.specs.Prelude.{◌≡◌, ◌++◌, OnOk};
 ghost use Rattle.std.specs.Fmt.{signed_decimal};
 ghost use Rattle.constraint_tree.specs.Text.{compare_text, most_text};
-ghost use Rattle.set_algebra.specs.Plan.{group_plan_of, plan_of, test_plan_of};
+ghost use Rattle.set_algebra.specs.Plan.{unit_plan_of, plan_of, test_plan_of};
 ghost use Rattle.answer_printer.specs.PlanText.{choice_words, count_words, group_words, leaf_words, node_words, operator_word as word_of_operator, pairs_words, test_words};
 
 use crate::numbers::append_number;
@@ -55,7 +55,7 @@ pub fn write_unit_node(
     choices: &[Choice],
     text: &mut Vec<u8>,
 ) -> Result<(), AllocError>
-    ensures { OnOk result (text.new.items ≡ text.old.items ++ group_words choices.now (group_plan_of plan.now)) }
+    ensures { OnOk result (text.new.items ≡ text.old.items ++ group_words choices.now (unit_plan_of plan.now)) }
 {
     match plan {
         UnitPlan::Nothing => text.extend_from_slice(b"no-units"),

@@ -23,7 +23,7 @@ use Rattle.constraint_tree.specs.Text.{count_text, fraction_digits, fraction_tex
 use Rattle.constraint_tree.proofs.FractionLemmas.{fraction_written}
 use Rattle.constraint_tree.proofs.NumberLemmas.{number_is_small, whole_written}
 use Rattle.constraint_tree.proofs.PieceLemmas.{Reads, along, bracket_close, bracket_open, dots, low_bytes, piece_then, wildcard}
-use Rattle.constraint_tree.proofs.SymbolLemmas.{other_byte, turned}
+use Rattle.constraint_tree.proofs.SymbolLemmas.{other_byte, swapped}
 use Rattle.constraint_tree.proofs.Symbols.{HasDigits, IsPrintableMost, count_symbols, most_symbols, range_symbols}
 
 -- the decimal digits of a number have no leading zero
@@ -51,7 +51,7 @@ digit-not_letter byte is = false_from_ne_true (is_ascii_alphabetic byte) (λ let
 digit_supported : (byte : ℕ) (rest : List ℕ) → is_ascii_digit byte ≡ true → unsupported (byte ∷ rest) ≡ None
 digit_supported byte rest is =
     let no_letter = digit-not_letter byte is in
-    let no_brace = turned byte 123 (other_byte is_ascii_digit byte 123 is refl) in
+    let no_brace = swapped byte 123 (other_byte is_ascii_digit byte 123 is refl) in
     let no_caret = other_byte is_ascii_digit byte 94 is refl in
     let no_quote = other_byte is_ascii_digit byte 34 is refl in
     rw (no_letter, no_brace, no_caret, no_quote) refl

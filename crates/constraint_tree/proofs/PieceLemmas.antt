@@ -20,7 +20,7 @@ use Rattle.constraint_tree.specs.declared.operator.Operator.{Operator}
 use Rattle.constraint_tree.specs.declared.operator.Operator.TheVariants.{Descendants, DescendantsOrSelf, Children, ChildrenOrSelf, Ancestors, AncestorsOrSelf, Parents, ParentsOrSelf, Top, Bottom}
 use Rattle.constraint_tree.specs.Grammar.{Symbol, symbol_of, mark, operator_kind, compare_kind}
 use Rattle.constraint_tree.specs.Text.{operator_text, compare_text}
-use Rattle.constraint_tree.proofs.SymbolLemmas.{ends_before, other_byte, symbol_read, turned}
+use Rattle.constraint_tree.proofs.SymbolLemmas.{ends_before, other_byte, symbol_read, swapped}
 
 -- a text is cut into pieces to its end, which spell some symbols, and it is UTF-8
 pub record Reads (text : List ℕ) (symbols : List Symbol) : Type 0 where
@@ -193,7 +193,7 @@ caret rest symbols starts more = mark_then (94 ∷ []) MemberOf rest symbols (λ
 -- `{` in front of no other: no filter
 no_filter : (rest : List ℕ) → begins_with 123 rest ≡ false → unsupported (123 ∷ rest) ≡ None
 no_filter [] starts = refl
-no_filter (byte ∷ rest) starts = let apart = turned byte 123 starts in rw apart refl
+no_filter (byte ∷ rest) starts = let apart = swapped byte 123 starts in rw apart refl
 
 pub brace_open : (rest : List ℕ) (symbols : List Symbol) → begins_with 123 rest ≡ false → Reads rest symbols → Reads (123 ∷ rest) (mark BraceOpen ∷ symbols)
 brace_open rest symbols starts more = mark_then (123 ∷ []) BraceOpen rest symbols (λ tokens. refl) refl (λ byte behind is. refl) (no_filter rest starts) refl more

@@ -16,8 +16,8 @@ other_byte test byte other is not =
     false_from_ne_true (byte == other) (λ same. let equal : test byte ≡ test other = ap test (eqb-true byte other same) in absurd (cc))
 
 -- two bytes that differ, the other way round
-pub turned : (byte other : ℕ) → (byte == other) ≡ false → (other == byte) ≡ false
-turned byte other apart = grind (arith, nat_tests, apart)
+pub swapped : (byte other : ℕ) → (byte == other) ≡ false → (other == byte) ≡ false
+swapped byte other apart = grind (arith, nat_tests, apart)
 
 -- whether some bytes go on as others do, and then with a byte
 abbrev pub goes_on : List ℕ → ℕ → List ℕ → Bool

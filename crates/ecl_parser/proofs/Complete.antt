@@ -9,7 +9,7 @@ use Rattle.ecl_lexer.specs.declared.token.TokenKind.{TokenKind}
 use Rattle.ecl_lexer.specs.declared.token.TokenKind.TheVariants as token
 use Rattle.constraint_tree.specs.Grammar.{Symbol, decimal, mark, CountForm, at_least, between, ConstraintForm, alone, refined, conjunction, disjunction, exclusion, dotted, SubForms, no_subs, sub_then, SubForm, plain, member, walk, walk_member, FocusForm, concept, concept_term, any, round, RefinementForm, one_item, all_items, some_items, ItemForms, no_items, item_then, ItemForm, attribute, group, round_refinement, SetForm, one_part, all_parts, some_parts, PartForms, no_parts, part_then, PartForm, counted_part, round_set, PairForm, within, outside, number, operator_kind, compare_kind, count_tokens, counted_tokens, constraint_tokens, subs_tokens, sub_tokens, focus_tokens, refinement_tokens, items_tokens, item_tokens, set_tokens, parts_tokens, part_tokens, pair_tokens, cardinality_of, constraint_tree, sub_trees, sub_tree, focus_tree, refinement_tree, item_trees, item_tree, set_tree, part_trees, part_tree, pair_tree}
 use Rattle.constraint_tree.specs.Tree.{Tree, trees_from, tree_then, RefinementTree, refinements_from, refinement_then, AttributeSetTree, sets_from, set_then}
-use Rattle.ecl_parser.specs.Reading.{Found, Readers, behind, behind_close, bounds_at, bracketed_at, compare_at, compare_of, constraint_behind, constraint_in, count_at, focus_in, is_mark, item_behind, item_in, many, member_in, number_at, operator_of, otherwise, pair_in, part_in, readers, refinement_behind, refinement_in, set_behind, set_in, sub_in, test_in}
+use Rattle.ecl_parser.specs.inside.Reading.{Found, Readers, behind, behind_close, bounds_at, bracketed_at, compare_at, compare_of, constraint_behind, constraint_in, count_at, focus_in, is_mark, item_behind, item_in, many, member_in, number_at, operator_of, otherwise, pair_in, part_in, readers, refinement_behind, refinement_in, set_behind, set_in, sub_in, test_in}
 use Rattle.ecl_parser.specs.declared.tokens.Mark.{Mark}
 use Rattle.ecl_parser.specs.declared.tokens.Mark.TheVariants as marks
 use Rattle.ecl_parser.proofs.MarkLemmas.{compare_back, kind_of, operator_back, read_is_no_mark}

@@ -10,7 +10,7 @@ use Rattle.ecl_lexer.proofs.LawLemmas.{each_text}
 use Rattle.constraint_tree.specs.Grammar.{IsTreeOf, Symbol, symbol_of}
 use Rattle.constraint_tree.specs.Refusal.{IsConstraint, IsRefusalOf, is_deep}
 use Rattle.constraint_tree.specs.Tree.{Tree}
-use Rattle.ecl_parser.specs.Reading.{Found, constraint_in, readers}
+use Rattle.ecl_parser.specs.inside.Reading.{Found, constraint_in, readers}
 use Rattle.ecl_parser.proofs.ParseLemmas.{refusal_of_text, tokens_read}
 use Rattle.ecl_parser.proofs.Sound.{constraint_derives}
 

@@ -7,7 +7,7 @@ use Rattle.constraint_tree.specs.declared.operator.Operator.TheVariants as opera
 use Rattle.ecl_lexer.specs.declared.token.TokenKind.{TokenKind}
 use Rattle.ecl_lexer.specs.declared.token.TokenKind.TheVariants as token
 use Rattle.constraint_tree.specs.Grammar.{Symbol, decimal, mark, CountForm, at_least, between, ConstraintForm, alone, refined, conjunction, disjunction, exclusion, dotted, SubForms, no_subs, sub_then, SubForm, plain, member, walk, walk_member, FocusForm, concept, concept_term, any, round, RefinementForm, one_item, all_items, some_items, ItemForms, no_items, item_then, ItemForm, attribute, group, round_refinement, SetForm, one_part, all_parts, some_parts, PartForms, no_parts, part_then, PartForm, counted_part, round_set, PairForm, within, outside, number, operator_kind, compare_kind, counted_tokens, reverse_tokens, constraint_tokens, subs_tokens, sub_tokens, focus_tokens, refinement_tokens, items_tokens, item_tokens, set_tokens, parts_tokens, part_tokens, pair_tokens}
-use Rattle.ecl_parser.specs.Reading.{behind_close}
+use Rattle.ecl_parser.specs.inside.Reading.{behind_close}
 
 -- how many brackets are open at once inside a form
 abbrev mutual

@@ -7,7 +7,7 @@ use Rattle.constraint_tree.specs.declared.operator.Operator.TheVariants as opera
 use Rattle.ecl_lexer.specs.declared.token.TokenKind.{TokenKind}
 use Rattle.ecl_lexer.specs.declared.token.TokenKind.TheVariants as token
 use Rattle.constraint_tree.specs.Grammar.{operator_kind, compare_kind}
-use Rattle.ecl_parser.specs.Reading.{compare_of, is_mark, operator_of}
+use Rattle.ecl_parser.specs.inside.Reading.{compare_of, is_mark, operator_of}
 use Rattle.ecl_parser.specs.declared.tokens.Mark.{Mark}
 use Rattle.ecl_parser.specs.declared.tokens.Mark.TheVariants as marks
 use Rattle.std.proofs.lemmas.Bool.{false≢true}

@@ -12,9 +12,9 @@ use Rattle.constraint_tree.specs.Grammar.{HaveOneTree, IsTreeOf, Symbol, constra
 use Rattle.constraint_tree.specs.Refusal.{IsConstraint, IsRefusalOf, is_deep}
 use Rattle.constraint_tree.specs.Tree.{Tree, tree_of}
 use Rattle.constraint_tree.specs.declared.tree.Constraint.{Constraint}
-use Rattle.ecl_parser.specs.Answers.{AreFaulty}
-use Rattle.ecl_parser.specs.Gives.{Fails, symbols, symbols_from}
-use Rattle.ecl_parser.specs.Reading.{Found, Readers, constraint_in, focus_in, member_in, readers, sub_in}
+use Rattle.ecl_parser.specs.inside.Answers.{AreFaulty}
+use Rattle.ecl_parser.specs.inside.Gives.{Fails, symbols, symbols_from}
+use Rattle.ecl_parser.specs.inside.Reading.{Found, Readers, constraint_in, focus_in, member_in, readers, sub_in}
 use Rattle.ecl_parser.proofs.Complete.{at_end, constraint_complete}
 use Rattle.ecl_parser.proofs.Forms.{constraint_depth}
 use Rattle.ecl_parser.proofs.Shallow.{fits_most}

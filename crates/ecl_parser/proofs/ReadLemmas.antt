@@ -6,8 +6,8 @@ use Rattle.ecl_lexer.specs.declared.fault.QueryFault.TheVariants.{Long, Utf8, To
 use Rattle.constraint_tree.specs.Grammar.{Symbol}
 use Rattle.constraint_tree.specs.Tree.{AttributeSetTree, group_refinement}
 use Rattle.constraint_tree.specs.declared.operator.Cardinality.{Cardinality}
-use Rattle.ecl_parser.specs.Gives.{Fails}
-use Rattle.ecl_parser.specs.Reading.{◌>>=◌, Found, behind, bracketed_at, item_behind, many, part_in, readers, set_in, with_front}
+use Rattle.ecl_parser.specs.inside.Gives.{Fails}
+use Rattle.ecl_parser.specs.inside.Reading.{◌>>=◌, Found, behind, bracketed_at, item_behind, many, part_in, readers, set_in, with_front}
 use Rattle.ecl_parser.specs.declared.tokens.Mark.{Mark}
 use Rattle.ecl_parser.specs.declared.tokens.Mark.TheVariants as marks
 

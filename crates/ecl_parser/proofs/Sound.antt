@@ -12,7 +12,7 @@ use Rattle.ecl_lexer.specs.declared.token.TokenKind.{TokenKind}
 use Rattle.ecl_lexer.specs.declared.token.TokenKind.TheVariants as token
 use Rattle.constraint_tree.specs.Grammar.{Symbol, digits, decimal, mark, CountForm, at_least, between, ConstraintForm, alone, refined, conjunction, disjunction, exclusion, dotted, SubForms, no_subs, sub_then, SubForm, plain, member, walk, walk_member, concept, concept_term, any, round, one_item, all_items, some_items, ItemForms, no_items, item_then, ItemForm, attribute, group, round_refinement, one_part, all_parts, some_parts, PartForms, no_parts, part_then, PartForm, counted_part, round_set, PairForm, within, outside, number, operator_kind, compare_kind, counted_tokens, constraint_tokens, subs_tokens, sub_tokens, focus_tokens, refinement_tokens, items_tokens, item_tokens, set_tokens, parts_tokens, part_tokens, pair_tokens, cardinality_of, constraint_tree, sub_trees, sub_tree, focus_tree, refinement_tree, item_trees, item_tree, set_tree, part_trees, part_tree, pair_tree}
 use Rattle.constraint_tree.specs.Tree.{Tree, concept_tree, any_tree, member_tree, walk_tree, minus_tree, refined_tree, trees_from, tree_then, and_tree, or_tree, dotted_tree, RefinementTree, one_refinement, group_refinement, refinements_from, refinement_then, and_refinement, or_refinement, AttributeSetTree, one_set, sets_from, set_then, and_set, or_set, AttributeTree, attribute_tree, TestTree, within_test, outside_test, number_test}
-use Rattle.ecl_parser.specs.Reading.{◌>>=◌, Found, Readers, all_behind, behind, behind_close, behind_term, bounds_at, bracketed_at, closed, compare_at, compare_of, constraint_behind, constraint_in, count_at, digits_at, focus_in, is_mark, item_behind, item_in, many, member_in, most_at, number_at, operator_at, operator_of, otherwise, pair_in, part_in, readers, refinement_behind, refinement_in, set_behind, set_in, some_or_more, stands, sub_in, test_in, value_test, with_front}
+use Rattle.ecl_parser.specs.inside.Reading.{◌>>=◌, Found, Readers, all_behind, behind, behind_close, behind_term, bounds_at, bracketed_at, closed, compare_at, compare_of, constraint_behind, constraint_in, count_at, digits_at, focus_in, is_mark, item_behind, item_in, many, member_in, most_at, number_at, operator_at, operator_of, otherwise, pair_in, part_in, readers, refinement_behind, refinement_in, set_behind, set_in, some_or_more, stands, sub_in, test_in, value_test, with_front}
 use Rattle.ecl_parser.specs.declared.tokens.Mark.{Mark}
 use Rattle.ecl_parser.specs.declared.tokens.Mark.TheVariants as marks
 use Rattle.ecl_parser.proofs.MarkLemmas.{kind_of, mark_kind}

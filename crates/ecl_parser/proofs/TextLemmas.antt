@@ -16,7 +16,7 @@ use Rattle.constraint_tree.specs.Sample.{sample}
 use Rattle.constraint_tree.specs.Tree.{Tree}
 use Rattle.constraint_tree.specs.WorkedQueries.{Gives}
 use Rattle.constraint_tree.proofs.PieceLemmas.{low_bytes}
-use Rattle.ecl_parser.specs.Reading.{Found, bounds_at, constraint_behind, constraint_in, focus_in, item_behind, item_in, many, member_in, pair_in, part_in, readers, refinement_behind, refinement_in, set_behind, set_in, sub_in, test_in}
+use Rattle.ecl_parser.specs.inside.Reading.{Found, bounds_at, constraint_behind, constraint_in, focus_in, item_behind, item_in, many, member_in, pair_in, part_in, readers, refinement_behind, refinement_in, set_behind, set_in, sub_in, test_in}
 use Rattle.ecl_parser.proofs.Sound.{constraint_derives}
 
 -- the pieces of a text that is read to its end in so many turns

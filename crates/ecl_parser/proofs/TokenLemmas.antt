@@ -7,8 +7,8 @@ use Rattle.ecl_lexer.specs.declared.token.TokenKind.TheVariants as token
 use Rattle.constraint_tree.specs.Grammar.{Symbol, symbol_of}
 use Rattle.constraint_tree.specs.declared.operator.Compare.{Compare}
 use Rattle.constraint_tree.specs.declared.operator.Operator.{Operator}
-use Rattle.ecl_parser.specs.Gives.{symbols, symbols_from}
-use Rattle.ecl_parser.specs.Reading.{behind, compare_at, compare_of, is_mark, operator_at, operator_of}
+use Rattle.ecl_parser.specs.inside.Gives.{symbols, symbols_from}
+use Rattle.ecl_parser.specs.inside.Reading.{behind, compare_at, compare_of, is_mark, operator_at, operator_of}
 use Rattle.ecl_parser.specs.declared.tokens.Mark.{Mark}
 use Rattle.ecl_parser.specs.declared.tokens.Mark.TheVariants as marks
 

@@ -1,3 +1,1 @@
-pub mod Answers
-pub mod Gives
-pub mod Reading
+pub mod inside

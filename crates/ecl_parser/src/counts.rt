@@ -1,7 +1,7 @@
 //! Reading a cardinality.
 ghost use Rattle.std.specs.Prelude.{◌≡◌, None, Some, IfSome};
-ghost use Rattle.ecl_parser.specs.Gives.{Gives, symbols_from};
-ghost use Rattle.ecl_parser.specs.Reading.{bounds_at, count_at, most_at};
+ghost use Rattle.ecl_parser.specs.inside.Gives.{Gives, symbols_from};
+ghost use Rattle.ecl_parser.specs.inside.Reading.{bounds_at, count_at, most_at};
 
 use crate::tokens::{Mark, take, take_digits};
 use constraint_tree::Cardinality;
@@ -21,7 +21,7 @@ pub fn count(tokens: &[Token<'_>], at: &mut usize) -> Result<Cardinality, QueryF
 }
 
 // The bounds of a cardinality, and the bracket that closes it.
-#[tactic(auto, unfolding(crate::specs::Reading::bounds_at))]
+#[tactic(auto, unfolding(crate::specs::inside::Reading::bounds_at))]
 fn bounds(tokens: &[Token<'_>], at: &mut usize) -> Option<Cardinality>
     ensures some { IfSome result (λ found. bounds_at (symbols_from tokens.now at.old) ≡ Some (found, symbols_from tokens.now at.new)) }
     ensures none { result ≡ None → bounds_at (symbols_from tokens.now at.old) ≡ None }

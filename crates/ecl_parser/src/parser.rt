@@ -3,8 +3,8 @@
 //! at each, so the descent ends.
 ghost use Rattle.std.specs.Prelude.{◌≡◌, ◌∷◌, [], IfOk, map};
 ghost use Rattle.constraint_tree.specs.Tree.{attribute_tree_of, refinement_tree_of, set_tree_of, test_tree_of, tree_of};
-ghost use Rattle.ecl_parser.specs.Gives.{Gives, symbols_from};
-ghost use Rattle.ecl_parser.specs.Reading.{all_behind, constraint_in, focus_in, item_behind, item_in, member_in, pair_in, part_in, readers, refinement_in, set_in, sub_in, test_in, value_test, with_front};
+ghost use Rattle.ecl_parser.specs.inside.Gives.{Gives, symbols_from};
+ghost use Rattle.ecl_parser.specs.inside.Reading.{all_behind, constraint_in, focus_in, item_behind, item_in, member_in, pair_in, part_in, readers, refinement_in, set_in, sub_in, test_in, value_test, with_front};
 
 use crate::counts::count;
 use crate::tokens::{
@@ -18,7 +18,7 @@ use std::alloc::{AllocError, Global};
 
 /// Constraint: a Sub, alone or joined with others, refined, or dotted.
 #[cycle(parser)]
-#[tactic(auto, using(constraint_tree::proofs::TreeLemmas::trees_of_items), unfolding(crate::specs::Reading::constraint_in, crate::specs::Reading::constraint_behind))]
+#[tactic(auto, using(constraint_tree::proofs::TreeLemmas::trees_of_items), unfolding(crate::specs::inside::Reading::constraint_in, crate::specs::inside::Reading::constraint_behind))]
 pub fn constraint(
     alloc: Global,
     tokens: &[Token<'_>],
@@ -86,7 +86,7 @@ fn subs(
 
 // Sub: an operator or none, and its operand.
 #[cycle(parser)]
-#[tactic(auto, unfolding(crate::specs::Reading::sub_in))]
+#[tactic(auto, unfolding(crate::specs::inside::Reading::sub_in))]
 fn sub(
     alloc: Global,
     tokens: &[Token<'_>],
@@ -110,7 +110,7 @@ fn sub(
 
 // A focus, behind `^` or not.
 #[cycle(parser)]
-#[tactic(auto, unfolding(crate::specs::Reading::member_in))]
+#[tactic(auto, unfolding(crate::specs::inside::Reading::member_in))]
 fn member(
     alloc: Global,
     tokens: &[Token<'_>],
@@ -130,7 +130,7 @@ fn member(
 
 // Focus: a concept, `*`, or a constraint in brackets.
 #[cycle(parser)]
-#[tactic(auto, unfolding(crate::specs::Reading::focus_in, crate::specs::Reading::readers))]
+#[tactic(auto, unfolding(crate::specs::inside::Reading::focus_in, crate::specs::inside::Reading::readers))]
 fn focus(
     alloc: Global,
     tokens: &[Token<'_>],
@@ -158,7 +158,7 @@ fn focus(
 
 // Refinement: items, joined by AND or by OR.
 #[cycle(parser)]
-#[tactic(auto, using(constraint_tree::proofs::TreeLemmas::trees_of_items), unfolding(crate::specs::Reading::refinement_in, crate::specs::Reading::refinement_behind))]
+#[tactic(auto, using(constraint_tree::proofs::TreeLemmas::trees_of_items), unfolding(crate::specs::inside::Reading::refinement_in, crate::specs::inside::Reading::refinement_behind))]
 fn refinement(
     alloc: Global,
     tokens: &[Token<'_>],
@@ -209,7 +209,7 @@ fn items(
 
 // Item: a refinement in brackets, or an attribute or a group of attributes, behind its cardinality.
 #[cycle(parser)]
-#[tactic(auto, unfolding(crate::specs::Reading::item_in, crate::specs::Reading::readers))]
+#[tactic(auto, unfolding(crate::specs::inside::Reading::item_in, crate::specs::inside::Reading::readers))]
 fn item(
     alloc: Global,
     tokens: &[Token<'_>],
@@ -235,7 +235,7 @@ fn item(
 
 // An attribute, or a group of attributes in braces.
 #[cycle(parser)]
-#[tactic(auto, unfolding(crate::specs::Reading::item_behind, crate::specs::Reading::readers))]
+#[tactic(auto, unfolding(crate::specs::inside::Reading::item_behind, crate::specs::inside::Reading::readers))]
 fn counted_item(
     alloc: Global,
     cardinality: Cardinality,
@@ -265,7 +265,7 @@ fn counted_item(
 
 // Set: parts, joined by AND or by OR.
 #[cycle(parser)]
-#[tactic(auto, using(constraint_tree::proofs::TreeLemmas::trees_of_items), unfolding(crate::specs::Reading::set_in, crate::specs::Reading::set_behind))]
+#[tactic(auto, using(constraint_tree::proofs::TreeLemmas::trees_of_items), unfolding(crate::specs::inside::Reading::set_in, crate::specs::inside::Reading::set_behind))]
 fn set(
     alloc: Global,
     tokens: &[Token<'_>],
@@ -316,7 +316,7 @@ fn parts(
 
 // Part: a set in brackets, or an attribute behind its cardinality.
 #[cycle(parser)]
-#[tactic(auto, unfolding(crate::specs::Reading::part_in, crate::specs::Reading::readers))]
+#[tactic(auto, unfolding(crate::specs::inside::Reading::part_in, crate::specs::inside::Reading::readers))]
 fn part(
     alloc: Global,
     tokens: &[Token<'_>],
@@ -342,7 +342,7 @@ fn part(
 
 // Pair: a name, a comparison, and what the value is compared with.
 #[cycle(parser)]
-#[tactic(auto, unfolding(crate::specs::Reading::pair_in))]
+#[tactic(auto, unfolding(crate::specs::inside::Reading::pair_in))]
 fn pair(
     alloc: Global,
     count: Cardinality,
@@ -368,7 +368,7 @@ fn pair(
 
 // What a value is compared with: a number, or by `=` and `!=` a Sub.
 #[cycle(parser)]
-#[tactic(auto, unfolding(crate::specs::Reading::test_in))]
+#[tactic(auto, unfolding(crate::specs::inside::Reading::test_in))]
 fn test(
     alloc: Global,
     compare: Compare,

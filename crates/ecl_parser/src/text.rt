@@ -7,7 +7,7 @@ ghost use Rattle.constraint_tree.specs.Grammar.{IsTreeOf};
 ghost use Rattle.constraint_tree.specs.Refusal.{IsConstraint, IsRefusalOf, is_deep as is_deep_at};
 ghost use Rattle.constraint_tree.specs.Text.{constraint_text};
 ghost use Rattle.constraint_tree.specs.Tree.{Tree, tree_of};
-ghost use Rattle.ecl_parser.specs.Answers.{AreFaulty};
+ghost use Rattle.ecl_parser.specs.inside.Answers.{AreFaulty};
 
 use crate::parser::constraint;
 use constraint_tree::Constraint;

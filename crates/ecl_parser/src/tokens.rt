@@ -3,8 +3,8 @@ ghost use Rattle.std.specs.Prelude.{◌≡◌, ◌+◌, ◌<◌, ◌≤◌, ◌�
 ghost use Rattle.rf2_rows.specs.Values.{decimal_of};
 ghost use Rattle.ecl_lexer.specs.Tokens.{spelled};
 ghost use Rattle.constraint_tree.specs.Grammar.{symbol_of};
-ghost use Rattle.ecl_parser.specs.Gives.{symbols_from};
-ghost use Rattle.ecl_parser.specs.Reading.{behind, behind_close as behind_close_of, bracketed_at, compare_at, compare_of as comparison_of, digits_at, is_mark as is_marked, number_at, operator_at, operator_of as walk_of, stands};
+ghost use Rattle.ecl_parser.specs.inside.Gives.{symbols_from};
+ghost use Rattle.ecl_parser.specs.inside.Reading.{behind, behind_close as behind_close_of, bracketed_at, compare_at, compare_of as comparison_of, digits_at, is_mark as is_marked, number_at, operator_at, operator_of as walk_of, stands};
 
 use constraint_tree::{Compare, Operator};
 use ecl_lexer::{Token, TokenKind};

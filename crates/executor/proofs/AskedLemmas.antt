@@ -16,9 +16,9 @@ use Rattle.idset.proofs.Rising.{numbers_where-rising, rising_is_numbers_where}
 use Rattle.hierarchy.specs.KeyedLists.{list_of}
 use Rattle.ancestor_index.specs.HierarchyLists.{Hierarchy}
 use Rattle.ancestor_index.proofs.ClosureLemmas.{item_there, there_item}
-use Rattle.executor.specs.Asked.{AreEnough, asked_lists}
-use Rattle.executor.specs.Joined.{back_of}
-use Rattle.executor.specs.Steps.{IsOver, apart, joined, led_to, lists_of}
+use Rattle.executor.specs.inside.Asked.{AreEnough, asked_lists}
+use Rattle.executor.specs.inside.Joined.{back_of}
+use Rattle.executor.specs.inside.Steps.{IsOver, apart, joined, led_to, lists_of}
 use Rattle.executor.specs.declared.family.Family.{Family}
 use Rattle.executor.specs.declared.family.Family.TheVariants as family
 use Rattle.executor.specs.declared.family.Reach.TheVariants.{Listed, ListedOrSelf, Apart}

@@ -8,8 +8,8 @@ use Rattle.constraint_tree.specs.declared.operator.Cardinality.{Cardinality}
 use Rattle.idset.proofs.Normal.{numbers_where-agree, numbers_where-all}
 use Rattle.postings.specs.Groups.{ConceptGroup, all_groups}
 use Rattle.set_algebra.specs.declared.plan.UnitPlan.{UnitPlan}
-use Rattle.set_algebra.specs.Meaning.{all_group_mean, group_means, has_pairs, means, some_group_means, value_passes}
-use Rattle.set_algebra.specs.Plan.{GroupPlan, Plan, TestPlan, and_group, every_group, group_plan_of, group_plans_of, or_group, pairs_group}
+use Rattle.set_algebra.specs.Meaning.{all_units_mean, unit_means, has_pairs, means, some_unit_means, value_passes}
+use Rattle.set_algebra.specs.Plan.{PlanOfUnits, Plan, TestPlan, and_units, every_unit, unit_plan_of, unit_plans_of, or_units, pairs_units}
 use Rattle.pair_sets.specs.Groups.{groups_where, some_group_in}
 use Rattle.pair_sets.specs.Numbers.{numbers_in}
 use Rattle.pair_sets.specs.Tested.{is_one_of}
@@ -32,40 +32,40 @@ module _ (release : Release) where
       at n within None is = absurd (none_within all n within is)
       at n within (Some group) is = refl
 
-  meant : (plan other : GroupPlan) → plan ≡ other → groups_where release (group_means release other) ≡ groups_where release (group_means release plan)
-  meant plan other is = ap (λ (p : GroupPlan). groups_where release (group_means release p)) (sym is)
+  meant : (plan other : PlanOfUnits) → plan ≡ other → groups_where release (unit_means release other) ≡ groups_where release (unit_means release plan)
+  meant plan other is = ap (λ (p : PlanOfUnits). groups_where release (unit_means release p)) (sym is)
 
-  module _ (plan : GroupPlan) (found : List ℕ) where
-    pub every_node : plan ≡ every_group → found ≡ range_with_len 0 (length all) → found ≡ groups_where release (group_means release plan)
-    every_node is found_is = found_is ∙ each_where ∙ meant plan every_group is
+  module _ (plan : PlanOfUnits) (found : List ℕ) where
+    pub every_node : plan ≡ every_unit → found ≡ range_with_len 0 (length all) → found ≡ groups_where release (unit_means release plan)
+    every_node is found_is = found_is ∙ each_where ∙ meant plan every_unit is
 
-    pub and_node : (parts : List UnitPlan) → plan ≡ and_group (group_plans_of parts)
-        → found ≡ groups_where release (λ pairs. list_all (λ part. group_means release (group_plan_of part) pairs) parts)
-        → found ≡ groups_where release (group_means release plan)
+    pub and_node : (parts : List UnitPlan) → plan ≡ and_units (unit_plans_of parts)
+        → found ≡ groups_where release (λ pairs. list_all (λ part. unit_means release (unit_plan_of part) pairs) parts)
+        → found ≡ groups_where release (unit_means release plan)
     and_node parts is found_is =
-        found_is ∙ (λ i. groups_where release (λ pairs. all_listed parts pairs i)) ∙ meant plan (and_group (group_plans_of parts)) is
+        found_is ∙ (λ i. groups_where release (λ pairs. all_listed parts pairs i)) ∙ meant plan (and_units (unit_plans_of parts)) is
       where
         all_listed : (some : List UnitPlan) (pairs : List Pair)
-            → list_all (λ part. group_means release (group_plan_of part) pairs) some ≡ all_group_mean release (group_plans_of some) pairs
+            → list_all (λ part. unit_means release (unit_plan_of part) pairs) some ≡ all_units_mean release (unit_plans_of some) pairs
         all_listed [] pairs = refl
-        all_listed (part ∷ some) pairs = ap (λ (b : Bool). group_means release (group_plan_of part) pairs && b) (all_listed some pairs)
+        all_listed (part ∷ some) pairs = ap (λ (b : Bool). unit_means release (unit_plan_of part) pairs && b) (all_listed some pairs)
 
-    pub or_node : (parts : List UnitPlan) → plan ≡ or_group (group_plans_of parts)
-        → found ≡ groups_where release (λ pairs. list_any (λ part. group_means release (group_plan_of part) pairs) parts)
-        → found ≡ groups_where release (group_means release plan)
+    pub or_node : (parts : List UnitPlan) → plan ≡ or_units (unit_plans_of parts)
+        → found ≡ groups_where release (λ pairs. list_any (λ part. unit_means release (unit_plan_of part) pairs) parts)
+        → found ≡ groups_where release (unit_means release plan)
     or_node parts is found_is =
-        found_is ∙ (λ i. groups_where release (λ pairs. some_listed parts pairs i)) ∙ meant plan (or_group (group_plans_of parts)) is
+        found_is ∙ (λ i. groups_where release (λ pairs. some_listed parts pairs i)) ∙ meant plan (or_units (unit_plans_of parts)) is
       where
         some_listed : (some : List UnitPlan) (pairs : List Pair)
-            → list_any (λ part. group_means release (group_plan_of part) pairs) some ≡ some_group_means release (group_plans_of some) pairs
+            → list_any (λ part. unit_means release (unit_plan_of part) pairs) some ≡ some_unit_means release (unit_plans_of some) pairs
         some_listed [] pairs = refl
-        some_listed (part ∷ some) pairs = ap (λ (b : Bool). group_means release (group_plan_of part) pairs || b) (some_listed some pairs)
+        some_listed (part ∷ some) pairs = ap (λ (b : Bool). unit_means release (unit_plan_of part) pairs || b) (some_listed some pairs)
 
-    pub pairs_node : (count : Cardinality) (types : Plan) (test : TestPlan) (concepts items : List ℕ) → plan ≡ pairs_group count types test
+    pub pairs_node : (count : Cardinality) (types : Plan) (test : TestPlan) (concepts items : List ℕ) → plan ≡ pairs_units count types test
         → concepts ≡ release.concepts → items ≡ numbers_in release (means release types)
         → found ≡ groups_where release (has_pairs count (is_one_of concepts items) (value_passes release test))
-        → found ≡ groups_where release (group_means release plan)
+        → found ≡ groups_where release (unit_means release plan)
     pairs_node count types test concepts items is are items_are found_is =
         found_is
         ∙ ap (λ (set : ℕ → Bool). groups_where release (has_pairs count set (value_passes release test))) (one_meant release types concepts items are items_are)
-        ∙ meant plan (pairs_group count types test) is
+        ∙ meant plan (pairs_units count types test) is

@@ -18,8 +18,8 @@ use Rattle.hierarchy.specs.KeyedLists.{list_of}
 use Rattle.ancestor_index.specs.HierarchyLists.{Hierarchy, hierarchy_of, is_child, lists_where}
 use Rattle.ancestor_index.proofs.ClosureLemmas.{item_there, length-where, list_of-where, row_there, there_item, there_where, where_there}
 use Rattle.pair_sets.proofs.ListLemmas.{any_append}
-use Rattle.executor.specs.Joined.{AreJoined, is_long, is_whole, near_of, with_length}
-use Rattle.executor.specs.Steps.{IsOver, joined, lists_of}
+use Rattle.executor.specs.inside.Joined.{AreJoined, is_long, is_whole, near_of, with_length}
+use Rattle.executor.specs.inside.Steps.{IsOver, joined, lists_of}
 use Rattle.executor.specs.declared.family.Family.{Family}
 use Rattle.executor.specs.declared.family.Family.TheVariants as family
 

@@ -10,8 +10,8 @@ use Rattle.idset.proofs.Normal.{filter-numbers_where, has_item-numbers_where}
 use Rattle.idset.proofs.Rising.{numbers_where-rising, rises_within-filter, rising_is_numbers_where}
 use Rattle.ancestor_index.specs.HierarchyLists.{Hierarchy}
 use Rattle.ancestor_index.proofs.ClosureLemmas.{both_ways, item_there, there_item}
-use Rattle.executor.specs.Joined.{AreJoined, back_of, is_whole, near_of}
-use Rattle.executor.specs.Steps.{IsOver, apart, joined, lists_of, stepped}
+use Rattle.executor.specs.inside.Joined.{AreJoined, back_of, is_whole, near_of}
+use Rattle.executor.specs.inside.Steps.{IsOver, apart, joined, lists_of, stepped}
 use Rattle.executor.specs.declared.family.Family.{Family}
 use Rattle.executor.specs.declared.family.Family.TheVariants as family
 use Rattle.executor.specs.declared.family.Reach.{Reach}

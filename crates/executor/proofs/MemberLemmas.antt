@@ -16,7 +16,7 @@ use Rattle.hierarchy.specs.KeyedLists.{list_of}
 use Rattle.ancestor_index.specs.HierarchyLists.{is_child}
 use Rattle.ancestor_index.proofs.ClosureLemmas.{both_ways, list_of-where, there_where, where_there}
 use Rattle.postings.specs.Indexed.{members_of}
-use Rattle.executor.specs.Members.{components_of, is_in_one_of}
+use Rattle.executor.specs.inside.Components.{components_of, is_in_one_of}
 use Rattle.pair_sets.proofs.WithinLemmas.{restricted_to}
 use Rattle.pair_sets.specs.Numbers.{numbers_in}
 use Rattle.pair_sets.specs.Tested.{is_one_of}
@@ -57,8 +57,8 @@ any_exchanged id (refset ∷ refsets) rows x =
     ∙ sym (any_or (λ row. (row.0 == id refset) && (row.1 == x)) (λ row. list_any (λ other. id other == row.0) refsets && (row.1 == x)) rows)
     ∙ any_agree rows _ _ (0, 0) (λ k there. both (get_or rows k (0, 0)).0 (id refset) (list_any (λ other. id other == (get_or rows k (0, 0)).0) refsets) ((get_or rows k (0, 0)).1 == x))
   where
-    turned : (a b : ℕ) → (a == b) ≡ (b == a)
-    turned a b = both_ways (a == b) (b == a) (λ told. eq-eqb b a (sym (eqb-true a b told))) (λ told. eq-eqb a b (sym (eqb-true b a told)))
+    swapped : (a b : ℕ) → (a == b) ≡ (b == a)
+    swapped a b = both_ways (a == b) (b == a) (λ told. eq-eqb b a (sym (eqb-true a b told))) (λ told. eq-eqb a b (sym (eqb-true b a told)))
 
     shared : (a b c : Bool) → ((a && c) || (b && c)) ≡ ((a || b) && c)
     shared true true true = refl
@@ -68,7 +68,7 @@ any_exchanged id (refset ∷ refsets) rows x =
     shared false b c = refl
 
     both : (from to : ℕ) (some here : Bool) → (((from == to) && here) || (some && here)) ≡ (((to == from) || some) && here)
-    both from to some here = shared (from == to) some here ∙ ap (λ (b : Bool). (b || some) && here) (turned from to)
+    both from to some here = shared (from == to) some here ∙ ap (λ (b : Bool). (b || some) && here) (swapped from to)
 
 item_joined : (lists : List (List ℕ)) (concepts : List ℕ) (n : ℕ)
     → has_item (flat_map (list_of lists) concepts) n ≡ list_any (λ concept. has_item (list_of lists concept) n) concepts

@@ -10,12 +10,12 @@ use Rattle.constraint_tree.specs.Walks.{has_concept, walks}
 use Rattle.constraint_tree.specs.declared.operator.Cardinality.{Cardinality}
 use Rattle.ancestor_index.specs.HierarchyLists.{Hierarchy, hierarchy_of}
 use Rattle.set_algebra.specs.declared.plan.ConceptPlan.{ConceptPlan}
-use Rattle.set_algebra.specs.Meaning.{all_mean, group_means, has_groups, has_pairs, leads, means, pairs_of, some_means, value_passes}
-use Rattle.set_algebra.specs.Plan.{GroupPlan, Plan, Plans, TestPlan, all_plan, and_plan, members_plan, no_plans, one_plan, or_plan, outside_plan, pairs_plan, plan_of, plan_then, plans_of, units_plan, values_plan, walk_plan, within_plan}
+use Rattle.set_algebra.specs.Meaning.{all_mean, unit_means, has_groups, has_pairs, leads, means, pairs_of, some_means, value_passes}
+use Rattle.set_algebra.specs.Plan.{PlanOfUnits, Plan, Plans, TestPlan, all_plan, and_plan, members_plan, no_plans, one_plan, or_plan, outside_plan, pairs_plan, plan_of, plan_then, plans_of, units_plan, values_plan, walk_plan, within_plan}
 use Rattle.set_algebra.proofs.MeaningLemmas.{in_force_if_meant}
-use Rattle.executor.specs.Members.{components_of}
+use Rattle.executor.specs.inside.Components.{components_of}
 use Rattle.pair_sets.specs.Numbers.{numbers_in}
-use Rattle.executor.specs.Steps.{led_to}
+use Rattle.executor.specs.inside.Steps.{led_to}
 use Rattle.pair_sets.specs.Tested.{is_one_of}
 use Rattle.executor.proofs.MemberLemmas.{components_in, one_of_set}
 use Rattle.pair_sets.proofs.Normal.{each_in_force, in_force_kept, numbers_in-agree}
@@ -92,10 +92,10 @@ module _ (release : Release) (plan : Plan) (found : List ℕ) where
       ∙ in_force_kept release (λ concept. has_pairs count (means release types) (value_passes release test) (pairs_of release back concept))
       ∙ meant release plan (pairs_plan back count types test) is
 
-  pub units_node : (count : Cardinality) (units : GroupPlan) → plan ≡ units_plan count units
-      → found ≡ numbers_in release (has_groups release count (group_means release units)) → found ≡ numbers_in release (means release plan)
+  pub units_node : (count : Cardinality) (units : PlanOfUnits) → plan ≡ units_plan count units
+      → found ≡ numbers_in release (has_groups release count (unit_means release units)) → found ≡ numbers_in release (means release plan)
   units_node count units is found_is =
-      found_is ∙ in_force_kept release (has_groups release count (group_means release units)) ∙ meant release plan (units_plan count units) is
+      found_is ∙ in_force_kept release (has_groups release count (unit_means release units)) ∙ meant release plan (units_plan count units) is
 
 -- one name more leads from where those before it lead to the values of attributes with a type that it means
 leads_further : (release : Release) (names : List ConceptPlan) (k : ℕ) (d : ConceptPlan) → k < length names → (set : ℕ → Bool)

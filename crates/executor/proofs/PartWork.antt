@@ -18,8 +18,8 @@ use Rattle.postings.specs.Groups.{all_groups}
 use Rattle.postings.specs.Indexed.{Indexed, IsIndexOf}
 use Rattle.set_algebra.specs.declared.plan.ConceptPlan.{ConceptPlan}
 use Rattle.set_algebra.specs.declared.plan.UnitPlan.{UnitPlan}
-use Rattle.set_algebra.specs.Meaning.{group_means, means}
-use Rattle.set_algebra.specs.Plan.{GroupPlan, Plan, group_plan_of, group_plans_of, or_group, or_plan, plan_of, plans_of}
+use Rattle.set_algebra.specs.Meaning.{unit_means, means}
+use Rattle.set_algebra.specs.Plan.{PlanOfUnits, Plan, unit_plan_of, unit_plans_of, or_units, or_plan, plan_of, plans_of}
 use Rattle.set_algebra.specs.declared.choice.Choice.{Choice}
 use Rattle.planner.specs.Bounds.{own_number}
 use Rattle.planner.specs.Nodes.{group_sum, groups_sum, node_sum, plans_sum}
@@ -53,17 +53,17 @@ concepts_read indexed = record {
 
 abbrev pub groups_found : Indexed → Sum UnitPlan of_groups
 groups_found indexed = record {
-  of_part = λ choices part. group_size indexed choices (group_plan_of part);
-  of_parts = λ choices parts. total (group_sizes indexed choices (group_plans_of parts));
+  of_part = λ choices part. group_size indexed choices (unit_plan_of part);
+  of_parts = λ choices parts. total (group_sizes indexed choices (unit_plans_of parts));
   none = λ choices. refl;
   more = λ choices part parts. refl;
 }
 
 abbrev pub groups_read : Indexed → Sum UnitPlan of_groups
 groups_read indexed = record {
-  of_part = λ choices part. group_size indexed choices (group_plan_of part) + group_sum (own_number indexed) choices (group_plan_of part);
+  of_part = λ choices part. group_size indexed choices (unit_plan_of part) + group_sum (own_number indexed) choices (unit_plan_of part);
   of_parts = λ choices parts.
-      total (group_sizes indexed choices (group_plans_of parts)) + groups_sum (own_number indexed) choices (group_plans_of parts);
+      total (group_sizes indexed choices (unit_plans_of parts)) + groups_sum (own_number indexed) choices (unit_plans_of parts);
   none = λ choices. refl;
   more = λ choices part parts. omega arith;
 }
@@ -90,14 +90,14 @@ module _ (release : Release) (indexed : Indexed) (is : IsIndexOf indexed release
         numbers-le release indexed is rising known choices plan,
       )
 
-  pub few_groups : (choices : List Choice) (plan : GroupPlan) (may : ℕ → Bool) (found : List ℕ)
-      → found ≡ groups_within release may (group_means release plan) → length found ≤ group_size indexed choices plan
+  pub few_groups : (choices : List Choice) (plan : PlanOfUnits) (may : ℕ → Bool) (found : List ℕ)
+      → found ≡ groups_within release may (unit_means release plan) → length found ≤ group_size indexed choices plan
   few_groups choices plan may found found_is =
       omega (
         arith,
         ap (λ (numbers : List ℕ). length numbers) found_is,
-        fewer (length (all_groups release)) may (λ n. some_group_in release (group_means release plan) (slice_get (all_groups release) n)),
-        group_numbers-le release indexed is rising known choices plan (some_group_in release (group_means release plan)) (λ group. refl),
+        fewer (length (all_groups release)) may (λ n. some_group_in release (unit_means release plan) (slice_get (all_groups release) n)),
+        group_numbers-le release indexed is rising known choices plan (some_group_in release (unit_means release plan)) (λ group. refl),
       )
 
   -- nor than some parts find together
@@ -112,13 +112,13 @@ module _ (release : Release) (indexed : Indexed) (is : IsIndexOf indexed release
       omega (arith, few)
 
   pub few_joined_groups : (choices : List Choice) (parts : List UnitPlan) (may : ℕ → Bool) (found : List ℕ)
-      → found ≡ groups_within release may (λ pairs. list_any (λ part. group_means release (group_plan_of part) pairs) parts)
-      → length found ≤ total (group_sizes indexed choices (group_plans_of parts))
+      → found ≡ groups_within release may (λ pairs. list_any (λ part. unit_means release (unit_plan_of part) pairs) parts)
+      → length found ≤ total (group_sizes indexed choices (unit_plans_of parts))
   few_joined_groups choices parts may found found_is =
-      let some : List Pair → Bool = λ pairs. list_any (λ part. group_means release (group_plan_of part) pairs) parts in
-      let few = few_groups choices (or_group (group_plans_of parts)) may found
-      (found_is ∙ groups_same release may some (group_means release (or_group (group_plans_of parts)))
-      (groups.or_node release (or_group (group_plans_of parts)) (groups_where release some) parts refl refl)) in
+      let some : List Pair → Bool = λ pairs. list_any (λ part. unit_means release (unit_plan_of part) pairs) parts in
+      let few = few_groups choices (or_units (unit_plans_of parts)) may found
+      (found_is ∙ groups_same release may some (unit_means release (or_units (unit_plans_of parts)))
+      (groups.or_node release (or_units (unit_plans_of parts)) (groups_where release some) parts refl refl)) in
       omega (arith, few)
 
   -- nor are there more values of attributes than rows

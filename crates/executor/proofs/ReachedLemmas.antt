@@ -18,8 +18,8 @@ use Rattle.idset.specs.Sets.{IsRisingBelow, all_items, has_item}
 use Rattle.ancestor_index.specs.HierarchyLists.{Hierarchy, hierarchy_of, is_child}
 use Rattle.ancestor_index.proofs.BuildLemmas.{same_child, same_reach}
 use Rattle.ancestor_index.proofs.ClosureLemmas.{both_ways, item_there, row_there, there_item, there_row}
-use Rattle.executor.specs.Joined.{AreJoined, is_whole, near_of, turn_of}
-use Rattle.executor.specs.Steps.{IsOver, lists_of}
+use Rattle.executor.specs.inside.Joined.{AreJoined, is_whole, near_of, turn_of}
+use Rattle.executor.specs.inside.Steps.{IsOver, lists_of}
 use Rattle.executor.specs.declared.family.Family.{Family}
 use Rattle.executor.specs.declared.family.Family.TheVariants as family
 use Rattle.pair_sets.proofs.ListLemmas.{all_below}

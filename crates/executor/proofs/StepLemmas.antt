@@ -17,7 +17,7 @@ use Rattle.hierarchy.specs.KeyedLists.{list_of}
 use Rattle.ancestor_index.specs.HierarchyLists.{hierarchy_of, lists_where}
 use Rattle.ancestor_index.proofs.ClosureLemmas.{both_ways, item_there, list_of-where, there_item, there_where, where_there}
 use Rattle.pair_sets.specs.Numbers.{numbers_in}
-use Rattle.executor.specs.Steps.{apart, joined, led_to}
+use Rattle.executor.specs.inside.Steps.{apart, joined, led_to}
 use Rattle.pair_sets.proofs.Normal.{either_in}
 
 module _ (release : Release) (set : ℕ → Bool) (items : List ℕ) (is : items ≡ numbers_in release set) where

@@ -15,13 +15,13 @@ use Rattle.ancestor_index.specs.HierarchyLists.{Hierarchy, hierarchy_of}
 use Rattle.postings.specs.Groups.{ConceptGroup, all_groups}
 use Rattle.set_algebra.specs.declared.plan.ConceptPlan.{ConceptPlan}
 use Rattle.set_algebra.specs.declared.plan.UnitPlan.{UnitPlan}
-use Rattle.set_algebra.specs.Meaning.{group_means, means}
-use Rattle.set_algebra.specs.Plan.{GroupPlan, Plan, group_plan_of, minus_group, minus_plan, nothing_group, empty_plan, plan_of, walk_plan}
+use Rattle.set_algebra.specs.Meaning.{unit_means, means}
+use Rattle.set_algebra.specs.Plan.{PlanOfUnits, Plan, unit_plan_of, minus_units, minus_plan, nothing_unit, empty_plan, plan_of, walk_plan}
 use Rattle.pair_sets.specs.Groups.{groups_where, some_group_in}
 use Rattle.pair_sets.specs.Numbers.{numbers_in}
-use Rattle.executor.specs.Asked.{AreEnough, asked_lists}
-use Rattle.executor.specs.Steps.{led_to}
-use Rattle.executor.specs.Lead.{leads_off, leads_off_groups}
+use Rattle.executor.specs.inside.Asked.{AreEnough, asked_lists}
+use Rattle.executor.specs.inside.Steps.{led_to}
+use Rattle.executor.specs.inside.Lead.{leads_off, leads_off_groups}
 use Rattle.pair_sets.specs.Within.{groups_within, numbers_within}
 use Rattle.executor.proofs.AskedLemmas.{led_from_part}
 use Rattle.executor.proofs.NodeLemmas.{walk_node}
@@ -132,34 +132,34 @@ module _ (release : Release) (may : ℕ → Bool) where
       ∙ ap (filter may) same
       ∙ restricted_to (length all) may (group_by_number q) (groups_where release q) (filter may (groups_where release q)) refl refl
 
-  pub groups_meant : (plan other : GroupPlan) → plan ≡ other
-      → groups_within release may (group_means release other) ≡ groups_within release may (group_means release plan)
-  groups_meant plan other is = ap (λ (p : GroupPlan). groups_within release may (group_means release p)) (sym is)
+  pub groups_meant : (plan other : PlanOfUnits) → plan ≡ other
+      → groups_within release may (unit_means release other) ≡ groups_within release may (unit_means release plan)
+  groups_meant plan other is = ap (λ (p : PlanOfUnits). groups_within release may (unit_means release p)) (sym is)
 
   nothing_in : (at : Option ConceptGroup) → false ≡ some_group_in release (λ pairs. false) at
   nothing_in None = refl
   nothing_in (Some group) = refl
 
-  pub nothing_within : (plan : GroupPlan) (found : List ℕ) → plan ≡ nothing_group → found ≡ [] → found ≡ groups_within release may (group_means release plan)
+  pub nothing_within : (plan : PlanOfUnits) (found : List ℕ) → plan ≡ nothing_unit → found ≡ [] → found ≡ groups_within release may (unit_means release plan)
   nothing_within plan found is found_is =
       some_of_none (length all) may found found_is
       ∙ (λ i. numbers_where (length all) (λ n. may n && nothing_in (slice_get all n) i))
-      ∙ groups_meant plan nothing_group is
+      ∙ groups_meant plan nothing_unit is
 
   minus_in : (p q : List Pair → Bool) (at : Option ConceptGroup)
       → (some_group_in release p at && not (some_group_in release q at)) ≡ some_group_in release (λ pairs. p pairs && not (q pairs)) at
   minus_in p q None = refl
   minus_in p q (Some group) = refl
 
-  pub minus_groups : (plan first second : GroupPlan) (left right found : List ℕ) → plan ≡ minus_group first second
-      → left ≡ groups_within release may (group_means release first)
-      → right ≡ groups_within release (has_item left) (group_means release second)
-      → found ≡ other_items left right → found ≡ groups_within release may (group_means release plan)
+  pub minus_groups : (plan first second : PlanOfUnits) (left right found : List ℕ) → plan ≡ minus_units first second
+      → left ≡ groups_within release may (unit_means release first)
+      → right ≡ groups_within release (has_item left) (unit_means release second)
+      → found ≡ other_items left right → found ≡ groups_within release may (unit_means release plan)
   minus_groups plan first second left right found is left_is right_is found_is =
-      minus_within (length all) may (group_by_number (group_means release first))
-      (group_by_number (group_means release second)) left right found left_is right_is found_is
-      ∙ (λ i. numbers_where (length all) (λ n. may n && minus_in (group_means release first) (group_means release second) (slice_get all n) i))
-      ∙ groups_meant plan (minus_group first second) is
+      minus_within (length all) may (group_by_number (unit_means release first))
+      (group_by_number (unit_means release second)) left right found left_is right_is found_is
+      ∙ (λ i. numbers_where (length all) (λ n. may n && minus_in (unit_means release first) (unit_means release second) (slice_get all n) i))
+      ∙ groups_meant plan (minus_units first second) is
 
   -- each group that there is has its pairs
   there : (n : ℕ) → n < length all → (at : Option ConceptGroup) → slice_get all n ≡ at → (set : List Pair → Bool)
@@ -168,47 +168,47 @@ module _ (release : Release) (may : ℕ → Bool) where
   there n within (Some group) is set each = each _
 
   all_in : (parts : List UnitPlan) (n : ℕ) → n < length all → (at : Option ConceptGroup) → slice_get all n ≡ at
-      → list_all (λ part. some_group_in release (group_means release (group_plan_of part)) at) parts
-      ≡ some_group_in release (λ pairs. list_all (λ part. group_means release (group_plan_of part) pairs) parts) at
+      → list_all (λ part. some_group_in release (unit_means release (unit_plan_of part)) at) parts
+      ≡ some_group_in release (λ pairs. list_all (λ part. unit_means release (unit_plan_of part) pairs) parts) at
   all_in parts n within None is = absurd (leaf.none_within all n within is)
   all_in parts n within (Some group) is = refl
 
   any_in : (parts : List UnitPlan) (at : Option ConceptGroup)
-      → list_any (λ part. some_group_in release (group_means release (group_plan_of part)) at) parts
-      ≡ some_group_in release (λ pairs. list_any (λ part. group_means release (group_plan_of part) pairs) parts) at
+      → list_any (λ part. some_group_in release (unit_means release (unit_plan_of part)) at) parts
+      ≡ some_group_in release (λ pairs. list_any (λ part. unit_means release (unit_plan_of part) pairs) parts) at
   any_in [] None = refl
   any_in (part ∷ parts) None = any_in parts None
   any_in parts (Some group) = refl
 
   pub groups_led_all : (parts : List UnitPlan) (lead : ℕ) (found : List ℕ)
       → found ≡ numbers_where (length all) (λ n. (may n && some_group_in release (leads_off_groups release (slice_get parts lead)) (slice_get all n))
-      && list_all (λ part. some_group_in release (group_means release (group_plan_of part)) (slice_get all n)) parts)
-      → found ≡ groups_within release may (λ pairs. list_all (λ part. group_means release (group_plan_of part) pairs) parts)
+      && list_all (λ part. some_group_in release (unit_means release (unit_plan_of part)) (slice_get all n)) parts)
+      → found ≡ groups_within release may (λ pairs. list_all (λ part. unit_means release (unit_plan_of part) pairs) parts)
   groups_led_all parts lead found found_is =
       all_done (length all) may (λ n. some_group_in release (leads_off_groups release (slice_get parts lead)) (slice_get all n))
-      (λ n. list_all (λ part. some_group_in release (group_means release (group_plan_of part)) (slice_get all n)) parts)
+      (λ n. list_all (λ part. some_group_in release (unit_means release (unit_plan_of part)) (slice_get all n)) parts)
       found (λ n within each. had n within (slice_get parts lead) refl each) found_is
       ∙ numbers_where-agree (length all) (λ n. may n && list_all
-      (λ part. some_group_in release (group_means release (group_plan_of part)) (slice_get all n)) parts)
-      (λ n. may n && some_group_in release (λ pairs. list_all (λ part. group_means release (group_plan_of part) pairs) parts) (slice_get all n))
+      (λ part. some_group_in release (unit_means release (unit_plan_of part)) (slice_get all n)) parts)
+      (λ n. may n && some_group_in release (λ pairs. list_all (λ part. unit_means release (unit_plan_of part) pairs) parts) (slice_get all n))
       (λ n within. ap (λ (b : Bool). may n && b) (all_in parts n within (slice_get all n) refl))
     where
       had : (n : ℕ) → n < length all → (at : Option UnitPlan) → slice_get parts lead ≡ at
-          → list_all (λ part. some_group_in release (group_means release (group_plan_of part)) (slice_get all n)) parts ≡ true
+          → list_all (λ part. some_group_in release (unit_means release (unit_plan_of part)) (slice_get all n)) parts ≡ true
           → some_group_in release (leads_off_groups release at) (slice_get all n) ≡ true
       had n within None is each = there n within (slice_get all n) refl (λ pairs. true) (λ pairs. refl)
-      had n within (Some part) is each = passed_by (λ p. some_group_in release (group_means release (group_plan_of p))
+      had n within (Some part) is each = passed_by (λ p. some_group_in release (unit_means release (unit_plan_of p))
           (slice_get all n)) parts lead part each is
 
   pub groups_led_again : (parts : List UnitPlan) (lead k : ℕ) → k ≡ lead → k < length parts → (found : List ℕ)
-      → found ≡ numbers_where (length all) (λ n. (may n && some_group_in release (leads_off_groups release (slice_get parts lead)) (slice_get all n)) && list_all (λ part. some_group_in release (group_means release (group_plan_of part)) (slice_get all n)) (take k parts))
-      → found ≡ numbers_where (length all) (λ n. (may n && some_group_in release (leads_off_groups release (slice_get parts lead)) (slice_get all n)) && list_all (λ part. some_group_in release (group_means release (group_plan_of part)) (slice_get all n)) (take (k + 1) parts))
+      → found ≡ numbers_where (length all) (λ n. (may n && some_group_in release (leads_off_groups release (slice_get parts lead)) (slice_get all n)) && list_all (λ part. some_group_in release (unit_means release (unit_plan_of part)) (slice_get all n)) (take k parts))
+      → found ≡ numbers_where (length all) (λ n. (may n && some_group_in release (leads_off_groups release (slice_get parts lead)) (slice_get all n)) && list_all (λ part. some_group_in release (unit_means release (unit_plan_of part)) (slice_get all n)) (take (k + 1) parts))
   groups_led_again parts lead k here within found found_is = elim (slice_get_cases parts k).1 [
     | inl (x, inside, at, is) ↦
-        all_again (length all) (λ (part : UnitPlan) n. some_group_in release (group_means release (group_plan_of part)) (slice_get all n)) parts k x within
+        all_again (length all) (λ (part : UnitPlan) n. some_group_in release (unit_means release (unit_plan_of part)) (slice_get all n)) parts k x within
         (λ n. may n && some_group_in release (leads_off_groups release (slice_get parts lead)) (slice_get all n)) found
         (λ n below holds.
-        ap (λ (part : UnitPlan). some_group_in release (group_means release (group_plan_of part)) (slice_get all n)) is
+        ap (λ (part : UnitPlan). some_group_in release (unit_means release (unit_plan_of part)) (slice_get all n)) is
         ∙ ap (λ (found : Option UnitPlan). some_group_in release (leads_off_groups release found) (slice_get all n)) (sym at ∙ ap (slice_get parts) here)
         ∙ (and_parts (may n) _ holds).1)
         found_is
@@ -223,8 +223,8 @@ module _ (release : Release) (may : ℕ → Bool) where
       ∙ ap (λ (at : Option UnitPlan). groups_within release may (leads_off_groups release at)) (sym (slice_get_past parts lead past))
 
   pub any_done : (parts : List UnitPlan) (found : List ℕ)
-      → found ≡ numbers_where (length all) (λ n. may n && list_any (λ part. some_group_in release (group_means release (group_plan_of part)) (slice_get all n)) parts)
-      → found ≡ groups_within release may (λ pairs. list_any (λ part. group_means release (group_plan_of part) pairs) parts)
+      → found ≡ numbers_where (length all) (λ n. may n && list_any (λ part. some_group_in release (unit_means release (unit_plan_of part)) (slice_get all n)) parts)
+      → found ≡ groups_within release may (λ pairs. list_any (λ part. unit_means release (unit_plan_of part) pairs) parts)
   any_done parts found found_is = found_is ∙ (λ i. numbers_where (length all) (λ n. may n && any_in parts (slice_get all n) i))
 
 -- where an operator leads, of candidates, from what a plan means of concepts that are enough for them

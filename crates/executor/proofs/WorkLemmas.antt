@@ -13,7 +13,7 @@ use Rattle.planner.specs.Nodes.{node_sum, plans_sum}
 use Rattle.planner.specs.Sizes.{size}
 use Rattle.planner.proofs.ListLemmas.{drop_further}
 use Rattle.planner.proofs.LoopLemmas.{Sort, Sum}
-use Rattle.executor.specs.Lead.{of_lead}
+use Rattle.executor.specs.inside.Lead.{of_lead}
 use Rattle.pair_sets.proofs.ListLemmas.{next_place}
 
 -- ---- parts in front of a place, and the one at it

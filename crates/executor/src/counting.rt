@@ -3,7 +3,7 @@
 ghost use Rattle.std.specs.Prelude.{◌≡◌, ◌≤◌, ◌<◌, ◌+◌, ◌-◌, ◌*◌, ◌==◌, ◌^◌, false, length, min};
 ghost use Rattle.constraint_tree.specs.declared.operator.Cardinality.{Cardinality as cardinality};
 ghost use Rattle.postings.specs.Groups.{groups_in};
-ghost use Rattle.set_algebra.specs.Plan.{group_plan_of, members_plan, pairs_group, pairs_plan, plan_of, test_plan_of, units_plan, walk_plan};
+ghost use Rattle.set_algebra.specs.Plan.{unit_plan_of, members_plan, pairs_units, pairs_plan, plan_of, test_plan_of, units_plan, walk_plan};
 ghost use Rattle.planner.specs.Alternatives.{leaf_bound, passed_over};
 ghost use Rattle.planner.specs.Bounds.{capped, group_own_bound, members_bound, own_bound, walk_bound};
 ghost use Rattle.planner.specs.Counts.{leaf_of, one_of};
@@ -96,8 +96,8 @@ pub fn group_leaf_limits(
 ) -> NodeLimits
     requires types { type_count ≤ size indexes.now (type_choices choices.now) (plan_of types.now) }
     requires test { test_count ≤ test_size indexes.now (test_choices choices.now (plan_of types.now)) (test_plan_of test.now) }
-    ensures within { result.bound ≤ group_own_bound indexes.now choices.now (pairs_group count (plan_of types.now) (test_plan_of test.now)) }
-    ensures floor { group_own_floor indexes.now choices.now (pairs_group count (plan_of types.now) (test_plan_of test.now)) ≤ result.floor }
+    ensures within { result.bound ≤ group_own_bound indexes.now choices.now (pairs_units count (plan_of types.now) (test_plan_of test.now)) }
+    ensures floor { group_own_floor indexes.now choices.now (pairs_units count (plan_of types.now) (test_plan_of test.now)) ≤ result.floor }
     ensures ordered { result.floor ≤ result.bound }
     ensures bound { result.bound ≡ capped (leaf_bound (leaf_of indexes.now (length (groups_in indexes.now)) false count (plan_of types.now) (test_plan_of test.now) type_count test_count) (first_choice choices.now)) }
 {
@@ -117,9 +117,9 @@ pub fn count_units(
     items: u64,
     visits: &mut Visits,
 )
-    requires { groups ≤ group_size indexes.now _choices.now (group_plan_of units.now) }
+    requires { groups ≤ group_size indexes.now _choices.now (unit_plan_of units.now) }
     ensures grows { visits.old.count ≤ visits.new.count }
-    ensures within { visits.new.count ≤ visits.old.count + own_bound indexes.now _choices.now (units_plan count (group_plan_of units.now)) }
+    ensures within { visits.new.count ≤ visits.old.count + own_bound indexes.now _choices.now (units_plan count (unit_plan_of units.now)) }
     ensures counted { min (visits.old.count + min items (capped (groups + passed_over (count.min == 0) (length indexes.now.concepts)))) (2 ^ 64 - 1) ≤ visits.new.count }
 {
     let limits = units_limits(count, indexes.concept_count() as u64, groups);

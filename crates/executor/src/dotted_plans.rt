@@ -3,13 +3,13 @@ ghost use Rattle.std.specs.Prelude.{true, ◌≡◌, ◌≤◌, ◌<◌, ◌+◌
 ghost use Rattle.postings.specs.Indexed.{IsIndexOf};
 ghost use Rattle.set_algebra.specs.Meaning.{leads, means};
 ghost use Rattle.set_algebra.specs.Plan.{Plan, plan_of, plans_of};
-ghost use Rattle.executor.specs.Kinds.{is_dotted};
+ghost use Rattle.executor.specs.inside.Kinds.{is_dotted};
 ghost use Rattle.planner.specs.Bounds.{own_number, values_bound};
 ghost use Rattle.planner.specs.Floors.{floor_number};
 ghost use Rattle.planner.specs.Leaves.{plan_count};
 ghost use Rattle.planner.specs.Nodes.{node_sum, plans_sum};
 ghost use Rattle.pair_sets.specs.Numbers.{numbers_in};
-ghost use Rattle.executor.specs.Named.{HasNamed};
+ghost use Rattle.executor.specs.inside.Named.{HasNamed};
 ghost use Rattle.pair_sets.specs.Within.{AreBelow, may_be, numbers_within};
 
 use crate::nodes::no_concept;

@@ -3,8 +3,8 @@ ghost use Rattle.std.specs.Prelude.{◌≡◌, ◌↔◌, ◌<◌, IfSome, IsSom
 ghost use Rattle.idset.specs.Sets.{has_item};
 ghost use Rattle.idset.specs.Words.{MarkedBelow};
 ghost use Rattle.hierarchy.specs.KeyedLists.{list_of};
-ghost use Rattle.executor.specs.Joined.{back_of, is_whole as is_whole_of, near_of, turn_of};
-ghost use Rattle.executor.specs.Steps.{HasWords, IsStepFor, asked_of, lists_of};
+ghost use Rattle.executor.specs.inside.Joined.{back_of, is_whole as is_whole_of, near_of, turn_of};
+ghost use Rattle.executor.specs.inside.Steps.{HasWords, IsStepFor, asked_of, lists_of};
 
 use ancestor_index::AncestorIndex;
 use constraint_tree::Operator;

@@ -3,13 +3,13 @@
 ghost use Rattle.std.specs.Prelude.{◌≡◌, ◌≤◌, ◌+◌, ◌-◌, ◌^◌, IfOk, filter, length, min};
 ghost use Rattle.postings.specs.Groups.{all_groups};
 ghost use Rattle.postings.specs.Indexed.{IsIndexOf};
-ghost use Rattle.set_algebra.specs.Plan.{group_plan_of, members_plan, plan_of, units_plan, walk_plan};
+ghost use Rattle.set_algebra.specs.Plan.{unit_plan_of, members_plan, plan_of, units_plan, walk_plan};
 ghost use Rattle.planner.specs.Bounds.{own_bound};
 ghost use Rattle.planner.specs.Floors.{own_floor};
 ghost use Rattle.planner.specs.Sizes.{group_size, size as size_of};
-ghost use Rattle.executor.specs.Members.{components_of};
-ghost use Rattle.executor.specs.Steps.{led_to};
-ghost use Rattle.executor.specs.WithUnits.{with_units};
+ghost use Rattle.executor.specs.inside.Components.{components_of};
+ghost use Rattle.executor.specs.inside.Steps.{led_to};
+ghost use Rattle.executor.specs.inside.WithUnits.{with_units};
 ghost use Rattle.pair_sets.specs.Within.{AreBelow, may_be};
 
 use crate::counting::{count_members, count_units, count_walk};
@@ -209,11 +209,11 @@ pub fn units_found<S: ConceptSet>(
     requires index { IsIndexOf indexes.now snapshot.now.release }
     requires candidates { AreBelow S.bound_of (length snapshot.now.release.concepts) candidates.now }
     requires bound { S.bound_of groups.now ≡ length (all_groups snapshot.now.release) }
-    requires most { most ≤ group_size indexes.now choices.now (group_plan_of units.now) }
+    requires most { most ≤ group_size indexes.now choices.now (unit_plan_of units.now) }
     ensures items { IfOk result (λ found. S.items_of found ≡ filter (may_be S.items_of candidates.now) (with_units snapshot.now.release count (S.items_of groups.now))) }
     ensures bound { IfOk result (λ found. S.bound_of found ≡ length snapshot.now.release.concepts) }
     ensures grows { visits.old.count ≤ visits.new.count }
-    ensures within { visits.new.count ≤ visits.old.count + own_bound indexes.now choices.now (units_plan count (group_plan_of units.now)) }
+    ensures within { visits.new.count ≤ visits.old.count + own_bound indexes.now choices.now (units_plan count (unit_plan_of units.now)) }
 {
     count_units(indexes, choices, count, units, most, items, visits);
     let some = with_groups(alloc, snapshot, indexes, count, groups)?;

@@ -9,7 +9,7 @@ ghost use Rattle.planner.specs.Floors.{floor_number};
 ghost use Rattle.planner.specs.Leaves.{leaves, plan_count, plans_leaves};
 ghost use Rattle.planner.specs.Nodes.{node_sum, plans_sum};
 ghost use Rattle.planner.specs.Sizes.{size as size_of, sizes, total};
-ghost use Rattle.executor.specs.Lead.{leads_off, of_lead};
+ghost use Rattle.executor.specs.inside.Lead.{leads_off, of_lead};
 ghost use Rattle.pair_sets.specs.Within.{AreBelow, may_be, numbers_within};
 
 use crate::guesses::{lead_of, rows_without};

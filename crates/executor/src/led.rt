@@ -3,8 +3,8 @@ ghost use Rattle.std.specs.Prelude.{◌≡◌, ◌<◌, ◌∷◌, All, IfOk, fi
 ghost use Rattle.std.specs.List.{flat_map};
 ghost use Rattle.hierarchy.specs.KeyedLists.{list_of};
 ghost use Rattle.idset.specs.Sets.{all_items, has_item};
-ghost use Rattle.executor.specs.Asked.{AreEnough, asked_lists};
-ghost use Rattle.executor.specs.Steps.{apart as apart_of, IsOf, IsOver, joined, led_to, lists_of, stepped};
+ghost use Rattle.executor.specs.inside.Asked.{AreEnough, asked_lists};
+ghost use Rattle.executor.specs.inside.Steps.{apart as apart_of, IsOf, IsOver, joined, led_to, lists_of, stepped};
 ghost use Rattle.pair_sets.specs.Within.{AreBelow, may_be};
 
 use crate::family::{Family, Reach, Step};

@@ -2,9 +2,9 @@
 ghost use Rattle.std.specs.Prelude.{true, ◌≡◌, ◌≤◌, ◌<◌, ◌+◌, ◌*◌, ◌-◌, ◌^◌, IfOk, length, min};
 ghost use Rattle.rf2_rows.specs.Release.{Value};
 ghost use Rattle.postings.specs.Indexed.{IsIndexOf};
-ghost use Rattle.set_algebra.specs.Meaning.{group_means, has_groups, means, value_passes};
-ghost use Rattle.set_algebra.specs.Plan.{group_plan_of, members_plan, plan_of, test_plan_of, units_plan};
-ghost use Rattle.executor.specs.Kinds.{is_minus, is_pairs};
+ghost use Rattle.set_algebra.specs.Meaning.{unit_means, has_groups, means, value_passes};
+ghost use Rattle.set_algebra.specs.Plan.{unit_plan_of, members_plan, plan_of, test_plan_of, units_plan};
+ghost use Rattle.executor.specs.inside.Kinds.{is_minus, is_pairs};
 ghost use Rattle.planner.specs.Bounds.{bound as bound_of, own_number};
 ghost use Rattle.planner.specs.Floors.{floor as floor_of, floor_number};
 ghost use Rattle.planner.specs.Leaves.{leaves};
@@ -339,11 +339,11 @@ fn units_within<S: ConceptSet>(
 ) -> Result<S, AllocError>
     requires index { IsIndexOf indexes.now snapshot.now.release }
     requires candidates { AreBelow S.bound_of (length snapshot.now.release.concepts) candidates.now }
-    ensures items { IfOk result (λ found. S.items_of found ≡ numbers_within snapshot.now.release (may_be S.items_of candidates.now) (has_groups snapshot.now.release count (group_means snapshot.now.release (group_plan_of units.now)))) }
+    ensures items { IfOk result (λ found. S.items_of found ≡ numbers_within snapshot.now.release (may_be S.items_of candidates.now) (has_groups snapshot.now.release count (unit_means snapshot.now.release (unit_plan_of units.now)))) }
     ensures bound { IfOk result (λ found. S.bound_of found ≡ length snapshot.now.release.concepts) }
     ensures grows { visits.old.count ≤ visits.new.count }
-    ensures within { visits.new.count ≤ visits.old.count + node_sum (own_number indexes.now) choices.now (units_plan count (group_plan_of units.now)) }
-    ensures floor { IfOk result (λ _. min (visits.old.count + node_sum (floor_number indexes.now) choices.now (units_plan count (group_plan_of units.now))) (2 ^ 64 - 1) ≤ visits.new.count) }
+    ensures within { visits.new.count ≤ visits.old.count + node_sum (own_number indexes.now) choices.now (units_plan count (unit_plan_of units.now)) }
+    ensures floor { IfOk result (λ _. min (visits.old.count + node_sum (floor_number indexes.now) choices.now (units_plan count (unit_plan_of units.now))) (2 ^ 64 - 1) ≤ visits.new.count) }
 {
     // the concepts rise, so that each has its groups once
     snapshot.concept_count();

@@ -2,8 +2,8 @@
 ghost use Rattle.std.specs.Prelude.{◌≡◌, ◌<◌, ◌&&◌, not, true, All, IfOk};
 ghost use Rattle.std.specs.List.{list_all};
 ghost use Rattle.idset.specs.Sets.{has_item};
-ghost use Rattle.executor.specs.Joined.{AreJoined, is_whole as is_whole_of, turn_of};
-ghost use Rattle.executor.specs.Steps.{IsOf, IsOver, lists_of};
+ghost use Rattle.executor.specs.inside.Joined.{AreJoined, is_whole as is_whole_of, turn_of};
+ghost use Rattle.executor.specs.inside.Steps.{IsOf, IsOver, lists_of};
 
 use crate::family::Family;
 use ancestor_index::AncestorIndex;

@@ -4,7 +4,7 @@ ghost use Rattle.std.specs.List.{flat_map};
 ghost use Rattle.hierarchy.specs.KeyedLists.{list_of};
 ghost use Rattle.idset.specs.Sets.{has_item};
 ghost use Rattle.postings.specs.Indexed.{IsIndexOf};
-ghost use Rattle.executor.specs.Members.{components_of, is_in_one_of};
+ghost use Rattle.executor.specs.inside.Components.{components_of, is_in_one_of};
 ghost use Rattle.pair_sets.specs.Within.{AreBelow, may_be};
 
 use idset::{ConceptSet, has_number};

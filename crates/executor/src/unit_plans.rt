@@ -3,15 +3,15 @@ ghost use Rattle.std.specs.Prelude.{true, ◌≡◌, ◌≤◌, ◌<◌, ◌+◌
 ghost use Rattle.std.specs.List.{list_all, list_any};
 ghost use Rattle.postings.specs.Groups.{all_groups};
 ghost use Rattle.postings.specs.Indexed.{IsIndexOf};
-ghost use Rattle.set_algebra.specs.Meaning.{group_means};
-ghost use Rattle.set_algebra.specs.Plan.{group_plan_of, group_plans_of};
-ghost use Rattle.executor.specs.Kinds.{is_minus_of_units, is_pairs_of_units};
+ghost use Rattle.set_algebra.specs.Meaning.{unit_means};
+ghost use Rattle.set_algebra.specs.Plan.{unit_plan_of, unit_plans_of};
+ghost use Rattle.executor.specs.inside.Kinds.{is_minus_of_units, is_pairs_of_units};
 ghost use Rattle.planner.specs.Bounds.{own_number};
 ghost use Rattle.planner.specs.Floors.{floor_number};
 ghost use Rattle.planner.specs.Leaves.{group_count, groups_leaves};
 ghost use Rattle.planner.specs.Nodes.{group_sum, groups_sum};
 ghost use Rattle.planner.specs.Sizes.{group_size, group_sizes, total};
-ghost use Rattle.executor.specs.Lead.{leads_off_groups, of_lead};
+ghost use Rattle.executor.specs.inside.Lead.{leads_off_groups, of_lead};
 ghost use Rattle.pair_sets.specs.Within.{AreBelow, groups_within, may_be};
 
 use crate::counting::{group_leaf_limits, minus_reads};
@@ -44,12 +44,12 @@ pub fn execute_groups<S: ConceptSet>(
 ) -> Result<S, AllocError>
     requires index { IsIndexOf indexes.now snapshot.now.release }
     requires candidates { AreBelow S.bound_of (length (all_groups snapshot.now.release)) candidates.now }
-    ensures items { IfOk result (λ found. S.items_of found ≡ groups_within snapshot.now.release (may_be S.items_of candidates.now) (group_means snapshot.now.release (group_plan_of plan.now))) }
+    ensures items { IfOk result (λ found. S.items_of found ≡ groups_within snapshot.now.release (may_be S.items_of candidates.now) (unit_means snapshot.now.release (unit_plan_of plan.now))) }
     ensures bound { IfOk result (λ found. S.bound_of found ≡ length (all_groups snapshot.now.release)) }
     ensures grows { visits.old.count ≤ visits.new.count }
-    ensures within { visits.new.count ≤ visits.old.count + group_sum (own_number indexes.now) choices.now (group_plan_of plan.now) }
-    ensures floor { IfOk result (λ _. min (visits.old.count + group_sum (floor_number indexes.now) choices.now (group_plan_of plan.now)) (2 ^ 64 - 1) ≤ visits.new.count) }
-    ensures size { IfOk result (λ found. length (S.items_of found) ≤ group_size indexes.now choices.now (group_plan_of plan.now)) }
+    ensures within { visits.new.count ≤ visits.old.count + group_sum (own_number indexes.now) choices.now (unit_plan_of plan.now) }
+    ensures floor { IfOk result (λ _. min (visits.old.count + group_sum (floor_number indexes.now) choices.now (unit_plan_of plan.now)) (2 ^ 64 - 1) ≤ visits.new.count) }
+    ensures size { IfOk result (λ found. length (S.items_of found) ≤ group_size indexes.now choices.now (unit_plan_of plan.now)) }
 {
     // the concepts rise, and the sources of all attribute rows are in force
     snapshot.concept_count();
@@ -77,11 +77,11 @@ fn execute_group_node<S: ConceptSet>(
 ) -> Result<S, AllocError>
     requires index { IsIndexOf indexes.now snapshot.now.release }
     requires candidates { AreBelow S.bound_of (length (all_groups snapshot.now.release)) candidates.now }
-    ensures items { IfOk result (λ found. S.items_of found ≡ groups_within snapshot.now.release (may_be S.items_of candidates.now) (group_means snapshot.now.release (group_plan_of plan.now))) }
+    ensures items { IfOk result (λ found. S.items_of found ≡ groups_within snapshot.now.release (may_be S.items_of candidates.now) (unit_means snapshot.now.release (unit_plan_of plan.now))) }
     ensures bound { IfOk result (λ found. S.bound_of found ≡ length (all_groups snapshot.now.release)) }
     ensures grows { visits.old.count ≤ visits.new.count }
-    ensures within { visits.new.count ≤ visits.old.count + group_sum (own_number indexes.now) choices.now (group_plan_of plan.now) }
-    ensures floor { IfOk result (λ _. min (visits.old.count + group_sum (floor_number indexes.now) choices.now (group_plan_of plan.now)) (2 ^ 64 - 1) ≤ visits.new.count) }
+    ensures within { visits.new.count ≤ visits.old.count + group_sum (own_number indexes.now) choices.now (unit_plan_of plan.now) }
+    ensures floor { IfOk result (λ _. min (visits.old.count + group_sum (floor_number indexes.now) choices.now (unit_plan_of plan.now)) (2 ^ 64 - 1) ≤ visits.new.count) }
 {
     match plan {
         UnitPlan::Nothing => no_group(alloc, snapshot, indexes),
@@ -115,11 +115,11 @@ fn groups_in_first_alone<S: ConceptSet>(
     requires plan { is_minus_of_units plan.now ≡ true }
     requires index { IsIndexOf indexes.now snapshot.now.release }
     requires candidates { AreBelow S.bound_of (length (all_groups snapshot.now.release)) candidates.now }
-    ensures items { IfOk result (λ found. S.items_of found ≡ groups_within snapshot.now.release (may_be S.items_of candidates.now) (group_means snapshot.now.release (group_plan_of plan.now))) }
+    ensures items { IfOk result (λ found. S.items_of found ≡ groups_within snapshot.now.release (may_be S.items_of candidates.now) (unit_means snapshot.now.release (unit_plan_of plan.now))) }
     ensures bound { IfOk result (λ found. S.bound_of found ≡ length (all_groups snapshot.now.release)) }
     ensures grows { visits.old.count ≤ visits.new.count }
-    ensures within { visits.new.count ≤ visits.old.count + group_sum (own_number indexes.now) choices.now (group_plan_of plan.now) }
-    ensures floor { IfOk result (λ _. min (visits.old.count + group_sum (floor_number indexes.now) choices.now (group_plan_of plan.now)) (2 ^ 64 - 1) ≤ visits.new.count) }
+    ensures within { visits.new.count ≤ visits.old.count + group_sum (own_number indexes.now) choices.now (unit_plan_of plan.now) }
+    ensures floor { IfOk result (λ _. min (visits.old.count + group_sum (floor_number indexes.now) choices.now (unit_plan_of plan.now)) (2 ^ 64 - 1) ≤ visits.new.count) }
 {
     match plan {
         UnitPlan::Minus(first, second) => {
@@ -156,11 +156,11 @@ fn groups_with_pairs<S: ConceptSet>(
     requires plan { is_pairs_of_units plan.now ≡ true }
     requires index { IsIndexOf indexes.now snapshot.now.release }
     requires candidates { AreBelow S.bound_of (length (all_groups snapshot.now.release)) candidates.now }
-    ensures items { IfOk result (λ found. S.items_of found ≡ groups_within snapshot.now.release (may_be S.items_of candidates.now) (group_means snapshot.now.release (group_plan_of plan.now))) }
+    ensures items { IfOk result (λ found. S.items_of found ≡ groups_within snapshot.now.release (may_be S.items_of candidates.now) (unit_means snapshot.now.release (unit_plan_of plan.now))) }
     ensures bound { IfOk result (λ found. S.bound_of found ≡ length (all_groups snapshot.now.release)) }
     ensures grows { visits.old.count ≤ visits.new.count }
-    ensures within { visits.new.count ≤ visits.old.count + group_sum (own_number indexes.now) choices.now (group_plan_of plan.now) }
-    ensures floor { IfOk result (λ _. min (visits.old.count + group_sum (floor_number indexes.now) choices.now (group_plan_of plan.now)) (2 ^ 64 - 1) ≤ visits.new.count) }
+    ensures within { visits.new.count ≤ visits.old.count + group_sum (own_number indexes.now) choices.now (unit_plan_of plan.now) }
+    ensures floor { IfOk result (λ _. min (visits.old.count + group_sum (floor_number indexes.now) choices.now (unit_plan_of plan.now)) (2 ^ 64 - 1) ≤ visits.new.count) }
 {
     match plan {
         UnitPlan::Pairs { count, types, test } => {
@@ -207,11 +207,11 @@ fn groups_in_all<S: ConceptSet>(
 ) -> Result<S, AllocError>
     requires index { IsIndexOf indexes.now snapshot.now.release }
     requires candidates { AreBelow S.bound_of (length (all_groups snapshot.now.release)) candidates.now }
-    ensures items { IfOk result (λ found. S.items_of found ≡ groups_within snapshot.now.release (may_be S.items_of candidates.now) (λ pairs. list_all (λ part. group_means snapshot.now.release (group_plan_of part) pairs) parts.now)) }
+    ensures items { IfOk result (λ found. S.items_of found ≡ groups_within snapshot.now.release (may_be S.items_of candidates.now) (λ pairs. list_all (λ part. unit_means snapshot.now.release (unit_plan_of part) pairs) parts.now)) }
     ensures bound { IfOk result (λ found. S.bound_of found ≡ length (all_groups snapshot.now.release)) }
     ensures grows { visits.old.count ≤ visits.new.count }
-    ensures within { visits.new.count ≤ visits.old.count + (2 * total (group_sizes indexes.now choices.now (group_plans_of parts.now)) + groups_sum (own_number indexes.now) choices.now (group_plans_of parts.now)) }
-    ensures floor { IfOk result (λ _. min (visits.old.count + groups_sum (floor_number indexes.now) choices.now (group_plans_of parts.now)) (2 ^ 64 - 1) ≤ visits.new.count) }
+    ensures within { visits.new.count ≤ visits.old.count + (2 * total (group_sizes indexes.now choices.now (unit_plans_of parts.now)) + groups_sum (own_number indexes.now) choices.now (unit_plans_of parts.now)) }
+    ensures floor { IfOk result (λ _. min (visits.old.count + groups_sum (floor_number indexes.now) choices.now (unit_plans_of parts.now)) (2 ^ 64 - 1) ≤ visits.new.count) }
 {
     if parts.is_empty() {
         let every = every_candidate_group(alloc, snapshot, indexes, candidates)?;
@@ -247,7 +247,7 @@ fn unit_choices_at<'a>(
     indexes: &Indexes,
 ) -> &'a [Choice]
     requires { place < length parts.now }
-    ensures { result.now ≡ drop (groups_leaves (group_plans_of (take place parts.now))) choices.now }
+    ensures { result.now ≡ drop (groups_leaves (unit_plans_of (take place parts.now))) choices.now }
 {
     let mut rest = choices;
     for before in 0..place {
@@ -274,8 +274,8 @@ fn groups_led_by<S: ConceptSet>(
     ensures items { IfOk result (λ found. S.items_of found ≡ groups_within snapshot.now.release (may_be S.items_of candidates.now) (leads_off_groups snapshot.now.release (slice_get parts.now lead))) }
     ensures bound { IfOk result (λ found. S.bound_of found ≡ length (all_groups snapshot.now.release)) }
     ensures grows { visits.old.count ≤ visits.new.count }
-    ensures within { visits.new.count ≤ visits.old.count + of_lead (λ part. group_size indexes.now choices.now (group_plan_of part) + group_sum (own_number indexes.now) choices.now (group_plan_of part)) (slice_get parts.now lead) }
-    ensures floor { IfOk result (λ _. min (visits.old.count + of_lead (λ part. group_sum (floor_number indexes.now) choices.now (group_plan_of part)) (slice_get parts.now lead)) (2 ^ 64 - 1) ≤ visits.new.count) }
+    ensures within { visits.new.count ≤ visits.old.count + of_lead (λ part. group_size indexes.now choices.now (unit_plan_of part) + group_sum (own_number indexes.now) choices.now (unit_plan_of part)) (slice_get parts.now lead) }
+    ensures floor { IfOk result (λ _. min (visits.old.count + of_lead (λ part. group_sum (floor_number indexes.now) choices.now (unit_plan_of part)) (slice_get parts.now lead)) (2 ^ 64 - 1) ≤ visits.new.count) }
 {
     let groups: S = execute_groups(
         alloc,
@@ -303,11 +303,11 @@ fn groups_in_some<S: ConceptSet>(
 ) -> Result<S, AllocError>
     requires index { IsIndexOf indexes.now snapshot.now.release }
     requires candidates { AreBelow S.bound_of (length (all_groups snapshot.now.release)) candidates.now }
-    ensures items { IfOk result (λ found. S.items_of found ≡ groups_within snapshot.now.release (may_be S.items_of candidates.now) (λ pairs. list_any (λ part. group_means snapshot.now.release (group_plan_of part) pairs) parts.now)) }
+    ensures items { IfOk result (λ found. S.items_of found ≡ groups_within snapshot.now.release (may_be S.items_of candidates.now) (λ pairs. list_any (λ part. unit_means snapshot.now.release (unit_plan_of part) pairs) parts.now)) }
     ensures bound { IfOk result (λ found. S.bound_of found ≡ length (all_groups snapshot.now.release)) }
     ensures grows { visits.old.count ≤ visits.new.count }
-    ensures within { visits.new.count ≤ visits.old.count + (group_count (group_plans_of parts.now) * total (group_sizes indexes.now choices.now (group_plans_of parts.now)) + groups_sum (own_number indexes.now) choices.now (group_plans_of parts.now)) }
-    ensures floor { IfOk result (λ _. min (visits.old.count + groups_sum (floor_number indexes.now) choices.now (group_plans_of parts.now)) (2 ^ 64 - 1) ≤ visits.new.count) }
+    ensures within { visits.new.count ≤ visits.old.count + (group_count (unit_plans_of parts.now) * total (group_sizes indexes.now choices.now (unit_plans_of parts.now)) + groups_sum (own_number indexes.now) choices.now (unit_plans_of parts.now)) }
+    ensures floor { IfOk result (λ _. min (visits.old.count + groups_sum (floor_number indexes.now) choices.now (unit_plans_of parts.now)) (2 ^ 64 - 1) ≤ visits.new.count) }
 {
     // the concepts rise, and the sources of all attribute rows are in force
     snapshot.concept_count();

@@ -6,7 +6,7 @@ ghost use Rattle.set_algebra.specs.Plan.{plan_of, walk_plan};
 ghost use Rattle.planner.specs.Bounds.{own_number};
 ghost use Rattle.planner.specs.Floors.{floor_number};
 ghost use Rattle.planner.specs.Nodes.{node_sum};
-ghost use Rattle.executor.specs.Asked.{AreEnough, asked_lists};
+ghost use Rattle.executor.specs.inside.Asked.{AreEnough, asked_lists};
 ghost use Rattle.pair_sets.specs.Within.{AreBelow, may_be, numbers_within};
 
 use crate::found::walk_found;

@@ -1,6 +1,6 @@
 //! In which way the concepts are found that an operator leads to, and how many items that reads.
 ghost use Rattle.std.specs.Prelude.{◌<◌, All};
-ghost use Rattle.executor.specs.Steps.{IsOver};
+ghost use Rattle.executor.specs.inside.Steps.{IsOver};
 
 use crate::family::{Family, Step};
 use crate::walks::{items_of_lists, most_items};

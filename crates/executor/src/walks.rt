@@ -3,8 +3,8 @@ ghost use Rattle.std.specs.Prelude.{ℕ, ◌≡◌, ◌<◌, ◌++◌, ◌∷◌
 ghost use Rattle.std.specs.List.{list_any};
 ghost use Rattle.idset.specs.Sets.{all_items, has_item};
 ghost use Rattle.hierarchy.specs.KeyedLists.{list_of};
-ghost use Rattle.executor.specs.Joined.{AreJoined, is_long as is_long_of, is_whole as is_whole_of, with_length};
-ghost use Rattle.executor.specs.Steps.{apart as apart_of, IsOf, IsOver, joined, lists_of, stepped};
+ghost use Rattle.executor.specs.inside.Joined.{AreJoined, is_long as is_long_of, is_whole as is_whole_of, with_length};
+ghost use Rattle.executor.specs.inside.Steps.{apart as apart_of, IsOf, IsOver, joined, lists_of, stepped};
 
 use crate::family::{Family, Reach, Step};
 use crate::reached::reached;

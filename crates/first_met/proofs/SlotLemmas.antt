@@ -5,7 +5,7 @@ use Rattle.std.proofs.lemmas.Bool.{cases_eq}
 use Rattle.std.proofs.lemmas.Bool.Decides.{nat_tests}
 use Rattle.std.proofs.lemmas.Grind.{common_steps}
 use Rattle.std.proofs.lemmas.Option.{get_or_from_slice_get, slice_get_past, slice_get_within}
-use Rattle.first_met.specs.FirstMetInside.{AreFirst, AreFree, ArePlaces, Finds, IsFree, found_by, found_from, slot}
+use Rattle.first_met.specs.inside.FirstMetInside.{AreFirst, AreFree, ArePlaces, Finds, IsFree, found_by, found_from, slot}
 use Rattle.first_met.proofs.PlaceLemmas.{at_or_before, has_place, is_at_place, not_met, place_behind, place_kept, place_stays}
 
 -- an element after another was written, or one was put behind all

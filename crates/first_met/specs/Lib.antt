@@ -1,2 +1,2 @@
 pub mod FirstMet
-pub mod FirstMetInside
+pub mod inside

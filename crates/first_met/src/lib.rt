@@ -11,7 +11,7 @@ ghost use Rattle.std.specs.BTreeMap.{get};
 ghost use Rattle.std.specs.List.{list_any, position_or_len};
 ghost use Rattle.std.specs.Ordering.{nat_cmp};
 ghost use Rattle.first_met.specs.FirstMet.{keys_behind};
-ghost use Rattle.first_met.specs.FirstMetInside.{AreFirst, AreFree, Finds};
+ghost use Rattle.first_met.specs.inside.FirstMetInside.{AreFirst, AreFree, Finds};
 
 use std::alloc::{AllocError, Global};
 use std::collections::BTreeMap;
@@ -45,7 +45,7 @@ impl Model for FirstMet {
 
     ghost Value = { List ℕ };
 
-    ghost use Rattle.first_met.specs.FirstMetInside.{HasPlaces, keys_in};
+    ghost use Rattle.first_met.specs.inside.FirstMetInside.{HasPlaces, keys_in};
 
     ghost view = { keys_in };
 

@@ -7,7 +7,7 @@ use Rattle.std.proofs.lemmas.List.Sums.{count_by_more_yes, sum_by-cons, sum_by-t
 use Rattle.std.proofs.lemmas.Map.Keys.{IsDistinct-push}
 use Rattle.hierarchy.specs.Members.{has}
 use Rattle.hierarchy.specs.KeyedLists.{items_of, lists_by, list_of, turned, turned_from, with_key}
-use Rattle.hierarchy.specs.Released.{AreRoots}
+use Rattle.hierarchy.specs.inside.Released.{AreRoots}
 use Rattle.hierarchy.proofs.HierarchyLemmas.{first_contained, rest_contained}
 use Rattle.hierarchy.proofs.KeyedLemmas.{items_of-append, list_of-lists_by}
 use Rattle.hierarchy.proofs.ReleaseLemmas.{had_not, members-push, times, times-append}

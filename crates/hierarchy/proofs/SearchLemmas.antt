@@ -6,7 +6,7 @@ use Rattle.std.proofs.lemmas.Bool.{cases_eq}
 use Rattle.std.proofs.lemmas.List.Elements.{All-contains}
 use Rattle.hierarchy.specs.Hierarchy.{Reaches, one_row, more_rows}
 use Rattle.hierarchy.proofs.HierarchyLemmas.{chain_of_two}
-use Rattle.hierarchy.specs.Search.{IsMarked, IsFollowed, MarksReached, NoneFalls, rank_in}
+use Rattle.hierarchy.specs.inside.Search.{IsMarked, IsFollowed, MarksReached, NoneFalls, rank_in}
 
 -- the parent of a row from the start or from a marked concept may be marked
 pub marks_reached_set : (rows : List (ℕ × ℕ)) (start : ℕ) (marks : List Bool) (row : ℕ × ℕ) → Contains rows row

@@ -12,7 +12,7 @@ use Rattle.hierarchy.specs.Hierarchy.{IsWithin, Reaches, more_rows, one_row}
 use Rattle.hierarchy.specs.Members.{has}
 use Rattle.hierarchy.specs.KeyedLists.{AreItemsBelow, items_of, lists_by, list_of, turned, turned_from}
 use Rattle.hierarchy.specs.ParentsFirst.{IsParentsFirst}
-use Rattle.hierarchy.specs.Released.{AreRoots, IsReleased}
+use Rattle.hierarchy.specs.inside.Released.{AreRoots, IsReleased}
 use Rattle.hierarchy.proofs.HierarchyLemmas.{chain_of_two, contained_cases, first_contained, rest_contained}
 use Rattle.hierarchy.proofs.KeyedLemmas.{items_of-append, length-lengths, length-lists_by, lengths, list_of-lists_by}
 use Rattle.hierarchy.proofs.OrderLemmas.{all_done, counted, open_all, open_count, open_less, some_open, times-children}

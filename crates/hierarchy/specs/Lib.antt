@@ -1,8 +1,5 @@
 pub mod Hierarchy
-pub mod KeyedBlocks
+pub mod inside
 pub mod KeyedLists
-pub mod KeyedListsInside
 pub mod Members
 pub mod ParentsFirst
-pub mod Released
-pub mod Search

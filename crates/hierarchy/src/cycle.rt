@@ -3,7 +3,7 @@
 ghost use Rattle.std.specs.Prelude.{◌≡◌, ◌<◌, ◌^◌, ◌↔◌, ◌⊎◌, ℕ, false, true, List, All, Contains, IfOk, IfSome, IfNone, IsTrue, length, vec_len};
 ghost use Rattle.std.specs.Bool.{OnFalse, OnTrue};
 ghost use Rattle.hierarchy.specs.Hierarchy.{IsWithin, Reaches};
-ghost use Rattle.hierarchy.specs.Search.{IsMarked, IsFollowed, MarksReached, NoneFalls, rank_in, unmarked_count};
+ghost use Rattle.hierarchy.specs.inside.Search.{IsMarked, IsFollowed, MarksReached, NoneFalls, rank_in, unmarked_count};
 
 use crate::components::{component_ranks, rows_from};
 use std::alloc::{AllocError, Global};

@@ -3,7 +3,7 @@
 ghost use Rattle.std.specs.Prelude.{◌≡◌, ◌≤◌, ◌<◌, ◌+◌, ◌^◌, ◌==◌, ◌++◌, ℕ, List, All, IfOk, IfSome, IfNone, OnOk, count_by, length, map, slice_index};
 ghost use Rattle.hierarchy.specs.Hierarchy.{IsWithin, Reaches};
 ghost use Rattle.hierarchy.specs.ParentsFirst.{IsParentsFirst};
-ghost use Rattle.hierarchy.specs.Released.{AreRoots, IsReleased};
+ghost use Rattle.hierarchy.specs.inside.Released.{AreRoots, IsReleased};
 
 use crate::keyed_lists::KeyedLists;
 use std::alloc::{AllocError, Global};

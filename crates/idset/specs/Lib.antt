@@ -1,3 +1,3 @@
-pub mod MixedForm
+pub mod inside
 pub mod Sets
 pub mod Words

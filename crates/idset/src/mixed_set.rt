@@ -1,6 +1,6 @@
 //! The set in whichever of the two forms suits how many items it has.
 ghost use Rattle.std.specs.Prelude.{◌≡◌, IfOk};
-ghost use Rattle.idset.specs.MixedForm.{form_bound, form_items, form_rises, list_items, word_items};
+ghost use Rattle.idset.specs.inside.MixedForm.{form_bound, form_items, form_rises, list_items, word_items};
 ghost use Rattle.idset.specs.Sets.{all_items, common_items, IsRisingBelow, other_items};
 
 use crate::concept_set::ConceptSet;

@@ -19,9 +19,9 @@ use Rattle.postings.proofs.PlaceLemmas.{places_where-within}
 use Rattle.std.proofs.lemmas.List.Elements.{All-nil}
 use Rattle.set_algebra.specs.Meaning.{has_pairs, pairs_of}
 use Rattle.hierarchy.specs.Members.{has}
-use Rattle.pair_sets.specs.Among.{at_entry, pair_counts, pairs_among, pairs_of_concept, rows_of_unit}
+use Rattle.pair_sets.specs.inside.Among.{at_entry, pair_counts, pairs_among, pairs_of_concept, rows_of_unit}
 use Rattle.pair_sets.specs.Groups.{some_group_in}
-use Rattle.pair_sets.specs.Hits.{TellsTypes, has_pair_in, has_source_in, is_in_some, value_of}
+use Rattle.pair_sets.specs.inside.Hits.{TellsTypes, has_pair_in, has_source_in, is_in_some, value_of}
 use Rattle.pair_sets.specs.Within.{groups_within, numbers_within}
 use Rattle.postings.specs.RowColumns.{AreRowCells}
 use Rattle.postings.specs.declared.index.RowCells.{RowCells}

@@ -12,9 +12,9 @@ use Rattle.postings.specs.Indexed.{Indexed, rows_by_source}
 use Rattle.postings.specs.RowColumns.{AreRowCells}
 use Rattle.postings.specs.declared.index.RowCells.{RowCells}
 use Rattle.postings.proofs.EntryLemmas.{rows_of_entries}
-use Rattle.pair_sets.specs.Among.{at_entry}
-use Rattle.pair_sets.specs.Counted.{times}
-use Rattle.pair_sets.specs.Hits.{TellsTypes, counts_for_value}
+use Rattle.pair_sets.specs.inside.Among.{at_entry}
+use Rattle.pair_sets.specs.inside.Counted.{times}
+use Rattle.pair_sets.specs.inside.Hits.{TellsTypes, counts_for_value}
 use Rattle.pair_sets.proofs.AmongLemmas.{places_counted}
 use Rattle.pair_sets.proofs.HitLemmas.{and_apart, value_tells}
 use Rattle.pair_sets.proofs.LeafLemmas.{count_kept, none_within}

@@ -15,7 +15,7 @@ use Rattle.idset.proofs.Rising.{rises_on}
 use Rattle.ancestor_index.proofs.ClosureLemmas.{both_ways}
 use Rattle.postings.specs.Entries.{Entry, entries_of}
 use Rattle.postings.specs.Indexed.{Indexed, types_of}
-use Rattle.pair_sets.specs.Hits.{AreHits, entries_with_sources, entries_with_types, entries_with_values}
+use Rattle.pair_sets.specs.inside.Hits.{AreHits, entries_with_sources, entries_with_types, entries_with_values}
 use Rattle.pair_sets.specs.Tested.{is_one_of}
 use Rattle.pair_sets.proofs.HitLemmas.{count-append}
 use Rattle.pair_sets.proofs.LeafLemmas.{count_either, count_kept, count_none, types_counted}
@@ -50,8 +50,8 @@ apart_from_both true true c first second = first
 apart_from_both true false c first second = second
 apart_from_both false b c first second = refl
 
-turned : (a b : ℕ) → (a == b) ≡ (b == a)
-turned a b = both_ways (a == b) (b == a) (λ told. eq-eqb b a (sym (eqb-true a b told))) (λ told. eq-eqb a b (sym (eqb-true b a told)))
+swapped : (a b : ℕ) → (a == b) ≡ (b == a)
+swapped a b = both_ways (a == b) (b == a) (λ told. eq-eqb b a (sym (eqb-true a b told))) (λ told. eq-eqb a b (sym (eqb-true b a told)))
 
 -- ---- the types so far
 module _ (one : ℕ → Bool) (types : List ℕ) (k : ℕ) (within : k < length types) (answer : Bool) (asked : one (get_or types k 0) ≡ answer) where
@@ -110,7 +110,7 @@ module _ (concepts : List ℕ) where
   -- a value is one of some concepts where it is the concept of one of their numbers
   value_of_some : (numbers : List ℕ) (value : Value)
       → list_any (λ number. value_eq value (concept_value (get_or concepts number 0))) numbers ≡ is_within (is_one_of concepts numbers) value
-  value_of_some numbers (concept_value concept) = λ i. list_any (λ number. turned concept (get_or concepts number 0) i) numbers
+  value_of_some numbers (concept_value concept) = λ i. list_any (λ number. swapped concept (get_or concepts number 0) i) numbers
   value_of_some numbers (number_value decimal) = none_of numbers
   value_of_some numbers (text_value text) = none_of numbers
 

@@ -12,16 +12,16 @@ use Rattle.std.proofs.lemmas.List.Sums.{length-filter}
 use Rattle.std.proofs.lemmas.Option.{get_or_from_slice_get, slice_get-get_or, slice_get_within}
 use Rattle.rf2_rows.specs.Pairs.{value_eq}
 use Rattle.rf2_rows.specs.Release.{Attribute, Value, concept_value, number_value, text_value}
-use Rattle.postings.specs.Columns.{AreGroups, AreSources, AreTypes, AreValues, Mark}
+use Rattle.postings.specs.Columns.{AreGroups, AreSources, AreTypes, AreValues, Flagged}
 use Rattle.postings.specs.Entries.{Entry}
 use Rattle.postings.specs.Groups.{ConceptGroup, group_of, groups_in, is_in_group, rows_alone}
 use Rattle.postings.specs.Indexed.{Indexed, types_of, value_at, values_of}
 use Rattle.postings.proofs.KeyLemmas.{IsTold, groups_once, groups_told_apart, in_one_group, in_own_group}
 use Rattle.postings.proofs.OnceLemmas.{IsOnce, same_place}
 use Rattle.postings.proofs.ValueLemmas.{concept_at}
-use Rattle.pair_sets.specs.Counted.{times}
-use Rattle.pair_sets.specs.Hits.{AreHits, TellsTypes, value_of, counts_for_group, counts_for_source, counts_for_value}
-use Rattle.pair_sets.specs.Hits.{has_source_in, is_in_some, picked}
+use Rattle.pair_sets.specs.inside.Counted.{times}
+use Rattle.pair_sets.specs.inside.Hits.{AreHits, TellsTypes, value_of, counts_for_group, counts_for_source, counts_for_value}
+use Rattle.pair_sets.specs.inside.Hits.{has_source_in, is_in_some, picked}
 use Rattle.pair_sets.proofs.Normal.{same_by_number}
 use Rattle.pair_sets.proofs.TimesLemmas.{times-append, times-cons}
 
@@ -61,12 +61,12 @@ count-append test (x ∷ xs) ys =
 next_place : (k : ℕ) → suc k ≡ k + 1
 next_place k = omega arith
 
-module _ (kept : Mark → ℕ → Bool) (number : Mark → ℕ → ℕ) (d : Mark) where
+module _ (kept : Flagged → ℕ → Bool) (number : Flagged → ℕ → ℕ) (d : Flagged) where
   -- the number at a place, where it is kept
-  abbrev here : List Mark → List ℕ → ℕ → Bool → List ℕ
+  abbrev here : List Flagged → List ℕ → ℕ → Bool → List ℕ
   here marks cells k keep = cond keep (number (get_or marks k d) (get_or cells k 0) ∷ []) []
 
-  picked_here : (marks : List Mark) (cells : List ℕ) (k : ℕ) → k < length marks → length marks ≡ length cells
+  picked_here : (marks : List Flagged) (cells : List ℕ) (k : ℕ) → k < length marks → length marks ≡ length cells
       → picked kept number (take (suc k) marks) (take (suc k) cells)
       ≡ picked kept number (take k marks) (take k cells) ++ here marks cells k (kept (get_or marks k d) (get_or cells k 0))
   picked_here [] cells k within long = absurd (omega (arith, within))
@@ -83,7 +83,7 @@ module _ (kept : Mark → ℕ → Bool) (number : Mark → ℕ → ℕ) (d : Mar
       ]
 
   -- one place more, which is kept or not
-  pub picked_next : (marks : List Mark) (cells : List ℕ) (k : ℕ) → k < length marks → length marks ≡ length cells
+  pub picked_next : (marks : List Flagged) (cells : List ℕ) (k : ℕ) → k < length marks → length marks ≡ length cells
       → (keep : Bool) → kept (get_or marks k d) (get_or cells k 0) ≡ keep → (before hits next : List ℕ)
       → hits ≡ before ++ picked kept number (take k marks) (take k cells) → next ≡ hits ++ here marks cells k keep
       → next ≡ before ++ picked kept number (take (k + 1) marks) (take (k + 1) cells)
@@ -97,7 +97,7 @@ module _ (kept : Mark → ℕ → Bool) (number : Mark → ℕ → ℕ) (d : Mar
       ∙ ap (λ (m : ℕ). picked kept number (take m marks) (take m cells)) (next_place k))
 
   -- they are below a bound where each of them is
-  picked_below : (bound : ℕ) (marks : List Mark) (cells : List ℕ) → length marks ≡ length cells
+  picked_below : (bound : ℕ) (marks : List Flagged) (cells : List ℕ) → length marks ≡ length cells
       → ((k : ℕ) → k < length marks → kept (get_or marks k d) (get_or cells k 0) ≡ true → number (get_or marks k d) (get_or cells k 0) < bound)
       → All (λ n. n < bound) (picked kept number marks cells)
   picked_below bound [] cells long below = All-nil (λ n. n < bound)
@@ -112,7 +112,7 @@ module _ (kept : Mark → ℕ → Bool) (number : Mark → ℕ → ℕ) (d : Mar
       by_case false leaves rest = rest
 
   -- and a number stands among them as often as items count for it, where each place is kept for the number exactly where its item counts
-  times_picked : (n : ℕ) (counts : Entry → Bool) (e : Entry) (marks : List Mark) (cells : List ℕ) (entries : List Entry)
+  times_picked : (n : ℕ) (counts : Entry → Bool) (e : Entry) (marks : List Flagged) (cells : List ℕ) (entries : List Entry)
       → length marks ≡ length entries → length cells ≡ length entries
       → ((k : ℕ) → k < length entries → (kept (get_or marks k d) (get_or cells k 0) && (number (get_or marks k d) (get_or cells k 0) == n))
       ≡ counts (get_or entries k e))
@@ -134,7 +134,7 @@ module _ (kept : Mark → ℕ → Bool) (number : Mark → ℕ → ℕ) (d : Mar
           times-cons n (number mark cell) (picked kept number marks cells) ∙ (λ i. cond (is i) (1 + rest i) (rest i))
       by_case false is rest = rest ∙ (λ i. cond (is i) (1 + count_by counts entries) (count_by counts entries))
 
-  picked_hits : (bound : ℕ) (counts : ℕ → Entry → Bool) (e : Entry) (marks : List Mark) (cells : List ℕ) (entries : List Entry)
+  picked_hits : (bound : ℕ) (counts : ℕ → Entry → Bool) (e : Entry) (marks : List Flagged) (cells : List ℕ) (entries : List Entry)
       → length marks ≡ length entries → length cells ≡ length entries
       → ((k : ℕ) → k < length entries → kept (get_or marks k d) (get_or cells k 0) ≡ true → number (get_or marks k d) (get_or cells k 0) < bound)
       → ((n : ℕ) → n < bound → (k : ℕ) → k < length entries
@@ -190,7 +190,7 @@ module _ (entries : ℕ → List Entry) (keys : List ℕ) (k : ℕ) (within : k 
   }
 
 -- ---- a mark and a row
-abbrev pub a_mark : Mark
+abbrev pub a_mark : Flagged
 a_mark = record { number = 0; is_first = false }
 
 abbrev pub an_entry : Entry
@@ -292,24 +292,24 @@ module _ (indexed : Indexed) (entries : List Entry) (cells : List ℕ) where
         k 0 an_entry within)
 
 -- ---- by source, by value and by group
-module _ (concepts : List ℕ) (entries : List Entry) (marks : List Mark) (sources : AreSources concepts entries marks) where
+module _ (concepts : List ℕ) (entries : List Entry) (marks : List Flagged) (sources : AreSources concepts entries marks) where
   pub sources_long : length marks ≡ length entries
-  sources_long = same_length (λ (mark : Mark). mark.is_first) (λ (entry : Entry). entry.is_first) marks entries sources.firsts
+  sources_long = same_length (λ (mark : Flagged). mark.is_first) (λ (entry : Entry). entry.is_first) marks entries sources.firsts
 
   source_below : (k : ℕ) → k < length entries → (get_or marks k a_mark).number < length concepts
   source_below k within = sources.within k a_mark (omega (arith, within, sources_long))
 
   source_first : (k : ℕ) → k < length entries → (get_or marks k a_mark).is_first ≡ (get_or entries k an_entry).is_first
   source_first k within =
-      same_at (λ (mark : Mark). mark.is_first) (λ (entry : Entry). entry.is_first) marks entries sources.firsts k a_mark an_entry within
+      same_at (λ (mark : Flagged). mark.is_first) (λ (entry : Entry). entry.is_first) marks entries sources.firsts k a_mark an_entry within
 
   source_there : (k : ℕ) → k < length entries → get_or concepts (get_or marks k a_mark).number 0 ≡ (get_or entries k an_entry).row.source
   source_there k within =
-      same_at (λ (mark : Mark). get_or concepts mark.number 0) (λ (entry : Entry). entry.row.source) marks entries
+      same_at (λ (mark : Flagged). get_or concepts mark.number 0) (λ (entry : Entry). entry.row.source) marks entries
       sources.sources k a_mark an_entry within
 
 -- where the cell of each row tells whether it is kept
-module _ (kept : Attribute → Bool) (tells : ℕ → Bool) (entries : List Entry) (marks : List Mark) (cells : List ℕ)
+module _ (kept : Attribute → Bool) (tells : ℕ → Bool) (entries : List Entry) (marks : List Flagged) (cells : List ℕ)
     (cells_long : length cells ≡ length entries)
     (told : (k : ℕ) → k < length entries → tells (get_or cells k 0) ≡ kept (get_or entries k an_entry).row) where
   pub source_hits : (concepts : List ℕ) → IsStrictlyIncreasing concepts → AreSources concepts entries marks
@@ -335,7 +335,7 @@ module _ (kept : Attribute → Bool) (tells : ℕ → Bool) (entries : List Entr
   grouped_hits indexed rising groups =
       picked_hits (λ mark cell. mark.is_first && tells cell) (λ mark cell. mark.number) a_mark
       (length (groups_in indexed)) (counts_for_group (groups_in indexed) kept) an_entry marks cells entries
-      (same_length (λ (mark : Mark). mark.is_first) (λ (entry : Entry). entry.is_first_in_group) marks entries groups.firsts) cells_long
+      (same_length (λ (mark : Flagged). mark.is_first) (λ (entry : Entry). entry.is_first_in_group) marks entries groups.firsts) cells_long
       (λ k within keeps. slice_get_within (groups_in indexed) (get_or marks k a_mark).number (group_of (get_or entries k an_entry).row) (own k within))
       (λ n inside k within.
       and_turned ((get_or marks k a_mark).is_first && tells (get_or cells k 0)) ((get_or marks k a_mark).number == n)
@@ -350,17 +350,17 @@ module _ (kept : Attribute → Bool) (tells : ℕ → Bool) (entries : List Entr
 
       own : (k : ℕ) → k < length entries → slice_get (groups_in indexed) (get_or marks k a_mark).number ≡ Some (group_of (get_or entries k an_entry).row)
       own k within =
-          same_at (λ (mark : Mark). slice_get (groups_in indexed) mark.number) (λ (entry : Entry). Some (group_of entry.row)) marks
+          same_at (λ (mark : Flagged). slice_get (groups_in indexed) mark.number) (λ (entry : Entry). Some (group_of entry.row)) marks
           entries groups.groups k a_mark an_entry within
 
       first_there : (k : ℕ) → k < length entries → (get_or marks k a_mark).is_first ≡ (get_or entries k an_entry).is_first_in_group
       first_there k within =
-          same_at (λ (mark : Mark). mark.is_first) (λ (entry : Entry). entry.is_first_in_group) marks entries groups.firsts
+          same_at (λ (mark : Flagged). mark.is_first) (λ (entry : Entry). entry.is_first_in_group) marks entries groups.firsts
           k a_mark an_entry within
 
 -- read backwards, the source of each row is tested
 module _ (indexed : Indexed) (passes : Value → Bool)
-    (entries : List Entry) (marks : List Mark) (sources : AreSources indexed.concepts entries marks) where
+    (entries : List Entry) (marks : List Flagged) (sources : AreSources indexed.concepts entries marks) where
   pub source_told : (k : ℕ) → k < length entries
       → passes (value_of indexed (get_or marks k a_mark).number) ≡ passes (concept_value (get_or entries k an_entry).row.source)
   source_told k within =
@@ -378,10 +378,10 @@ module _ (indexed : Indexed) (passes : Value → Bool)
       && (types_told indexed entries cells are one told tells k within i && source_told k within i)
 
 module _ (indexed : Indexed) (passes : Value → Bool)
-    (rising : IsStrictlyIncreasing indexed.concepts) (entries : List Entry) (marks : List Mark) (cells : List ℕ)
+    (rising : IsStrictlyIncreasing indexed.concepts) (entries : List Entry) (marks : List Flagged) (cells : List ℕ)
     (values : AreValues (values_of indexed) entries cells) (sources : AreSources indexed.concepts entries marks) where
   -- what stands at a place
-  abbrev mark : ℕ → Mark
+  abbrev mark : ℕ → Flagged
   mark k = get_or marks k a_mark
 
   abbrev cell : ℕ → ℕ
@@ -404,18 +404,18 @@ module _ (indexed : Indexed) (passes : Value → Bool)
       && (source_first indexed.concepts entries marks sources k within i && source_told indexed passes entries marks sources k within i)))
 
 -- ---- whatever passes, the numbers are below the bound
-pub marks_below : (kept : Mark → ℕ → Bool) (bound : ℕ) (marks : List Mark) (cells : List ℕ) → All (λ (mark : Mark). mark.number < bound) marks
+pub marks_below : (kept : Flagged → ℕ → Bool) (bound : ℕ) (marks : List Flagged) (cells : List ℕ) → All (λ (mark : Flagged). mark.number < bound) marks
     → All (λ n. n < bound) (picked kept (λ mark cell. mark.number) marks cells)
 marks_below kept bound [] cells below = All-nil (λ n. n < bound)
 marks_below kept bound (mark ∷ marks) [] below = All-nil (λ n. n < bound)
 marks_below kept bound (mark ∷ marks) (cell ∷ cells) below =
-    let rest = marks_below kept bound marks cells (All-tail (λ (m : Mark). m.number < bound) mark marks below) in
+    let rest = marks_below kept bound marks cells (All-tail (λ (m : Flagged). m.number < bound) mark marks below) in
     elim (kept mark cell) as (λ b. All (λ n. n < bound) (cond b (mark.number ∷ picked kept (λ m c. m.number) marks cells) (picked kept (λ m c. m.number) marks cells))) [
       | true ↦ All-cons (λ n. n < bound) mark.number (picked kept (λ m c. m.number) marks cells) (below 0 mark (omega arith)) rest
       | false ↦ rest
     ]
 
-pub cells_below : (test : Mark → Bool) (bound : ℕ) (marks : List Mark) (cells : List ℕ)
+pub cells_below : (test : Flagged → Bool) (bound : ℕ) (marks : List Flagged) (cells : List ℕ)
     → All (λ n. n < bound) (picked (λ mark cell. ltb cell bound && test mark) (λ mark cell. cell) marks cells)
 cells_below test bound [] cells = All-nil (λ n. n < bound)
 cells_below test bound (mark ∷ marks) [] = All-nil (λ n. n < bound)
@@ -428,13 +428,13 @@ cells_below test bound (mark ∷ marks) (cell ∷ cells) = by_case (cells_below 
     by_case rest true keeps = All-cons (λ n. n < bound) cell others (ltb-true cell bound (and_parts (ltb cell bound) (test mark) keeps).0) rest
     by_case rest false leaves = rest
 
-pub group_marks_below : (groups : List ConceptGroup) (entries : List Entry) (marks : List Mark) → AreGroups groups entries marks
-    → All (λ (mark : Mark). mark.number < length groups) marks
+pub group_marks_below : (groups : List ConceptGroup) (entries : List Entry) (marks : List Flagged) → AreGroups groups entries marks
+    → All (λ (mark : Flagged). mark.number < length groups) marks
 group_marks_below groups entries marks are k d within =
     let long : length marks ≡ length entries
-    = same_length (λ (mark : Mark). mark.is_first) (λ (entry : Entry). entry.is_first_in_group) marks entries are.firsts in
+    = same_length (λ (mark : Flagged). mark.is_first) (λ (entry : Entry). entry.is_first_in_group) marks entries are.firsts in
     slice_get_within groups (get_or marks k d).number (group_of (get_or entries k an_entry).row)
-    (same_at (λ (mark : Mark). slice_get groups mark.number) (λ (entry : Entry). Some (group_of entry.row)) marks entries are.groups
+    (same_at (λ (mark : Flagged). slice_get groups mark.number) (λ (entry : Entry). Some (group_of entry.row)) marks entries are.groups
     k d an_entry (omega (arith, within, long)))
 
 pub pushed_below : (bound : ℕ) (hits next more : List ℕ) → next ≡ hits ++ more → All (λ n. n < bound) hits → All (λ n. n < bound) more

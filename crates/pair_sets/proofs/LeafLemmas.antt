@@ -29,9 +29,9 @@ use Rattle.postings.specs.Indexed.{Indexed, IsIndexOf, types_of}
 use Rattle.postings.proofs.BlockLemmas.{filter-all}
 use Rattle.postings.proofs.CountLemmas.{all_groups_again, back_count, first_entries, first_entries_of_group}
 use Rattle.postings.proofs.EntryLemmas.{rows_of_entries}
-use Rattle.pair_sets.specs.Counted.{times}
-use Rattle.pair_sets.specs.Hits.{counts_for_concept, counts_for_group, counts_for_source, counts_for_value, entries_with_types}
-use Rattle.pair_sets.specs.Hits.{has_pair_in, has_source_in, is_in_some}
+use Rattle.pair_sets.specs.inside.Counted.{times}
+use Rattle.pair_sets.specs.inside.Hits.{counts_for_concept, counts_for_group, counts_for_source, counts_for_value, entries_with_types}
+use Rattle.pair_sets.specs.inside.Hits.{has_pair_in, has_source_in, is_in_some}
 use Rattle.pair_sets.specs.Groups.{groups_where, some_group_in}
 use Rattle.pair_sets.specs.Numbers.{numbers_in}
 use Rattle.ancestor_index.proofs.ClosureLemmas.{both_ways, item_there, there_item}
@@ -84,10 +84,10 @@ module _ {X : Type 0} where
 -- whether a key is none of some others
 pub none_of : (key : ℕ) (keys : List ℕ) → AllByRecursion (λ other. nat_eq key other ≡ false) keys → has_item keys key ≡ false
 none_of key [] apart = refl
-none_of key (other ∷ keys) apart = (λ i. (turned other key ∙ apart.0) i || has_item keys key) ∙ none_of key keys apart.1
+none_of key (other ∷ keys) apart = (λ i. (swapped other key ∙ apart.0) i || has_item keys key) ∙ none_of key keys apart.1
   where
-    turned : (a b : ℕ) → (a == b) ≡ (b == a)
-    turned a b = both_ways (a == b) (b == a) (λ told. eq-eqb b a (sym (eqb-true a b told))) (λ told. eq-eqb a b (sym (eqb-true b a told)))
+    swapped : (a b : ℕ) → (a == b) ≡ (b == a)
+    swapped a b = both_ways (a == b) (b == a) (λ told. eq-eqb b a (sym (eqb-true a b told))) (λ told. eq-eqb a b (sym (eqb-true b a told)))
 
 never : (b : Bool) → (b && false) ≡ false
 never true = refl

@@ -17,7 +17,7 @@ use Rattle.rf2_rows.specs.Release.{Value, concept_value, number_value, text_valu
 use Rattle.snapshot.specs.Numbering.{concept_number}
 use Rattle.postings.specs.Indexed.{Indexed, value_at, values_among, values_of}
 use Rattle.postings.proofs.ValueLemmas.{concept_at, decimal_at, value_behind}
-use Rattle.pair_sets.specs.Hits.{value_of}
+use Rattle.pair_sets.specs.inside.Hits.{value_of}
 use Rattle.pair_sets.specs.Tested.{is_one_of, meets}
 use Rattle.pair_sets.proofs.ListLemmas.{any_agree}
 use Rattle.pair_sets.proofs.Normal.{concept_number-None, same_by_number}

@@ -8,7 +8,7 @@ use Rattle.ancestor_index.proofs.ClosureLemmas.{both_ways}
 use Rattle.idset.specs.Sets.{has_item}
 use Rattle.constraint_tree.specs.declared.operator.Cardinality.{Cardinality}
 use Rattle.constraint_tree.specs.Passing.{is_up_to, lies_in}
-use Rattle.pair_sets.specs.Counted.{times}
+use Rattle.pair_sets.specs.inside.Counted.{times}
 
 -- ---- by recursion on the list
 pub times-cons : (number x : ℕ) (xs : List ℕ) → times number (x ∷ xs) ≡ cond (x == number) (1 + times number xs) (times number xs)

@@ -12,7 +12,7 @@ use Rattle.std.proofs.lemmas.Option.{slice_get-get_or}
 use Rattle.rf2_rows.specs.Release.{Attribute}
 use Rattle.idset.specs.Sets.{has_item}
 use Rattle.postings.specs.Indexed.{Indexed, concept_of_type, types_of}
-use Rattle.pair_sets.specs.Hits.{TellsTypes, is_one_at, is_type_in}
+use Rattle.pair_sets.specs.inside.Hits.{TellsTypes, is_one_at, is_type_in}
 use Rattle.pair_sets.specs.Tested.{is_one_of}
 use Rattle.pair_sets.proofs.LeafLemmas.{types_apart}
 use Rattle.pair_sets.proofs.Normal.{concept_number-None, concept_number-Some}

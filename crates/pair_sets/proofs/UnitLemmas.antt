@@ -20,7 +20,7 @@ use Rattle.set_algebra.specs.Meaning.{has_groups}
 use Rattle.postings.specs.Groups.{ConceptGroup, all_groups, groups_among, keys_of, pairs_of_group}
 use Rattle.postings.proofs.CountLemmas.{groups_count}
 use Rattle.postings.proofs.KeyLemmas.{group_with, groups_at}
-use Rattle.pair_sets.specs.Counted.{times}
+use Rattle.pair_sets.specs.inside.Counted.{times}
 use Rattle.pair_sets.specs.Groups.{concept_in, groups_where, some_group_in}
 use Rattle.pair_sets.specs.Numbers.{numbers_in}
 use Rattle.pair_sets.specs.Owned.{HaveGroupsOf, groups_owned}
@@ -53,11 +53,11 @@ module _ (release : Release) (test : ConceptGroup → Bool) (concept : ℕ) wher
       ∙ (λ i. cond (ne_eqb other concept apart i && test (group_with other key)) (1 + count_by is_counted (map (group_with other) keys)) (count_by is_counted (map (group_with other) keys)))
       ∙ other_groups other apart keys
 
-  no_groups : (concepts : List ℕ) → AllByRecursion (λ other. nat_eq concept other ≡ false) concepts → count_by is_counted (groups_among release concepts) ≡ 0
-  no_groups [] apart = refl
-  no_groups (other ∷ concepts) apart =
+  no_unit_plans : (concepts : List ℕ) → AllByRecursion (λ other. nat_eq concept other ≡ false) concepts → count_by is_counted (groups_among release concepts) ≡ 0
+  no_unit_plans [] apart = refl
+  no_unit_plans (other ∷ concepts) apart =
       count-append is_counted (groups_at release other) (groups_among release concepts)
-      ∙ (λ i. other_groups other (λ same. false≢true (sym apart.0 ∙ eq-eqb concept other (sym same))) (keys_of release other) i + no_groups concepts apart.1 i)
+      ∙ (λ i. other_groups other (λ same. false≢true (sym apart.0 ∙ eq-eqb concept other (sym same))) (keys_of release other) i + no_unit_plans concepts apart.1 i)
 
   -- so among all groups those of the concept are
   pub own_counted : (concepts : List ℕ) → IsDistinct nat_eq concepts → Contains concepts concept
@@ -69,7 +69,7 @@ module _ (release : Release) (test : ConceptGroup → Bool) (concept : ℕ) wher
       ∙ elim (cases_eq other concept) [
         | inl same ↦
             (λ i. ap (λ c. count_by is_counted (groups_at release c)) same i
-            + no_groups concepts (subst (λ c. AllByRecursion (λ x. nat_eq c x ≡ false) concepts) same distinct.0) i)
+            + no_unit_plans concepts (subst (λ c. AllByRecursion (λ x. nat_eq c x ≡ false) concepts) same distinct.0) i)
             ∙ ap (λ n. n + 0) (own_groups (keys_of release concept))
             ∙ sum_zero (count_by test (groups_at release concept))
             ∙ ap (count_by test) (sym (append-nil (groups_at release concept)))
@@ -119,17 +119,17 @@ module _ (release : Release) (rising : IsStrictlyIncreasing release.concepts) (s
       ∙ count_numbers (λ at. some_group_in release set at && (concept_in at == concept)) all
       ∙ count_agree (λ group. set (pairs_of_group release group) && (group.concept == concept))
       (is_counted release (λ group. set (pairs_of_group release group)) concept) all
-      (λ group there. turned (set (pairs_of_group release group)) (group.concept == concept))
+      (λ group there. swapped (set (pairs_of_group release group)) (group.concept == concept))
       ∙ own_counted release (λ group. set (pairs_of_group release group)) concept release.concepts (concepts_apart release.concepts rising)
       (Contains-get_or release.concepts n 0 within)
       ∙ sym (count_map set (pairs_of_group release) (groups_among release (concept ∷ [])))
       ∙ groups_count release set concept
     where
-      turned : (a b : Bool) → (a && b) ≡ (b && a)
-      turned true true = refl
-      turned true false = refl
-      turned false true = refl
-      turned false false = refl
+      swapped : (a b : Bool) → (a && b) ≡ (b && a)
+      swapped true true = refl
+      swapped true false = refl
+      swapped false true = refl
+      swapped false false = refl
 
 -- ---- the concepts with so many of some groups
 module _ (release : Release) (rising : IsStrictlyIncreasing release.concepts) where

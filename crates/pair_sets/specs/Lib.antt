@@ -1,9 +1,6 @@
-pub mod Among
-pub mod Counted
 pub mod Groups
-pub mod Hits
+pub mod inside
 pub mod Numbers
 pub mod Owned
 pub mod Tested
-pub mod Ways
 pub mod Within

@@ -5,8 +5,8 @@ ghost use Rattle.postings.specs.Columns.{AreSources, AreTypes};
 ghost use Rattle.postings.specs.Entries.{Entry};
 ghost use Rattle.postings.specs.Groups.{groups_in};
 ghost use Rattle.postings.specs.Indexed.{types_of};
-ghost use Rattle.pair_sets.specs.Among.{pairs_among as pairs_among_of, pairs_of_concept as pairs_of_concept_of, rows_of_unit};
-ghost use Rattle.pair_sets.specs.Hits.{has_source_in, is_type_in, value_of};
+ghost use Rattle.pair_sets.specs.inside.Among.{pairs_among as pairs_among_of, pairs_of_concept as pairs_of_concept_of, rows_of_unit};
+ghost use Rattle.pair_sets.specs.inside.Hits.{has_source_in, is_type_in, value_of};
 ghost use Rattle.pair_sets.specs.Tested.{IsTestBelow, is_one_of, passes_of};
 
 use crate::passing::passes;
@@ -14,7 +14,7 @@ use crate::tested::Tested;
 use crate::types::is_typed;
 use constraint_tree::Cardinality;
 use idset::ConceptSet;
-use postings::{Indexes, Mark, RowCells};
+use postings::{FlaggedNumber, Indexes, RowCells};
 use std::alloc::{AllocError, Global};
 
 // Whether a number lies in a cardinality.
@@ -77,7 +77,7 @@ fn counts<S: ConceptSet>(
 // passes.
 fn back_pairs_among<S: ConceptSet>(
     indexes: &Indexes,
-    sources: &[Mark],
+    sources: &[FlaggedNumber],
     cells: &[u32],
     types: &S,
     tested: &Tested<S>,
@@ -103,7 +103,7 @@ fn back_pairs_among<S: ConceptSet>(
 // Whether a row is the first with its pair, its type is in a set and its source passes.
 fn counts_back<S: ConceptSet>(
     indexes: &Indexes,
-    source: Mark,
+    source: FlaggedNumber,
     type_place: u32,
     types: &S,
     tested: &Tested<S>,

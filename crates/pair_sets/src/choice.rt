@@ -5,7 +5,7 @@ ghost use Rattle.std.specs.Prelude.{ℕ, ◌≡◌, ◌-◌, ◌<◌, ◌^◌, A
 ghost use Rattle.postings.specs.Stats.{type_row_count};
 ghost use Rattle.postings.specs.Indexed.{IsIndexOf, types_of};
 ghost use Rattle.pair_sets.specs.Tested.{IsTestBelow, is_one_of, passes_of};
-ghost use Rattle.pair_sets.specs.Ways.{AreAllThatPass, IsValuesWay, IsWayFor, row_count_of};
+ghost use Rattle.pair_sets.specs.inside.Ways.{AreAllThatPass, IsValuesWay, IsWayFor, row_count_of};
 
 use crate::candidates::Extent;
 use crate::tested::{Tested, count_of_test};

@@ -2,7 +2,7 @@
 ghost use Rattle.std.specs.Prelude.{ℕ, ◌≡◌, ◌-◌, ◌<◌, All, IfOk, nat_le};
 ghost use Rattle.constraint_tree.specs.Passing.{lies_in};
 ghost use Rattle.idset.specs.Sets.{numbers_where};
-ghost use Rattle.pair_sets.specs.Counted.{times};
+ghost use Rattle.pair_sets.specs.inside.Counted.{times};
 
 use crate::difference::without;
 use constraint_tree::Cardinality;

@@ -6,11 +6,11 @@ ghost use Rattle.idset.specs.Sets.{IsRisingBelow};
 ghost use Rattle.postings.specs.Entries.{entries_of};
 ghost use Rattle.postings.specs.Groups.{groups_in};
 ghost use Rattle.postings.specs.Indexed.{types_of};
-ghost use Rattle.pair_sets.specs.Among.{at_entry};
-ghost use Rattle.pair_sets.specs.Counted.{times};
-ghost use Rattle.pair_sets.specs.Hits.{AreHits, has_pair_in, is_type_in, picked, value_of};
-ghost use Rattle.pair_sets.specs.Hits.{counts_for_concept, counts_for_group, counts_for_source, counts_for_value};
-ghost use Rattle.pair_sets.specs.Hits.{entries_with_sources, entries_with_types, entries_with_values};
+ghost use Rattle.pair_sets.specs.inside.Among.{at_entry};
+ghost use Rattle.pair_sets.specs.inside.Counted.{times};
+ghost use Rattle.pair_sets.specs.inside.Hits.{AreHits, has_pair_in, is_type_in, picked, value_of};
+ghost use Rattle.pair_sets.specs.inside.Hits.{counts_for_concept, counts_for_group, counts_for_source, counts_for_value};
+ghost use Rattle.pair_sets.specs.inside.Hits.{entries_with_sources, entries_with_types, entries_with_values};
 ghost use Rattle.pair_sets.specs.Tested.{IsTestBelow, is_one_of, passes_of};
 
 use crate::choice::rows_of_types;
@@ -18,7 +18,7 @@ use crate::passing::passes;
 use crate::tested::Tested;
 use crate::types::is_typed;
 use idset::ConceptSet;
-use postings::{Indexes, Mark, RowCells};
+use postings::{FlaggedNumber, Indexes, RowCells};
 use std::alloc::{AllocError, Global};
 
 /// By type: for each row with a type that is one of some and a value that passes, and that is the first with its pair, the
@@ -240,7 +240,7 @@ fn groups_by_value<S: ConceptSet>(
 fn push_passing<S: ConceptSet>(
     hits: &mut Vec<u32>,
     indexes: &Indexes,
-    marks: &[Mark],
+    marks: &[FlaggedNumber],
     cells: &[u32],
     tested: &Tested<S>,
 ) -> Result<(), AllocError>
@@ -260,7 +260,12 @@ fn push_passing<S: ConceptSet>(
 }
 
 // Whether a row is the first with its pair, and its value passes.
-fn has_passing<S: ConceptSet>(indexes: &Indexes, mark: Mark, value: u32, tested: &Tested<S>) -> bool
+fn has_passing<S: ConceptSet>(
+    indexes: &Indexes,
+    mark: FlaggedNumber,
+    value: u32,
+    tested: &Tested<S>,
+) -> bool
     requires { IsTestBelow S.bound_of (length indexes.now.concepts) tested.now }
     ensures { result ≡ (mark.is_first && passes_of S.items_of indexes.now.concepts tested.now (value_of indexes.now value)) }
 {
@@ -271,7 +276,7 @@ fn has_passing<S: ConceptSet>(indexes: &Indexes, mark: Mark, value: u32, tested:
 fn push_typed<S: ConceptSet>(
     hits: &mut Vec<u32>,
     indexes: &Indexes,
-    marks: &[Mark],
+    marks: &[FlaggedNumber],
     cells: &[u32],
     types: &S,
 ) -> Result<(), AllocError>
@@ -290,7 +295,12 @@ fn push_typed<S: ConceptSet>(
 }
 
 // Whether a row is the first with its pair, and its type is in a set.
-fn has_type<S: ConceptSet>(indexes: &Indexes, mark: Mark, type_place: u32, types: &S) -> bool
+fn has_type<S: ConceptSet>(
+    indexes: &Indexes,
+    mark: FlaggedNumber,
+    type_place: u32,
+    types: &S,
+) -> bool
     requires { S.bound_of types.now ≡ length indexes.now.concepts }
     ensures { result ≡ (mark.is_first && is_type_in indexes.now (S.items_of types.now) type_place) }
 {
@@ -301,7 +311,7 @@ fn has_type<S: ConceptSet>(indexes: &Indexes, mark: Mark, type_place: u32, types
 fn push_cells<S: ConceptSet>(
     hits: &mut Vec<u32>,
     indexes: &Indexes,
-    marks: &[Mark],
+    marks: &[FlaggedNumber],
     cells: &[u32],
     tested: &Tested<S>,
 ) -> Result<(), AllocError>
@@ -324,7 +334,7 @@ fn push_cells<S: ConceptSet>(
 // Whether a row is the first with its pair, its value is a concept, and its source passes.
 fn has_passing_source<S: ConceptSet>(
     indexes: &Indexes,
-    mark: Mark,
+    mark: FlaggedNumber,
     value: u32,
     tested: &Tested<S>,
 ) -> bool

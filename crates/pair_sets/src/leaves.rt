@@ -7,7 +7,7 @@ ghost use Rattle.postings.specs.Indexed.{IsIndexOf, types_of};
 ghost use Rattle.set_algebra.specs.Meaning.{has_pairs, pairs_of};
 ghost use Rattle.pair_sets.specs.Numbers.{numbers_in};
 ghost use Rattle.pair_sets.specs.Tested.{IsTestBelow, is_one_of, passes_of};
-ghost use Rattle.pair_sets.specs.Ways.{HasTypes, IsWayBelow, passes_by};
+ghost use Rattle.pair_sets.specs.inside.Ways.{HasTypes, IsWayBelow, passes_by};
 ghost use Rattle.pair_sets.specs.Within.{AreBelow, groups_within, may_be, numbers_within};
 
 use crate::by_rows::{

@@ -1,7 +1,7 @@
 //! Whether a value passes a test, by its number.
 ghost use Rattle.std.specs.Prelude.{◌≡◌, length};
 ghost use Rattle.constraint_tree.specs.Passing.{is_number_that};
-ghost use Rattle.pair_sets.specs.Hits.{value_of};
+ghost use Rattle.pair_sets.specs.inside.Hits.{value_of};
 ghost use Rattle.pair_sets.specs.Tested.{IsTestBelow, meets as meets_of, passes_of};
 
 use crate::tested::Tested;

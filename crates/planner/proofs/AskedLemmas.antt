@@ -2,7 +2,7 @@
 use Rattle.std.proofs.Common.{ℕ, suc, ◌+◌, ◌∷◌, ◌++◌, [], ◌≡◌, ◌≤◌, ◌∙◌, Bool, false, List, Option, None, Some, drop, length, refl, sym, ap, arith, length-append, length-drop}
 use Rattle.std.proofs.Math.Seq.{drop-nil}
 use Rattle.constraint_tree.specs.declared.operator.Cardinality.{Cardinality}
-use Rattle.set_algebra.specs.Plan.{Plan, empty_plan, all_plan, one_plan, walk_plan, members_plan, and_plan, or_plan, minus_plan, values_plan, pairs_plan, units_plan, Plans, no_plans, plan_then, GroupPlan, nothing_group, every_group, and_group, or_group, minus_group, pairs_group, GroupPlans, no_groups, group_then, TestPlan, within_plan, outside_plan, number_plan}
+use Rattle.set_algebra.specs.Plan.{Plan, empty_plan, all_plan, one_plan, walk_plan, members_plan, and_plan, or_plan, minus_plan, values_plan, pairs_plan, units_plan, Plans, no_plans, plan_then, PlanOfUnits, nothing_unit, every_unit, and_units, or_units, minus_units, pairs_units, PlansOfUnits, no_unit_plans, unit_plan_then, TestPlan, within_plan, outside_plan, number_plan}
 use Rattle.postings.specs.Groups.{groups_in}
 use Rattle.postings.specs.Indexed.{Indexed}
 use Rattle.set_algebra.specs.declared.choice.Choice.{Choice}
@@ -37,19 +37,19 @@ mutual
   length-plans_within (plan_then first rest) =
       length-append (within_tests first) (plans_within rest) ∙ (λ i. length-within first i + length-plans_within rest i)
 
-  length-group_within : (plan : GroupPlan) → length (group_within plan) ≡ group_leaves plan
-  length-group_within nothing_group = refl
-  length-group_within every_group = refl
-  length-group_within (and_group parts) = length-groups_within parts
-  length-group_within (or_group parts) = length-groups_within parts
-  length-group_within (minus_group first second) =
+  length-group_within : (plan : PlanOfUnits) → length (group_within plan) ≡ group_leaves plan
+  length-group_within nothing_unit = refl
+  length-group_within every_unit = refl
+  length-group_within (and_units parts) = length-groups_within parts
+  length-group_within (or_units parts) = length-groups_within parts
+  length-group_within (minus_units first second) =
       length-append (group_within first) (group_within second) ∙ (λ i. length-group_within first i + length-group_within second i)
-  length-group_within (pairs_group count types test) =
+  length-group_within (pairs_units count types test) =
       ap suc (length-append (within_tests types) (test_within test) ∙ (λ i. length-within types i + length-test_within test i))
 
-  length-groups_within : (parts : GroupPlans) → length (groups_within parts) ≡ groups_leaves parts
-  length-groups_within no_groups = refl
-  length-groups_within (group_then first rest) =
+  length-groups_within : (parts : PlansOfUnits) → length (groups_within parts) ≡ groups_leaves parts
+  length-groups_within no_unit_plans = refl
+  length-groups_within (unit_plan_then first rest) =
       length-append (group_within first) (groups_within rest) ∙ (λ i. length-group_within first i + length-groups_within rest i)
 
   length-test_within : (test : TestPlan) → length (test_within test) ≡ test_leaves test
@@ -163,28 +163,28 @@ module _ (indexed : Indexed) where
         (chosen-asked asked others first there.first)
         (plans_chosen-asked (drop (leaves first) asked) (drop (leaves first) others) rest there.second)
 
-    group_chosen-asked : (asked others : List Choice) (plan : GroupPlan) → group_leaves plan ≤ length others
+    group_chosen-asked : (asked others : List Choice) (plan : PlanOfUnits) → group_leaves plan ≤ length others
         → group_chosen indexed asked others plan ≡ each_asked_or (group_within plan) asked others
-    group_chosen-asked asked others nothing_group long = refl
-    group_chosen-asked asked others every_group long = refl
-    group_chosen-asked asked others (and_group parts) long = groups_chosen-asked asked others parts long
-    group_chosen-asked asked others (or_group parts) long = groups_chosen-asked asked others parts long
-    group_chosen-asked asked others (minus_group first second) long =
+    group_chosen-asked asked others nothing_unit long = refl
+    group_chosen-asked asked others every_unit long = refl
+    group_chosen-asked asked others (and_units parts) long = groups_chosen-asked asked others parts long
+    group_chosen-asked asked others (or_units parts) long = groups_chosen-asked asked others parts long
+    group_chosen-asked asked others (minus_units first second) long =
         let there = room others (group_leaves first) (group_leaves second) long in
         two_parts (group_within first) (group_within second) (group_leaves first) asked others (group_chosen indexed asked others first)
         (group_chosen indexed (drop (group_leaves first) asked) (drop (group_leaves first) others) second) (length-group_within first)
         (group_chosen-asked asked others first there.first)
         (group_chosen-asked (drop (group_leaves first) asked) (drop (group_leaves first) others) second there.second)
-    group_chosen-asked asked others (pairs_group count types test) long =
+    group_chosen-asked asked others (pairs_units count types test) long =
         let there = leaf_room others types (test_leaves test) long in
         leaf_asked indexed asked others (length (groups_in indexed)) false count types test there.0
         (chosen-asked (type_choices asked) (type_choices others) types there.1)
         (test_chosen-asked (test_choices asked types) (test_choices others types) test there.2)
 
-    groups_chosen-asked : (asked others : List Choice) (parts : GroupPlans) → groups_leaves parts ≤ length others
+    groups_chosen-asked : (asked others : List Choice) (parts : PlansOfUnits) → groups_leaves parts ≤ length others
         → groups_chosen indexed asked others parts ≡ each_asked_or (groups_within parts) asked others
-    groups_chosen-asked asked others no_groups long = refl
-    groups_chosen-asked asked others (group_then first rest) long =
+    groups_chosen-asked asked others no_unit_plans long = refl
+    groups_chosen-asked asked others (unit_plan_then first rest) long =
         let there = room others (group_leaves first) (groups_leaves rest) long in
         two_parts (group_within first) (groups_within rest) (group_leaves first) asked others (group_chosen indexed asked others first)
         (groups_chosen indexed (drop (group_leaves first) asked) (drop (group_leaves first) others) rest) (length-group_within first)

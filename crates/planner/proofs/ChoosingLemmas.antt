@@ -3,13 +3,13 @@ use Rattle.std.proofs.Common.{ℕ, ◌+◌, ◌++◌, [], ◌∷◌, ◌≡◌, 
 use Rattle.std.proofs.lemmas.List.{drop_all}
 use Rattle.set_algebra.specs.declared.plan.ConceptPlan.{ConceptPlan}
 use Rattle.set_algebra.specs.declared.plan.UnitPlan.{UnitPlan}
-use Rattle.set_algebra.specs.Plan.{group_plan_of, group_plans_of, plan_of, plans_of}
+use Rattle.set_algebra.specs.Plan.{unit_plan_of, unit_plans_of, plan_of, plans_of}
 use Rattle.postings.specs.Indexed.{Indexed}
 use Rattle.set_algebra.specs.declared.choice.Choice.{Choice}
 use Rattle.planner.specs.declared.tally.Tally.{Tally}
 use Rattle.planner.specs.Chosen.{chosen, group_chosen, groups_chosen, plans_chosen}
 use Rattle.planner.specs.Leads.{lead_list}
-use Rattle.planner.specs.Tallies.{IsTallyOf, tally_of, tally_on, tally_with}
+use Rattle.planner.specs.inside.Tallies.{IsTallyOf, tally_of, tally_on, tally_with}
 use Rattle.planner.proofs.FrontLemmas.{drop_chosen, group_drop_chosen, group_leads_chosen, group_size_chosen, leads_chosen, size_chosen}
 use Rattle.planner.proofs.LoopLemmas.{Lists, Numbers, RestLeft, Sort, concept_list, concept_sizes, joined_end, joined_turn, of_concepts, of_groups, parts_left, rest_end, rest_turn, unit_list, unit_sizes}
 use Rattle.planner.proofs.TallyLemmas.{is_tally_of}
@@ -41,13 +41,13 @@ given_concepts indexed = record {
 
 abbrev pub given_groups : (indexed : Indexed) → Given UnitPlan of_groups (unit_sizes indexed) (unit_list (lead_list indexed))
 given_groups indexed = record {
-  of_part = λ asked others part. group_chosen indexed asked others (group_plan_of part);
-  of_parts = λ asked others parts. groups_chosen indexed asked others (group_plans_of parts);
+  of_part = λ asked others part. group_chosen indexed asked others (unit_plan_of part);
+  of_parts = λ asked others parts. groups_chosen indexed asked others (unit_plans_of parts);
   none = λ asked others. refl;
   more = λ asked others part parts. refl;
-  behind = λ asked others part choices. group_drop_chosen indexed asked others (group_plan_of part) choices;
-  sized = λ asked others part choices. group_size_chosen indexed asked others (group_plan_of part) choices;
-  led = λ asked others part choices. group_leads_chosen indexed asked others (group_plan_of part) choices;
+  behind = λ asked others part choices. group_drop_chosen indexed asked others (unit_plan_of part) choices;
+  sized = λ asked others part choices. group_size_chosen indexed asked others (unit_plan_of part) choices;
+  led = λ asked others part choices. group_leads_chosen indexed asked others (unit_plan_of part) choices;
 }
 
 -- what a loop begins with, and what it has

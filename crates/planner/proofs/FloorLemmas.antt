@@ -1,6 +1,6 @@
 -- No plan has a floor above its bound.
 use Rattle.std.proofs.Common.{ℕ, ◌≤◌, Bool, true, false, cond, List, Option, None, Some, drop, length, arith}
-use Rattle.set_algebra.specs.Plan.{Plan, empty_plan, all_plan, one_plan, walk_plan, members_plan, and_plan, or_plan, minus_plan, values_plan, pairs_plan, units_plan, Plans, no_plans, plan_then, GroupPlan, nothing_group, every_group, and_group, or_group, minus_group, pairs_group, GroupPlans, no_groups, group_then, TestPlan, within_plan, outside_plan, number_plan}
+use Rattle.set_algebra.specs.Plan.{Plan, empty_plan, all_plan, one_plan, walk_plan, members_plan, and_plan, or_plan, minus_plan, values_plan, pairs_plan, units_plan, Plans, no_plans, plan_then, PlanOfUnits, nothing_unit, every_unit, and_units, or_units, minus_units, pairs_units, PlansOfUnits, no_unit_plans, unit_plan_then, TestPlan, within_plan, outside_plan, number_plan}
 use Rattle.constraint_tree.specs.declared.operator.Operator.{Operator}
 use Rattle.snapshot.specs.Numbering.{concept_number}
 use Rattle.postings.specs.Groups.{groups_in}
@@ -18,7 +18,7 @@ use Rattle.planner.specs.Sizes.{size, test_size}
 
 -- ---- node by node, and so in sum
 module _ (one other : NodeNumber) (plans : (choices : List Choice) (plan : Plan) → one.of_plan choices plan ≤ other.of_plan choices plan)
-    (groups : (choices : List Choice) (plan : GroupPlan) → one.of_group choices plan ≤ other.of_group choices plan) where
+    (groups : (choices : List Choice) (plan : PlanOfUnits) → one.of_group choices plan ≤ other.of_group choices plan) where
   mutual
     pub node_sum-le : (choices : List Choice) (plan : Plan) → node_sum one choices plan ≤ node_sum other choices plan
     node_sum-le choices empty_plan = plans choices empty_plan
@@ -47,29 +47,29 @@ module _ (one other : NodeNumber) (plans : (choices : List Choice) (plan : Plan)
     plans_sum-le choices (plan_then first rest) =
         omega (arith, node_sum-le choices first, plans_sum-le (drop (leaves first) choices) rest)
 
-    pub group_sum-le : (choices : List Choice) (plan : GroupPlan) → group_sum one choices plan ≤ group_sum other choices plan
-    group_sum-le choices nothing_group = groups choices nothing_group
-    group_sum-le choices every_group = groups choices every_group
-    group_sum-le choices (and_group parts) = omega (arith, groups choices (and_group parts), groups_sum-le choices parts)
-    group_sum-le choices (or_group parts) = omega (arith, groups choices (or_group parts), groups_sum-le choices parts)
-    group_sum-le choices (minus_group first second) =
+    pub group_sum-le : (choices : List Choice) (plan : PlanOfUnits) → group_sum one choices plan ≤ group_sum other choices plan
+    group_sum-le choices nothing_unit = groups choices nothing_unit
+    group_sum-le choices every_unit = groups choices every_unit
+    group_sum-le choices (and_units parts) = omega (arith, groups choices (and_units parts), groups_sum-le choices parts)
+    group_sum-le choices (or_units parts) = omega (arith, groups choices (or_units parts), groups_sum-le choices parts)
+    group_sum-le choices (minus_units first second) =
         omega (
           arith,
-          groups choices (minus_group first second),
+          groups choices (minus_units first second),
           group_sum-le choices first,
           group_sum-le (drop (group_leaves first) choices) second,
         )
-    group_sum-le choices (pairs_group count types test) =
+    group_sum-le choices (pairs_units count types test) =
         omega (
           arith,
-          groups choices (pairs_group count types test),
+          groups choices (pairs_units count types test),
           node_sum-le (type_choices choices) types,
           test_sum-le (test_choices choices types) test,
         )
 
-    groups_sum-le : (choices : List Choice) (parts : GroupPlans) → groups_sum one choices parts ≤ groups_sum other choices parts
-    groups_sum-le choices no_groups = omega arith
-    groups_sum-le choices (group_then first rest) =
+    groups_sum-le : (choices : List Choice) (parts : PlansOfUnits) → groups_sum one choices parts ≤ groups_sum other choices parts
+    groups_sum-le choices no_unit_plans = omega arith
+    groups_sum-le choices (unit_plan_then first rest) =
         omega (arith, group_sum-le choices first, groups_sum-le (drop (group_leaves first) choices) rest)
 
     test_sum-le : (choices : List Choice) (test : TestPlan) → test_sum one choices test ≤ test_sum other choices test
@@ -135,14 +135,14 @@ own-le indexed choices (pairs_plan back count types test) =
     (test_size indexed (test_choices choices types) test) (first_choice choices)
 own-le indexed choices (units_plan count units) = omega arith
 
-group_own-le : (indexed : Indexed) (choices : List Choice) (plan : GroupPlan)
+group_own-le : (indexed : Indexed) (choices : List Choice) (plan : PlanOfUnits)
     → group_own_floor indexed choices plan ≤ group_own_bound indexed choices plan
-group_own-le indexed choices nothing_group = omega arith
-group_own-le indexed choices every_group = omega arith
-group_own-le indexed choices (and_group parts) = omega arith
-group_own-le indexed choices (or_group parts) = omega arith
-group_own-le indexed choices (minus_group first second) = omega arith
-group_own-le indexed choices (pairs_group count types test) =
+group_own-le indexed choices nothing_unit = omega arith
+group_own-le indexed choices every_unit = omega arith
+group_own-le indexed choices (and_units parts) = omega arith
+group_own-le indexed choices (or_units parts) = omega arith
+group_own-le indexed choices (minus_units first second) = omega arith
+group_own-le indexed choices (pairs_units count types test) =
     leaf-le indexed (length (groups_in indexed)) false count types test (size indexed (type_choices choices) types)
     (test_size indexed (test_choices choices types) test) (first_choice choices)
 
@@ -151,7 +151,7 @@ floor-le-bound indexed choices plan =
     node_sum-le (floor_number indexed) (own_number indexed) (own-le indexed) (group_own-le indexed) choices plan
 
 -- the same of groups
-pub group_floor-le-bound : (indexed : Indexed) (choices : List Choice) (plan : GroupPlan)
+pub group_floor-le-bound : (indexed : Indexed) (choices : List Choice) (plan : PlanOfUnits)
     → group_sum (floor_number indexed) choices plan ≤ group_sum (own_number indexed) choices plan
 group_floor-le-bound indexed choices plan =
     group_sum-le (floor_number indexed) (own_number indexed) (own-le indexed) (group_own-le indexed) choices plan

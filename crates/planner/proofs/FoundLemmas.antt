@@ -22,8 +22,8 @@ use Rattle.constraint_tree.specs.Denotation.{is_component, is_value}
 use Rattle.constraint_tree.specs.Passing.{is_within, lies_in}
 use Rattle.constraint_tree.specs.Walks.{has_concept, is_above, is_below, is_child, is_just_above, is_just_below, some_member}
 use Rattle.constraint_tree.proofs.WalkLemmas.{passing_item, some_item_passes, tells_in_force}
-use Rattle.set_algebra.specs.Meaning.{group_means, has_groups, means, value_passes}
-use Rattle.set_algebra.specs.Plan.{Plan, empty_plan, one_plan, walk_plan, members_plan, pairs_plan, pairs_group, TestPlan, within_plan}
+use Rattle.set_algebra.specs.Meaning.{unit_means, has_groups, means, value_passes}
+use Rattle.set_algebra.specs.Plan.{Plan, empty_plan, one_plan, walk_plan, members_plan, pairs_plan, pairs_units, TestPlan, within_plan}
 use Rattle.snapshot.specs.AttributesBySource.{attributes_by_source}
 use Rattle.snapshot.specs.Numbering.{concept_number}
 use Rattle.snapshot.proofs.NumberingLemmas.{concept_number-has, place_of}
@@ -384,14 +384,14 @@ module _ (release : Release) (indexed : Indexed) (is : IsIndexOf indexed release
 
     -- nor of groups
     pub group_rows : 1 ≤ count.min
-        → count_by (λ group. group_means release (pairs_group count types test) (pairs_of_group release group)) (all_groups release)
+        → count_by (λ group. unit_means release (pairs_units count types test) (pairs_of_group release group)) (all_groups release)
         ≤ count_by (row_passes release false types test) indexed.rows
     group_rows some =
         omega (
           arith,
           ap (count_by (row_passes release false types test)) is.rows,
           few_passing is_in_group (all_groups release) in_one (attributes_by_source release) (row_passes release false types test)
-              (λ group. group_means release (pairs_group count types test) (pairs_of_group release group))
+              (λ group. unit_means release (pairs_units count types test) (pairs_of_group release group))
               (λ group there lies.
               row_counted (is_in_group group) (λ (entry : Entry). entry.is_first_in_group) pair_of passing (attributes_by_source release)
               (subst (λ (pairs : List Pair). 1 ≤ count_by passing pairs)

@@ -2,7 +2,7 @@
 use Rattle.std.proofs.Common.{ℕ, suc, ◌+◌, ◌∷◌, ◌++◌, [], ◌==◌, ◌≡◌, ◌≤◌, ◌∙◌, Bool, false, List, drop, length, min, refl, ap, arith, length-append, length-drop}
 use Rattle.std.proofs.lemmas.List.{drop-append-le, drop_at}
 use Rattle.constraint_tree.specs.declared.operator.Cardinality.{Cardinality}
-use Rattle.set_algebra.specs.Plan.{Plan, empty_plan, all_plan, one_plan, walk_plan, members_plan, and_plan, or_plan, minus_plan, values_plan, pairs_plan, units_plan, Plans, no_plans, plan_then, GroupPlan, nothing_group, every_group, and_group, or_group, minus_group, pairs_group, GroupPlans, no_groups, group_then, TestPlan, within_plan, outside_plan, number_plan}
+use Rattle.set_algebra.specs.Plan.{Plan, empty_plan, all_plan, one_plan, walk_plan, members_plan, and_plan, or_plan, minus_plan, values_plan, pairs_plan, units_plan, Plans, no_plans, plan_then, PlanOfUnits, nothing_unit, every_unit, and_units, or_units, minus_units, pairs_units, PlansOfUnits, no_unit_plans, unit_plan_then, TestPlan, within_plan, outside_plan, number_plan}
 use Rattle.postings.specs.Groups.{groups_in}
 use Rattle.postings.specs.Indexed.{Indexed}
 use Rattle.set_algebra.specs.declared.choice.Choice.{Choice}
@@ -80,25 +80,25 @@ mutual
       ∙ ap (λ (others : List ℕ). size indexed front first ∷ others)
       (sizes_front indexed (drop (leaves first) front) more rest (omega (arith, long, length-drop (leaves first) front)))
 
-  pub group_size_front : (indexed : Indexed) (front more : List Choice) (plan : GroupPlan) → group_leaves plan ≤ length front
+  pub group_size_front : (indexed : Indexed) (front more : List Choice) (plan : PlanOfUnits) → group_leaves plan ≤ length front
       → group_size indexed (front ++ more) plan ≡ group_size indexed front plan
-  group_size_front indexed front more nothing_group long = refl
-  group_size_front indexed front more every_group long = refl
-  group_size_front indexed front more (and_group parts) long =
+  group_size_front indexed front more nothing_unit long = refl
+  group_size_front indexed front more every_unit long = refl
+  group_size_front indexed front more (and_units parts) long =
       ap (least_of (length (groups_in indexed))) (group_sizes_front indexed front more parts long)
-  group_size_front indexed front more (or_group parts) long =
+  group_size_front indexed front more (or_units parts) long =
       ap (λ (parts : List ℕ). min (length (groups_in indexed)) (total parts)) (group_sizes_front indexed front more parts long)
-  group_size_front indexed front more (minus_group first second) long = group_size_front indexed front more first (omega (arith, long))
-  group_size_front indexed front more (pairs_group count types test) long =
+  group_size_front indexed front more (minus_units first second) long = group_size_front indexed front more first (omega (arith, long))
+  group_size_front indexed front more (pairs_units count types test) long =
       let from = leaf_front front more types (test_leaves test) long in
       leaf_size_front indexed front more (length (groups_in indexed)) false count types test from
       (size_front indexed (type_choices front) more types from.types_room)
       (test_size_front indexed (test_choices front types) more test from.test_room)
 
-  pub group_sizes_front : (indexed : Indexed) (front more : List Choice) (parts : GroupPlans) → groups_leaves parts ≤ length front
+  pub group_sizes_front : (indexed : Indexed) (front more : List Choice) (parts : PlansOfUnits) → groups_leaves parts ≤ length front
       → group_sizes indexed (front ++ more) parts ≡ group_sizes indexed front parts
-  group_sizes_front indexed front more no_groups long = refl
-  group_sizes_front indexed front more (group_then first rest) long =
+  group_sizes_front indexed front more no_unit_plans long = refl
+  group_sizes_front indexed front more (unit_plan_then first rest) long =
       let behind = drop-append-le (group_leaves first) front more (omega (arith, long)) in
       (λ i. group_size_front indexed front more first (omega (arith, long)) i ∷ group_sizes indexed (behind i) rest)
       ∙ ap (λ (others : List ℕ). group_size indexed front first ∷ others)
@@ -146,27 +146,27 @@ mutual
       ∙ (λ i. length-chosen indexed asked others first i
       + length-plans_chosen indexed (drop (leaves first) asked) (drop (leaves first) others) rest i)
 
-  pub length-group_chosen : (indexed : Indexed) (asked others : List Choice) (plan : GroupPlan)
+  pub length-group_chosen : (indexed : Indexed) (asked others : List Choice) (plan : PlanOfUnits)
       → length (group_chosen indexed asked others plan) ≡ group_leaves plan
-  length-group_chosen indexed asked others nothing_group = refl
-  length-group_chosen indexed asked others every_group = refl
-  length-group_chosen indexed asked others (and_group parts) = length-groups_chosen indexed asked others parts
-  length-group_chosen indexed asked others (or_group parts) = length-groups_chosen indexed asked others parts
-  length-group_chosen indexed asked others (minus_group first second) =
+  length-group_chosen indexed asked others nothing_unit = refl
+  length-group_chosen indexed asked others every_unit = refl
+  length-group_chosen indexed asked others (and_units parts) = length-groups_chosen indexed asked others parts
+  length-group_chosen indexed asked others (or_units parts) = length-groups_chosen indexed asked others parts
+  length-group_chosen indexed asked others (minus_units first second) =
       length-append (group_chosen indexed asked others first)
       (group_chosen indexed (drop (group_leaves first) asked) (drop (group_leaves first) others) second)
       ∙ (λ i. length-group_chosen indexed asked others first i
       + length-group_chosen indexed (drop (group_leaves first) asked) (drop (group_leaves first) others) second i)
-  length-group_chosen indexed asked others (pairs_group count types test) =
+  length-group_chosen indexed asked others (pairs_units count types test) =
       length-inner (chosen indexed (type_choices asked) (type_choices others) types)
       (test_chosen indexed (test_choices asked types) (test_choices others types) test) (leaves types) (test_leaves test)
       (length-chosen indexed (type_choices asked) (type_choices others) types)
       (length-test_chosen indexed (test_choices asked types) (test_choices others types) test)
 
-  pub length-groups_chosen : (indexed : Indexed) (asked others : List Choice) (parts : GroupPlans)
+  pub length-groups_chosen : (indexed : Indexed) (asked others : List Choice) (parts : PlansOfUnits)
       → length (groups_chosen indexed asked others parts) ≡ groups_leaves parts
-  length-groups_chosen indexed asked others no_groups = refl
-  length-groups_chosen indexed asked others (group_then first rest) =
+  length-groups_chosen indexed asked others no_unit_plans = refl
+  length-groups_chosen indexed asked others (unit_plan_then first rest) =
       length-append (group_chosen indexed asked others first)
       (groups_chosen indexed (drop (group_leaves first) asked) (drop (group_leaves first) others) rest)
       ∙ (λ i. length-group_chosen indexed asked others first i
@@ -191,7 +191,7 @@ leaf_list_front node front more types test from same_types same_test =
 
 module _ (node : NodeList)
     (plans : (front more : List Choice) (plan : Plan) → leaves plan ≤ length front → node.of_plan (front ++ more) plan ≡ node.of_plan front plan)
-    (groups : (front more : List Choice) (plan : GroupPlan) → group_leaves plan ≤ length front
+    (groups : (front more : List Choice) (plan : PlanOfUnits) → group_leaves plan ≤ length front
     → node.of_group (front ++ more) plan ≡ node.of_group front plan) where
   mutual
     pub list_front : (front more : List Choice) (plan : Plan) → leaves plan ≤ length front
@@ -235,29 +235,29 @@ module _ (node : NodeList)
         ∙ ap (λ (others : List ℕ). node_list node front first ++ others)
         (plans_front (drop (leaves first) front) more rest (omega (arith, long, length-drop (leaves first) front)))
 
-    pub group_front : (front more : List Choice) (plan : GroupPlan) → group_leaves plan ≤ length front
+    pub group_front : (front more : List Choice) (plan : PlanOfUnits) → group_leaves plan ≤ length front
         → group_list node (front ++ more) plan ≡ group_list node front plan
-    group_front front more nothing_group long = groups front more nothing_group long
-    group_front front more every_group long = groups front more every_group long
-    group_front front more (and_group parts) long = (λ i. groups front more (and_group parts) long i ++ groups_front front more parts long i)
-    group_front front more (or_group parts) long = (λ i. groups front more (or_group parts) long i ++ groups_front front more parts long i)
-    group_front front more (minus_group first second) long =
+    group_front front more nothing_unit long = groups front more nothing_unit long
+    group_front front more every_unit long = groups front more every_unit long
+    group_front front more (and_units parts) long = (λ i. groups front more (and_units parts) long i ++ groups_front front more parts long i)
+    group_front front more (or_units parts) long = (λ i. groups front more (or_units parts) long i ++ groups_front front more parts long i)
+    group_front front more (minus_units first second) long =
         let behind = drop-append-le (group_leaves first) front more (omega (arith, long)) in
-        (λ i. groups front more (minus_group first second) long i
+        (λ i. groups front more (minus_units first second) long i
         ++ (group_front front more first (omega (arith, long)) i ++ group_list node (behind i) second))
-        ∙ ap (λ (others : List ℕ). node.of_group front (minus_group first second) ++ (group_list node front first ++ others))
+        ∙ ap (λ (others : List ℕ). node.of_group front (minus_units first second) ++ (group_list node front first ++ others))
         (group_front (drop (group_leaves first) front) more second (omega (arith, long, length-drop (group_leaves first) front)))
-    group_front front more (pairs_group count types test) long =
+    group_front front more (pairs_units count types test) long =
         let from = leaf_front front more types (test_leaves test) long in
         let inner = leaf_list_front node front more types test from
         (list_front (type_choices front) more types from.types_room)
         (test_front (test_choices front types) more test from.test_room) in
-        (λ i. groups front more (pairs_group count types test) long i ++ inner i)
+        (λ i. groups front more (pairs_units count types test) long i ++ inner i)
 
-    pub groups_front : (front more : List Choice) (parts : GroupPlans) → groups_leaves parts ≤ length front
+    pub groups_front : (front more : List Choice) (parts : PlansOfUnits) → groups_leaves parts ≤ length front
         → groups_list node (front ++ more) parts ≡ groups_list node front parts
-    groups_front front more no_groups long = refl
-    groups_front front more (group_then first rest) long =
+    groups_front front more no_unit_plans long = refl
+    groups_front front more (unit_plan_then first rest) long =
         let behind = drop-append-le (group_leaves first) front more (omega (arith, long)) in
         (λ i. group_front front more first (omega (arith, long)) i ++ groups_list node (behind i) rest)
         ∙ ap (λ (others : List ℕ). group_list node front first ++ others)
@@ -285,15 +285,15 @@ own_lead_front indexed front more (values_plan start names) long = refl
 own_lead_front indexed front more (pairs_plan back count types test) long = refl
 own_lead_front indexed front more (units_plan count units) long = refl
 
-group_own_lead_front : (indexed : Indexed) (front more : List Choice) (plan : GroupPlan) → group_leaves plan ≤ length front
+group_own_lead_front : (indexed : Indexed) (front more : List Choice) (plan : PlanOfUnits) → group_leaves plan ≤ length front
     → group_own_lead indexed (front ++ more) plan ≡ group_own_lead indexed front plan
-group_own_lead_front indexed front more nothing_group long = refl
-group_own_lead_front indexed front more every_group long = refl
-group_own_lead_front indexed front more (and_group parts) long =
+group_own_lead_front indexed front more nothing_unit long = refl
+group_own_lead_front indexed front more every_unit long = refl
+group_own_lead_front indexed front more (and_units parts) long =
     ap (λ (parts : List ℕ). lead_of parts ∷ []) (group_sizes_front indexed front more parts long)
-group_own_lead_front indexed front more (or_group parts) long = refl
-group_own_lead_front indexed front more (minus_group first second) long = refl
-group_own_lead_front indexed front more (pairs_group count types test) long = refl
+group_own_lead_front indexed front more (or_units parts) long = refl
+group_own_lead_front indexed front more (minus_units first second) long = refl
+group_own_lead_front indexed front more (pairs_units count types test) long = refl
 
 -- ---- a plan in front of others reads the choices that it was given
 pub size_chosen : (indexed : Indexed) (asked others : List Choice) (plan : Plan) (more : List Choice)
@@ -313,17 +313,17 @@ leads_chosen indexed asked others plan more =
     list_front (lead_list indexed) (own_lead_front indexed) (group_own_lead_front indexed) (chosen indexed asked others plan) more plan
     (omega (arith, length-chosen indexed asked others plan))
 
-pub group_size_chosen : (indexed : Indexed) (asked others : List Choice) (plan : GroupPlan) (more : List Choice)
+pub group_size_chosen : (indexed : Indexed) (asked others : List Choice) (plan : PlanOfUnits) (more : List Choice)
     → group_size indexed (group_chosen indexed asked others plan ++ more) plan ≡ group_size indexed (group_chosen indexed asked others plan) plan
 group_size_chosen indexed asked others plan more =
     group_size_front indexed (group_chosen indexed asked others plan) more plan (omega (arith, length-group_chosen indexed asked others plan))
 
-pub group_drop_chosen : (indexed : Indexed) (asked others : List Choice) (plan : GroupPlan) (more : List Choice)
+pub group_drop_chosen : (indexed : Indexed) (asked others : List Choice) (plan : PlanOfUnits) (more : List Choice)
     → drop (group_leaves plan) (group_chosen indexed asked others plan ++ more) ≡ more
 group_drop_chosen indexed asked others plan more =
     drop_at (group_chosen indexed asked others plan) more (group_leaves plan) (length-group_chosen indexed asked others plan)
 
-pub group_leads_chosen : (indexed : Indexed) (asked others : List Choice) (plan : GroupPlan) (more : List Choice)
+pub group_leads_chosen : (indexed : Indexed) (asked others : List Choice) (plan : PlanOfUnits) (more : List Choice)
     → group_list (lead_list indexed) (group_chosen indexed asked others plan ++ more) plan
     ≡ group_list (lead_list indexed) (group_chosen indexed asked others plan) plan
 group_leads_chosen indexed asked others plan more =

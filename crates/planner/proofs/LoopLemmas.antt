@@ -4,7 +4,7 @@ use Rattle.std.proofs.Math.Seq.{drop-cons}
 use Rattle.std.proofs.lemmas.List.{drop_all}
 use Rattle.set_algebra.specs.declared.plan.ConceptPlan.{ConceptPlan}
 use Rattle.set_algebra.specs.declared.plan.UnitPlan.{UnitPlan}
-use Rattle.set_algebra.specs.Plan.{plan_of, plans_of, group_plan_of, group_plans_of}
+use Rattle.set_algebra.specs.Plan.{plan_of, plans_of, unit_plan_of, unit_plans_of}
 use Rattle.postings.specs.Indexed.{Indexed}
 use Rattle.set_algebra.specs.declared.choice.Choice.{Choice}
 use Rattle.planner.specs.declared.tally.Tally.{Tally}
@@ -12,7 +12,7 @@ use Rattle.planner.specs.Bounds.{capped}
 use Rattle.planner.specs.Leaves.{group_leaves, groups_leaves, leaves, plans_leaves}
 use Rattle.planner.specs.Nodes.{NodeList, NodeNumber, group_list, group_sum, groups_list, groups_sum, node_list, node_sum, plans_list, plans_sum}
 use Rattle.planner.specs.Sizes.{group_size, group_sizes, size, sizes}
-use Rattle.planner.specs.Tallies.{IsTallyOf, tally_of, tally_on, tally_with}
+use Rattle.planner.specs.inside.Tallies.{IsTallyOf, tally_of, tally_on, tally_with}
 use Rattle.planner.proofs.ListLemmas.{drop_further}
 use Rattle.planner.proofs.TallyLemmas.{is_tally_of}
 
@@ -77,32 +77,32 @@ concept_list node = record {
 -- and plans of groups
 abbrev pub of_groups : Sort UnitPlan
 of_groups = record {
-  leaves_of = λ part. group_leaves (group_plan_of part);
-  leaves_in = λ parts. groups_leaves (group_plans_of parts);
+  leaves_of = λ part. group_leaves (unit_plan_of part);
+  leaves_in = λ parts. groups_leaves (unit_plans_of parts);
   none = refl;
   more = λ part parts. refl;
 }
 
 abbrev pub unit_sizes : Indexed → Numbers UnitPlan of_groups
 unit_sizes indexed = record {
-  of_part = λ choices part. group_size indexed choices (group_plan_of part);
-  of_parts = λ choices parts. group_sizes indexed choices (group_plans_of parts);
+  of_part = λ choices part. group_size indexed choices (unit_plan_of part);
+  of_parts = λ choices parts. group_sizes indexed choices (unit_plans_of parts);
   none = λ choices. refl;
   more = λ choices part parts. refl;
 }
 
 abbrev pub unit_sum : NodeNumber → Sum UnitPlan of_groups
 unit_sum node = record {
-  of_part = λ choices part. group_sum node choices (group_plan_of part);
-  of_parts = λ choices parts. groups_sum node choices (group_plans_of parts);
+  of_part = λ choices part. group_sum node choices (unit_plan_of part);
+  of_parts = λ choices parts. groups_sum node choices (unit_plans_of parts);
   none = λ choices. refl;
   more = λ choices part parts. refl;
 }
 
 abbrev pub unit_list : NodeList → Lists UnitPlan of_groups
 unit_list node = record {
-  of_part = λ choices part. group_list node choices (group_plan_of part);
-  of_parts = λ choices parts. groups_list node choices (group_plans_of parts);
+  of_part = λ choices part. group_list node choices (unit_plan_of part);
+  of_parts = λ choices parts. groups_list node choices (unit_plans_of parts);
   none = λ choices. refl;
   more = λ choices part parts. refl;
 }

@@ -2,7 +2,7 @@
 use Rattle.std.proofs.Common.{ℕ, ◌∷◌, ◌++◌, [], ◌≡◌, ◌∙◌, Bool, false, List, None, drop, refl, sym, ap, subst, append-nil, append_assoc, arith}
 use Rattle.std.proofs.Math.Seq.{drop-nil}
 use Rattle.constraint_tree.specs.declared.operator.Cardinality.{Cardinality}
-use Rattle.set_algebra.specs.Plan.{Plan, empty_plan, all_plan, one_plan, walk_plan, members_plan, and_plan, or_plan, minus_plan, values_plan, pairs_plan, units_plan, Plans, no_plans, plan_then, GroupPlan, nothing_group, every_group, and_group, or_group, minus_group, pairs_group, GroupPlans, no_groups, group_then, TestPlan, within_plan, outside_plan, number_plan}
+use Rattle.set_algebra.specs.Plan.{Plan, empty_plan, all_plan, one_plan, walk_plan, members_plan, and_plan, or_plan, minus_plan, values_plan, pairs_plan, units_plan, Plans, no_plans, plan_then, PlanOfUnits, nothing_unit, every_unit, and_units, or_units, minus_units, pairs_units, PlansOfUnits, no_unit_plans, unit_plan_then, TestPlan, within_plan, outside_plan, number_plan}
 use Rattle.postings.specs.Indexed.{Indexed}
 use Rattle.set_algebra.specs.declared.choice.Choice.{Choice}
 use Rattle.planner.specs.declared.leaf.Leaf.{Leaf}
@@ -56,22 +56,22 @@ module _ (Holds : LeafFact)
     plans_of_none (plan_then first rest) =
         (each_of_none first, behind_none (λ choices. PlansEach Holds choices rest) (leaves first) (plans_of_none rest))
 
-    group_of_none : (plan : GroupPlan) → GroupEach Holds [] plan
-    group_of_none nothing_group = tt
-    group_of_none every_group = tt
-    group_of_none (and_group parts) = groups_of_none parts
-    group_of_none (or_group parts) = groups_of_none parts
-    group_of_none (minus_group first second) =
+    group_of_none : (plan : PlanOfUnits) → GroupEach Holds [] plan
+    group_of_none nothing_unit = tt
+    group_of_none every_unit = tt
+    group_of_none (and_units parts) = groups_of_none parts
+    group_of_none (or_units parts) = groups_of_none parts
+    group_of_none (minus_units first second) =
         (group_of_none first, behind_none (λ choices. GroupEach Holds choices second) (group_leaves first) (group_of_none second))
-    group_of_none (pairs_group count types test) = (
+    group_of_none (pairs_units count types test) = (
       of_none every_group_in false count types test,
       each_of_none types,
       behind_none (λ choices. TestEach Holds choices test) (leaves types) (test_of_none test),
     )
 
-    groups_of_none : (parts : GroupPlans) → GroupsEach Holds [] parts
-    groups_of_none no_groups = tt
-    groups_of_none (group_then first rest) =
+    groups_of_none : (parts : PlansOfUnits) → GroupsEach Holds [] parts
+    groups_of_none no_unit_plans = tt
+    groups_of_none (unit_plan_then first rest) =
         (group_of_none first, behind_none (λ choices. GroupsEach Holds choices rest) (group_leaves first) (groups_of_none rest))
 
     test_of_none : (test : TestPlan) → TestEach Holds [] test
@@ -167,29 +167,29 @@ module _ (indexed : Indexed) where
           (leaves first) (drop_chosen indexed asked others first (two ++ more)) (each_given asked others (two ++ more) first such there.0)
           (plans_given (drop (leaves first) asked) (drop (leaves first) others) more rest (later (leaves first) asked such) there.1)
 
-      group_given : (asked others more : List Choice) (plan : GroupPlan) → Asked asked → GroupEach Wanted others plan
+      group_given : (asked others more : List Choice) (plan : PlanOfUnits) → Asked asked → GroupEach Wanted others plan
           → GroupEach Holds (group_chosen indexed asked others plan ++ more) plan
-      group_given asked others more nothing_group such there = tt
-      group_given asked others more every_group such there = tt
-      group_given asked others more (and_group parts) such there = groups_given asked others more parts such there
-      group_given asked others more (or_group parts) such there = groups_given asked others more parts such there
-      group_given asked others more (minus_group first second) such there =
+      group_given asked others more nothing_unit such there = tt
+      group_given asked others more every_unit such there = tt
+      group_given asked others more (and_units parts) such there = groups_given asked others more parts such there
+      group_given asked others more (or_units parts) such there = groups_given asked others more parts such there
+      group_given asked others more (minus_units first second) such there =
           let two = group_chosen indexed (drop (group_leaves first) asked) (drop (group_leaves first) others) second in
           both_given (λ choices. GroupEach Holds choices first) (λ choices. GroupEach Holds choices second)
           (group_chosen indexed asked others first) two more (group_leaves first) (group_drop_chosen indexed asked others first (two ++ more))
           (group_given asked others (two ++ more) first such there.0)
           (group_given (drop (group_leaves first) asked) (drop (group_leaves first) others) more second (later (group_leaves first) asked such) there.1)
-      group_given asked others more (pairs_group count types test) such there =
+      group_given asked others more (pairs_units count types test) such there =
           inside_given asked others more types test Holds (of_leaf every_group_in false count types test asked others more such there.0)
           (each_given (type_choices asked) (type_choices others)
           (test_chosen indexed (test_choices asked types) (test_choices others types) test ++ more) types (later 1 asked such) there.1)
           (test_given (test_choices asked types) (test_choices others types) more test
           (later (leaves types) (type_choices asked) (later 1 asked such)) there.2)
 
-      groups_given : (asked others more : List Choice) (parts : GroupPlans) → Asked asked → GroupsEach Wanted others parts
+      groups_given : (asked others more : List Choice) (parts : PlansOfUnits) → Asked asked → GroupsEach Wanted others parts
           → GroupsEach Holds (groups_chosen indexed asked others parts ++ more) parts
-      groups_given asked others more no_groups such there = tt
-      groups_given asked others more (group_then first rest) such there =
+      groups_given asked others more no_unit_plans such there = tt
+      groups_given asked others more (unit_plan_then first rest) such there =
           let two = groups_chosen indexed (drop (group_leaves first) asked) (drop (group_leaves first) others) rest in
           both_given (λ choices. GroupEach Holds choices first) (λ choices. GroupsEach Holds choices rest)
           (group_chosen indexed asked others first) two more (group_leaves first) (group_drop_chosen indexed asked others first (two ++ more))

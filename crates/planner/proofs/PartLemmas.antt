@@ -4,7 +4,7 @@ use Rattle.std.specs.declared.alloc.Global.{Global}
 use Rattle.set_algebra.specs.declared.plan.ConceptPlan.{ConceptPlan}
 use Rattle.set_algebra.specs.declared.plan.ConceptPlan.TheVariants as concept_plan
 use Rattle.set_algebra.specs.declared.plan.UnitPlan.{UnitPlan}
-use Rattle.set_algebra.specs.Plan.{Plan, Plans, group_plans_of, plan_of, plans_of, values_plan}
+use Rattle.set_algebra.specs.Plan.{Plan, Plans, unit_plans_of, plan_of, plans_of, values_plan}
 use Rattle.set_algebra.proofs.PlanLemmas.{plan_of-Values}
 use Rattle.set_algebra.specs.declared.choice.Choice.{Choice}
 use Rattle.planner.specs.Leaves.{group_count, leaves, plan_count, plans_leaves}
@@ -15,7 +15,7 @@ pub plan_count-parts : (parts : List ConceptPlan) → plan_count (plans_of parts
 plan_count-parts [] = refl
 plan_count-parts (part ∷ parts) = ap suc (plan_count-parts parts)
 
-pub group_count-parts : (parts : List UnitPlan) → group_count (group_plans_of parts) ≡ length parts
+pub group_count-parts : (parts : List UnitPlan) → group_count (unit_plans_of parts) ≡ length parts
 group_count-parts [] = refl
 group_count-parts (part ∷ parts) = ap suc (group_count-parts parts)
 

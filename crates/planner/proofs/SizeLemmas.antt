@@ -11,8 +11,8 @@ use Rattle.idset.specs.Sets.{numbers_where}
 use Rattle.constraint_tree.specs.declared.operator.Operator.{Operator}
 use Rattle.constraint_tree.specs.Denotation.{is_value}
 use Rattle.constraint_tree.specs.Walks.{has_concept}
-use Rattle.set_algebra.specs.Meaning.{all_group_mean, all_mean, group_means, leads, means, some_group_means, some_means}
-use Rattle.set_algebra.specs.Plan.{Plan, empty_plan, all_plan, one_plan, walk_plan, members_plan, and_plan, or_plan, minus_plan, values_plan, pairs_plan, units_plan, Plans, no_plans, plan_then, GroupPlan, nothing_group, every_group, and_group, or_group, minus_group, pairs_group, GroupPlans, no_groups, group_then}
+use Rattle.set_algebra.specs.Meaning.{all_units_mean, all_mean, unit_means, leads, means, some_unit_means, some_means}
+use Rattle.set_algebra.specs.Plan.{Plan, empty_plan, all_plan, one_plan, walk_plan, members_plan, and_plan, or_plan, minus_plan, values_plan, pairs_plan, units_plan, Plans, no_plans, plan_then, PlanOfUnits, nothing_unit, every_unit, and_units, or_units, minus_units, pairs_units, PlansOfUnits, no_unit_plans, unit_plan_then}
 use Rattle.set_algebra.proofs.MeaningLemmas.{in_force_if_meant}
 use Rattle.postings.specs.Groups.{ConceptGroup, all_groups, groups_in, pairs_of_group}
 use Rattle.postings.specs.Indexed.{Indexed, IsIndexOf}
@@ -62,46 +62,46 @@ module _ (release : Release) (indexed : Indexed) (is : IsIndexOf indexed release
 
   -- ---- groups
   mutual
-    pub group_size-le : (choices : List Choice) (plan : GroupPlan)
-        → count_by (meant (group_means release plan)) (all_groups release) ≤ group_size indexed choices plan
-    group_size-le choices nothing_group =
-        omega (arith, count_none (meant (group_means release nothing_group)) (all_groups release) (λ group there passes. false≢true passes))
-    group_size-le choices every_group = groups-all release indexed is rising (meant (group_means release every_group))
-    group_size-le choices (and_group parts) =
+    pub group_size-le : (choices : List Choice) (plan : PlanOfUnits)
+        → count_by (meant (unit_means release plan)) (all_groups release) ≤ group_size indexed choices plan
+    group_size-le choices nothing_unit =
+        omega (arith, count_none (meant (unit_means release nothing_unit)) (all_groups release) (λ group there passes. false≢true passes))
+    group_size-le choices every_unit = groups-all release indexed is rising (meant (unit_means release every_unit))
+    group_size-le choices (and_units parts) =
         least_of-from _ (length (groups_in indexed)) (group_sizes indexed choices parts)
-        (all_groups-le choices parts (meant (group_means release (and_group parts))) (length (groups_in indexed)) (λ group passes. passes)
-        (groups-all release indexed is rising (meant (group_means release (and_group parts)))))
-    group_size-le choices (or_group parts) =
-        omega (arith, groups-all release indexed is rising (meant (group_means release (or_group parts))), some_groups-le choices parts)
-    group_size-le choices (minus_group first second) =
+        (all_groups-le choices parts (meant (unit_means release (and_units parts))) (length (groups_in indexed)) (λ group passes. passes)
+        (groups-all release indexed is rising (meant (unit_means release (and_units parts)))))
+    group_size-le choices (or_units parts) =
+        omega (arith, groups-all release indexed is rising (meant (unit_means release (or_units parts))), some_groups-le choices parts)
+    group_size-le choices (minus_units first second) =
         omega (
           arith,
           group_size-le choices first,
-          count_le (meant (group_means release (minus_group first second))) (meant (group_means release first)) (all_groups release)
-              (λ group passes. (and_parts (meant (group_means release first) group) _ passes).0),
+          count_le (meant (unit_means release (minus_units first second))) (meant (unit_means release first)) (all_groups release)
+              (λ group passes. (and_parts (meant (unit_means release first) group) _ passes).0),
         )
-    group_size-le choices (pairs_group count types test) =
+    group_size-le choices (pairs_units count types test) =
         leaf-le release indexed is rising (length (groups_in indexed)) false count types test (size indexed (type_choices choices) types)
         (test_size indexed (test_choices choices types) test) (first_choice choices) _
-        (groups-all release indexed is rising (meant (group_means release (pairs_group count types test))))
+        (groups-all release indexed is rising (meant (unit_means release (pairs_units count types test))))
         (group_rows release indexed is rising count types test)
 
-    all_groups-le : (choices : List Choice) (parts : GroupPlans) (set : ConceptGroup → Bool) (most : ℕ)
-        → ((group : ConceptGroup) → set group ≡ true → meant (all_group_mean release parts) group ≡ true)
+    all_groups-le : (choices : List Choice) (parts : PlansOfUnits) (set : ConceptGroup → Bool) (most : ℕ)
+        → ((group : ConceptGroup) → set group ≡ true → meant (all_units_mean release parts) group ≡ true)
         → count_by set (all_groups release) ≤ most → count_by set (all_groups release) ≤ least_from most (group_sizes indexed choices parts)
-    all_groups-le choices no_groups set most each within = within
-    all_groups-le choices (group_then first rest) set most each within =
+    all_groups-le choices no_unit_plans set most each within = within
+    all_groups-le choices (unit_plan_then first rest) set most each within =
         all_groups-le (drop (group_leaves first) choices) rest set (min most (group_size indexed choices first))
-        (λ group passes. (and_parts (meant (group_means release first) group) _ (each group passes)).1)
-        (with_part (all_groups release) set (meant (group_means release first)) most (group_size indexed choices first)
-        (λ group passes. (and_parts (meant (group_means release first) group) _ (each group passes)).0) within (group_size-le choices first))
+        (λ group passes. (and_parts (meant (unit_means release first) group) _ (each group passes)).1)
+        (with_part (all_groups release) set (meant (unit_means release first)) most (group_size indexed choices first)
+        (λ group passes. (and_parts (meant (unit_means release first) group) _ (each group passes)).0) within (group_size-le choices first))
 
-    some_groups-le : (choices : List Choice) (parts : GroupPlans)
-        → count_by (meant (some_group_means release parts)) (all_groups release) ≤ total (group_sizes indexed choices parts)
-    some_groups-le choices no_groups =
-        omega (arith, count_none (meant (some_group_means release no_groups)) (all_groups release) (λ group there passes. false≢true passes))
-    some_groups-le choices (group_then first rest) =
-        or_part (all_groups release) (meant (group_means release first)) (meant (some_group_means release rest)) _ _
+    some_groups-le : (choices : List Choice) (parts : PlansOfUnits)
+        → count_by (meant (some_unit_means release parts)) (all_groups release) ≤ total (group_sizes indexed choices parts)
+    some_groups-le choices no_unit_plans =
+        omega (arith, count_none (meant (some_unit_means release no_unit_plans)) (all_groups release) (λ group there passes. false≢true passes))
+    some_groups-le choices (unit_plan_then first rest) =
+        or_part (all_groups release) (meant (unit_means release first)) (meant (some_unit_means release rest)) _ _
         (group_size-le choices first) (some_groups-le (drop (group_leaves first) choices) rest)
 
   -- ---- concepts
@@ -159,7 +159,7 @@ module _ (release : Release) (indexed : Indexed) (is : IsIndexOf indexed release
     size-le choices (units_plan count units) =
         found-le count.min (length indexed.concepts) (group_size indexed choices units) _
         (many-all release indexed is rising (means release (units_plan count units)))
-        (λ some. omega (arith, many-groups release indexed is rising count (group_means release units) some, group_size-le choices units))
+        (λ some. omega (arith, many-groups release indexed is rising count (unit_means release units) some, group_size-le choices units))
 
     all-le : (choices : List Choice) (parts : Plans) (set : ℕ → Bool) (most : ℕ)
         → ((concept : ℕ) → set concept ≡ true → all_mean release parts concept ≡ true)
@@ -184,8 +184,8 @@ module _ (release : Release) (indexed : Indexed) (is : IsIndexOf indexed release
       ≤ size indexed choices plan
   numbers-le choices plan = omega (arith, length-places (means release plan) release.concepts 0, size-le choices plan)
 
-  pub group_numbers-le : (choices : List Choice) (plan : GroupPlan) (test : Option ConceptGroup → Bool)
-      → ((group : ConceptGroup) → test (Some group) ≡ meant (group_means release plan) group)
+  pub group_numbers-le : (choices : List Choice) (plan : PlanOfUnits) (test : Option ConceptGroup → Bool)
+      → ((group : ConceptGroup) → test (Some group) ≡ meant (unit_means release plan) group)
       → length (numbers_where (length (all_groups release)) (λ number. test (slice_get (all_groups release) number)))
       ≤ group_size indexed choices plan
   group_numbers-le choices plan test told =
@@ -201,7 +201,7 @@ finds_within_size release rising known indexed is choices = (
   λ plan.
       omega (
         arith,
-        length-filter (λ group. group_means release plan (pairs_of_group release group)) (all_groups release),
+        length-filter (λ group. unit_means release plan (pairs_of_group release group)) (all_groups release),
         group_size-le release indexed is rising known choices plan,
       ),
 )

@@ -5,7 +5,7 @@ use Rattle.std.proofs.lemmas.Bool.{cases_Bool, ltb-true, ltb-false, ne_eqb}
 use Rattle.planner.specs.Bounds.{capped}
 use Rattle.planner.specs.Leads.{lead_from, lead_of}
 use Rattle.planner.specs.Sizes.{least_from, least_of, total}
-use Rattle.planner.specs.Tallies.{IsTallyOf, no_tally, tally_of, tally_on, tally_with}
+use Rattle.planner.specs.inside.Tallies.{IsTallyOf, no_tally, tally_of, tally_on, tally_with}
 use Rattle.planner.specs.declared.tally.Tally.{Tally}
 
 -- with one more size, wherever it stands

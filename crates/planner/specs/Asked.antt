@@ -1,6 +1,6 @@
 -- The choices of a plan leaf by leaf, where some are asked for.
 use Rattle.std.specs.Prelude.{Bool, if◌then◌else◌, List, [], ◌∷◌, ◌++◌, Option, None, Some, drop}
-use Rattle.set_algebra.specs.Plan.{Plan, empty_plan, all_plan, one_plan, walk_plan, members_plan, and_plan, or_plan, minus_plan, values_plan, pairs_plan, units_plan, Plans, no_plans, plan_then, GroupPlan, nothing_group, every_group, and_group, or_group, minus_group, pairs_group, GroupPlans, no_groups, group_then, TestPlan, within_plan, outside_plan, number_plan}
+use Rattle.set_algebra.specs.Plan.{Plan, empty_plan, all_plan, one_plan, walk_plan, members_plan, and_plan, or_plan, minus_plan, values_plan, pairs_plan, units_plan, Plans, no_plans, plan_then, PlanOfUnits, nothing_unit, every_unit, and_units, or_units, minus_units, pairs_units, PlansOfUnits, no_unit_plans, unit_plan_then, TestPlan, within_plan, outside_plan, number_plan}
 use Rattle.postings.specs.Indexed.{Indexed}
 use Rattle.set_algebra.specs.declared.choice.Choice.{Choice}
 use Rattle.planner.specs.Alternatives.{offers}
@@ -27,17 +27,17 @@ abbrev mutual
   plans_within no_plans = []
   plans_within (plan_then first rest) = within_tests first ++ plans_within rest
 
-  pub group_within : GroupPlan → List Bool
-  group_within nothing_group = []
-  group_within every_group = []
-  group_within (and_group parts) = groups_within parts
-  group_within (or_group parts) = groups_within parts
-  group_within (minus_group first second) = group_within first ++ group_within second
-  group_within (pairs_group count types test) = is_within test ∷ (within_tests types ++ test_within test)
+  pub group_within : PlanOfUnits → List Bool
+  group_within nothing_unit = []
+  group_within every_unit = []
+  group_within (and_units parts) = groups_within parts
+  group_within (or_units parts) = groups_within parts
+  group_within (minus_units first second) = group_within first ++ group_within second
+  group_within (pairs_units count types test) = is_within test ∷ (within_tests types ++ test_within test)
 
-  pub groups_within : GroupPlans → List Bool
-  groups_within no_groups = []
-  groups_within (group_then first rest) = group_within first ++ groups_within rest
+  pub groups_within : PlansOfUnits → List Bool
+  groups_within no_unit_plans = []
+  groups_within (unit_plan_then first rest) = group_within first ++ groups_within rest
 
   pub test_within : TestPlan → List Bool
   test_within (within_plan operand) = within_tests operand

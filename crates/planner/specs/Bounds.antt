@@ -3,7 +3,7 @@
 use Rattle.std.specs.Prelude.{ℕ, Bool, ◌+◌, ◌*◌, ◌-◌, ◌==◌, ◌^◌, if◌then◌else◌, List, [], ◌∷◌, Option, None, Some, drop, false, length, min}
 use Rattle.constraint_tree.specs.declared.operator.Cardinality.{Cardinality}
 use Rattle.constraint_tree.specs.declared.operator.Operator.{Operator}
-use Rattle.set_algebra.specs.Plan.{Plan, empty_plan, all_plan, one_plan, walk_plan, members_plan, and_plan, or_plan, minus_plan, values_plan, pairs_plan, units_plan, GroupPlan, nothing_group, every_group, and_group, or_group, minus_group, pairs_group, TestPlan}
+use Rattle.set_algebra.specs.Plan.{Plan, empty_plan, all_plan, one_plan, walk_plan, members_plan, and_plan, or_plan, minus_plan, values_plan, pairs_plan, units_plan, PlanOfUnits, nothing_unit, every_unit, and_units, or_units, minus_units, pairs_units, TestPlan}
 use Rattle.postings.specs.Groups.{groups_in}
 use Rattle.postings.specs.Indexed.{Indexed}
 use Rattle.postings.specs.Stats.{stats_in}
@@ -50,14 +50,14 @@ own_bound indexed choices (pairs_plan back count types test) =
 own_bound indexed choices (units_plan count units) =
     group_size indexed choices units + passed_over (count.min == 0) (length indexed.concepts)
 
-abbrev pub group_own_bound : Indexed → List Choice → GroupPlan → ℕ
-group_own_bound indexed choices nothing_group = 0
-group_own_bound indexed choices every_group = 0
-group_own_bound indexed choices (and_group parts) = 2 * total (group_sizes indexed choices parts)
-group_own_bound indexed choices (or_group parts) = group_count parts * total (group_sizes indexed choices parts)
-group_own_bound indexed choices (minus_group first second) =
+abbrev pub group_own_bound : Indexed → List Choice → PlanOfUnits → ℕ
+group_own_bound indexed choices nothing_unit = 0
+group_own_bound indexed choices every_unit = 0
+group_own_bound indexed choices (and_units parts) = 2 * total (group_sizes indexed choices parts)
+group_own_bound indexed choices (or_units parts) = group_count parts * total (group_sizes indexed choices parts)
+group_own_bound indexed choices (minus_units first second) =
     group_size indexed choices first + group_size indexed (drop (group_leaves first) choices) second
-group_own_bound indexed choices (pairs_group count types test) =
+group_own_bound indexed choices (pairs_units count types test) =
     leaf_bound_at indexed (length (groups_in indexed)) false count types test choices
 
 -- the bound of a plan is the sum over its nodes

@@ -1,6 +1,6 @@
 -- Which choices a plan gets: for each leaf the one that is asked for, where the leaf offers it, or the least.
 use Rattle.std.specs.Prelude.{false, List, [], ◌∷◌, ◌++◌, drop, length}
-use Rattle.set_algebra.specs.Plan.{Plan, empty_plan, all_plan, one_plan, walk_plan, members_plan, and_plan, or_plan, minus_plan, values_plan, pairs_plan, units_plan, Plans, no_plans, plan_then, GroupPlan, nothing_group, every_group, and_group, or_group, minus_group, pairs_group, GroupPlans, no_groups, group_then, TestPlan, within_plan, outside_plan, number_plan}
+use Rattle.set_algebra.specs.Plan.{Plan, empty_plan, all_plan, one_plan, walk_plan, members_plan, and_plan, or_plan, minus_plan, values_plan, pairs_plan, units_plan, Plans, no_plans, plan_then, PlanOfUnits, nothing_unit, every_unit, and_units, or_units, minus_units, pairs_units, PlansOfUnits, no_unit_plans, unit_plan_then, TestPlan, within_plan, outside_plan, number_plan}
 use Rattle.postings.specs.Groups.{groups_in}
 use Rattle.postings.specs.Indexed.{Indexed}
 use Rattle.set_algebra.specs.declared.choice.Choice.{Choice}
@@ -38,15 +38,15 @@ abbrev mutual
   plans_chosen indexed asked others (plan_then first rest) =
       chosen indexed asked others first ++ plans_chosen indexed (drop (leaves first) asked) (drop (leaves first) others) rest
 
-  pub group_chosen : Indexed → List Choice → List Choice → GroupPlan → List Choice
-  group_chosen indexed asked others nothing_group = []
-  group_chosen indexed asked others every_group = []
-  group_chosen indexed asked others (and_group parts) = groups_chosen indexed asked others parts
-  group_chosen indexed asked others (or_group parts) = groups_chosen indexed asked others parts
-  group_chosen indexed asked others (minus_group first second) =
+  pub group_chosen : Indexed → List Choice → List Choice → PlanOfUnits → List Choice
+  group_chosen indexed asked others nothing_unit = []
+  group_chosen indexed asked others every_unit = []
+  group_chosen indexed asked others (and_units parts) = groups_chosen indexed asked others parts
+  group_chosen indexed asked others (or_units parts) = groups_chosen indexed asked others parts
+  group_chosen indexed asked others (minus_units first second) =
       group_chosen indexed asked others first
       ++ group_chosen indexed (drop (group_leaves first) asked) (drop (group_leaves first) others) second
-  group_chosen indexed asked others (pairs_group count types test) =
+  group_chosen indexed asked others (pairs_units count types test) =
       let inner = chosen indexed (type_choices asked) (type_choices others) types in
       let last = test_chosen indexed (test_choices asked types) (test_choices others types) test in
       choice_of
@@ -54,9 +54,9 @@ abbrev mutual
       (first_of asked) (first_of others)
       ∷ (inner ++ last)
 
-  pub groups_chosen : Indexed → List Choice → List Choice → GroupPlans → List Choice
-  groups_chosen indexed asked others no_groups = []
-  groups_chosen indexed asked others (group_then first rest) =
+  pub groups_chosen : Indexed → List Choice → List Choice → PlansOfUnits → List Choice
+  groups_chosen indexed asked others no_unit_plans = []
+  groups_chosen indexed asked others (unit_plan_then first rest) =
       group_chosen indexed asked others first
       ++ groups_chosen indexed (drop (group_leaves first) asked) (drop (group_leaves first) others) rest
 

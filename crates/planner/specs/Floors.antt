@@ -1,6 +1,6 @@
 -- How many items a plan visits at least, none of its nodes being skipped.
 use Rattle.std.specs.Prelude.{ℕ, Bool, false, List, Option, None, Some, if◌then◌else◌, length, ◌≤◌}
-use Rattle.set_algebra.specs.Plan.{Plan, empty_plan, all_plan, one_plan, walk_plan, members_plan, and_plan, or_plan, minus_plan, values_plan, pairs_plan, units_plan, GroupPlan, nothing_group, every_group, and_group, or_group, minus_group, pairs_group, TestPlan, within_plan, outside_plan, number_plan}
+use Rattle.set_algebra.specs.Plan.{Plan, empty_plan, all_plan, one_plan, walk_plan, members_plan, and_plan, or_plan, minus_plan, values_plan, pairs_plan, units_plan, PlanOfUnits, nothing_unit, every_unit, and_units, or_units, minus_units, pairs_units, TestPlan, within_plan, outside_plan, number_plan}
 use Rattle.snapshot.specs.Numbering.{concept_number}
 use Rattle.postings.specs.Indexed.{Indexed}
 use Rattle.postings.specs.Stats.{type_row_count}
@@ -45,13 +45,13 @@ own_floor indexed choices (values_plan start names) = 0
 own_floor indexed choices (pairs_plan back count types test) = leaf_floor indexed back types test (first_choice choices)
 own_floor indexed choices (units_plan count units) = 0
 
-abbrev pub group_own_floor : Indexed → List Choice → GroupPlan → ℕ
-group_own_floor indexed choices nothing_group = 0
-group_own_floor indexed choices every_group = 0
-group_own_floor indexed choices (and_group parts) = 0
-group_own_floor indexed choices (or_group parts) = 0
-group_own_floor indexed choices (minus_group first second) = 0
-group_own_floor indexed choices (pairs_group count types test) = leaf_floor indexed false types test (first_choice choices)
+abbrev pub group_own_floor : Indexed → List Choice → PlanOfUnits → ℕ
+group_own_floor indexed choices nothing_unit = 0
+group_own_floor indexed choices every_unit = 0
+group_own_floor indexed choices (and_units parts) = 0
+group_own_floor indexed choices (or_units parts) = 0
+group_own_floor indexed choices (minus_units first second) = 0
+group_own_floor indexed choices (pairs_units count types test) = leaf_floor indexed false types test (first_choice choices)
 
 abbrev pub floor_number : Indexed → NodeNumber
 floor_number indexed = record { of_plan = own_floor indexed; of_group = group_own_floor indexed }

@@ -3,16 +3,16 @@ use Rattle.std.specs.Prelude.{◌≡◌, ◌≤◌, true, All, List, filter, len
 use Rattle.std.specs.List.Sorted.{IsStrictlyIncreasing}
 use Rattle.rf2_rows.specs.Release.{Attribute, Release}
 use Rattle.hierarchy.specs.Members.{has}
-use Rattle.set_algebra.specs.Meaning.{group_means, meaning}
-use Rattle.set_algebra.specs.Plan.{GroupPlan, Plan}
+use Rattle.set_algebra.specs.Meaning.{unit_means, meaning}
+use Rattle.set_algebra.specs.Plan.{PlanOfUnits, Plan}
 use Rattle.postings.specs.Groups.{ConceptGroup, all_groups, pairs_of_group}
 use Rattle.postings.specs.Indexed.{Indexed, IsIndexOf}
 use Rattle.set_algebra.specs.declared.choice.Choice.{Choice}
 use Rattle.planner.specs.Sizes.{group_size, size}
 
 -- the groups of a release that a plan of groups means
-abbrev pub groups_meant : Release → GroupPlan → List ConceptGroup
-groups_meant release plan = filter (λ group. group_means release plan (pairs_of_group release group)) (all_groups release)
+abbrev pub groups_meant : Release → PlanOfUnits → List ConceptGroup
+groups_meant release plan = filter (λ group. unit_means release plan (pairs_of_group release group)) (all_groups release)
 
 -- of a release whose concepts rise, and the sources of whose attribute rows are concepts in force: by its indexes, no plan means more
 -- concepts than its size, and no plan of groups more groups
@@ -22,4 +22,4 @@ FindsWithinSize =
     → All (λ (row : Attribute). has release.concepts row.source ≡ true) release.attributes
     → (indexed : Indexed) → IsIndexOf indexed release → (choices : List Choice)
     → ((plan : Plan) → length (meaning release plan) ≤ size indexed choices plan)
-    × ((plan : GroupPlan) → length (groups_meant release plan) ≤ group_size indexed choices plan)
+    × ((plan : PlanOfUnits) → length (groups_meant release plan) ≤ group_size indexed choices plan)

@@ -1,6 +1,6 @@
 -- In which order the parts of a node that joins sets by AND are best taken: the part of the least size first.
 use Rattle.std.specs.Prelude.{ℕ, ◌+◌, ◌≤◌, ◌<◌, if◌then◌else◌, List, [], ◌∷◌, length, min, nat_lt, slice_index}
-use Rattle.set_algebra.specs.Plan.{Plan, empty_plan, all_plan, one_plan, walk_plan, members_plan, and_plan, or_plan, minus_plan, values_plan, pairs_plan, units_plan, GroupPlan, nothing_group, every_group, and_group, or_group, minus_group, pairs_group}
+use Rattle.set_algebra.specs.Plan.{Plan, empty_plan, all_plan, one_plan, walk_plan, members_plan, and_plan, or_plan, minus_plan, values_plan, pairs_plan, units_plan, PlanOfUnits, nothing_unit, every_unit, and_units, or_units, minus_units, pairs_units}
 use Rattle.postings.specs.Indexed.{Indexed}
 use Rattle.set_algebra.specs.declared.choice.Choice.{Choice}
 use Rattle.planner.specs.Nodes.{NodeList, node_list}
@@ -40,13 +40,13 @@ own_lead indexed choices (values_plan start names) = []
 own_lead indexed choices (pairs_plan back count types test) = []
 own_lead indexed choices (units_plan count units) = []
 
-abbrev pub group_own_lead : Indexed → List Choice → GroupPlan → List ℕ
-group_own_lead indexed choices nothing_group = []
-group_own_lead indexed choices every_group = []
-group_own_lead indexed choices (and_group parts) = lead_of (group_sizes indexed choices parts) ∷ []
-group_own_lead indexed choices (or_group parts) = []
-group_own_lead indexed choices (minus_group first second) = []
-group_own_lead indexed choices (pairs_group count types test) = []
+abbrev pub group_own_lead : Indexed → List Choice → PlanOfUnits → List ℕ
+group_own_lead indexed choices nothing_unit = []
+group_own_lead indexed choices every_unit = []
+group_own_lead indexed choices (and_units parts) = lead_of (group_sizes indexed choices parts) ∷ []
+group_own_lead indexed choices (or_units parts) = []
+group_own_lead indexed choices (minus_units first second) = []
+group_own_lead indexed choices (pairs_units count types test) = []
 
 abbrev pub lead_list : Indexed → NodeList
 lead_list indexed = record { of_plan = own_lead indexed; of_group = group_own_lead indexed }

@@ -2,7 +2,7 @@
 -- which the plan has them, the types of a leaf before its test. A list of choices has one for each leaf in this order; a node reads
 -- it from its own first leaf on.
 use Rattle.std.specs.Prelude.{ℕ, suc, ◌+◌, List, [], ◌∷◌, Option, None, Some, drop}
-use Rattle.set_algebra.specs.Plan.{Plan, empty_plan, all_plan, one_plan, walk_plan, members_plan, and_plan, or_plan, minus_plan, values_plan, pairs_plan, units_plan, Plans, no_plans, plan_then, GroupPlan, nothing_group, every_group, and_group, or_group, minus_group, pairs_group, GroupPlans, no_groups, group_then, TestPlan, within_plan, outside_plan, number_plan}
+use Rattle.set_algebra.specs.Plan.{Plan, empty_plan, all_plan, one_plan, walk_plan, members_plan, and_plan, or_plan, minus_plan, values_plan, pairs_plan, units_plan, Plans, no_plans, plan_then, PlanOfUnits, nothing_unit, every_unit, and_units, or_units, minus_units, pairs_units, PlansOfUnits, no_unit_plans, unit_plan_then, TestPlan, within_plan, outside_plan, number_plan}
 use Rattle.set_algebra.specs.declared.choice.Choice.{Choice}
 use Rattle.set_algebra.specs.declared.choice.Choice.TheVariants.{Scan}
 
@@ -25,17 +25,17 @@ abbrev mutual
   plans_leaves no_plans = 0
   plans_leaves (plan_then first rest) = leaves first + plans_leaves rest
 
-  pub group_leaves : GroupPlan → ℕ
-  group_leaves nothing_group = 0
-  group_leaves every_group = 0
-  group_leaves (and_group parts) = groups_leaves parts
-  group_leaves (or_group parts) = groups_leaves parts
-  group_leaves (minus_group first second) = group_leaves first + group_leaves second
-  group_leaves (pairs_group count types test) = suc (leaves types + test_leaves test)
+  pub group_leaves : PlanOfUnits → ℕ
+  group_leaves nothing_unit = 0
+  group_leaves every_unit = 0
+  group_leaves (and_units parts) = groups_leaves parts
+  group_leaves (or_units parts) = groups_leaves parts
+  group_leaves (minus_units first second) = group_leaves first + group_leaves second
+  group_leaves (pairs_units count types test) = suc (leaves types + test_leaves test)
 
-  pub groups_leaves : GroupPlans → ℕ
-  groups_leaves no_groups = 0
-  groups_leaves (group_then first rest) = group_leaves first + groups_leaves rest
+  pub groups_leaves : PlansOfUnits → ℕ
+  groups_leaves no_unit_plans = 0
+  groups_leaves (unit_plan_then first rest) = group_leaves first + groups_leaves rest
 
   pub test_leaves : TestPlan → ℕ
   test_leaves (within_plan operand) = leaves operand
@@ -64,6 +64,6 @@ abbrev pub plan_count : Plans → ℕ
 plan_count no_plans = 0
 plan_count (plan_then first rest) = suc (plan_count rest)
 
-abbrev pub group_count : GroupPlans → ℕ
-group_count no_groups = 0
-group_count (group_then first rest) = suc (group_count rest)
+abbrev pub group_count : PlansOfUnits → ℕ
+group_count no_unit_plans = 0
+group_count (unit_plan_then first rest) = suc (group_count rest)

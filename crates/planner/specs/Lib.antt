@@ -5,12 +5,11 @@ pub mod Chosen
 pub mod Counts
 pub mod Floors
 pub mod Found
+pub mod inside
 pub mod Leads
 pub mod Leaves
 pub mod Nodes
 pub mod Offered
 pub mod Physical
-pub mod PhysicalInside
 pub mod Sizes
-pub mod Tallies
 pub mod WorkedBounds

@@ -1,7 +1,7 @@
 -- Choices that their leaves offer, and choices of least bound.
 use Rattle.std.specs.Prelude.{ℕ, Bool, false, IsTrue, List, Option, None, Some, drop, length}
 use Rattle.constraint_tree.specs.declared.operator.Cardinality.{Cardinality}
-use Rattle.set_algebra.specs.Plan.{Plan, empty_plan, all_plan, one_plan, walk_plan, members_plan, and_plan, or_plan, minus_plan, values_plan, pairs_plan, units_plan, Plans, no_plans, plan_then, GroupPlan, nothing_group, every_group, and_group, or_group, minus_group, pairs_group, GroupPlans, no_groups, group_then, TestPlan, within_plan, outside_plan, number_plan}
+use Rattle.set_algebra.specs.Plan.{Plan, empty_plan, all_plan, one_plan, walk_plan, members_plan, and_plan, or_plan, minus_plan, values_plan, pairs_plan, units_plan, Plans, no_plans, plan_then, PlanOfUnits, nothing_unit, every_unit, and_units, or_units, minus_units, pairs_units, PlansOfUnits, no_unit_plans, unit_plan_then, TestPlan, within_plan, outside_plan, number_plan}
 use Rattle.postings.specs.Groups.{groups_in}
 use Rattle.postings.specs.Indexed.{Indexed}
 use Rattle.set_algebra.specs.declared.choice.Choice.{Choice}
@@ -42,21 +42,21 @@ abbrev mutual
   PlansEach Holds choices no_plans = Unit {0}
   PlansEach Holds choices (plan_then first rest) = EachLeaf Holds choices first × PlansEach Holds (drop (leaves first) choices) rest
 
-  pub GroupEach : LeafFact → List Choice → GroupPlan → Type 0
-  GroupEach Holds choices nothing_group = Unit {0}
-  GroupEach Holds choices every_group = Unit {0}
-  GroupEach Holds choices (and_group parts) = GroupsEach Holds choices parts
-  GroupEach Holds choices (or_group parts) = GroupsEach Holds choices parts
-  GroupEach Holds choices (minus_group first second) =
+  pub GroupEach : LeafFact → List Choice → PlanOfUnits → Type 0
+  GroupEach Holds choices nothing_unit = Unit {0}
+  GroupEach Holds choices every_unit = Unit {0}
+  GroupEach Holds choices (and_units parts) = GroupsEach Holds choices parts
+  GroupEach Holds choices (or_units parts) = GroupsEach Holds choices parts
+  GroupEach Holds choices (minus_units first second) =
       GroupEach Holds choices first × GroupEach Holds (drop (group_leaves first) choices) second
-  GroupEach Holds choices (pairs_group count types test) =
+  GroupEach Holds choices (pairs_units count types test) =
       Holds every_group_in false count types test choices
       × EachLeaf Holds (type_choices choices) types
       × TestEach Holds (test_choices choices types) test
 
-  pub GroupsEach : LeafFact → List Choice → GroupPlans → Type 0
-  GroupsEach Holds choices no_groups = Unit {0}
-  GroupsEach Holds choices (group_then first rest) =
+  pub GroupsEach : LeafFact → List Choice → PlansOfUnits → Type 0
+  GroupsEach Holds choices no_unit_plans = Unit {0}
+  GroupsEach Holds choices (unit_plan_then first rest) =
       GroupEach Holds choices first × GroupsEach Holds (drop (group_leaves first) choices) rest
 
   pub TestEach : LeafFact → List Choice → TestPlan → Type 0

@@ -2,7 +2,7 @@
 use Rattle.std.specs.Prelude.{ℕ, Bool, false, ◌+◌, ◌==◌, if◌then◌else◌, List, [], ◌∷◌, Option, None, Some, drop, length, min}
 use Rattle.constraint_tree.specs.declared.operator.Cardinality.{Cardinality}
 use Rattle.constraint_tree.specs.declared.operator.Operator.{Operator}
-use Rattle.set_algebra.specs.Plan.{Plan, empty_plan, all_plan, one_plan, walk_plan, members_plan, and_plan, or_plan, minus_plan, values_plan, pairs_plan, units_plan, Plans, no_plans, plan_then, GroupPlan, nothing_group, every_group, and_group, or_group, minus_group, pairs_group, GroupPlans, no_groups, group_then, TestPlan, within_plan, outside_plan, number_plan}
+use Rattle.set_algebra.specs.Plan.{Plan, empty_plan, all_plan, one_plan, walk_plan, members_plan, and_plan, or_plan, minus_plan, values_plan, pairs_plan, units_plan, Plans, no_plans, plan_then, PlanOfUnits, nothing_unit, every_unit, and_units, or_units, minus_units, pairs_units, PlansOfUnits, no_unit_plans, unit_plan_then, TestPlan, within_plan, outside_plan, number_plan}
 use Rattle.postings.specs.Groups.{groups_in}
 use Rattle.postings.specs.Indexed.{Indexed}
 use Rattle.postings.specs.Stats.{stats_in}
@@ -63,21 +63,21 @@ abbrev mutual
   sizes indexed choices no_plans = []
   sizes indexed choices (plan_then first rest) = size indexed choices first ∷ sizes indexed (drop (leaves first) choices) rest
 
-  pub group_size : Indexed → List Choice → GroupPlan → ℕ
-  group_size indexed choices nothing_group = 0
-  group_size indexed choices every_group = length (groups_in indexed)
-  group_size indexed choices (and_group parts) = least_of (length (groups_in indexed)) (group_sizes indexed choices parts)
-  group_size indexed choices (or_group parts) = min (length (groups_in indexed)) (total (group_sizes indexed choices parts))
-  group_size indexed choices (minus_group first second) = group_size indexed choices first
-  group_size indexed choices (pairs_group count types test) =
+  pub group_size : Indexed → List Choice → PlanOfUnits → ℕ
+  group_size indexed choices nothing_unit = 0
+  group_size indexed choices every_unit = length (groups_in indexed)
+  group_size indexed choices (and_units parts) = least_of (length (groups_in indexed)) (group_sizes indexed choices parts)
+  group_size indexed choices (or_units parts) = min (length (groups_in indexed)) (total (group_sizes indexed choices parts))
+  group_size indexed choices (minus_units first second) = group_size indexed choices first
+  group_size indexed choices (pairs_units count types test) =
       leaf_size
       (leaf_of indexed (length (groups_in indexed)) false count types test (size indexed (type_choices choices) types)
       (test_size indexed (test_choices choices types) test))
       (first_choice choices)
 
-  pub group_sizes : Indexed → List Choice → GroupPlans → List ℕ
-  group_sizes indexed choices no_groups = []
-  group_sizes indexed choices (group_then first rest) =
+  pub group_sizes : Indexed → List Choice → PlansOfUnits → List ℕ
+  group_sizes indexed choices no_unit_plans = []
+  group_sizes indexed choices (unit_plan_then first rest) =
       group_size indexed choices first ∷ group_sizes indexed (drop (group_leaves first) choices) rest
 
   -- of the plan of a test

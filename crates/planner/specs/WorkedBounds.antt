@@ -5,7 +5,7 @@ use Rattle.constraint_tree.specs.declared.operator.Compare.TheVariants.{Greater}
 use Rattle.constraint_tree.specs.Sample.{sample, alpha, type_t, type_u, value_x}
 use Rattle.constraint_tree.specs.WorkedQueries.{at_least, two}
 use Rattle.set_algebra.specs.Lowering.{both_plan}
-use Rattle.set_algebra.specs.Plan.{Plan, all_plan, and_group, groups_from, number_plan, one_plan, pairs_plan, units_plan, within_plan}
+use Rattle.set_algebra.specs.Plan.{Plan, all_plan, and_units, units_from, number_plan, one_plan, pairs_plan, units_plan, within_plan}
 use Rattle.set_algebra.specs.WorkedPlans.{below_alpha_plan, u_group, x_group}
 use Rattle.snapshot.specs.AttributesBySource.{attributes_by_source}
 use Rattle.ancestor_index.specs.HierarchyLists.{hierarchy_of}
@@ -56,7 +56,7 @@ BoundsByType =
 -- <100005:{104001=<<106004,105000=*}
 abbrev pub BoundsInBraces : Type 0
 BoundsInBraces =
-    IsBounded (both_plan below_alpha_plan (units_plan (at_least 1) (and_group (groups_from (x_group ∷ u_group ∷ [])))))
+    IsBounded (both_plan below_alpha_plan (units_plan (at_least 1) (and_units (units_from (x_group ∷ u_group ∷ [])))))
     (ByType ∷ ByType ∷ []) (0 ∷ 0 ∷ []) (12 ∷ 4 ∷ 0 ∷ 3 ∷ 18 ∷ 4 ∷ 0 ∷ 2 ∷ 0 ∷ 7 ∷ 0 ∷ 0 ∷ []) 50 13
 
 -- 100005,100005, of which one is left

@@ -1,12 +1,12 @@
 //! The own bounds of all nodes of a plan, a node before its children.
 ghost use Rattle.std.specs.Prelude.{◌≡◌, ◌<◌, ◌++◌, ◌∷◌, [], IfOk, OnOk, drop, length};
 ghost use Rattle.std.specs.List.{slice_set};
-ghost use Rattle.set_algebra.specs.Plan.{group_plan_of, group_plans_of, plan_of, plans_of, test_plan_of};
+ghost use Rattle.set_algebra.specs.Plan.{unit_plan_of, unit_plans_of, plan_of, plans_of, test_plan_of};
 ghost use Rattle.planner.specs.Bounds.{own_bounds, own_list};
 ghost use Rattle.planner.specs.Leaves.{group_leaves, groups_leaves, leaves, plans_leaves, test_leaves};
 ghost use Rattle.planner.specs.Nodes.{group_list, groups_list, node_list, plans_list, test_list};
 ghost use Rattle.planner.specs.Sizes.{group_size, group_sizes, size as size_of, sizes, test_size};
-ghost use Rattle.planner.specs.Tallies.{IsTallyOf, no_tally, tally_with};
+ghost use Rattle.planner.specs.inside.Tallies.{IsTallyOf, no_tally, tally_with};
 
 use crate::choice::{after_first, first_choice};
 use crate::counts::{
@@ -114,9 +114,9 @@ fn list_units<'a>(
     indexes: &Indexes,
     bounds: &mut Vec<u64>,
 ) -> Result<Listed<'a>, AllocError>
-    ensures bounds { OnOk result (bounds.new.items ≡ bounds.old.items ++ group_list (own_list indexes.now) choices.now (group_plan_of plan.now)) }
-    ensures size { IfOk result (λ found. found.size ≡ group_size indexes.now choices.now (group_plan_of plan.now)) }
-    ensures rest { IfOk result (λ found. found.rest.now ≡ drop (group_leaves (group_plan_of plan.now)) choices.now) }
+    ensures bounds { OnOk result (bounds.new.items ≡ bounds.old.items ++ group_list (own_list indexes.now) choices.now (unit_plan_of plan.now)) }
+    ensures size { IfOk result (λ found. found.size ≡ group_size indexes.now choices.now (unit_plan_of plan.now)) }
+    ensures rest { IfOk result (λ found. found.rest.now ≡ drop (group_leaves (unit_plan_of plan.now)) choices.now) }
 {
     let all = groups(indexes);
     let at = open(bounds)?;
@@ -200,9 +200,9 @@ fn list_unit_parts<'a>(
     indexes: &Indexes,
     bounds: &mut Vec<u64>,
 ) -> Result<ListedParts<'a>, AllocError>
-    ensures bounds { OnOk result (bounds.new.items ≡ bounds.old.items ++ groups_list (own_list indexes.now) choices.now (group_plans_of parts.now)) }
-    ensures tally { IfOk result (λ found. IsTallyOf all (group_sizes indexes.now choices.now (group_plans_of parts.now)) found.tally) }
-    ensures rest { IfOk result (λ found. found.rest.now ≡ drop (groups_leaves (group_plans_of parts.now)) choices.now) }
+    ensures bounds { OnOk result (bounds.new.items ≡ bounds.old.items ++ groups_list (own_list indexes.now) choices.now (unit_plans_of parts.now)) }
+    ensures tally { IfOk result (λ found. IsTallyOf all (group_sizes indexes.now choices.now (unit_plans_of parts.now)) found.tally) }
+    ensures rest { IfOk result (λ found. found.rest.now ≡ drop (groups_leaves (unit_plans_of parts.now)) choices.now) }
 {
     let mut listed = no_parts(all, choices);
     for place in 0..parts.len() {

@@ -1,13 +1,13 @@
 //! The choices of a plan, and which part of each node that joins sets by AND is taken first.
 ghost use Rattle.std.specs.Prelude.{◌≡◌, ◌<◌, ◌++◌, ◌∷◌, [], IfOk, OnOk, drop, length};
 ghost use Rattle.std.specs.List.{slice_set};
-ghost use Rattle.set_algebra.specs.Plan.{group_plan_of, group_plans_of, plan_of, plans_of, test_plan_of};
+ghost use Rattle.set_algebra.specs.Plan.{unit_plan_of, unit_plans_of, plan_of, plans_of, test_plan_of};
 ghost use Rattle.planner.specs.Chosen.{chosen, group_chosen, groups_chosen, plans_chosen, test_chosen};
 ghost use Rattle.planner.specs.Leads.{lead_list};
 ghost use Rattle.planner.specs.Leaves.{group_leaves, groups_leaves, leaves, plans_leaves, test_leaves};
 ghost use Rattle.planner.specs.Nodes.{group_list, groups_list, node_list, plans_list, test_list};
 ghost use Rattle.planner.specs.Sizes.{group_size, group_sizes, size as size_of, sizes, test_size};
-ghost use Rattle.planner.specs.Tallies.{IsTallyOf, no_tally, tally_with};
+ghost use Rattle.planner.specs.inside.Tallies.{IsTallyOf, no_tally, tally_with};
 
 use crate::choice::{after_first, first};
 use crate::counts::{concepts, groups, leaf, members, units as units_of, values, walk};
@@ -142,11 +142,11 @@ fn settle_units<'a>(
     indexes: &Indexes,
     choosing: &mut Choosing,
 ) -> Result<Settled<'a>, AllocError>
-    ensures choices { OnOk result (choosing.new.choices.items ≡ choosing.old.choices.items ++ group_chosen indexes.now asked.now others.now (group_plan_of plan.now)) }
-    ensures leads { OnOk result (choosing.new.leads.items ≡ choosing.old.leads.items ++ group_list (lead_list indexes.now) (group_chosen indexes.now asked.now others.now (group_plan_of plan.now)) (group_plan_of plan.now)) }
-    ensures size { IfOk result (λ found. found.size ≡ group_size indexes.now (group_chosen indexes.now asked.now others.now (group_plan_of plan.now)) (group_plan_of plan.now)) }
-    ensures asked { IfOk result (λ found. found.asked.now ≡ drop (group_leaves (group_plan_of plan.now)) asked.now) }
-    ensures others { IfOk result (λ found. found.others.now ≡ drop (group_leaves (group_plan_of plan.now)) others.now) }
+    ensures choices { OnOk result (choosing.new.choices.items ≡ choosing.old.choices.items ++ group_chosen indexes.now asked.now others.now (unit_plan_of plan.now)) }
+    ensures leads { OnOk result (choosing.new.leads.items ≡ choosing.old.leads.items ++ group_list (lead_list indexes.now) (group_chosen indexes.now asked.now others.now (unit_plan_of plan.now)) (unit_plan_of plan.now)) }
+    ensures size { IfOk result (λ found. found.size ≡ group_size indexes.now (group_chosen indexes.now asked.now others.now (unit_plan_of plan.now)) (unit_plan_of plan.now)) }
+    ensures asked { IfOk result (λ found. found.asked.now ≡ drop (group_leaves (unit_plan_of plan.now)) asked.now) }
+    ensures others { IfOk result (λ found. found.others.now ≡ drop (group_leaves (unit_plan_of plan.now)) others.now) }
 {
     let all = groups(indexes);
     match plan {
@@ -239,11 +239,11 @@ fn settle_unit_parts<'a>(
     indexes: &Indexes,
     choosing: &mut Choosing,
 ) -> Result<SettledParts<'a>, AllocError>
-    ensures choices { OnOk result (choosing.new.choices.items ≡ choosing.old.choices.items ++ groups_chosen indexes.now asked.now others.now (group_plans_of parts.now)) }
-    ensures leads { OnOk result (choosing.new.leads.items ≡ choosing.old.leads.items ++ groups_list (lead_list indexes.now) (groups_chosen indexes.now asked.now others.now (group_plans_of parts.now)) (group_plans_of parts.now)) }
-    ensures tally { IfOk result (λ found. IsTallyOf all (group_sizes indexes.now (groups_chosen indexes.now asked.now others.now (group_plans_of parts.now)) (group_plans_of parts.now)) found.tally) }
-    ensures asked { IfOk result (λ found. found.asked.now ≡ drop (groups_leaves (group_plans_of parts.now)) asked.now) }
-    ensures others { IfOk result (λ found. found.others.now ≡ drop (groups_leaves (group_plans_of parts.now)) others.now) }
+    ensures choices { OnOk result (choosing.new.choices.items ≡ choosing.old.choices.items ++ groups_chosen indexes.now asked.now others.now (unit_plans_of parts.now)) }
+    ensures leads { OnOk result (choosing.new.leads.items ≡ choosing.old.leads.items ++ groups_list (lead_list indexes.now) (groups_chosen indexes.now asked.now others.now (unit_plans_of parts.now)) (unit_plans_of parts.now)) }
+    ensures tally { IfOk result (λ found. IsTallyOf all (group_sizes indexes.now (groups_chosen indexes.now asked.now others.now (unit_plans_of parts.now)) (unit_plans_of parts.now)) found.tally) }
+    ensures asked { IfOk result (λ found. found.asked.now ≡ drop (groups_leaves (unit_plans_of parts.now)) asked.now) }
+    ensures others { IfOk result (λ found. found.others.now ≡ drop (groups_leaves (unit_plans_of parts.now)) others.now) }
 {
     let mut found = no_parts(all, asked, others);
     for place in 0..parts.len() {

@@ -1,11 +1,11 @@
 //! The size and the bound of a plan, node by node, each from those of its children.
 ghost use Rattle.std.specs.Prelude.{◌≡◌, ◌+◌, drop};
-ghost use Rattle.set_algebra.specs.Plan.{group_plan_of, group_plans_of, plan_of, plans_of, test_plan_of};
+ghost use Rattle.set_algebra.specs.Plan.{unit_plan_of, unit_plans_of, plan_of, plans_of, test_plan_of};
 ghost use Rattle.planner.specs.Bounds.{bound as bound_of, capped, own_number};
 ghost use Rattle.planner.specs.Leaves.{group_leaves, groups_leaves, leaves, plans_leaves, test_leaves};
 ghost use Rattle.planner.specs.Nodes.{group_sum, groups_sum, plans_sum, test_sum};
 ghost use Rattle.planner.specs.Sizes.{group_size, group_sizes, size as size_of, sizes, test_size};
-ghost use Rattle.planner.specs.Tallies.{IsTallyOf, no_tally, tally_with};
+ghost use Rattle.planner.specs.inside.Tallies.{IsTallyOf, no_tally, tally_with};
 
 use crate::choice::{after_first, first_choice};
 use crate::counts::{
@@ -102,9 +102,9 @@ pub fn cost<'a>(plan: &ConceptPlan, choices: &'a [Choice], indexes: &Indexes) ->
 #[cycle(cost)]
 #[tactic(auto, using(crate::proofs::Rules::costing))]
 pub fn unit_cost<'a>(plan: &UnitPlan, choices: &'a [Choice], indexes: &Indexes) -> PlanCost<'a>
-    ensures size { result.size ≡ group_size indexes.now choices.now (group_plan_of plan.now) }
-    ensures bound { result.bound ≡ capped (group_sum (own_number indexes.now) choices.now (group_plan_of plan.now)) }
-    ensures rest { result.rest.now ≡ drop (group_leaves (group_plan_of plan.now)) choices.now }
+    ensures size { result.size ≡ group_size indexes.now choices.now (unit_plan_of plan.now) }
+    ensures bound { result.bound ≡ capped (group_sum (own_number indexes.now) choices.now (unit_plan_of plan.now)) }
+    ensures rest { result.rest.now ≡ drop (group_leaves (unit_plan_of plan.now)) choices.now }
 {
     let all = groups(indexes);
     match plan {
@@ -182,9 +182,9 @@ fn unit_parts_cost<'a>(
     choices: &'a [Choice],
     indexes: &Indexes,
 ) -> PartsCost<'a>
-    ensures tally { IsTallyOf all (group_sizes indexes.now choices.now (group_plans_of parts.now)) result.tally }
-    ensures bound { result.bound ≡ capped (groups_sum (own_number indexes.now) choices.now (group_plans_of parts.now)) }
-    ensures rest { result.rest.now ≡ drop (groups_leaves (group_plans_of parts.now)) choices.now }
+    ensures tally { IsTallyOf all (group_sizes indexes.now choices.now (unit_plans_of parts.now)) result.tally }
+    ensures bound { result.bound ≡ capped (groups_sum (own_number indexes.now) choices.now (unit_plans_of parts.now)) }
+    ensures rest { result.rest.now ≡ drop (groups_leaves (unit_plans_of parts.now)) choices.now }
 {
     let mut sum = no_parts(all, choices);
     for place in 0..parts.len() {

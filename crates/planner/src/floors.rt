@@ -1,6 +1,6 @@
 //! The floor of a plan, node by node.
 ghost use Rattle.std.specs.Prelude.{◌≡◌, ◌+◌, drop, if◌then◌else◌};
-ghost use Rattle.set_algebra.specs.Plan.{group_plan_of, group_plans_of, plan_of, plans_of, test_plan_of};
+ghost use Rattle.set_algebra.specs.Plan.{unit_plan_of, unit_plans_of, plan_of, plans_of, test_plan_of};
 ghost use Rattle.snapshot.specs.Numbering.{concept_number};
 ghost use Rattle.planner.specs.Bounds.{capped};
 ghost use Rattle.planner.specs.Counts.{is_extreme as is_extreme_of, list_length as list_length_of, member_count as member_count_of, one_of};
@@ -72,8 +72,8 @@ pub fn plan_floor<'a>(plan: &ConceptPlan, choices: &'a [Choice], indexes: &Index
 #[cycle(floor)]
 #[tactic(auto, using(crate::proofs::Rules::costing))]
 pub fn unit_floor<'a>(plan: &UnitPlan, choices: &'a [Choice], indexes: &Indexes) -> PlanFloor<'a>
-    ensures floor { result.floor ≡ capped (group_sum (floor_number indexes.now) choices.now (group_plan_of plan.now)) }
-    ensures rest { result.rest.now ≡ drop (group_leaves (group_plan_of plan.now)) choices.now }
+    ensures floor { result.floor ≡ capped (group_sum (floor_number indexes.now) choices.now (unit_plan_of plan.now)) }
+    ensures rest { result.rest.now ≡ drop (group_leaves (unit_plan_of plan.now)) choices.now }
 {
     match plan {
         UnitPlan::Nothing | UnitPlan::Every => floor_behind(0, 0, choices),
@@ -129,8 +129,8 @@ fn unit_parts_floor<'a>(
     choices: &'a [Choice],
     indexes: &Indexes,
 ) -> PlanFloor<'a>
-    ensures floor { result.floor ≡ capped (groups_sum (floor_number indexes.now) choices.now (group_plans_of parts.now)) }
-    ensures rest { result.rest.now ≡ drop (groups_leaves (group_plans_of parts.now)) choices.now }
+    ensures floor { result.floor ≡ capped (groups_sum (floor_number indexes.now) choices.now (unit_plans_of parts.now)) }
+    ensures rest { result.rest.now ≡ drop (groups_leaves (unit_plans_of parts.now)) choices.now }
 {
     let mut floor = 0u64;
     let mut rest = choices;

@@ -1,6 +1,6 @@
 //! How many items one node of a plan visits beside its sub-plans, at least and at most, by how much these have found.
 ghost use Rattle.std.specs.Prelude.{◌≡◌, ◌≤◌, ◌==◌, ◌+◌, if◌then◌else◌, length};
-ghost use Rattle.set_algebra.specs.Plan.{group_plan_of, plan_of, test_plan_of};
+ghost use Rattle.set_algebra.specs.Plan.{unit_plan_of, plan_of, test_plan_of};
 ghost use Rattle.planner.specs.Alternatives.{leaf_bound, passed_over};
 ghost use Rattle.planner.specs.Bounds.{capped, members_bound, walk_bound};
 ghost use Rattle.planner.specs.Counts.{is_extreme, leaf_of, list_length, member_count, one_of};
@@ -86,7 +86,7 @@ pub fn plan_size(plan: &ConceptPlan, choices: &[Choice], indexes: &Indexes) -> u
 
 /// How many groups a plan of groups finds at most, under the choices at the front of a list. It takes no memory.
 pub fn unit_size(units: &UnitPlan, choices: &[Choice], indexes: &Indexes) -> u64
-    ensures { result ≡ group_size indexes.now choices.now (group_plan_of units.now) }
+    ensures { result ≡ group_size indexes.now choices.now (unit_plan_of units.now) }
 {
     unit_cost(units, choices, indexes).size
 }

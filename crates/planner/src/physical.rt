@@ -39,7 +39,7 @@ impl Model for PhysicalPlan {
 
     ghost coded = { Prim.hlevel (codes, concept_plan.the_row.coded) };
 
-    ghost use Rattle.planner.specs.PhysicalInside.{IsKept, physical_in};
+    ghost use Rattle.planner.specs.inside.PhysicalInside.{IsKept, physical_in};
 
     ghost view = { physical_in };
 

@@ -1,6 +1,6 @@
 //! The sizes of the parts of a node, taken one by one.
 ghost use Rattle.std.specs.Prelude.{◌≡◌};
-ghost use Rattle.planner.specs.Tallies.{no_tally, tally_with};
+ghost use Rattle.planner.specs.inside.Tallies.{no_tally, tally_with};
 
 /// What is kept of the sizes of some parts.
 #[derive(Clone, Copy, Debug)]

@@ -13,10 +13,10 @@ use Rattle.snapshot.specs.Numbering.{row_of_numbers}
 use Rattle.ancestor_index.specs.HierarchyLists.{is_child, lists_where}
 use Rattle.ancestor_index.proofs.BuildLemmas.{lists_where-agree, same_child}
 use Rattle.ancestor_index.proofs.ClosureLemmas.{length-where}
-use Rattle.postings.specs.Coded.{row_coded, rows_coded}
+use Rattle.postings.specs.inside.Coded.{row_coded, rows_coded}
 use Rattle.postings.specs.Indexed.{value_at}
-use Rattle.postings.specs.KeptRows.{rows_kept}
-use Rattle.postings.specs.RowIndexes.{AreRowIndexes}
+use Rattle.postings.specs.inside.KeptRows.{rows_kept}
+use Rattle.postings.specs.inside.RowIndexes.{AreRowIndexes}
 use Rattle.postings.specs.declared.row_indexes.RowIndexes.{RowIndexes}
 use Rattle.postings.specs.declared.rows.CodedRow.{CodedRow}
 

@@ -8,8 +8,8 @@ use Rattle.std.proofs.lemmas.List.Elements.{All-map, All-same, All-tail}
 use Rattle.rf2_rows.specs.Release.{Attribute, Value, concept_value}
 use Rattle.hierarchy.specs.KeyedLists.{list_of}
 use Rattle.hierarchy.proofs.SpanLemmas.{concat-append, concat-take_more}
-use Rattle.postings.specs.Cells.{IsColumn, cells_of}
-use Rattle.postings.specs.Columns.{AreGroups, AreSources, AreTypes, AreValues, Mark}
+use Rattle.postings.specs.inside.Cells.{IsColumn, cells_of}
+use Rattle.postings.specs.Columns.{AreGroups, AreSources, AreTypes, AreValues, Flagged}
 use Rattle.postings.specs.Entries.{Entry, entries_of}
 use Rattle.postings.specs.Groups.{ConceptGroup, group_of}
 use Rattle.postings.specs.Indexed.{value_at}
@@ -123,7 +123,7 @@ module _ (rows : List Attribute) (test : Attribute → Bool) (lists : List (List
         true;
   }
 
-  abbrev a_mark : Mark
+  abbrev a_mark : Flagged
   a_mark = record { number = 0; is_first = true }
 
   -- so what such a column says of the entries its cells of the key say of those whose rows pass
@@ -144,27 +144,27 @@ module _ (rows : List Attribute) (test : Attribute → Bool) (lists : List (List
       (all_at P marks holds (places_where test rows) (places_there g h marks same) d)
 
   -- the sources
-  pub sources_at : (concepts : List ℕ) (marks cells : List Mark) → AreSources concepts (entries_of rows) marks
+  pub sources_at : (concepts : List ℕ) (marks cells : List Flagged) → AreSources concepts (entries_of rows) marks
       → IsColumn marks (concat lists) cells
       → AreSources concepts (filter (λ (entry : Entry). test entry.row) (entries_of rows)) (cells_of lists cells k)
   sources_at concepts marks cells are column =
-      let source : Mark → ℕ = λ (mark : Mark). slice_index concepts mark.number in
+      let source : Flagged → ℕ = λ (mark : Flagged). slice_index concepts mark.number in
       record {
-        within = kept (λ (mark : Mark). mark.number < length concepts) source (λ (entry : Entry). entry.row.source) marks cells a_mark
+        within = kept (λ (mark : Flagged). mark.number < length concepts) source (λ (entry : Entry). entry.row.source) marks cells a_mark
             are.sources (column a_mark) are.within;
         sources = said source (λ (entry : Entry). entry.row.source) marks cells a_mark are.sources (column a_mark);
-        firsts = said (λ (mark : Mark). mark.is_first) (λ (entry : Entry). entry.is_first) marks cells a_mark are.firsts (column a_mark);
+        firsts = said (λ (mark : Flagged). mark.is_first) (λ (entry : Entry). entry.is_first) marks cells a_mark are.firsts (column a_mark);
       }
 
   -- the groups
-  pub groups_at : (groups : List ConceptGroup) (marks cells : List Mark) → AreGroups groups (entries_of rows) marks
+  pub groups_at : (groups : List ConceptGroup) (marks cells : List Flagged) → AreGroups groups (entries_of rows) marks
       → IsColumn marks (concat lists) cells
       → AreGroups groups (filter (λ (entry : Entry). test entry.row) (entries_of rows)) (cells_of lists cells k)
   groups_at groups marks cells are column =
       record {
-        groups = said (λ (mark : Mark). slice_get groups mark.number) (λ (entry : Entry). Some (group_of entry.row)) marks cells a_mark
+        groups = said (λ (mark : Flagged). slice_get groups mark.number) (λ (entry : Entry). Some (group_of entry.row)) marks cells a_mark
             are.groups (column a_mark);
-        firsts = said (λ (mark : Mark). mark.is_first) (λ (entry : Entry). entry.is_first_in_group) marks cells a_mark are.firsts
+        firsts = said (λ (mark : Flagged). mark.is_first) (λ (entry : Entry). entry.is_first_in_group) marks cells a_mark are.firsts
             (column a_mark);
       }
 

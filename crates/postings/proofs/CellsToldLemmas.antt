@@ -3,13 +3,13 @@ use Rattle.std.proofs.Common.{ℕ, ◌≡◌, ◌<◌, ◌∙◌, List, length, 
 use Rattle.std.specs.Prelude.{IfSome, slice_get, slice_index}
 use Rattle.std.proofs.lemmas.List.{get_or-map, length-map}
 use Rattle.rf2_rows.specs.Release.{Attribute}
-use Rattle.postings.specs.Columns.{Mark}
+use Rattle.postings.specs.Columns.{Flagged}
 use Rattle.postings.specs.Entries.{Entry, entries_of}
-use Rattle.postings.specs.IndexInside.{AreIndexed, indexed_in}
+use Rattle.postings.specs.inside.IndexInside.{AreIndexed, indexed_in}
 use Rattle.postings.specs.Indexed.{Indexed, value_at}
-use Rattle.postings.specs.Coded.{row_coded}
-use Rattle.postings.specs.ValueTables.{values_in}
-use Rattle.postings.specs.KeptRows.{mark_at, row_kept}
+use Rattle.postings.specs.inside.Coded.{row_coded}
+use Rattle.postings.specs.inside.ValueTables.{values_in}
+use Rattle.postings.specs.inside.KeptRows.{mark_at, row_kept}
 use Rattle.postings.specs.RowColumns.{AreRowCells}
 use Rattle.postings.specs.declared.index.Indexes.TheInside.{Inside}
 use Rattle.postings.specs.declared.index.RowCells.{RowCells}
@@ -54,12 +54,12 @@ module _ (inside : Inside) (are : AreIndexed inside) (now : Indexed) (same : ind
         ∙ row_at inside are now same n d.row here
 
     -- the flags of a column are those of the rows
-    flag : (column : List Mark) (test : Entry → Bool) → map (λ (mark : Mark). mark.is_first) (map (mark_at column) inside.rows.places.items) ≡ map test (entries_of rows)
+    flag : (column : List Flagged) (test : Entry → Bool) → map (λ (mark : Flagged). mark.is_first) (map (mark_at column) inside.rows.places.items) ≡ map test (entries_of rows)
         → (mark_at column (get_or inside.rows.places.items n 0)).is_first ≡ test entry
     flag column test same_flags =
-        let some : Mark = mark_at column 0 in
-        ap (λ (mark : Mark). mark.is_first) (sym (get_or-map (mark_at column) inside.rows.places.items n 0 some (row_there inside are now same n below).place))
-        ∙ sym (get_or-map (λ (mark : Mark). mark.is_first) (map (mark_at column) inside.rows.places.items) n some (test d)
+        let some : Flagged = mark_at column 0 in
+        ap (λ (mark : Flagged). mark.is_first) (sym (get_or-map (mark_at column) inside.rows.places.items n 0 some (row_there inside are now same n below).place))
+        ∙ sym (get_or-map (λ (mark : Flagged). mark.is_first) (map (mark_at column) inside.rows.places.items) n some (test d)
         (omega (arith, (row_there inside are now same n below).place, length-map inside.rows.places.items (mark_at column))))
         ∙ ap (λ (flags : List Bool). get_or flags n (test d)) same_flags
         ∙ get_or-map test (entries_of rows) n d (test d) in_entries

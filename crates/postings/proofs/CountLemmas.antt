@@ -100,8 +100,8 @@ same_pair : (x y : Pair) → pair_eq x y ≡ true → x ≡ y
 same_pair x y told = (tells_same_pair x y).0 told
 
 -- a number that is another is so in either order
-turned : (row_source other_source concept : ℕ) → row_source ≡ concept → (row_source == other_source) ≡ (other_source == concept)
-turned row_source other_source concept is = ap (λ (id : ℕ). id == other_source) is ∙ nat_eq_equiv.symm concept other_source
+swapped : (row_source other_source concept : ℕ) → row_source ≡ concept → (row_source == other_source) ≡ (other_source == concept)
+swapped row_source other_source concept is = ap (λ (id : ℕ). id == other_source) is ∙ nat_eq_equiv.symm concept other_source
 
 -- ---- groups
 
@@ -153,8 +153,8 @@ module _ (concepts : List ℕ) (rows : List Attribute) where
       ∙ sym (firsts_give_distinct (λ (row : Attribute). (row.source == concept) && (row.group == number)) pair_of is_alike_in_group
       (λ row other is.
       let parts = and_parts (row.source == concept) (row.group == number) is in
-      (λ i. turned row.group other.group number (eqb-true row.group number parts.1) i
-      && (turned row.source other.source concept (eqb-true row.source concept parts.0) i && pair_eq (pair_of row) (pair_of other)))
+      (λ i. swapped row.group other.group number (eqb-true row.group number parts.1) i
+      && (swapped row.source other.source concept (eqb-true row.source concept parts.0) i && pair_eq (pair_of row) (pair_of other)))
       ∙ order (other.group == number) (other.source == concept) (pair_eq (pair_of row) (pair_of other)))
       (λ (entry : Entry). entry.is_first_in_group) (λ row before. refl) rows)
     where
@@ -200,8 +200,8 @@ module _ (concepts : List ℕ) (rows : List Attribute) where
           let same : pair_of row ≡ pair = same_pair (pair_of row) pair more.1 in
           let test : pair_eq (pair_of row) (pair_of other) ≡ pair_eq (pair_of other) pair =
           ap (λ (one : Pair). pair_eq one (pair_of other)) same ∙ pair_eq-flips pair (pair_of other) in
-          (λ i. turned row.group other.group 0 (eqb-true row.group 0 more.0) i
-          && (turned row.source other.source concept (eqb-true row.source concept parts.0) i && pair_eq (pair_of row) (pair_of other)))
+          (λ i. swapped row.group other.group 0 (eqb-true row.group 0 more.0) i
+          && (swapped row.source other.source concept (eqb-true row.source concept parts.0) i && pair_eq (pair_of row) (pair_of other)))
           ∙ order (other.group == 0) (other.source == concept) (pair_eq (pair_of row) (pair_of other))
           ∙ (λ i. ((other.source == concept) && ((other.group == 0) && test i)) && pair_eq (pair_of row) (pair_of other))
 
@@ -225,7 +225,7 @@ module _ (release : Release) (increases : IsStrictlyIncreasing release.concepts)
       ap (λ (rows : List Attribute). distinct pair_eq (map pair_of rows))
       (sym (rows_of_again release increases (attributes_by_source release) refl concept there))
       ∙ sym (firsts_give_distinct (λ (row : Attribute). row.source == concept) pair_of is_alike
-      (λ row other is i. turned row.source other.source concept (eqb-true row.source concept is) i
+      (λ row other is i. swapped row.source other.source concept (eqb-true row.source concept is) i
       && pair_eq (pair_of row) (pair_of other))
       (λ (entry : Entry). entry.is_first) (λ row before. refl) (attributes_by_source release))
 

@@ -2,8 +2,8 @@
 use Rattle.std.proofs.Common.{ℕ, ◌≡◌, ◌++◌, ◌∷◌, [], not, List, map, Bool, refl, ap}
 use Rattle.std.specs.List.{list_any}
 use Rattle.rf2_rows.specs.Release.{Attribute}
-use Rattle.postings.specs.Coded.{marks_after}
-use Rattle.postings.specs.Columns.{Mark}
+use Rattle.postings.specs.inside.Coded.{marks_after}
+use Rattle.postings.specs.Columns.{Flagged}
 use Rattle.postings.specs.Entries.{Entry, entries_after, is_alike, is_alike_in_group}
 use Rattle.postings.specs.declared.rows.CodedRow.{CodedRow}
 use Rattle.postings.proofs.FlagLemmas.{flags_after}
@@ -29,14 +29,14 @@ firsts_in_group before (row ∷ rows) = ap (λ (rest : List Bool). not (list_any
 
 -- marks have the numbers of their rows
 pub numbers_of_marks : (same : CodedRow → CodedRow → Bool) (number : CodedRow → ℕ) (before rows : List CodedRow)
-    → map (λ (mark : Mark). mark.number) (marks_after same number before rows) ≡ map number rows
+    → map (λ (mark : Flagged). mark.number) (marks_after same number before rows) ≡ map number rows
 numbers_of_marks same number before [] = refl
 numbers_of_marks same number before (row ∷ rows) =
     ap (λ (rest : List ℕ). number row ∷ rest) (numbers_of_marks same number (before ++ row ∷ []) rows)
 
 -- and say which rows are the first of those that are the same
 pub firsts_of_marks : (same : CodedRow → CodedRow → Bool) (number : CodedRow → ℕ) (before rows : List CodedRow)
-    → map (λ (mark : Mark). mark.is_first) (marks_after same number before rows) ≡ flags_after same before rows
+    → map (λ (mark : Flagged). mark.is_first) (marks_after same number before rows) ≡ flags_after same before rows
 firsts_of_marks same number before [] = refl
 firsts_of_marks same number before (row ∷ rows) =
     ap (λ (rest : List Bool). not (list_any (same row) before) ∷ rest) (firsts_of_marks same number (before ++ row ∷ []) rows)

@@ -13,7 +13,7 @@ use Rattle.idset.specs.Sets.{has_item}
 use Rattle.idset.proofs.Normal.{numbers_where-agree}
 use Rattle.snapshot.specs.InForce.{rising}
 use Rattle.ancestor_index.proofs.ClosureLemmas.{both_ways, item_there, there_item}
-use Rattle.postings.specs.Coded.{code_eq, group_codes, ungrouped_pairs, numbers_of_groups, pair_code, place_in_source, row_coded}
+use Rattle.postings.specs.inside.Coded.{code_eq, group_codes, ungrouped_pairs, numbers_of_groups, pair_code, place_in_source, row_coded}
 use Rattle.postings.specs.Groups.{GroupKey, key_of, numbered, ungrouped}
 use Rattle.postings.specs.Indexed.{value_at}
 use Rattle.postings.specs.declared.rows.CodedRow.{CodedRow}

@@ -13,7 +13,7 @@ use Rattle.rf2_rows.specs.Pairs.{distinct}
 use Rattle.idset.specs.Sets.{IsRising, has_item, place_of}
 use Rattle.idset.proofs.Places.{below_place, has_item-place, place_le}
 use Rattle.snapshot.proofs.FinishLemmas.{length-rising}
-use Rattle.postings.specs.Coded.{code_eq, group_codes, ungrouped_pairs, numbers_of_groups, pair_code, place_in_source}
+use Rattle.postings.specs.inside.Coded.{code_eq, group_codes, ungrouped_pairs, numbers_of_groups, pair_code, place_in_source}
 use Rattle.postings.specs.declared.rows.CodedRow.{CodedRow}
 use Rattle.postings.proofs.DistinctLemmas.{filter-map_agree, length-distinct, position-distinct}
 use Rattle.postings.proofs.MarkLemmas.{code_eq_equiv}

@@ -16,9 +16,9 @@ use Rattle.std.proofs.lemmas.Simd.{map-map}
 use Rattle.rf2_rows.specs.Pairs.{distinct, pair_eq, pair_of, value_eq}
 use Rattle.rf2_rows.specs.Release.{Attribute, Value}
 use Rattle.snapshot.specs.InForce.{rising}
-use Rattle.postings.specs.Coded.{IsBySource, IsCoded, all_group_marks, code_eq, group_codes, group_marks, groups_ahead, has_same_in_group}
-use Rattle.postings.specs.Coded.{has_same_pair, ungrouped_pairs, of_source, pair_code, place_in_source, row_coded}
-use Rattle.postings.specs.Columns.{AreGroups, Mark}
+use Rattle.postings.specs.inside.Coded.{IsBySource, IsCoded, all_group_marks, code_eq, group_codes, group_marks, groups_ahead, has_same_in_group}
+use Rattle.postings.specs.inside.Coded.{has_same_pair, ungrouped_pairs, of_source, pair_code, place_in_source, row_coded}
+use Rattle.postings.specs.Columns.{AreGroups, Flagged}
 use Rattle.postings.specs.Entries.{Entry, entries_of, is_alike_in_group}
 use Rattle.postings.specs.Groups.{ConceptGroup, GroupKey, all_groups, group_of, groups_among, is_in_group, key_of, keys_of, numbered}
 use Rattle.postings.specs.Groups.{rows_alone, ungrouped}
@@ -170,12 +170,12 @@ module _ (concepts types : List ℕ) (values : List Value) (increases : IsStrict
   module _ (sorted : IsBySource (length concepts) coded) where
     -- the numbers of the marks by group are those of the groups of the rows
     pub group_numbers_told : map (slice_get (all_groups (rows_alone concepts rows)))
-        (map (λ (mark : Mark). mark.number) (all_group_marks coded (length concepts)))
+        (map (λ (mark : Flagged). mark.number) (all_group_marks coded (length concepts)))
         ≡ map (λ (row : Attribute). Some (group_of row)) rows
     group_numbers_told =
-        ap (map (slice_get all)) (map-flat_map (λ (mark : Mark). mark.number) marks range)
-        ∙ map-flat_map (slice_get all) (λ source. map (λ (mark : Mark). mark.number) (marks source)) range
-        ∙ blocks-same (λ source. map (slice_get all) (map (λ (mark : Mark). mark.number) (marks source)))
+        ap (map (slice_get all)) (map-flat_map (λ (mark : Flagged). mark.number) marks range)
+        ∙ map-flat_map (slice_get all) (λ source. map (λ (mark : Flagged). mark.number) (marks source)) range
+        ∙ blocks-same (λ source. map (slice_get all) (map (λ (mark : Flagged). mark.number) (marks source)))
         (λ source. map own (of_source coded source)) 0 (length concepts) (λ k below. block k below)
         ∙ sym (map-flat_map own (of_source coded) range)
         ∙ ap (map own) (sym sorted)
@@ -188,13 +188,13 @@ module _ (concepts types : List ℕ) (values : List Value) (increases : IsStrict
         range : List ℕ
         range = range_with_len 0 (length concepts)
 
-        marks : ℕ → List Mark
+        marks : ℕ → List Flagged
         marks source = group_marks (groups_ahead coded source) (of_source coded source)
 
         own : CodedRow → Option ConceptGroup
         own row = Some (group_of (row_coded concepts types values row))
 
-        block : (k : ℕ) → k < 0 + length concepts → map (slice_get all) (map (λ (mark : Mark). mark.number) (marks k))
+        block : (k : ℕ) → k < 0 + length concepts → map (slice_get all) (map (λ (mark : Flagged). mark.number) (marks k))
             ≡ map own (of_source coded k)
         block k below =
             let number : CodedRow → ℕ = λ row. groups_ahead coded k + place_in_source (of_source coded k) row in
@@ -208,12 +208,12 @@ module _ (concepts types : List ℕ) (values : List Value) (increases : IsStrict
             near k below = omega arith
 
     -- and their flags are those of the entries
-    group_firsts : map (λ (mark : Mark). mark.is_first) (all_group_marks coded (length concepts))
+    group_firsts : map (λ (mark : Flagged). mark.is_first) (all_group_marks coded (length concepts))
         ≡ map (λ (entry : Entry). entry.is_first_in_group) (entries_of rows)
     group_firsts =
-        map-flat_map (λ (mark : Mark). mark.is_first) (λ source. group_marks (groups_ahead coded source) (of_source coded source))
+        map-flat_map (λ (mark : Flagged). mark.is_first) (λ source. group_marks (groups_ahead coded source) (of_source coded source))
         (range_with_len 0 (length concepts))
-        ∙ blocks-same (λ source. map (λ (mark : Mark). mark.is_first)
+        ∙ blocks-same (λ source. map (λ (mark : Flagged). mark.is_first)
         (group_marks (groups_ahead coded source) (of_source coded source)))
         (λ source. flags_after has_same_in_group [] (of_source coded source)) 0 (length concepts)
         (λ k below. firsts_of_marks has_same_in_group (λ (row : CodedRow). groups_ahead coded k + place_in_source (of_source coded k) row)
@@ -232,7 +232,7 @@ module _ (concepts types : List ℕ) (values : List Value) (increases : IsStrict
     -- the marks of the rows by group tell the groups of the entries, and which are the first with their pair
     pub groups_told : AreGroups (all_groups (rows_alone concepts rows)) (entries_of rows) (all_group_marks coded (length concepts))
     groups_told = record {
-      groups = sym (map-map (slice_get (all_groups (rows_alone concepts rows))) (λ (mark : Mark). mark.number)
+      groups = sym (map-map (slice_get (all_groups (rows_alone concepts rows))) (λ (mark : Flagged). mark.number)
           (all_group_marks coded (length concepts)))
           ∙ group_numbers_told
           ∙ ap (map (λ (row : Attribute). Some (group_of row))) (sym (rows_of_entries [] rows))
@@ -242,7 +242,7 @@ module _ (concepts types : List ℕ) (values : List Value) (increases : IsStrict
 
     -- the places of a group's number among the numbers of the marks are those of its rows
     pub group_rows_told : map (λ u. places_where (λ number. number == u)
-        (map (λ (mark : Mark). mark.number) (all_group_marks coded (length concepts))))
+        (map (λ (mark : Flagged). mark.number) (all_group_marks coded (length concepts))))
         (range_with_len 0 (length (all_groups (rows_alone concepts rows))))
         ≡ map (λ (group : ConceptGroup). places_where (is_in_group group) rows) (all_groups (rows_alone concepts rows))
     group_rows_told =
@@ -260,7 +260,7 @@ module _ (concepts types : List ℕ) (values : List Value) (increases : IsStrict
         all = all_groups (rows_alone concepts rows)
 
         numbers : List ℕ
-        numbers = map (λ (mark : Mark). mark.number) (all_group_marks coded (length concepts))
+        numbers = map (λ (mark : Flagged). mark.number) (all_group_marks coded (length concepts))
 
         some : ConceptGroup
         some = group_with 0 (numbered 0)

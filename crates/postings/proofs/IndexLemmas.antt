@@ -12,7 +12,7 @@ use Rattle.std.proofs.lemmas.List.Quantifiers.{position-Some}
 use Rattle.rf2_rows.specs.Release.{Attribute}
 use Rattle.rf2_rows.proofs.DistinctLemmas.{any_distinct}
 use Rattle.hierarchy.specs.KeyedLists.{list_of}
-use Rattle.postings.specs.Columns.{AreGroups, AreSources, Mark}
+use Rattle.postings.specs.Columns.{AreGroups, AreSources, Flagged}
 use Rattle.postings.specs.Entries.{Entry, entries_after, entries_of, entries_with_type, is_alike, is_alike_in_group}
 use Rattle.postings.specs.Groups.{ConceptGroup, group_of}
 use Rattle.postings.specs.Indexed.{types_of}
@@ -104,21 +104,21 @@ pub rows_of_entries : (before rows : List Attribute) → map (λ (entry : Entry)
 rows_of_entries before [] = refl
 rows_of_entries before (row ∷ rows) = ap (λ (rest : List Attribute). row ∷ rest) (rows_of_entries (before ++ row ∷ []) rows)
 
-module _ (groups : List ConceptGroup) (rows : List Attribute) (marks : List Mark) (are : AreGroups groups (entries_of rows) marks) where
+module _ (groups : List ConceptGroup) (rows : List Attribute) (marks : List Flagged) (are : AreGroups groups (entries_of rows) marks) where
   pub length-groups : length marks ≡ length rows
   length-groups =
-      sym (length-map marks (λ (mark : Mark). slice_get groups mark.number))
+      sym (length-map marks (λ (mark : Flagged). slice_get groups mark.number))
       ∙ ap (λ (xs : List (Option ConceptGroup)). length xs) are.groups
       ∙ length-map (entries_of rows) (λ (entry : Entry). Some (group_of entry.row))
       ∙ length-entries_after [] rows
 
   -- the group of the row with a number
-  pub group_at : (n : ℕ) (row : Attribute) (mark : Mark) → n < length rows
+  pub group_at : (n : ℕ) (row : Attribute) (mark : Flagged) → n < length rows
       → slice_get groups (get_or marks n mark).number ≡ Some (group_of (get_or rows n row))
   group_at n row mark within =
       let entry : Entry = record { row = row; is_first = true; is_first_in_group = true } in
       let entries = entries_of rows in
-      sym (get_or-map (λ (mark : Mark). slice_get groups mark.number) marks n mark None (omega (arith, within, length-groups)))
+      sym (get_or-map (λ (mark : Flagged). slice_get groups mark.number) marks n mark None (omega (arith, within, length-groups)))
       ∙ ap (λ (xs : List (Option ConceptGroup)). get_or xs n None) are.groups
       ∙ get_or-map (λ (entry : Entry). Some (group_of entry.row)) entries n entry None
       (omega (arith, within, length-entries_after [] rows))
@@ -127,10 +127,10 @@ module _ (groups : List ConceptGroup) (rows : List Attribute) (marks : List Mark
       ∙ ap (λ (xs : List Attribute). get_or xs n row) (rows_of_entries [] rows))
 
 -- there is a mark for each row
-pub length-sources : (concepts : List ℕ) (rows : List Attribute) (marks : List Mark) → AreSources concepts (entries_of rows) marks
+pub length-sources : (concepts : List ℕ) (rows : List Attribute) (marks : List Flagged) → AreSources concepts (entries_of rows) marks
     → length marks ≡ length rows
 length-sources concepts rows marks are =
-    sym (length-map marks (λ (mark : Mark). mark.is_first))
+    sym (length-map marks (λ (mark : Flagged). mark.is_first))
     ∙ ap (λ (xs : List Bool). length xs) are.firsts
     ∙ length-map (entries_of rows) (λ (entry : Entry). entry.is_first)
     ∙ length-entries_after [] rows

@@ -7,7 +7,7 @@ use Rattle.std.proofs.lemmas.Bool.{cases_eq, eq-eqb}
 use Rattle.std.proofs.lemmas.List.{get_or_default, get_or-map, get_or-set_other, get_or-set_same, length-map, same_lists, take_more}
 use Rattle.std.proofs.lemmas.List.Elements.{Contains-append_left, Contains-append_right, Contains-push_cases}
 use Rattle.std.proofs.lemmas.Option.{get_or_from_slice_get, slice_get-get_or, slice_get_within}
-use Rattle.postings.specs.Cells.{IsColumn}
+use Rattle.postings.specs.inside.Cells.{IsColumn}
 use Rattle.postings.specs.Places.{places_by, places_from, places_where}
 
 -- ---- the places of the numbers, one by one

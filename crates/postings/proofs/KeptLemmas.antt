@@ -11,14 +11,14 @@ use Rattle.std.proofs.lemmas.Option.{slice_get_within}
 use Rattle.rf2_rows.specs.Release.{Attribute, Release}
 use Rattle.snapshot.specs.AttributesBySource.{attributes_by_source}
 use Rattle.hierarchy.proofs.CutLemmas.{same_maps}
-use Rattle.postings.specs.Coded.{AreCoded, AreCodedRows, AreRowMarks, has_same_pair, of_source, row_coded, source_marks}
-use Rattle.postings.specs.Cells.{AreRowLists}
-use Rattle.postings.specs.Columns.{AreGroups, AreSources, Mark}
+use Rattle.postings.specs.inside.Coded.{AreCoded, AreCodedRows, AreRowMarks, has_same_pair, of_source, row_coded, source_marks}
+use Rattle.postings.specs.inside.Cells.{AreRowLists}
+use Rattle.postings.specs.Columns.{AreGroups, AreSources, Flagged}
 use Rattle.postings.specs.Entries.{entries_of}
 use Rattle.postings.specs.Groups.{ConceptGroup, GroupKey, all_groups, group_of, key_of, numbered, rows_alone, ungrouped}
-use Rattle.postings.specs.KeptRows.{AreNumbersOf, HaveOneNumber, IsKept, groups_kept, mark_at, row_kept, rows_kept, sources_kept, unit_kept}
+use Rattle.postings.specs.inside.KeptRows.{AreNumbersOf, HaveOneNumber, IsKept, groups_kept, mark_at, row_kept, rows_kept, sources_kept, unit_kept}
 use Rattle.postings.specs.Places.{places_by}
-use Rattle.postings.specs.ValueTables.{values_in}
+use Rattle.postings.specs.inside.ValueTables.{values_in}
 use Rattle.postings.specs.declared.groups.RowMarks.{RowMarks}
 use Rattle.postings.specs.declared.row_indexes.RowIndexes.{RowIndexes}
 use Rattle.postings.specs.declared.rows.CodedRow.{CodedRow}
@@ -33,12 +33,12 @@ use Rattle.postings.proofs.InverseLemmas.{cell_back, column_back, place_within}
 use Rattle.postings.proofs.RowIndexLemmas.{groups_are, is_sorted, length-codes, length-group_marks, length-source_marks, sources_are, starts_last}
 
 -- ---- the numbers of groups, row by row
-abbrev pub AreNumbered : List Mark → List CodedRow → ℕ → List ℕ → Type 0
+abbrev pub AreNumbered : List Flagged → List CodedRow → ℕ → List ℕ → Type 0
 AreNumbered marks rows bound numbers =
-    (n : ℕ) (mark : Mark) (row : CodedRow) → n < bound
+    (n : ℕ) (mark : Flagged) (row : CodedRow) → n < bound
     → slice_index numbers (slice_index_or marks n mark).number ≡ (slice_index_or rows n row).group
 
-pub numbered_more : (marks : List Mark) (rows : List CodedRow) (numbers : List ℕ) (k : ℕ) (some : Mark) (none : CodedRow)
+pub numbered_more : (marks : List Flagged) (rows : List CodedRow) (numbers : List ℕ) (k : ℕ) (some : Flagged) (none : CodedRow)
     → k < length rows → length marks ≡ length rows → HaveOneNumber marks rows → (get_or marks k some).number < length numbers
     → AreNumbered marks rows k numbers
     → AreNumbered marks rows (k + 1) (set numbers (get_or marks k some).number (get_or rows k none).group)
@@ -59,14 +59,14 @@ numbered_more marks rows numbers k some none within long one room so_far n mark 
         ap (λ (u : ℕ). get_or (set numbers unit group) u 0) same
         ∙ get_or-set_same numbers unit group 0 room
         ∙ ap (λ (found : CodedRow). found.group) (get_or_default rows k none row within)
-        ∙ sym (one n k mark row (omega (arith, below, within)) within (same ∙ ap (λ (found : Mark). found.number) now))
+        ∙ sym (one n k mark row (omega (arith, below, within)) within (same ∙ ap (λ (found : Flagged). found.number) now))
 
     other : (get_or marks n mark).number ≢ unit
         → get_or (set numbers unit group) (get_or marks n mark).number 0 ≡ (get_or rows n row).group
     other apart =
         get_or-set_other numbers unit (get_or marks n mark).number group 0 apart
         ∙ so_far n mark row (⊎_elim
-        (λ (same : n ≡ k). absurd (apart (ap (λ (m : ℕ). (get_or marks m mark).number) same ∙ ap (λ (found : Mark). found.number) (sym now))))
+        (λ (same : n ≡ k). absurd (apart (ap (λ (m : ℕ). (get_or marks m mark).number) same ∙ ap (λ (found : Flagged). found.number) (sym now))))
         (λ (before : n ≢ k). omega (arith, below, before)) (cases_eq n k))
 
 -- ---- the number of a row's group by the group
@@ -109,7 +109,7 @@ module _ (release : Release) (rises : IsStrictlyIncreasing release.concepts) (co
   abbrev groups : List ConceptGroup
   groups = all_groups (rows_alone release.concepts rows)
 
-  a_mark : Mark
+  a_mark : Flagged
   a_mark = record { number = 0; is_first = true }
 
   a_row : CodedRow
@@ -119,31 +119,31 @@ module _ (release : Release) (rises : IsStrictlyIncreasing release.concepts) (co
   groups_told = subst (AreGroups groups (entries_of rows)) (sym marked.groups) (groups_are release rises coded are)
 
   pub many_groups : length marks.groups.items ≡ length codes
-  many_groups = ap (λ (xs : List Mark). length xs) marked.groups ∙ length-group_marks release rises coded are
+  many_groups = ap (λ (xs : List Flagged). length xs) marked.groups ∙ length-group_marks release rises coded are
 
   many_sources : length marks.sources.items ≡ length codes
-  many_sources = ap (λ (xs : List Mark). length xs) marked.sources ∙ length-source_marks release rises coded are
+  many_sources = ap (λ (xs : List Flagged). length xs) marked.sources ∙ length-source_marks release rises coded are
 
   -- the marks by source have the sources of the rows
-  sources_marked : map (λ (mark : Mark). mark.number) marks.sources.items ≡ map (λ (row : CodedRow). row.source) codes
+  sources_marked : map (λ (mark : Flagged). mark.number) marks.sources.items ≡ map (λ (row : CodedRow). row.source) codes
   sources_marked =
-      ap (map (λ (mark : Mark). mark.number)) marked.sources
-      ∙ map-flat_map (λ (mark : Mark). mark.number) (λ source. source_marks (of_source codes source))
+      ap (map (λ (mark : Flagged). mark.number)) marked.sources
+      ∙ map-flat_map (λ (mark : Flagged). mark.number) (λ source. source_marks (of_source codes source))
       (range_with_len 0 (length release.concepts))
-      ∙ blocks-same (λ source. map (λ (mark : Mark). mark.number) (source_marks (of_source codes source)))
+      ∙ blocks-same (λ source. map (λ (mark : Flagged). mark.number) (source_marks (of_source codes source)))
       (λ source. map (λ (row : CodedRow). row.source) (of_source codes source)) 0 (length release.concepts)
       (λ k below. numbers_of_marks has_same_pair (λ (row : CodedRow). row.source) [] (of_source codes k))
       ∙ sym (map-flat_map (λ (row : CodedRow). row.source) (of_source codes) (range_with_len 0 (length release.concepts)))
       ∙ ap (map (λ (row : CodedRow). row.source)) (sym (is_sorted release rises coded are))
 
   -- the group of a row by its mark
-  pub group_marked : (n : ℕ) (mark : Mark) (row : Attribute) → n < length codes
+  pub group_marked : (n : ℕ) (mark : Flagged) (row : Attribute) → n < length codes
       → slice_get groups (get_or marks.groups.items n mark).number ≡ Some (group_of (get_or rows n row))
   group_marked n mark row below =
       group_at groups rows marks.groups.items groups_told n row mark (omega (arith, below, length-codes release rises coded are))
 
   -- there are no more groups than the last of the starts
-  pub units_below : All (λ (mark : Mark). mark.number < get_or marks.starts.items (length marks.starts.items - 1) 0) marks.groups.items
+  pub units_below : All (λ (mark : Flagged). mark.number < get_or marks.starts.items (length marks.starts.items - 1) 0) marks.groups.items
   units_below n mark inside =
       let row : Attribute = row_coded release.concepts coded.types.numbers (values_in release.concepts coded.values) a_row in
       omega (
@@ -207,9 +207,9 @@ module _ (release : Release) (rises : IsStrictlyIncreasing release.concepts) (co
     unfolding a_mark
     row_is n below =
         let source : (mark_at indexes.by_type.sources.items (get_or indexes.places.items n 0)).number ≡ (get_or codes n a_row).source =
-        ap (λ (mark : Mark). mark.number) (cell_back flat indexes.places.items (length codes) places_len found marks.sources.items
+        ap (λ (mark : Flagged). mark.number) (cell_back flat indexes.places.items (length codes) places_len found marks.sources.items
         indexes.by_type.sources.items many_sources (follows marks.sources.items indexes.by_type.sources.items by_type.sources) n below a_mark)
-        ∙ sym (get_or-map (λ (mark : Mark). mark.number) marks.sources.items n a_mark 0 (omega (arith, below, many_sources)))
+        ∙ sym (get_or-map (λ (mark : Flagged). mark.number) marks.sources.items n a_mark 0 (omega (arith, below, many_sources)))
         ∙ ap (λ (xs : List ℕ). get_or xs n 0) sources_marked
         ∙ get_or-map (λ (row : CodedRow). row.source) codes n a_row 0 below in
         let type_place : get_or indexes.type_places.items n 0 ≡ (get_or codes n a_row).type_place =
@@ -225,7 +225,7 @@ module _ (release : Release) (rises : IsStrictlyIncreasing release.concepts) (co
       where
         unit_is : (n : ℕ) → n < length codes → unit_kept indexes n ≡ (get_or marks.groups.items n a_mark).number
         unit_is n below =
-            ap (λ (mark : Mark). mark.number) (cell_back flat indexes.places.items (length codes) places_len found marks.groups.items
+            ap (λ (mark : Flagged). mark.number) (cell_back flat indexes.places.items (length codes) places_len found marks.groups.items
             indexes.by_type.groups.items many_groups (follows marks.groups.items indexes.by_type.groups.items by_type.groups) n below a_mark)
 
     pub rows_are : rows_kept indexes ≡ codes
@@ -276,7 +276,7 @@ module _ (release : Release) (rises : IsStrictlyIncreasing release.concepts) (co
             arith,
             numbers_len,
             slice_get_within groups (unit_kept indexes n) (group_of (get_or rows n row))
-                (ap (λ (mark : Mark). slice_get groups mark.number) (cell_back flat indexes.places.items (length codes) places_len found
+                (ap (λ (mark : Flagged). slice_get groups mark.number) (cell_back flat indexes.places.items (length codes) places_len found
                 marks.groups.items indexes.by_type.groups.items many_groups
                 (follows marks.groups.items indexes.by_type.groups.items by_type.groups) n below a_mark)
                 ∙ group_marked n a_mark row below),

@@ -7,7 +7,7 @@ use Rattle.std.proofs.lemmas.List.{take_more}
 use Rattle.std.proofs.lemmas.List.Elements.{All-cons}
 use Rattle.hierarchy.specs.KeyedLists.{AreKeysBelow, items_of, lists_by}
 use Rattle.hierarchy.proofs.CutLemmas.{same_maps}
-use Rattle.postings.specs.KeyedPlaces.{keyed_places}
+use Rattle.postings.specs.inside.KeyedPlaces.{keyed_places}
 use Rattle.postings.specs.Places.{places_by, places_from}
 
 -- a key with its place, if it is below the count

@@ -6,17 +6,17 @@ use Rattle.std.proofs.lemmas.List.{length-map, take_all}
 use Rattle.std.proofs.lemmas.List.FromFn.{length-map-range_with_len}
 use Rattle.rf2_rows.specs.Release.{Attribute, Release}
 use Rattle.hierarchy.specs.KeyedLists.{list_of}
-use Rattle.postings.specs.Cells.{cells_of}
-use Rattle.postings.specs.Columns.{AreGroups, AreSources, AreTypes, AreValues, Mark}
+use Rattle.postings.specs.inside.Cells.{cells_of}
+use Rattle.postings.specs.Columns.{AreGroups, AreSources, AreTypes, AreValues, Flagged}
 use Rattle.postings.specs.Entries.{Entry, entries_with_type, entries_with_value}
 use Rattle.postings.specs.Groups.{ConceptGroup, all_groups, groups_among, groups_in, is_in_group, rows_alone}
-use Rattle.postings.specs.IndexInside.{AreIndexed, indexed_in}
+use Rattle.postings.specs.inside.IndexInside.{AreIndexed, indexed_in}
 use Rattle.postings.specs.Indexed.{Indexed, rows_by_source, rows_by_type, rows_by_value, types_of, values_of}
-use Rattle.postings.specs.KeptRows.{rows_between}
+use Rattle.postings.specs.inside.KeptRows.{rows_between}
 use Rattle.postings.specs.Places.{places_where}
 use Rattle.postings.specs.RowColumns.{AreTypeColumns, AreValueColumns}
-use Rattle.postings.specs.RowIndexes.{has_source, has_type, has_value, rows_by_sources}
-use Rattle.postings.specs.declared.columns.RowLists.{RowLists}
+use Rattle.postings.specs.inside.RowIndexes.{has_source, has_type, has_value, rows_by_sources}
+use Rattle.postings.specs.declared.columns.RowsByKey.{RowsByKey}
 use Rattle.postings.specs.declared.columns.TypeColumns.{TypeColumns}
 use Rattle.postings.specs.declared.columns.ValueColumns.{ValueColumns}
 use Rattle.postings.specs.declared.index.Indexes.TheInside.{Inside}
@@ -32,10 +32,10 @@ module _ (inside : Inside) (are : AreIndexed inside) (now : Indexed) (same : ind
   abbrev types : List ℕ
   types = types_of rows
 
-  abbrev by_type : RowLists
+  abbrev by_type : RowsByKey
   by_type = inside.rows.by_type
 
-  abbrev by_value : RowLists
+  abbrev by_value : RowsByKey
   by_value = inside.rows.by_value
 
   -- ---- a type that rows have
@@ -66,14 +66,14 @@ module _ (inside : Inside) (are : AreIndexed inside) (now : Indexed) (same : ind
         → columns.groups.now ≡ cells_of by_type.rows by_type.groups.items place → AreTypeColumns now id columns
     columns_with_type columns sources values groups =
         subst (λ (indexed : Indexed). AreTypeColumns indexed id columns) same (record {
-          sources = subst (λ (marks : List Mark). AreSources inside.concepts.items (entries_with_type rows id) marks) (sym sources)
+          sources = subst (λ (marks : List Flagged). AreSources inside.concepts.items (entries_with_type rows id) marks) (sym sources)
               (subst (λ (id : ℕ). AreSources inside.concepts.items (entries_with_type rows id)
               (cells_of by_type.rows by_type.sources.items place)) named (are.rows.by_type.sources place below));
           values = subst (λ (numbers : List ℕ). AreValues (values_of (indexed_in inside)) (entries_with_type rows id) numbers)
               (sym values)
               (subst (λ (id : ℕ). AreValues (values_of (indexed_in inside)) (entries_with_type rows id)
               (cells_of by_type.rows by_type.others.items place)) named (are.rows.by_type.others place below));
-          groups = subst (λ (marks : List Mark). AreGroups (groups_in (indexed_in inside)) (entries_with_type rows id) marks) (sym groups)
+          groups = subst (λ (marks : List Flagged). AreGroups (groups_in (indexed_in inside)) (entries_with_type rows id) marks) (sym groups)
               (subst (λ (id : ℕ). AreGroups (groups_in (indexed_in inside)) (entries_with_type rows id)
               (cells_of by_type.rows by_type.groups.items place)) named (are.rows.by_type.groups place below));
         })
@@ -92,14 +92,14 @@ module _ (inside : Inside) (are : AreIndexed inside) (now : Indexed) (same : ind
     no_columns_with_type columns sources values groups =
         let no_entries = none_with_type rows id none in
         subst (λ (indexed : Indexed). AreTypeColumns indexed id columns) same (record {
-          sources = subst (λ (marks : List Mark). AreSources inside.concepts.items (entries_with_type rows id) marks) (sym sources)
+          sources = subst (λ (marks : List Flagged). AreSources inside.concepts.items (entries_with_type rows id) marks) (sym sources)
               (subst (λ (entries : List Entry). AreSources inside.concepts.items entries []) (sym no_entries)
               (record { within = λ k d inside. absurd (omega (arith, inside)); sources = refl; firsts = refl }));
           values = subst (λ (numbers : List ℕ). AreValues (values_of (indexed_in inside)) (entries_with_type rows id) numbers)
               (sym values)
               (subst (λ (entries : List Entry). AreValues (values_of (indexed_in inside)) entries []) (sym no_entries)
               (record { within = λ k d inside. absurd (omega (arith, inside)); values = refl }));
-          groups = subst (λ (marks : List Mark). AreGroups (groups_in (indexed_in inside)) (entries_with_type rows id) marks) (sym groups)
+          groups = subst (λ (marks : List Flagged). AreGroups (groups_in (indexed_in inside)) (entries_with_type rows id) marks) (sym groups)
               (subst (λ (entries : List Entry). AreGroups (groups_in (indexed_in inside)) entries []) (sym no_entries)
               (record { groups = refl; firsts = refl }));
         })
@@ -128,11 +128,11 @@ module _ (inside : Inside) (are : AreIndexed inside) (now : Indexed) (same : ind
     columns_with_value columns sources places groups =
         let id = slice_index inside.concepts.items concept in
         subst (λ (indexed : Indexed). AreValueColumns indexed concept columns) same (record {
-          sources = subst (λ (marks : List Mark). AreSources inside.concepts.items (entries_with_value rows id) marks) (sym sources)
+          sources = subst (λ (marks : List Flagged). AreSources inside.concepts.items (entries_with_value rows id) marks) (sym sources)
               (are.rows.by_value.sources concept near);
           types = subst (λ (places : List ℕ). AreTypes types (entries_with_value rows id) places) (sym places)
               (are.rows.by_value.others concept near);
-          groups = subst (λ (marks : List Mark). AreGroups (groups_in (indexed_in inside)) (entries_with_value rows id) marks) (sym groups)
+          groups = subst (λ (marks : List Flagged). AreGroups (groups_in (indexed_in inside)) (entries_with_value rows id) marks) (sym groups)
               (are.rows.by_value.groups concept near);
         })
 

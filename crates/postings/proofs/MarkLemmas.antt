@@ -4,8 +4,8 @@ use Rattle.std.proofs.Common.{not, List, length, get_or, take, sym, ap, append_a
 use Rattle.std.specs.Cmp.{IsEquivalence, and_equiv, nat_eq_equiv, on_equiv}
 use Rattle.std.specs.List.{list_any}
 use Rattle.std.proofs.lemmas.List.{append-nil, take_more}
-use Rattle.postings.specs.Coded.{code_eq, marks_after}
-use Rattle.postings.specs.Columns.{Mark}
+use Rattle.postings.specs.inside.Coded.{code_eq, marks_after}
+use Rattle.postings.specs.Columns.{Flagged}
 use Rattle.postings.specs.declared.rows.CodedRow.{CodedRow}
 
 -- the test of two pairs of numbers is an equivalence
@@ -30,7 +30,7 @@ module _ (same : CodedRow → CodedRow → Bool) where
       ap (λ marks. record { number = number first; is_first = not (list_any (same first) before) } ∷ marks) rest
 
   -- the mark of the row at a place, behind those of the rows before it
-  pub marks_more : (number : CodedRow → ℕ) (rows : List CodedRow) (i : ℕ) (d : CodedRow) (mark : Mark) → i < length rows
+  pub marks_more : (number : CodedRow → ℕ) (rows : List CodedRow) (i : ℕ) (d : CodedRow) (mark : Flagged) → i < length rows
       → mark.number ≡ number (get_or rows i d) → mark.is_first ≡ not (list_any (same (get_or rows i d)) (take i rows))
       → marks_after same number [] (take i rows) ++ mark ∷ [] ≡ marks_after same number [] (take (i + 1) rows)
   marks_more number rows i d mark within numbered first =

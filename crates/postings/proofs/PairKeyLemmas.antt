@@ -11,8 +11,8 @@ use Rattle.std.proofs.lemmas.List.Elements.{All-filter, All-head, All-map, All-t
 use Rattle.first_met.specs.FirstMet.{keys_behind}
 use Rattle.rf2_rows.specs.Pairs.{distinct}
 use Rattle.rf2_rows.proofs.DistinctLemmas.{any_distinct}
-use Rattle.postings.specs.Coded.{code_eq, has_same_in_group, has_same_pair, pair_code, ungrouped_pairs}
-use Rattle.postings.specs.PairKeys.{IsShort, grouped_key, key_of_code, pair_key, ungrouped_keys}
+use Rattle.postings.specs.inside.Coded.{code_eq, has_same_in_group, has_same_pair, pair_code, ungrouped_pairs}
+use Rattle.postings.specs.inside.PairKeys.{IsShort, grouped_key, key_of_code, pair_key, ungrouped_keys}
 use Rattle.postings.specs.declared.rows.CodedRow.{CodedRow}
 use Rattle.postings.proofs.DistinctLemmas.{All-distinct, distinct-map, distinct-more}
 

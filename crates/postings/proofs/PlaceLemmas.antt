@@ -12,7 +12,7 @@ use Rattle.idset.proofs.Normal.{has_item-numbers_where, numbers_from}
 use Rattle.idset.proofs.Places.{get_or-below}
 use Rattle.idset.proofs.Rising.{numbers_where-rising}
 use Rattle.hierarchy.specs.KeyedLists.{list_of}
-use Rattle.postings.specs.Coded.{of_source}
+use Rattle.postings.specs.inside.Coded.{of_source}
 use Rattle.postings.specs.Places.{places_by, places_from, places_where}
 use Rattle.postings.specs.declared.rows.CodedRow.{CodedRow}
 

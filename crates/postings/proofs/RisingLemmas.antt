@@ -34,10 +34,10 @@ rising-rises bound (x ∷ xs) below =
 -- the two tests of being in a list are the same
 pub has_item-has : (xs : List ℕ) (n : ℕ) → has_item xs n ≡ has xs n
 has_item-has [] n = refl
-has_item-has (x ∷ xs) n = λ i. turned i || has_item-has xs n i
+has_item-has (x ∷ xs) n = λ i. swapped i || has_item-has xs n i
   where
-    turned : (x == n) ≡ (n == x)
-    turned = elim (cases_eq x n) [
+    swapped : (x == n) ≡ (n == x)
+    swapped = elim (cases_eq x n) [
       | inl same ↦ eq-eqb x n same ∙ sym (eq-eqb n x (sym same))
       | inr apart ↦ ne_eqb x n apart ∙ sym (ne_eqb n x (λ same. apart (sym same)))
     ]

@@ -9,15 +9,15 @@ use Rattle.rf2_rows.specs.Release.{Attribute, Release, Value}
 use Rattle.rf2_rows.proofs.DistinctLemmas.{keeps_each_number_once}
 use Rattle.snapshot.specs.AttributesBySource.{attributes_by_source}
 use Rattle.hierarchy.proofs.CutLemmas.{same_maps}
-use Rattle.postings.specs.Coded.{AreCodedRows, AreRowMarks, IsBySource, IsCoded, all_group_marks, all_source_marks}
-use Rattle.postings.specs.Coded.{row_coded}
-use Rattle.postings.specs.Columns.{AreGroups, AreSources, Mark}
+use Rattle.postings.specs.inside.Coded.{AreCodedRows, AreRowMarks, IsBySource, IsCoded, all_group_marks, all_source_marks}
+use Rattle.postings.specs.inside.Coded.{row_coded}
+use Rattle.postings.specs.Columns.{AreGroups, AreSources, Flagged}
 use Rattle.postings.specs.Entries.{entries_of}
 use Rattle.postings.specs.Groups.{ConceptGroup, all_groups, groups_among, is_in_group, rows_alone}
 use Rattle.postings.specs.Indexed.{value_at}
 use Rattle.postings.specs.Places.{places_by, places_where}
-use Rattle.postings.specs.RowIndexes.{has_source, has_type, has_value}
-use Rattle.postings.specs.ValueTables.{values_in}
+use Rattle.postings.specs.inside.RowIndexes.{has_source, has_type, has_value}
+use Rattle.postings.specs.inside.ValueTables.{values_in}
 use Rattle.postings.specs.declared.groups.RowMarks.{RowMarks}
 use Rattle.postings.specs.declared.rows.CodedRow.{CodedRow}
 use Rattle.postings.specs.declared.rows.CodedRows.{CodedRows}
@@ -147,8 +147,8 @@ module _ (release : Release) (rises : IsStrictlyIncreasing release.concepts) (co
 
     -- the rows of each group
     pub group_rows_are : places_by (get_or starts (length starts - 1) 0)
-        (map (λ (mark : Mark). mark.number) (all_group_marks codes (length release.concepts)))
+        (map (λ (mark : Flagged). mark.number) (all_group_marks codes (length release.concepts)))
         ≡ map (λ (group : ConceptGroup). places_where (is_in_group group) rows) (all_groups (rows_alone release.concepts rows))
     group_rows_are =
-        ap (λ (n : ℕ). places_by n (map (λ (mark : Mark). mark.number) (all_group_marks codes (length release.concepts)))) starts_last
+        ap (λ (n : ℕ). places_by n (map (λ (mark : Flagged). mark.number) (all_group_marks codes (length release.concepts)))) starts_last
         ∙ group_rows_told release.concepts types all rises once exact codes are.within rows (sym are.stand_for) is_sorted

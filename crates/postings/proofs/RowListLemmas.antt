@@ -10,16 +10,16 @@ use Rattle.std.proofs.lemmas.Simd.{map-map}
 use Rattle.rf2_rows.specs.Release.{Attribute, Release, Value}
 use Rattle.snapshot.specs.AttributesBySource.{attributes_by_source}
 use Rattle.hierarchy.specs.KeyedLists.{list_of}
-use Rattle.postings.specs.Coded.{AreCodedRows, AreRowMarks, IsCoded, row_coded}
-use Rattle.postings.specs.Cells.{AreOfOneLength, AreRowLists, IsColumn, cells_of}
-use Rattle.postings.specs.Columns.{AreGroups, AreSources, AreTypes, AreValues, Mark}
+use Rattle.postings.specs.inside.Coded.{AreCodedRows, AreRowMarks, IsCoded, row_coded}
+use Rattle.postings.specs.inside.Cells.{AreOfOneLength, AreRowLists, IsColumn, cells_of}
+use Rattle.postings.specs.Columns.{AreGroups, AreSources, AreTypes, AreValues, Flagged}
 use Rattle.postings.specs.Entries.{Entry, entries_of, entries_where}
 use Rattle.postings.specs.Groups.{ConceptGroup, all_groups, rows_alone}
 use Rattle.postings.specs.Indexed.{types_of, value_at}
 use Rattle.postings.specs.Places.{places_by, places_where}
-use Rattle.postings.specs.RowIndexes.{AreByType, AreByValue, AreGroupLists, AreListsBy, has_type, has_value}
-use Rattle.postings.specs.ValueTables.{values_in}
-use Rattle.postings.specs.declared.columns.RowLists.{RowLists}
+use Rattle.postings.specs.inside.RowIndexes.{AreByType, AreByValue, AreGroupLists, AreListsBy, has_type, has_value}
+use Rattle.postings.specs.inside.ValueTables.{values_in}
+use Rattle.postings.specs.declared.columns.RowsByKey.{RowsByKey}
 use Rattle.postings.specs.declared.groups.RowMarks.{RowMarks}
 use Rattle.postings.specs.declared.row_indexes.GroupLists.{GroupLists}
 use Rattle.postings.specs.declared.rows.CodedRow.{CodedRow}
@@ -98,11 +98,11 @@ module _ (release : Release) (rises : IsStrictlyIncreasing release.concepts) (co
         record {
           few = omega (arith, long, few_codes release rises coded are);
           others = ap (λ (xs : List ℕ). length xs) cells_are ∙ length-map codes cell ∙ sym long;
-          sources = omega (arith, long, ap (λ (xs : List Mark). length xs) marked.sources, length-source_marks release rises coded are);
-          groups = omega (arith, long, ap (λ (xs : List Mark). length xs) marked.groups, length-group_marks release rises coded are);
+          sources = omega (arith, long, ap (λ (xs : List Flagged). length xs) marked.sources, length-source_marks release rises coded are);
+          groups = omega (arith, long, ap (λ (xs : List Flagged). length xs) marked.groups, length-group_marks release rises coded are);
         }
 
-    module _ (lists : RowLists) (count : ℕ) (keys others : List ℕ) (made : AreRowLists count keys others marks lists) where
+    module _ (lists : RowsByKey) (count : ℕ) (keys others : List ℕ) (made : AreRowLists count keys others marks lists) where
       cells_with : {X : Type 0} (cells column : List X) → IsColumn cells (concat (places_by count keys)) column
           → IsColumn cells (concat lists.rows) column
       cells_with cells column told d =
@@ -117,7 +117,7 @@ module _ (release : Release) (rises : IsStrictlyIncreasing release.concepts) (co
       group_cells : IsColumn marks.groups.items (concat lists.rows) lists.groups.items
       group_cells = cells_with marks.groups.items lists.groups.items made.groups
 
-      mark : Mark
+      mark : Flagged
       mark = record { number = 0; is_first = true }
 
       -- the lists of the rows that pass a test
@@ -172,7 +172,7 @@ module _ (release : Release) (rises : IsStrictlyIncreasing release.concepts) (co
     module _ (lists : GroupLists) (numbers_len : length lists.numbers.items ≡ get_or marks.starts.items (length marks.starts.items - 1) 0)
         (starts_is : lists.starts.items ≡ marks.starts.items)
         (rows_is : lists.rows ≡ places_by (get_or marks.starts.items (length marks.starts.items - 1) 0)
-        (map (λ (mark : Mark). mark.number) marks.groups.items)) where
+        (map (λ (mark : Flagged). mark.number) marks.groups.items)) where
       pub group_lists_told : AreGroupLists release.concepts rows lists
       group_lists_told =
           record {
@@ -182,8 +182,8 @@ module _ (release : Release) (rises : IsStrictlyIncreasing release.concepts) (co
             starts_len = ap (λ (xs : List ℕ). length xs) starts_is ∙ omega (arith, marked.starts_len);
             starts = λ concept near.
                 ap (λ (xs : List ℕ). get_or xs concept 0) starts_is ∙ starts_are release rises coded are marks marked concept near;
-            each = rows_is ∙ ap (λ (xs : List Mark). places_by (get_or marks.starts.items (length marks.starts.items - 1) 0)
-                (map (λ (mark : Mark). mark.number) xs)) marked.groups
+            each = rows_is ∙ ap (λ (xs : List Flagged). places_by (get_or marks.starts.items (length marks.starts.items - 1) 0)
+                (map (λ (mark : Flagged). mark.number) xs)) marked.groups
                 ∙ group_rows_are release rises coded are marks marked;
           }
         where

@@ -17,11 +17,11 @@ use Rattle.snapshot.specs.AttributesBySource.{attributes_by_source}
 use Rattle.hierarchy.specs.KeyedLists.{list_of}
 use Rattle.snapshot.proofs.NumberingLemmas.{place_of, place_of-get_or}
 use Rattle.hierarchy.proofs.SpanLemmas.{concat-take_more}
-use Rattle.postings.specs.Coded.{AreCodedRows, AreRowMarks, row_coded}
-use Rattle.postings.specs.Columns.{Mark}
+use Rattle.postings.specs.inside.Coded.{AreCodedRows, AreRowMarks, row_coded}
+use Rattle.postings.specs.Columns.{Flagged}
 use Rattle.postings.specs.Groups.{ConceptGroup, all_groups, group_of, groups_among, keys_of, rows_alone}
 use Rattle.postings.specs.Places.{places_by}
-use Rattle.postings.specs.ValueTables.{values_in}
+use Rattle.postings.specs.inside.ValueTables.{values_in}
 use Rattle.postings.specs.declared.groups.RowMarks.{RowMarks}
 use Rattle.postings.specs.declared.rows.CodedRow.{CodedRow}
 use Rattle.postings.specs.declared.rows.CodedRows.{CodedRows}
@@ -150,7 +150,7 @@ module _ (release : Release) (rises : IsStrictlyIncreasing release.concepts) (co
         ∙ flat_map-append (groups_at alone) (take c release.concepts) (drop c release.concepts)
 
     -- a row's group is before where the groups of a concept start exactly where its source is before the concept
-    module _ (n : ℕ) (d : Mark) (e : CodedRow) (below : n < length codes) where
+    module _ (n : ℕ) (d : Flagged) (e : CodedRow) (below : n < length codes) where
       abbrev unit : ℕ
       unit = (get_or marks.groups.items n d).number
 
@@ -221,13 +221,13 @@ module _ (release : Release) (rises : IsStrictlyIncreasing release.concepts) (co
 
     -- so as many rows are ahead
     pub ahead_told : (count : ℕ) → get_or marks.starts.items c 0 ≤ count
-        → length (concat (take (get_or marks.starts.items c 0) (places_by count (map (λ (mark : Mark). mark.number) marks.groups.items))))
+        → length (concat (take (get_or marks.starts.items c 0) (places_by count (map (λ (mark : Flagged). mark.number) marks.groups.items))))
         ≡ length (concat (take c (places_by (length release.concepts) (map (λ (row : CodedRow). row.source) codes))))
     ahead_told count near =
-        length-ahead count (map (λ (mark : Mark). mark.number) marks.groups.items) s near
-        ∙ many_pass (λ key. nat_lt key s) (λ key. nat_lt key c) (map (λ (mark : Mark). mark.number) marks.groups.items)
+        length-ahead count (map (λ (mark : Flagged). mark.number) marks.groups.items) s near
+        ∙ many_pass (λ key. nat_lt key s) (λ key. nat_lt key c) (map (λ (mark : Flagged). mark.number) marks.groups.items)
         (map (λ (row : CodedRow). row.source) codes)
-        (map-map (λ key. nat_lt key s) (λ (mark : Mark). mark.number) marks.groups.items ∙ each
+        (map-map (λ key. nat_lt key s) (λ (mark : Flagged). mark.number) marks.groups.items ∙ each
         ∙ sym (map-map (λ key. nat_lt key c) (λ (row : CodedRow). row.source) codes))
         ∙ sym (length-ahead (length release.concepts) (map (λ (row : CodedRow). row.source) codes) c within)
       where
@@ -237,20 +237,20 @@ module _ (release : Release) (rises : IsStrictlyIncreasing release.concepts) (co
         long : length marks.groups.items ≡ length codes
         long = many_groups release rises coded are marks marked
 
-        mark : Mark
+        mark : Flagged
         mark = record { number = 0; is_first = true }
 
         row : CodedRow
         row = record { source = 0; type_place = 0; group = 0; value = 0 }
 
-        each : map (λ (mark : Mark). nat_lt mark.number s) marks.groups.items ≡ map (λ (row : CodedRow). nat_lt row.source c) codes
+        each : map (λ (mark : Flagged). nat_lt mark.number s) marks.groups.items ≡ map (λ (row : CodedRow). nat_lt row.source c) codes
         each =
-            same_lists (map (λ (mark : Mark). nat_lt mark.number s) marks.groups.items) (map (λ (row : CodedRow). nat_lt row.source c) codes)
-            (length-map marks.groups.items (λ (mark : Mark). nat_lt mark.number s) ∙ long
+            same_lists (map (λ (mark : Flagged). nat_lt mark.number s) marks.groups.items) (map (λ (row : CodedRow). nat_lt row.source c) codes)
+            (length-map marks.groups.items (λ (mark : Flagged). nat_lt mark.number s) ∙ long
             ∙ sym (length-map codes (λ (row : CodedRow). nat_lt row.source c)))
             (λ n d inside.
             let here : n < length marks.groups.items =
-            omega (arith, inside, length-map marks.groups.items (λ (mark : Mark). nat_lt mark.number s)) in
-            get_or-map (λ (mark : Mark). nat_lt mark.number s) marks.groups.items n mark d here
+            omega (arith, inside, length-map marks.groups.items (λ (mark : Flagged). nat_lt mark.number s)) in
+            get_or-map (λ (mark : Flagged). nat_lt mark.number s) marks.groups.items n mark d here
             ∙ before_told n mark row (omega (arith, here, long))
             ∙ sym (get_or-map (λ (row : CodedRow). nat_lt row.source c) codes n row d (omega (arith, here, long))))

@@ -9,8 +9,8 @@ use Rattle.std.proofs.lemmas.List.Elements.{All-filter, All-map, All-nil, All-sa
 use Rattle.std.proofs.lemmas.Simd.{map-map}
 use Rattle.rf2_rows.specs.Pairs.{value_eq}
 use Rattle.rf2_rows.specs.Release.{Attribute, Value}
-use Rattle.postings.specs.Coded.{IsBySource, IsCoded, all_source_marks, has_same_pair, of_source, row_coded, source_marks}
-use Rattle.postings.specs.Columns.{AreSources, Mark}
+use Rattle.postings.specs.inside.Coded.{IsBySource, IsCoded, all_source_marks, has_same_pair, of_source, row_coded, source_marks}
+use Rattle.postings.specs.Columns.{AreSources, Flagged}
 use Rattle.postings.specs.Entries.{Entry, entries_of, is_alike}
 use Rattle.postings.specs.Indexed.{value_at}
 use Rattle.postings.specs.declared.rows.CodedRow.{CodedRow}
@@ -76,23 +76,23 @@ module _ (concepts types : List ℕ) (values : List Value) (rising : IsStrictlyI
 
   module _ (sorted : IsBySource (length concepts) coded) where
     -- the numbers of the marks by source are the sources of the rows
-    source_numbers : map (λ (mark : Mark). mark.number) (all_source_marks coded (length concepts))
+    source_numbers : map (λ (mark : Flagged). mark.number) (all_source_marks coded (length concepts))
         ≡ map (λ (row : CodedRow). row.source) coded
     source_numbers =
-        map-flat_map (λ (mark : Mark). mark.number) (λ source. source_marks (of_source coded source)) (range_with_len 0 (length concepts))
-        ∙ blocks-same (λ source. map (λ (mark : Mark). mark.number) (source_marks (of_source coded source)))
+        map-flat_map (λ (mark : Flagged). mark.number) (λ source. source_marks (of_source coded source)) (range_with_len 0 (length concepts))
+        ∙ blocks-same (λ source. map (λ (mark : Flagged). mark.number) (source_marks (of_source coded source)))
         (λ source. map (λ (row : CodedRow). row.source) (of_source coded source)) 0 (length concepts)
         (λ k below. numbers_of_marks has_same_pair (λ (row : CodedRow). row.source) [] (of_source coded k))
         ∙ sym (map-flat_map (λ (row : CodedRow). row.source) (of_source coded) (range_with_len 0 (length concepts)))
         ∙ ap (map (λ (row : CodedRow). row.source)) (sym sorted)
 
     -- and their flags are those of the entries
-    source_firsts : map (λ (mark : Mark). mark.is_first) (all_source_marks coded (length concepts))
+    source_firsts : map (λ (mark : Flagged). mark.is_first) (all_source_marks coded (length concepts))
         ≡ map (λ (entry : Entry). entry.is_first) (entries_of rows)
     source_firsts =
-        map-flat_map (λ (mark : Mark). mark.is_first) (λ source. source_marks (of_source coded source))
+        map-flat_map (λ (mark : Flagged). mark.is_first) (λ source. source_marks (of_source coded source))
         (range_with_len 0 (length concepts))
-        ∙ blocks-same (λ source. map (λ (mark : Mark). mark.is_first) (source_marks (of_source coded source)))
+        ∙ blocks-same (λ source. map (λ (mark : Flagged). mark.is_first) (source_marks (of_source coded source)))
         (λ source. flags_after has_same_pair [] (of_source coded source)) 0 (length concepts)
         (λ k below. firsts_of_marks has_same_pair (λ (row : CodedRow). row.source) [] (of_source coded k))
         ∙ sym (flags_by_source coded (length concepts) has_same_pair (λ a b. (a.source == b.source) && has_same_pair a b)
@@ -107,7 +107,7 @@ module _ (concepts types : List ℕ) (values : List Value) (rising : IsStrictlyI
     pub sources_told : AreSources concepts (entries_of rows) (all_source_marks coded (length concepts))
     sources_told = record {
       within = told_within;
-      sources = sym (map-map (λ k. get_or concepts k 0) (λ (mark : Mark). mark.number) (all_source_marks coded (length concepts)))
+      sources = sym (map-map (λ k. get_or concepts k 0) (λ (mark : Flagged). mark.number) (all_source_marks coded (length concepts)))
           ∙ ap (map (λ k. get_or concepts k 0)) source_numbers
           ∙ map-map (λ k. get_or concepts k 0) (λ (row : CodedRow). row.source) coded
           ∙ sym (map-map (λ (row : Attribute). row.source) (row_coded concepts types values) coded)
@@ -116,10 +116,10 @@ module _ (concepts types : List ℕ) (values : List Value) (rising : IsStrictlyI
       firsts = source_firsts;
     }
       where
-        told_within : All (λ (mark : Mark). mark.number < length concepts) (all_source_marks coded (length concepts))
+        told_within : All (λ (mark : Flagged). mark.number < length concepts) (all_source_marks coded (length concepts))
         told_within =
-            All-mapped (λ number. number < length concepts) (λ (mark : Mark). mark.number) (all_source_marks coded (length concepts))
-            (All-same (λ number. number < length concepts) (map (λ (mark : Mark). mark.number) (all_source_marks coded (length concepts)))
+            All-mapped (λ number. number < length concepts) (λ (mark : Flagged). mark.number) (all_source_marks coded (length concepts))
+            (All-same (λ number. number < length concepts) (map (λ (mark : Flagged). mark.number) (all_source_marks coded (length concepts)))
             (map (λ (row : CodedRow). row.source) coded) source_numbers
             (All-map (λ number. number < length concepts) (λ (row : CodedRow). row.source) coded
             (All-weaker (IsCoded concepts types values) (λ (row : CodedRow). row.source < length concepts) (λ row is. is.source) coded

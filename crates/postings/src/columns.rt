@@ -1,11 +1,11 @@
 //! The rows of each type and of each value, with columns of what a query tests of them.
 ghost use Rattle.std.specs.Prelude.{◌≡◌, ◌<◌, IfOk, length};
 ghost use Rattle.std.specs.List.{concat};
-ghost use Rattle.postings.specs.Cells.{AreColumns, AreOfOneLength, AreRowLists, cells_of};
+ghost use Rattle.postings.specs.inside.Cells.{AreColumns, AreOfOneLength, AreRowLists, cells_of};
 
+use crate::flagged_number::FlaggedNumber;
 use crate::groups::RowMarks;
 use crate::lists::{column, places_by_key};
-use crate::mark::Mark;
 use hierarchy::KeyedLists;
 use std::alloc::{AllocError, Global};
 
@@ -13,41 +13,41 @@ use std::alloc::{AllocError, Global};
 #[derive(Clone, Copy, Debug)]
 pub struct TypeColumns<'a> {
     /// The numbers of the sources, and whether each row is the first with its pair in its concept.
-    pub sources: &'a [Mark],
+    pub sources: &'a [FlaggedNumber],
     /// The numbers of the values.
     pub values: &'a [u32],
     /// The numbers of the groups, and whether each row is the first with its pair in its group.
-    pub groups: &'a [Mark],
+    pub groups: &'a [FlaggedNumber],
 }
 
 /// Columns of the rows of a value that is a concept, cell by cell in the order of the rows.
 #[derive(Clone, Copy, Debug)]
 pub struct ValueColumns<'a> {
     /// The numbers of the sources, and whether each row is the first with its pair in its concept.
-    pub sources: &'a [Mark],
+    pub sources: &'a [FlaggedNumber],
     /// The places of the types among the types of all rows.
     pub types: &'a [u32],
     /// The numbers of the groups, and whether each row is the first with its pair in its group.
-    pub groups: &'a [Mark],
+    pub groups: &'a [FlaggedNumber],
 }
 
 /// The columns of the rows of a key.
 #[derive(Clone, Copy)]
 pub struct KeyColumns<'a> {
-    pub sources: &'a [Mark],
+    pub sources: &'a [FlaggedNumber],
     /// By type the numbers of the values, by value the places of the types.
     pub others: &'a [u32],
-    pub groups: &'a [Mark],
+    pub groups: &'a [FlaggedNumber],
 }
 
 /// The rows of each key, with columns in the order of these lists.
 #[derive(Drop)]
-pub struct RowLists {
+pub struct RowsByKey {
     pub rows: KeyedLists,
-    pub sources: Vec<Mark>,
+    pub sources: Vec<FlaggedNumber>,
     /// By type the numbers of the values, by value the places of the types.
     pub others: Vec<u32>,
-    pub groups: Vec<Mark>,
+    pub groups: Vec<FlaggedNumber>,
 }
 
 /// The rows of each of so many keys, by the keys of all rows, with the columns of their marks and their other cells.
@@ -57,7 +57,7 @@ pub fn row_lists(
     keys: &[u32],
     others: &[u32],
     marks: &RowMarks,
-) -> Result<RowLists, AllocError>
+) -> Result<RowsByKey, AllocError>
     requires { AreOfOneLength keys.now others.now marks.now }
     ensures { IfOk result (AreRowLists count keys.now others.now marks.now) }
 {
@@ -65,7 +65,7 @@ pub fn row_lists(
     let sources = column(alloc, marks.sources.as_slice(), rows.flat())?;
     let others = column(alloc, others, rows.flat())?;
     let groups = column(alloc, marks.groups.as_slice(), rows.flat())?;
-    Ok(RowLists {
+    Ok(RowsByKey {
         rows,
         sources,
         others,
@@ -73,7 +73,7 @@ pub fn row_lists(
     })
 }
 
-impl RowLists {
+impl RowsByKey {
     /// The columns of the rows of a key.
     pub fn columns(&self, key: u32) -> KeyColumns<'_>
         requires key { key < length self.now.rows }

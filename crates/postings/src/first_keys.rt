@@ -25,7 +25,7 @@ impl Model for FirstKeys {
 
     ghost Value = { List ℕ };
 
-    ghost use Rattle.postings.specs.FirstKeysInside.{ComeFirst, keys_in};
+    ghost use Rattle.postings.specs.inside.FirstKeysInside.{ComeFirst, keys_in};
 
     ghost view = { keys_in };
 

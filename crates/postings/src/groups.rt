@@ -2,13 +2,13 @@
 ghost use Rattle.std.specs.Prelude.{◌≡◌, ◌+◌, ◌≤◌, ◌<◌, ◌^◌, ◌++◌, ◌∷◌, [], List, All, IfOk, OnOk};
 ghost use Rattle.std.specs.Prelude.{length, map, nat_lt, slice_index_or};
 ghost use Rattle.idset.specs.Sets.{IsRising, place_of};
-ghost use Rattle.postings.specs.Coded.{AreRowMarks, IsBySource, group_codes, group_marks, numbers_of_groups};
-ghost use Rattle.postings.specs.Coded.{pair_code, place_in_source, source_marks};
-ghost use Rattle.postings.specs.PairKeys.{IsShort, ungrouped_keys};
+ghost use Rattle.postings.specs.inside.Coded.{AreRowMarks, IsBySource, group_codes, group_marks, numbers_of_groups};
+ghost use Rattle.postings.specs.inside.Coded.{pair_code, place_in_source, source_marks};
+ghost use Rattle.postings.specs.inside.PairKeys.{IsShort, ungrouped_keys};
 ghost use Rattle.postings.specs.Places.{places_by};
 
 use crate::first_keys::FirstKeys;
-use crate::mark::Mark;
+use crate::flagged_number::FlaggedNumber;
 use crate::rows::CodedRow;
 use ancestor_index::keep_rising;
 use hierarchy::KeyedLists;
@@ -19,9 +19,9 @@ use std::alloc::{AllocError, Global};
 #[derive(Drop)]
 pub struct RowMarks {
     /// The source of each row, and whether the row is the first with its pair in its source.
-    pub sources: Vec<Mark>,
+    pub sources: Vec<FlaggedNumber>,
     /// The group of each row, and whether the row is the first with its pair in its group.
-    pub groups: Vec<Mark>,
+    pub groups: Vec<FlaggedNumber>,
     /// For each source how many groups the sources before it have, and at the end how many there are.
     pub starts: Vec<u32>,
 }
@@ -117,7 +117,7 @@ fn push_sources(
     alloc: Global,
     rows: &[CodedRow],
     seen: &mut FirstKeys,
-    sources: &mut Vec<Mark>,
+    sources: &mut Vec<FlaggedNumber>,
 ) -> Result<(), AllocError>
     requires { All (λ (row : CodedRow). row.source < 2 ^ 31) rows.now }
     ensures { OnOk result (sources.new.items ≡ sources.old.items ++ source_marks rows.now) }
@@ -125,7 +125,7 @@ fn push_sources(
     seen.clear(alloc);
     for row in rows {
         let (_, is_first) = seen.meet(row.pair_key())?;
-        sources.push(Mark::new(row.source, is_first))?;
+        sources.push(FlaggedNumber::new(row.source, is_first))?;
     }
     Ok(())
 }
@@ -136,7 +136,7 @@ fn push_groups(
     rows: &[CodedRow],
     ahead: u32,
     tables: &mut Tables,
-    groups: &mut Vec<Mark>,
+    groups: &mut Vec<FlaggedNumber>,
 ) -> Result<u32, AllocError>
     requires { ahead + length rows.now < 2 ^ 31 }
     ensures groups { OnOk result (groups.new.items ≡ groups.old.items ++ group_marks ahead rows.now) }
@@ -149,7 +149,7 @@ fn push_groups(
     for row in rows {
         let (_, is_first) = tables.seen.meet(row.grouped_key())?;
         let place = group_place(tables.numbers.as_slice(), &mut tables.ungrouped, row)?;
-        groups.push(Mark::new(ahead + place as u32, is_first))?;
+        groups.push(FlaggedNumber::new(ahead + place as u32, is_first))?;
     }
     Ok((tables.numbers.len() + tables.ungrouped.len()) as u32)
 }

@@ -58,7 +58,7 @@ impl Model for Indexes {
 
     ghost Value = { Indexed };
 
-    ghost use Rattle.postings.specs.IndexInside.{AreIndexed, indexed_in};
+    ghost use Rattle.postings.specs.inside.IndexInside.{AreIndexed, indexed_in};
 
     ghost view = { indexed_in };
 

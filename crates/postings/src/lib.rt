@@ -7,11 +7,11 @@
 
 mod columns;
 mod first_keys;
+mod flagged_number;
 mod groups;
 mod index;
 mod laws;
 mod lists;
-mod mark;
 mod row_indexes;
 mod rows;
 mod stats;
@@ -19,7 +19,7 @@ mod texts;
 mod values;
 
 pub use crate::columns::{TypeColumns, ValueColumns};
+pub use crate::flagged_number::FlaggedNumber;
 pub use crate::index::{Indexes, RowCells};
 pub use crate::laws::{first_rows_tell_the_pairs, groups_are_counted};
-pub use crate::mark::Mark;
 pub use crate::stats::Stats;

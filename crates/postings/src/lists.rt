@@ -1,7 +1,7 @@
 //! Lists of rows by a key, and columns beside them.
 ghost use Rattle.std.specs.Prelude.{ℕ, ◌≡◌, ◌<◌, ◌^◌, All, Contains, IfOk, Some, length, slice_get, slice_index, vec_len};
-ghost use Rattle.postings.specs.Cells.{IsColumn};
-ghost use Rattle.postings.specs.KeyedPlaces.{keyed_places};
+ghost use Rattle.postings.specs.inside.Cells.{IsColumn};
+ghost use Rattle.postings.specs.inside.KeyedPlaces.{keyed_places};
 ghost use Rattle.postings.specs.Places.{places_by};
 
 use hierarchy::KeyedLists;

@@ -1,18 +1,18 @@
 //! The indexes of attribute rows.
 ghost use Rattle.std.specs.Prelude.{ℕ, ◌≡◌, ◌+◌, ◌-◌, ◌≤◌, ◌<◌, ◌^◌, All, IfOk, Some, length, map, slice_get, slice_index, vec_len};
-ghost use Rattle.postings.specs.Cells.{AreOfOneLength, AreRowLists};
+ghost use Rattle.postings.specs.inside.Cells.{AreOfOneLength, AreRowLists};
 ghost use Rattle.std.specs.List.{concat};
 ghost use Rattle.snapshot.specs.AttributesBySource.{attributes_by_source};
-ghost use Rattle.postings.specs.Coded.{AreRowMarks, IsBySource};
-ghost use Rattle.postings.specs.Columns.{Mark as Marked};
-ghost use Rattle.postings.specs.KeptRows.{AreNumbersOf, HaveOneNumber, IsKept, mark_at, row_kept, rows_between};
+ghost use Rattle.postings.specs.inside.Coded.{AreRowMarks, IsBySource};
+ghost use Rattle.postings.specs.Columns.{Flagged};
+ghost use Rattle.postings.specs.inside.KeptRows.{AreNumbersOf, HaveOneNumber, IsKept, mark_at, row_kept, rows_between};
 ghost use Rattle.postings.specs.Places.{places_by};
-ghost use Rattle.postings.specs.RowIndexes.{AreRowIndexes};
+ghost use Rattle.postings.specs.inside.RowIndexes.{AreRowIndexes};
 
-use crate::columns::{RowLists, row_lists};
+use crate::columns::{RowsByKey, row_lists};
+use crate::flagged_number::FlaggedNumber;
 use crate::groups::{RowMarks, row_marks};
 use crate::lists::{places_among, places_by_key};
-use crate::mark::Mark;
 use crate::rows::{CodedRow, coded_rows};
 use crate::values::Values;
 use hierarchy::KeyedLists;
@@ -32,9 +32,9 @@ pub struct RowIndexes {
     /// The numbers of all rows, rising. The rows of a source are a part of them.
     pub row_numbers: Vec<u32>,
     /// The columns have the values.
-    pub by_type: RowLists,
+    pub by_type: RowsByKey,
     /// The columns have the types.
-    pub by_value: RowLists,
+    pub by_value: RowsByKey,
     pub groups: GroupLists,
 }
 
@@ -124,7 +124,7 @@ pub fn row_indexes(alloc: Global, snapshot: &Snapshot) -> Result<RowIndexes, All
 
 // Of each row the place of its type, and the number of its value.
 #[derive(Drop)]
-struct RowKeys {
+struct TypesAndValues {
     type_places: Vec<u32>,
     values: Vec<u32>,
 }
@@ -133,17 +133,17 @@ struct RowKeys {
 #[derive(Drop)]
 struct ListsByKeys {
     places: Vec<u32>,
-    by_type: RowLists,
-    by_value: RowLists,
+    by_type: RowsByKey,
+    by_value: RowsByKey,
 }
 
-fn row_keys(alloc: Global, rows: &[CodedRow]) -> Result<RowKeys, AllocError>
+fn row_keys(alloc: Global, rows: &[CodedRow]) -> Result<TypesAndValues, AllocError>
     ensures types { IfOk result (λ keys. keys.type_places.items ≡ map (λ (row : CodedRow). row.type_place) rows.now) }
     ensures values { IfOk result (λ keys. keys.values.items ≡ map (λ (row : CodedRow). row.value) rows.now) }
 {
     let type_places = type_places_of(alloc, rows)?;
     let values = values_of(alloc, rows)?;
-    Ok(RowKeys {
+    Ok(TypesAndValues {
         type_places,
         values,
     })
@@ -154,7 +154,7 @@ fn lists_by_keys(
     alloc: Global,
     types: u32,
     concepts: u32,
-    keys: &RowKeys,
+    keys: &TypesAndValues,
     marks: &RowMarks,
 ) -> Result<ListsByKeys, AllocError>
     requires long { AreOfOneLength keys.now.type_places.items keys.now.values.items marks.now }
@@ -220,7 +220,7 @@ fn group_lists(alloc: Global, marks: &RowMarks, rows: &[CodedRow]) -> Result<Gro
     requires few { length rows.now < 2 ^ 32 }
     requires some { 0 < vec_len marks.now.starts }
     requires long { vec_len marks.now.groups ≡ length rows.now }
-    requires within { All (λ (mark : Marked). mark.number < slice_index marks.now.starts.items (vec_len marks.now.starts - 1))
+    requires within { All (λ (mark : Flagged). mark.number < slice_index marks.now.starts.items (vec_len marks.now.starts - 1))
         marks.now.groups.items }
     requires one { HaveOneNumber marks.now.groups.items rows.now }
     ensures len { IfOk result (λ lists. vec_len lists.numbers ≡ slice_index marks.now.starts.items (vec_len marks.now.starts - 1)) }
@@ -228,7 +228,7 @@ fn group_lists(alloc: Global, marks: &RowMarks, rows: &[CodedRow]) -> Result<Gro
     ensures starts { IfOk result (λ lists. lists.starts.items ≡ marks.now.starts.items) }
     ensures rows { IfOk result (λ lists.
         lists.rows ≡ places_by (slice_index marks.now.starts.items (vec_len marks.now.starts - 1))
-        (map (λ (mark : Marked). mark.number) marks.now.groups.items)) }
+        (map (λ (mark : Flagged). mark.number) marks.now.groups.items)) }
 {
     let count = marks.starts[marks.starts.len() - 1];
     let numbers = numbers_by_group(alloc, count, marks.groups.as_slice(), rows)?;
@@ -246,11 +246,11 @@ fn group_lists(alloc: Global, marks: &RowMarks, rows: &[CodedRow]) -> Result<Gro
 fn numbers_by_group(
     alloc: Global,
     count: u32,
-    marks: &[Mark],
+    marks: &[FlaggedNumber],
     rows: &[CodedRow],
 ) -> Result<Vec<u32>, AllocError>
     requires long { length marks.now ≡ length rows.now }
-    requires within { All (λ (mark : Marked). mark.number < count) marks.now }
+    requires within { All (λ (mark : Flagged). mark.number < count) marks.now }
     requires one { HaveOneNumber marks.now rows.now }
     ensures len { IfOk result (λ numbers. vec_len numbers ≡ count) }
     ensures numbers { IfOk result (λ numbers. AreNumbersOf marks.now rows.now numbers.items) }
@@ -263,8 +263,8 @@ fn numbers_by_group(
 }
 
 // The numbers of some marks.
-fn numbers_of(alloc: Global, marks: &[Mark]) -> Result<Vec<u32>, AllocError>
-    ensures { IfOk result (λ numbers. numbers.items ≡ map (λ (mark : Marked). mark.number) marks.now) }
+fn numbers_of(alloc: Global, marks: &[FlaggedNumber]) -> Result<Vec<u32>, AllocError>
+    ensures { IfOk result (λ numbers. numbers.items ≡ map (λ (mark : Flagged). mark.number) marks.now) }
 {
     marks.iter().map(|mark| mark.number()).collect(alloc)
 }

@@ -1,8 +1,8 @@
 //! Attribute rows by numbers.
 ghost use Rattle.std.specs.Prelude.{◌≡◌, IfOk};
 ghost use Rattle.snapshot.specs.AttributesBySource.{attributes_by_source};
-ghost use Rattle.postings.specs.Coded.{AreCodedRows, pair_code};
-ghost use Rattle.postings.specs.PairKeys.{IsShort, grouped_key, pair_key};
+ghost use Rattle.postings.specs.inside.Coded.{AreCodedRows, pair_code};
+ghost use Rattle.postings.specs.inside.PairKeys.{IsShort, grouped_key, pair_key};
 
 use crate::values::{Values, row_values};
 use first_met::FirstMet;

@@ -21,7 +21,7 @@ impl Model for Texts {
 
     ghost Value = { List (List ℕ) };
 
-    ghost use Rattle.postings.specs.TextsInside.{AreStarted, texts_in};
+    ghost use Rattle.postings.specs.inside.TextsInside.{AreStarted, texts_in};
 
     ghost view = { texts_in };
 

@@ -8,7 +8,7 @@ ghost use Rattle.rf2_rows.specs.Rows.{value_lent};
 ghost use Rattle.snapshot.specs.AttributesBySource.{IsNumberBelow, attributes_by_source, numbered_lent, value_by_identifier};
 ghost use Rattle.postings.specs.Indexed.{value_at};
 ghost use Rattle.postings.specs.RowValues.{AreTables, AreTablesOf, decimals_at, decimals_of};
-ghost use Rattle.postings.specs.ValueTables.{values_in};
+ghost use Rattle.postings.specs.inside.ValueTables.{values_in};
 
 use crate::texts::{Texts, texts_among};
 use rf2_rows::{Decimal, Value};

@@ -8,7 +8,7 @@ use Rattle.snapshot.specs.Contents.{Contents, IsFaultOf, load_of}
 use Rattle.release_files.specs.Source.{FileText}
 use Rattle.snapshot.specs.Limits.{standard_limits}
 use Rattle.snapshot.specs.Pieces.{AreInOrder, FailsToList, listed}
-use Rattle.snapshot.specs.Taking.{FailsBelow, is_device}
+use Rattle.snapshot.specs.DeviceFaults.{FailsBelow, is_device}
 use Rattle.snapshot.specs.declared.fault.LoadFault.{LoadFault}
 use Rattle.snapshot.specs.declared.fault.LoadFault.TheVariants as load
 use Rattle.snapshot.specs.declared.limits.Limits.{Limits}

@@ -5,7 +5,7 @@ use Rattle.snapshot.specs.Contents.{Contents, load_of}
 use Rattle.release_files.specs.Source.{FileText}
 use Rattle.snapshot.specs.Limits.{standard_limits}
 use Rattle.snapshot.specs.Pieces.{AreInOrder, FailsToList, IsUnlisted, listed}
-use Rattle.snapshot.specs.Taking.{FailsBelow, RaisesOnlyAtDevice, is_device}
+use Rattle.snapshot.specs.DeviceFaults.{FailsBelow, RaisesOnlyAtDevice, is_device}
 use Rattle.snapshot.specs.declared.fault.LoadFault.{LoadFault}
 use Rattle.snapshot.specs.declared.fault.LoadFault.TheVariants as load
 use Rattle.answer_printer.specs.LoadRefusal.{load_refusal}

@@ -1,3 +1,3 @@
-pub mod EngineInside
 pub mod FrontLaw
+pub mod inside
 pub mod Promise

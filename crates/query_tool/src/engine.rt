@@ -8,7 +8,7 @@ ghost use Rattle.constraint_tree.specs.Tree.{Tree};
 ghost use Rattle.snapshot.specs.Contents.{IsFaultOf, load_of};
 ghost use Rattle.snapshot.specs.Files.{name_concepts};
 ghost use Rattle.snapshot.specs.Pieces.{AreInOrder, FailsAtFiles, IsUnlisted, has_kind_at, listed};
-ghost use Rattle.snapshot.specs.Taking.{FailsAtRead, FileIs, RaisesOnlyAtDevice, is_device};
+ghost use Rattle.snapshot.specs.DeviceFaults.{FailsAtRead, FileIs, RaisesOnlyAtDevice, is_device};
 ghost use Rattle.release_files.specs.Source.{file_text};
 ghost use Rattle.query_service.specs.Answer.{IsAnswer};
 ghost use Rattle.query_service.specs.Explanation.{IsExplanation};
@@ -38,7 +38,7 @@ impl Model for Engine {
 
     ghost Value = { Contents };
 
-    ghost use Rattle.query_tool.specs.EngineInside.{contents_in, IsReady};
+    ghost use Rattle.query_tool.specs.inside.EngineInside.{contents_in, IsReady};
 
     ghost view = { contents_in };
 

@@ -4,7 +4,7 @@ use Rattle.std.specs.Int.Count.{count_trailing_zeros}
 use Rattle.std.specs.List.{prefix_len}
 use Rattle.std.proofs.lemmas.Bool.{cases_lt, false≢true}
 use Rattle.std.proofs.lemmas.Simd.{none_from_empty_mask, run_in_chunk_fails, run_in_chunk_stops, trailing_mask_l}
-use Rattle.release_files.specs.Feeds.{feed_bits}
+use Rattle.release_files.specs.inside.Feeds.{feed_bits}
 use Rattle.release_files.proofs.Parts.{NoFeed}
 
 -- where a bit is set, a line feed stands among the bytes

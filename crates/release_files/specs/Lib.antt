@@ -1,7 +1,6 @@
-pub mod Feeds
 pub mod Held
+pub mod inside
 pub mod Lines
-pub mod PieceLines
-pub mod MemoryFilesInside
 pub mod MemorySource
+pub mod PieceLines
 pub mod Source

@@ -1,6 +1,6 @@
 //! Looking for the line feed that ends a line, 64 bytes at a time.
 ghost use Rattle.std.specs.Prelude.{◌≡◌, ◌+◌, ◌≤◌, drop, length, take};
-ghost use Rattle.release_files.specs.Feeds.{IsFirstFeed, feed_bits};
+ghost use Rattle.release_files.specs.inside.Feeds.{IsFirstFeed, feed_bits};
 
 use crate::lines::LINE_FEED;
 use bstr::ByteSlice;

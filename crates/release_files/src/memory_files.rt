@@ -27,7 +27,7 @@ impl<'a> Model for MemoryFiles<'a> {
 
     ghost Value = { MemorySource };
 
-    ghost use Rattle.release_files.specs.MemoryFilesInside.{HasPieces, source_in};
+    ghost use Rattle.release_files.specs.inside.MemoryFilesInside.{HasPieces, source_in};
 
     ghost view = { source_in };
 

@@ -2,7 +2,7 @@
 //!
 //! Concepts go by their numbers: A 0, B 1, C 2, D 3, T 4, U 5, X 6, Y 7, Q 8 and Root 9.
 use crate::load_tests::{MEMBERS, RELATIONSHIPS, replaced, sample, sample_with};
-use postings::{Indexes, Mark, Stats};
+use postings::{FlaggedNumber, Indexes, Stats};
 use release_files::NamedBytes;
 use rf2_rows::Value;
 use snapshot::{Limits, LoadFault, Snapshot};
@@ -254,7 +254,12 @@ fn assert_cells(rt: &impl Abort, rows: &[u32], column: &[u32], wants: &[Cells]) 
     }
 }
 
-fn assert_marks(rt: &impl Abort, sources: &[Mark], groups: &[Mark], wants: &[Cells]) {
+fn assert_marks(
+    rt: &impl Abort,
+    sources: &[FlaggedNumber],
+    groups: &[FlaggedNumber],
+    wants: &[Cells],
+) {
     assert!(rt; (sources.len(), groups.len()) == (wants.len(), wants.len()));
     for ((source, group), want) in sources.iter().zip(groups).zip(wants) {
         let row = want.0;

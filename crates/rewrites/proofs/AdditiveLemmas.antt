@@ -5,8 +5,8 @@ use Rattle.std.specs.List.{list_any}
 use Rattle.rf2_rows.specs.Release.{Release, Value, concept_value, number_value, text_value}
 use Rattle.rf2_rows.specs.Pairs.{Pair}
 use Rattle.constraint_tree.specs.Passing.{is_within}
-use Rattle.set_algebra.specs.Meaning.{means, some_means, group_means, some_group_means}
-use Rattle.set_algebra.specs.Plan.{Plan, Plans, no_plans, plan_then, GroupPlan, GroupPlans, no_groups, group_then}
+use Rattle.set_algebra.specs.Meaning.{means, some_means, unit_means, some_unit_means}
+use Rattle.set_algebra.specs.Plan.{Plan, Plans, no_plans, plan_then, PlanOfUnits, PlansOfUnits, no_unit_plans, unit_plan_then}
 use Rattle.rewrites.specs.PlanLists.{plans_each, groups_each, groups_of_each, plans_of_each}
 use Rattle.rewrites.proofs.BoolLemmas.{either_under, either_over, four, none_over}
 
@@ -97,33 +97,33 @@ spread_plans release concept make test is each (plan_then first rest) =
 
 -- the same of plans of groups, of plans of groups made of plans of concepts, and the other way
 pub spread_groups :
-    (release : Release) (pairs : List Pair) (make : GroupPlan → GroupPlan) (test : (List Pair → Bool) → Bool)
-    → IsAdditive test → ((part : GroupPlan) → group_means release (make part) pairs ≡ test (group_means release part))
-    → (parts : GroupPlans)
-    → test (some_group_means release parts) ≡ some_group_means release (groups_each make parts) pairs
-spread_groups release pairs make test is each no_groups = is.none
-spread_groups release pairs make test is each (group_then first rest) =
-    is.either (group_means release first) (some_group_means release rest)
-    ∙ ap (λ (b : Bool). b || test (some_group_means release rest)) (sym (each first))
-    ∙ ap (λ (b : Bool). group_means release (make first) pairs || b)
+    (release : Release) (pairs : List Pair) (make : PlanOfUnits → PlanOfUnits) (test : (List Pair → Bool) → Bool)
+    → IsAdditive test → ((part : PlanOfUnits) → unit_means release (make part) pairs ≡ test (unit_means release part))
+    → (parts : PlansOfUnits)
+    → test (some_unit_means release parts) ≡ some_unit_means release (groups_each make parts) pairs
+spread_groups release pairs make test is each no_unit_plans = is.none
+spread_groups release pairs make test is each (unit_plan_then first rest) =
+    is.either (unit_means release first) (some_unit_means release rest)
+    ∙ ap (λ (b : Bool). b || test (some_unit_means release rest)) (sym (each first))
+    ∙ ap (λ (b : Bool). unit_means release (make first) pairs || b)
     (spread_groups release pairs make test is each rest)
 
-pub spread_in_groups : (release : Release) (pairs : List Pair) (make : Plan → GroupPlan) (test : (ℕ → Bool) → Bool)
-    → IsAdditive test → ((part : Plan) → group_means release (make part) pairs ≡ test (means release part))
-    → (parts : Plans) → test (some_means release parts) ≡ some_group_means release (groups_of_each make parts) pairs
+pub spread_in_groups : (release : Release) (pairs : List Pair) (make : Plan → PlanOfUnits) (test : (ℕ → Bool) → Bool)
+    → IsAdditive test → ((part : Plan) → unit_means release (make part) pairs ≡ test (means release part))
+    → (parts : Plans) → test (some_means release parts) ≡ some_unit_means release (groups_of_each make parts) pairs
 spread_in_groups release pairs make test is each no_plans = is.none
 spread_in_groups release pairs make test is each (plan_then first rest) =
     is.either (means release first) (some_means release rest)
     ∙ ap (λ (b : Bool). b || test (some_means release rest)) (sym (each first))
-    ∙ ap (λ (b : Bool). group_means release (make first) pairs || b)
+    ∙ ap (λ (b : Bool). unit_means release (make first) pairs || b)
     (spread_in_groups release pairs make test is each rest)
 
-pub spread_braces : (release : Release) (concept : ℕ) (make : GroupPlan → Plan) (test : (List Pair → Bool) → Bool)
-    → IsAdditive test → ((part : GroupPlan) → means release (make part) concept ≡ test (group_means release part))
-    → (parts : GroupPlans)
-    → test (some_group_means release parts) ≡ some_means release (plans_of_each make parts) concept
-spread_braces release concept make test is each no_groups = is.none
-spread_braces release concept make test is each (group_then first rest) =
-    is.either (group_means release first) (some_group_means release rest)
-    ∙ ap (λ (b : Bool). b || test (some_group_means release rest)) (sym (each first))
+pub spread_braces : (release : Release) (concept : ℕ) (make : PlanOfUnits → Plan) (test : (List Pair → Bool) → Bool)
+    → IsAdditive test → ((part : PlanOfUnits) → means release (make part) concept ≡ test (unit_means release part))
+    → (parts : PlansOfUnits)
+    → test (some_unit_means release parts) ≡ some_means release (plans_of_each make parts) concept
+spread_braces release concept make test is each no_unit_plans = is.none
+spread_braces release concept make test is each (unit_plan_then first rest) =
+    is.either (unit_means release first) (some_unit_means release rest)
+    ∙ ap (λ (b : Bool). b || test (some_unit_means release rest)) (sym (each first))
     ∙ ap (λ (b : Bool). means release (make first) concept || b) (spread_braces release concept make test is each rest)

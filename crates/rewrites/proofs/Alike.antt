@@ -2,15 +2,15 @@
 -- pass.
 use Rattle.std.specs.Prelude.{◌≡◌}
 use Rattle.rf2_rows.specs.Release.{Release}
-use Rattle.set_algebra.specs.Meaning.{means, group_means, value_passes}
-use Rattle.set_algebra.specs.Plan.{Plan, Plans, no_plans, plan_then, GroupPlan, GroupPlans, no_groups, group_then}
+use Rattle.set_algebra.specs.Meaning.{means, unit_means, value_passes}
+use Rattle.set_algebra.specs.Plan.{Plan, Plans, no_plans, plan_then, PlanOfUnits, PlansOfUnits, no_unit_plans, unit_plan_then}
 use Rattle.set_algebra.specs.Plan.{TestPlan}
 
 pub record MeanAlike (old new : Plan) : Type 0 where
   pub mean : (release : Release) → means release old ≡ means release new
 
-pub record GroupsMeanAlike (old new : GroupPlan) : Type 0 where
-  pub mean : (release : Release) → group_means release old ≡ group_means release new
+pub record GroupsMeanAlike (old new : PlanOfUnits) : Type 0 where
+  pub mean : (release : Release) → unit_means release old ≡ unit_means release new
 
 pub record PassAlike (old new : TestPlan) : Type 0 where
   pub pass : (release : Release) → value_passes release old ≡ value_passes release new
@@ -20,7 +20,7 @@ AllMeanAlike no_plans no_plans = Unit {0}
 AllMeanAlike (plan_then old olds) (plan_then new news) = MeanAlike old new × AllMeanAlike olds news
 AllMeanAlike olds news = ⊥
 
-abbrev pub AllGroupsMeanAlike : GroupPlans → GroupPlans → Type 0
-AllGroupsMeanAlike no_groups no_groups = Unit {0}
-AllGroupsMeanAlike (group_then old olds) (group_then new news) = GroupsMeanAlike old new × AllGroupsMeanAlike olds news
+abbrev pub AllGroupsMeanAlike : PlansOfUnits → PlansOfUnits → Type 0
+AllGroupsMeanAlike no_unit_plans no_unit_plans = Unit {0}
+AllGroupsMeanAlike (unit_plan_then old olds) (unit_plan_then new news) = GroupsMeanAlike old new × AllGroupsMeanAlike olds news
 AllGroupsMeanAlike olds news = ⊥

@@ -8,11 +8,11 @@ use Rattle.constraint_tree.specs.declared.operator.Cardinality.{Cardinality}
 use Rattle.constraint_tree.specs.Passing.{is_within, is_outside}
 use Rattle.constraint_tree.specs.Walks.{has_concept, walks}
 use Rattle.constraint_tree.specs.Denotation.{is_component, is_value}
-use Rattle.set_algebra.specs.Meaning.{means, all_mean, some_means, leads, group_means, all_group_mean, some_group_means}
+use Rattle.set_algebra.specs.Meaning.{means, all_mean, some_means, leads, unit_means, all_units_mean, some_unit_means}
 use Rattle.set_algebra.specs.Meaning.{value_passes, has_pairs, has_groups, pairs_of}
 use Rattle.set_algebra.specs.Plan.{Plan, walk_plan, members_plan, and_plan, or_plan, minus_plan, values_plan}
-use Rattle.set_algebra.specs.Plan.{pairs_plan, units_plan, Plans, no_plans, plan_then, GroupPlan, and_group, or_group}
-use Rattle.set_algebra.specs.Plan.{minus_group, pairs_group, GroupPlans, no_groups, group_then, TestPlan, within_plan}
+use Rattle.set_algebra.specs.Plan.{pairs_plan, units_plan, Plans, no_plans, plan_then, PlanOfUnits, and_units, or_units}
+use Rattle.set_algebra.specs.Plan.{minus_units, pairs_units, PlansOfUnits, no_unit_plans, unit_plan_then, TestPlan, within_plan}
 use Rattle.set_algebra.specs.Plan.{outside_plan}
 use Rattle.rewrites.proofs.Alike.{MeanAlike, GroupsMeanAlike, PassAlike, AllMeanAlike, AllGroupsMeanAlike}
 
@@ -20,7 +20,7 @@ use Rattle.rewrites.proofs.Alike.{MeanAlike, GroupsMeanAlike, PassAlike, AllMean
 pub plan_itself : (plan : Plan) → MeanAlike plan plan
 plan_itself plan = record { mean = λ release. refl }
 
-pub group_itself : (plan : GroupPlan) → GroupsMeanAlike plan plan
+pub group_itself : (plan : PlanOfUnits) → GroupsMeanAlike plan plan
 group_itself plan = record { mean = λ release. refl }
 
 pub test_itself : (test : TestPlan) → PassAlike test test
@@ -30,7 +30,7 @@ test_itself test = record { pass = λ release. refl }
 pub plan_by_two : (one between other : Plan) → MeanAlike one between → MeanAlike between other → MeanAlike one other
 plan_by_two one between other first then = record { mean = λ release. first.mean release ∙ then.mean release }
 
-pub group_by_two : (one between other : GroupPlan) → GroupsMeanAlike one between → GroupsMeanAlike between other
+pub group_by_two : (one between other : PlanOfUnits) → GroupsMeanAlike one between → GroupsMeanAlike between other
     → GroupsMeanAlike one other
 group_by_two one between other first then = record { mean = λ release. first.mean release ∙ then.mean release }
 
@@ -128,7 +128,7 @@ pairs_alike back count types new_types test new_test alike also = record {
       (value_passes release new_test) (alike.mean release) (also.pass release));
 }
 
-pub units_alike : (count : Cardinality) (old new : GroupPlan) → GroupsMeanAlike old new
+pub units_alike : (count : Cardinality) (old new : PlanOfUnits) → GroupsMeanAlike old new
     → MeanAlike (units_plan count old) (units_plan count new)
 units_alike count old new alike = record {
   mean =
@@ -145,55 +145,55 @@ pub outside_alike : (old new : Plan) → MeanAlike old new → PassAlike (outsid
 outside_alike old new alike = record { pass = λ release. ap is_outside (alike.mean release) }
 
 -- plans of groups
-all_groups_alike : (release : Release) (olds news : GroupPlans) → AllGroupsMeanAlike olds news
-    → all_group_mean release olds ≡ all_group_mean release news
-all_groups_alike release no_groups no_groups alike = refl
-all_groups_alike release (group_then old olds) (group_then new news) (first, rest) =
+all_groups_alike : (release : Release) (olds news : PlansOfUnits) → AllGroupsMeanAlike olds news
+    → all_units_mean release olds ≡ all_units_mean release news
+all_groups_alike release no_unit_plans no_unit_plans alike = refl
+all_groups_alike release (unit_plan_then old olds) (unit_plan_then new news) (first, rest) =
     ap {B = List Pair → Bool}
-    (λ (set : List Pair → Bool) (pairs : List Pair). set pairs && all_group_mean release olds pairs)
+    (λ (set : List Pair → Bool) (pairs : List Pair). set pairs && all_units_mean release olds pairs)
     (first.mean release)
     ∙ ap {B = List Pair → Bool}
-    (λ (set : List Pair → Bool) (pairs : List Pair). group_means release new pairs && set pairs)
+    (λ (set : List Pair → Bool) (pairs : List Pair). unit_means release new pairs && set pairs)
     (all_groups_alike release olds news rest)
-all_groups_alike release no_groups (group_then new news) alike = absurd alike
-all_groups_alike release (group_then old olds) no_groups alike = absurd alike
+all_groups_alike release no_unit_plans (unit_plan_then new news) alike = absurd alike
+all_groups_alike release (unit_plan_then old olds) no_unit_plans alike = absurd alike
 
-some_groups_alike : (release : Release) (olds news : GroupPlans) → AllGroupsMeanAlike olds news
-    → some_group_means release olds ≡ some_group_means release news
-some_groups_alike release no_groups no_groups alike = refl
-some_groups_alike release (group_then old olds) (group_then new news) (first, rest) =
+some_groups_alike : (release : Release) (olds news : PlansOfUnits) → AllGroupsMeanAlike olds news
+    → some_unit_means release olds ≡ some_unit_means release news
+some_groups_alike release no_unit_plans no_unit_plans alike = refl
+some_groups_alike release (unit_plan_then old olds) (unit_plan_then new news) (first, rest) =
     ap {B = List Pair → Bool}
-    (λ (set : List Pair → Bool) (pairs : List Pair). set pairs || some_group_means release olds pairs)
+    (λ (set : List Pair → Bool) (pairs : List Pair). set pairs || some_unit_means release olds pairs)
     (first.mean release)
     ∙ ap {B = List Pair → Bool}
-    (λ (set : List Pair → Bool) (pairs : List Pair). group_means release new pairs || set pairs)
+    (λ (set : List Pair → Bool) (pairs : List Pair). unit_means release new pairs || set pairs)
     (some_groups_alike release olds news rest)
-some_groups_alike release no_groups (group_then new news) alike = absurd alike
-some_groups_alike release (group_then old olds) no_groups alike = absurd alike
+some_groups_alike release no_unit_plans (unit_plan_then new news) alike = absurd alike
+some_groups_alike release (unit_plan_then old olds) no_unit_plans alike = absurd alike
 
-pub and_groups_alike : (olds news : GroupPlans) → AllGroupsMeanAlike olds news
-    → GroupsMeanAlike (and_group olds) (and_group news)
+pub and_groups_alike : (olds news : PlansOfUnits) → AllGroupsMeanAlike olds news
+    → GroupsMeanAlike (and_units olds) (and_units news)
 and_groups_alike olds news alike = record { mean = λ release. all_groups_alike release olds news alike }
 
-pub or_groups_alike : (olds news : GroupPlans) → AllGroupsMeanAlike olds news
-    → GroupsMeanAlike (or_group olds) (or_group news)
+pub or_groups_alike : (olds news : PlansOfUnits) → AllGroupsMeanAlike olds news
+    → GroupsMeanAlike (or_units olds) (or_units news)
 or_groups_alike olds news alike = record { mean = λ release. some_groups_alike release olds news alike }
 
-pub minus_groups_alike : (first new_first second new_second : GroupPlan) → GroupsMeanAlike first new_first
-    → GroupsMeanAlike second new_second → GroupsMeanAlike (minus_group first second) (minus_group new_first new_second)
+pub minus_groups_alike : (first new_first second new_second : PlanOfUnits) → GroupsMeanAlike first new_first
+    → GroupsMeanAlike second new_second → GroupsMeanAlike (minus_units first second) (minus_units new_first new_second)
 minus_groups_alike first new_first second new_second alike also = record {
   mean = λ release.
       ap {B = List Pair → Bool}
-      (λ (set : List Pair → Bool) (pairs : List Pair). set pairs && not (group_means release second pairs))
+      (λ (set : List Pair → Bool) (pairs : List Pair). set pairs && not (unit_means release second pairs))
       (alike.mean release)
       ∙ ap {B = List Pair → Bool}
-      (λ (set : List Pair → Bool) (pairs : List Pair). group_means release new_first pairs && not (set pairs))
+      (λ (set : List Pair → Bool) (pairs : List Pair). unit_means release new_first pairs && not (set pairs))
       (also.mean release);
 }
 
 pub group_pairs_alike : (count : Cardinality) (types new_types : Plan) (test new_test : TestPlan)
     → MeanAlike types new_types → PassAlike test new_test
-    → GroupsMeanAlike (pairs_group count types test) (pairs_group count new_types new_test)
+    → GroupsMeanAlike (pairs_units count types test) (pairs_units count new_types new_test)
 group_pairs_alike count types new_types test new_test alike also = record {
   mean =
       λ release.

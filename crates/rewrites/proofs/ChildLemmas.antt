@@ -4,8 +4,8 @@ use Rattle.std.proofs.Common.{get_or, option_map, refl, sym, ap, ◌∙◌, arit
 use Rattle.std.specs.Prelude.{slice_get, slice_set}
 use Rattle.set_algebra.specs.declared.plan.ConceptPlan.{ConceptPlan}
 use Rattle.set_algebra.specs.declared.plan.UnitPlan.{UnitPlan}
-use Rattle.set_algebra.specs.Plan.{Plan, plan_of, plans_of, plan_then, group_plan_of, group_plans_of, group_then}
-use Rattle.set_algebra.specs.Plan.{and_plan, or_plan, values_plan, and_group, or_group}
+use Rattle.set_algebra.specs.Plan.{Plan, plan_of, plans_of, plan_then, unit_plan_of, unit_plans_of, unit_plan_then}
+use Rattle.set_algebra.specs.Plan.{and_plan, or_plan, values_plan, and_units, or_units}
 use Rattle.set_algebra.specs.Places.{Node, concept_node, group_node, children, plan_nodes, group_nodes, plans_with}
 use Rattle.set_algebra.specs.Places.{groups_with, with_child}
 use Rattle.rewrites.specs.declared.rule.Rule.{Rule}
@@ -89,48 +89,48 @@ module _ (rule : Rule) (place : List ℕ) (parts : List ConceptPlan) (number : �
 
 -- the same of plans of groups
 unit_at : (parts : List UnitPlan) (number : ℕ) (old : UnitPlan) → number < length parts → old ≡ get_or parts number old
-    → slice_get (group_nodes (group_plans_of parts)) number ≡ Some (group_node (group_plan_of old))
+    → slice_get (group_nodes (unit_plans_of parts)) number ≡ Some (group_node (unit_plan_of old))
 unit_at [] number old within is = absurd (omega arith)
-unit_at (first ∷ rest) zero old within is = ap (λ (plan : UnitPlan). Some (group_node (group_plan_of plan))) (sym is)
+unit_at (first ∷ rest) zero old within is = ap (λ (plan : UnitPlan). Some (group_node (unit_plan_of plan))) (sym is)
 unit_at (first ∷ rest) (suc number) old within is = unit_at rest number old (omega arith) is
 
 no_unit : (parts : List UnitPlan) (number : ℕ) → length parts ≤ number
-    → slice_get (group_nodes (group_plans_of parts)) number ≡ None
+    → slice_get (group_nodes (unit_plans_of parts)) number ≡ None
 no_unit [] number past = refl
 no_unit (first ∷ rest) zero past = absurd (omega arith)
 no_unit (first ∷ rest) (suc number) past = no_unit rest number (omega arith)
 
 with_unit : (parts : List UnitPlan) (number : ℕ) (new : UnitPlan)
-    → group_plans_of (slice_set parts number new) ≡ groups_with (group_plans_of parts) number (group_plan_of new)
+    → unit_plans_of (slice_set parts number new) ≡ groups_with (unit_plans_of parts) number (unit_plan_of new)
 with_unit [] number new = refl
 with_unit (first ∷ rest) zero new = refl
-with_unit (first ∷ rest) (suc number) new = ap (group_then (group_plan_of first)) (with_unit rest number new)
+with_unit (first ∷ rest) (suc number) new = ap (unit_plan_then (unit_plan_of first)) (with_unit rest number new)
 
 module _ (rule : Rule) (place : List ℕ) (parts : List UnitPlan) (number : ℕ) where
   pub no_unit_and : length parts ≤ number
-      → None ≡ rewritten_at rule (number ∷ place) (group_node (and_group (group_plans_of parts)))
+      → None ≡ rewritten_at rule (number ∷ place) (group_node (and_units (unit_plans_of parts)))
   no_unit_and past =
-      no_step rule number place (group_node (and_group (group_plans_of parts))) (no_unit parts number past)
+      no_step rule number place (group_node (and_units (unit_plans_of parts))) (no_unit parts number past)
 
   pub no_unit_or : length parts ≤ number
-      → None ≡ rewritten_at rule (number ∷ place) (group_node (or_group (group_plans_of parts)))
-  no_unit_or past = no_step rule number place (group_node (or_group (group_plans_of parts))) (no_unit parts number past)
+      → None ≡ rewritten_at rule (number ∷ place) (group_node (or_units (unit_plans_of parts)))
+  no_unit_or past = no_step rule number place (group_node (or_units (unit_plans_of parts))) (no_unit parts number past)
 
   module _ (old new : UnitPlan) (fits : Bool) (within : number < length parts) (is : old ≡ get_or parts number old)
-      (made : only_if fits (group_node (group_plan_of new)) ≡ rewritten_at rule place (group_node (group_plan_of old)))
+      (made : only_if fits (group_node (unit_plan_of new)) ≡ rewritten_at rule place (group_node (unit_plan_of old)))
     where
       pub unit_and :
-          only_if fits (group_node (and_group (group_plans_of (slice_set parts number new))))
-          ≡ rewritten_at rule (number ∷ place) (group_node (and_group (group_plans_of parts)))
+          only_if fits (group_node (and_units (unit_plans_of (slice_set parts number new))))
+          ≡ rewritten_at rule (number ∷ place) (group_node (and_units (unit_plans_of parts)))
       unit_and =
-          ap (λ plans. only_if fits (group_node (and_group plans))) (with_unit parts number new)
-          ∙ step rule number place (group_node (and_group (group_plans_of parts))) (group_node (group_plan_of old))
-          (group_node (group_plan_of new)) fits (unit_at parts number old within is) made
+          ap (λ plans. only_if fits (group_node (and_units plans))) (with_unit parts number new)
+          ∙ step rule number place (group_node (and_units (unit_plans_of parts))) (group_node (unit_plan_of old))
+          (group_node (unit_plan_of new)) fits (unit_at parts number old within is) made
 
       pub unit_or :
-          only_if fits (group_node (or_group (group_plans_of (slice_set parts number new))))
-          ≡ rewritten_at rule (number ∷ place) (group_node (or_group (group_plans_of parts)))
+          only_if fits (group_node (or_units (unit_plans_of (slice_set parts number new))))
+          ≡ rewritten_at rule (number ∷ place) (group_node (or_units (unit_plans_of parts)))
       unit_or =
-          ap (λ plans. only_if fits (group_node (or_group plans))) (with_unit parts number new)
-          ∙ step rule number place (group_node (or_group (group_plans_of parts))) (group_node (group_plan_of old))
-          (group_node (group_plan_of new)) fits (unit_at parts number old within is) made
+          ap (λ plans. only_if fits (group_node (or_units plans))) (with_unit parts number new)
+          ∙ step rule number place (group_node (or_units (unit_plans_of parts))) (group_node (unit_plan_of old))
+          (group_node (unit_plan_of new)) fits (unit_at parts number old within is) made

@@ -2,7 +2,7 @@
 use Rattle.std.proofs.Common.{ℕ, ◌≡◌, Option, Some, None, List, [], ◌∷◌, option_map, refl, sym, ap, ◌∙◌, subst}
 use Rattle.std.specs.Prelude.{slice_get}
 use Rattle.rf2_rows.specs.Release.{Release}
-use Rattle.set_algebra.specs.Plan.{Plan, GroupPlan}
+use Rattle.set_algebra.specs.Plan.{Plan, PlanOfUnits}
 use Rattle.set_algebra.specs.Places.{Node, concept_node, group_node, children, inside, with_child, with_changed}
 use Rattle.set_algebra.specs.Places.{node_at, put_at, MeanTheSame}
 use Rattle.set_algebra.proofs.PlaceLemmas.{keeps_meaning_at_places}
@@ -22,7 +22,7 @@ plan_root release old (Some made) new keeps is =
     subst (λ (node : Node). MeanTheSame release (concept_node old) node) new_is keeps
 
 -- and of a plan of groups
-group_root : (release : Release) (old : GroupPlan) (made : Option GroupPlan) (new : Node) → KeepsGroup release old made
+group_root : (release : Release) (old : PlanOfUnits) (made : Option PlanOfUnits) (new : Node) → KeepsGroup release old made
     → option_map group_node made ≡ Some new → MeanTheSame release (group_node old) new
 group_root release old None new keeps is = absurd (cc)
 group_root release old (Some made) new keeps is =

@@ -3,8 +3,8 @@ use Rattle.std.proofs.Common.{ℕ, ◌≡◌, ◌<◌, ◌+◌, List, [], ◌∷
 use Rattle.std.proofs.lemmas.List.{take_more}
 use Rattle.set_algebra.specs.declared.plan.ConceptPlan.{ConceptPlan}
 use Rattle.set_algebra.specs.declared.plan.UnitPlan.{UnitPlan}
-use Rattle.set_algebra.specs.Plan.{Plan, Plans, no_plans, plan_of, plans_of, plan_then, GroupPlan, GroupPlans}
-use Rattle.set_algebra.specs.Plan.{no_groups, group_then, group_plan_of, group_plans_of}
+use Rattle.set_algebra.specs.Plan.{Plan, Plans, no_plans, plan_of, plans_of, plan_then, PlanOfUnits, PlansOfUnits}
+use Rattle.set_algebra.specs.Plan.{no_unit_plans, unit_plan_then, unit_plan_of, unit_plans_of}
 use Rattle.rewrites.specs.PlanLists.{plans_joined, plans_then, plans_each, groups_joined, groups_then, groups_each}
 use Rattle.rewrites.specs.PlanLists.{groups_of_each, plans_of_each}
 
@@ -44,17 +44,17 @@ made_more make made next new parts i part next_is within part_is so_far one =
     ∙ sym (ap (plans_each make) taken ∙ each_then make (plans_of (take i parts)) (plan_of part))
 
 -- the same of lists of plans of groups, and where a plan of the one sort is made of each of the other
-pub group_plans_of_joined : (parts others : List UnitPlan)
-    → group_plans_of (parts ++ others) ≡ groups_joined (group_plans_of parts) (group_plans_of others)
-group_plans_of_joined [] others = refl
-group_plans_of_joined (first ∷ rest) others = ap (group_then (group_plan_of first)) (group_plans_of_joined rest others)
+pub unit_plans_of_joined : (parts others : List UnitPlan)
+    → unit_plans_of (parts ++ others) ≡ groups_joined (unit_plans_of parts) (unit_plans_of others)
+unit_plans_of_joined [] others = refl
+unit_plans_of_joined (first ∷ rest) others = ap (unit_plan_then (unit_plan_of first)) (unit_plans_of_joined rest others)
 
-pub group_plans_of_then : (parts : List UnitPlan) (last : UnitPlan)
-    → group_plans_of (parts ++ last ∷ []) ≡ groups_then (group_plans_of parts) (group_plan_of last)
-group_plans_of_then [] last = refl
-group_plans_of_then (first ∷ rest) last = ap (group_then (group_plan_of first)) (group_plans_of_then rest last)
+pub unit_plans_of_then : (parts : List UnitPlan) (last : UnitPlan)
+    → unit_plans_of (parts ++ last ∷ []) ≡ groups_then (unit_plans_of parts) (unit_plan_of last)
+unit_plans_of_then [] last = refl
+unit_plans_of_then (first ∷ rest) last = ap (unit_plan_then (unit_plan_of first)) (unit_plans_of_then rest last)
 
-pub ruleset group_lists = (group_plans_of_joined, group_plans_of_then)
+pub ruleset group_lists = (unit_plans_of_joined, unit_plans_of_then)
 
 -- the plans of one more item of a list
 taken_plans : (parts : List ConceptPlan) (i : ℕ) (part : ConceptPlan) → i < length parts → part ≡ get_or parts i part
@@ -64,67 +64,67 @@ taken_plans parts i part within part_is =
 
 -- and of a list of plans of groups
 taken_units : (parts : List UnitPlan) (i : ℕ) (part : UnitPlan) → i < length parts → part ≡ get_or parts i part
-    → group_plans_of (take (i + 1) parts) ≡ groups_then (group_plans_of (take i parts)) (group_plan_of part)
+    → unit_plans_of (take (i + 1) parts) ≡ groups_then (unit_plans_of (take i parts)) (unit_plan_of part)
 taken_units parts i part within part_is =
-    rw (take_more parts i part within, ← part_is) (group_plans_of_then (take i parts) part)
+    rw (take_more parts i part within, ← part_is) (unit_plans_of_then (take i parts) part)
 
 -- one more, of a list of plans of concepts made of plans of groups
-braces_then : (make : GroupPlan → Plan) (parts : GroupPlans) (last : GroupPlan)
+braces_then : (make : PlanOfUnits → Plan) (parts : PlansOfUnits) (last : PlanOfUnits)
     → plans_of_each make (groups_then parts last) ≡ plans_then (plans_of_each make parts) (make last)
-braces_then make no_groups last = refl
-braces_then make (group_then first rest) last = ap (plan_then (make first)) (braces_then make rest last)
+braces_then make no_unit_plans last = refl
+braces_then make (unit_plan_then first rest) last = ap (plan_then (make first)) (braces_then make rest last)
 
 -- so one more turn of its loop
 pub braced_more :
-    (make : GroupPlan → Plan) (made next : List ConceptPlan) (new : ConceptPlan) (parts : List UnitPlan) (i : ℕ)
+    (make : PlanOfUnits → Plan) (made next : List ConceptPlan) (new : ConceptPlan) (parts : List UnitPlan) (i : ℕ)
     (part : UnitPlan)
     → next ≡ made ++ new ∷ [] → i < length parts → part ≡ get_or parts i part
-    → plans_of made ≡ plans_of_each make (group_plans_of (take i parts)) → plan_of new ≡ make (group_plan_of part)
-    → plans_of next ≡ plans_of_each make (group_plans_of (take (i + 1) parts))
+    → plans_of made ≡ plans_of_each make (unit_plans_of (take i parts)) → plan_of new ≡ make (unit_plan_of part)
+    → plans_of next ≡ plans_of_each make (unit_plans_of (take (i + 1) parts))
 braced_more make made next new parts i part next_is within part_is so_far one =
     ap plans_of next_is ∙ plans_of_then made new
     ∙ ap (λ (plans : Plans). plans_then plans (plan_of new)) so_far
-    ∙ ap (plans_then (plans_of_each make (group_plans_of (take i parts)))) one
+    ∙ ap (plans_then (plans_of_each make (unit_plans_of (take i parts)))) one
     ∙ sym
-    (ap (plans_of_each make) (taken_units parts i part within part_is) ∙ braces_then make (group_plans_of (take i parts)) (group_plan_of part))
+    (ap (plans_of_each make) (taken_units parts i part within part_is) ∙ braces_then make (unit_plans_of (take i parts)) (unit_plan_of part))
 
 -- one more, of a list of plans of groups made of plans of groups
-groups_each_then : (make : GroupPlan → GroupPlan) (parts : GroupPlans) (last : GroupPlan)
+groups_each_then : (make : PlanOfUnits → PlanOfUnits) (parts : PlansOfUnits) (last : PlanOfUnits)
     → groups_each make (groups_then parts last) ≡ groups_then (groups_each make parts) (make last)
-groups_each_then make no_groups last = refl
-groups_each_then make (group_then first rest) last = ap (group_then (make first)) (groups_each_then make rest last)
+groups_each_then make no_unit_plans last = refl
+groups_each_then make (unit_plan_then first rest) last = ap (unit_plan_then (make first)) (groups_each_then make rest last)
 
 -- so one more turn of its loop
 pub units_more :
-    (make : GroupPlan → GroupPlan) (made next : List UnitPlan) (new : UnitPlan) (parts : List UnitPlan) (i : ℕ)
+    (make : PlanOfUnits → PlanOfUnits) (made next : List UnitPlan) (new : UnitPlan) (parts : List UnitPlan) (i : ℕ)
     (part : UnitPlan)
     → next ≡ made ++ new ∷ [] → i < length parts → part ≡ get_or parts i part
-    → group_plans_of made ≡ groups_each make (group_plans_of (take i parts))
-    → group_plan_of new ≡ make (group_plan_of part)
-    → group_plans_of next ≡ groups_each make (group_plans_of (take (i + 1) parts))
+    → unit_plans_of made ≡ groups_each make (unit_plans_of (take i parts))
+    → unit_plan_of new ≡ make (unit_plan_of part)
+    → unit_plans_of next ≡ groups_each make (unit_plans_of (take (i + 1) parts))
 units_more make made next new parts i part next_is within part_is so_far one =
-    ap group_plans_of next_is ∙ group_plans_of_then made new
-    ∙ ap (λ (plans : GroupPlans). groups_then plans (group_plan_of new)) so_far
-    ∙ ap (groups_then (groups_each make (group_plans_of (take i parts)))) one
+    ap unit_plans_of next_is ∙ unit_plans_of_then made new
+    ∙ ap (λ (plans : PlansOfUnits). groups_then plans (unit_plan_of new)) so_far
+    ∙ ap (groups_then (groups_each make (unit_plans_of (take i parts)))) one
     ∙ sym
-    (ap (groups_each make) (taken_units parts i part within part_is) ∙ groups_each_then make (group_plans_of (take i parts)) (group_plan_of part))
+    (ap (groups_each make) (taken_units parts i part within part_is) ∙ groups_each_then make (unit_plans_of (take i parts)) (unit_plan_of part))
 
 -- one more, of a list of plans of groups made of plans of concepts
-in_groups_then : (make : Plan → GroupPlan) (parts : Plans) (last : Plan)
+in_groups_then : (make : Plan → PlanOfUnits) (parts : Plans) (last : Plan)
     → groups_of_each make (plans_then parts last) ≡ groups_then (groups_of_each make parts) (make last)
 in_groups_then make no_plans last = refl
-in_groups_then make (plan_then first rest) last = ap (group_then (make first)) (in_groups_then make rest last)
+in_groups_then make (plan_then first rest) last = ap (unit_plan_then (make first)) (in_groups_then make rest last)
 
 -- so one more turn of its loop
 pub in_groups_more :
-    (make : Plan → GroupPlan) (made next : List UnitPlan) (new : UnitPlan) (parts : List ConceptPlan) (i : ℕ)
+    (make : Plan → PlanOfUnits) (made next : List UnitPlan) (new : UnitPlan) (parts : List ConceptPlan) (i : ℕ)
     (part : ConceptPlan)
     → next ≡ made ++ new ∷ [] → i < length parts → part ≡ get_or parts i part
-    → group_plans_of made ≡ groups_of_each make (plans_of (take i parts)) → group_plan_of new ≡ make (plan_of part)
-    → group_plans_of next ≡ groups_of_each make (plans_of (take (i + 1) parts))
+    → unit_plans_of made ≡ groups_of_each make (plans_of (take i parts)) → unit_plan_of new ≡ make (plan_of part)
+    → unit_plans_of next ≡ groups_of_each make (plans_of (take (i + 1) parts))
 in_groups_more make made next new parts i part next_is within part_is so_far one =
-    ap group_plans_of next_is ∙ group_plans_of_then made new
-    ∙ ap (λ (plans : GroupPlans). groups_then plans (group_plan_of new)) so_far
+    ap unit_plans_of next_is ∙ unit_plans_of_then made new
+    ∙ ap (λ (plans : PlansOfUnits). groups_then plans (unit_plan_of new)) so_far
     ∙ ap (groups_then (groups_of_each make (plans_of (take i parts)))) one
     ∙ sym
     (ap (groups_of_each make) (taken_plans parts i part within part_is) ∙ in_groups_then make (plans_of (take i parts)) (plan_of part))

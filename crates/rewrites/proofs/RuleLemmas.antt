@@ -19,17 +19,17 @@ use Rattle.hierarchy.specs.Hierarchy.{reaches}
 use Rattle.set_algebra.specs.Equal.{same_plan}
 use Rattle.set_algebra.specs.EqualLaws.{decides_plan}
 use Rattle.set_algebra.specs.Lowering.{both_plan}
-use Rattle.set_algebra.specs.Meaning.{means, all_mean, some_means, group_means, some_group_means}
+use Rattle.set_algebra.specs.Meaning.{means, all_mean, some_means, unit_means, some_unit_means}
 use Rattle.set_algebra.specs.Meaning.{value_passes, has_pairs, has_groups, pairs_of}
 use Rattle.set_algebra.proofs.MeaningLemmas.{in_force_if_meant}
 use Rattle.set_algebra.specs.Plan.{Plan, empty_plan, all_plan, walk_plan, members_plan, and_plan, or_plan}
 use Rattle.set_algebra.specs.Plan.{minus_plan, pairs_plan, units_plan, Plans, no_plans, plan_then}
-use Rattle.set_algebra.specs.Plan.{GroupPlan, and_group, or_group, pairs_group}
-use Rattle.set_algebra.specs.Plan.{GroupPlans, no_groups, group_then, TestPlan, within_plan}
+use Rattle.set_algebra.specs.Plan.{PlanOfUnits, and_units, or_units, pairs_units}
+use Rattle.set_algebra.specs.Plan.{PlansOfUnits, no_unit_plans, unit_plan_then, TestPlan, within_plan}
 use Rattle.rewrites.specs.declared.rule.Rule.{Rule}
 use Rattle.rewrites.specs.declared.rule.Rule.TheVariants as rule
 use Rattle.rewrites.specs.PlanLists.{plans_then, plans_joined, plans_each, plans_of_each}
-use Rattle.rewrites.specs.Counts.{only_if, at_least, up_to, asks_some, asks_none, split_at, turn_at}
+use Rattle.rewrites.specs.Counts.{only_if, at_least, up_to, asks_some, asks_none, split_at, complement_at}
 use Rattle.rewrites.specs.Counts.{settle_at}
 use Rattle.rewrites.specs.Rules.{rewritten, goes_through, walk_of_walk}
 use Rattle.rewrites.proofs.BoolLemmas
@@ -295,7 +295,7 @@ module _ (release : Release) (make : Cardinality → Plan) (n : ℕ → ℕ)
         (is (up_to most) concept)))
 
     turn_keeps : (count : Cardinality) (least : ℕ) (most : Option ℕ) → count ≡ record { min = least; max = most }
-        → Keeps release (make count) (turn_at (λ above. minus_plan all_plan (make above)) least most)
+        → Keeps release (make count) (complement_at (λ above. minus_plan all_plan (make above)) least most)
     turn_keeps count least None count_is = tt
     turn_keeps count least (Some most) count_is =
         keeps_if release (make count) (minus_plan all_plan (make (at_least (most + 1))))
@@ -328,8 +328,8 @@ pairs_count release back types test concept =
     (pairs_of release back concept)
 
 -- how many groups of the concept are in the set
-abbrev groups_count : (release : Release) (units : GroupPlan) (concept : ℕ) → ℕ
-groups_count release units concept = count_by (group_means release units) (groups_of release concept)
+abbrev groups_count : (release : Release) (units : PlanOfUnits) (concept : ℕ) → ℕ
+groups_count release units concept = count_by (unit_means release units) (groups_of release concept)
 
 range_split : (release : Release) (plan : Plan) → Keeps release plan (rewritten rule.RangeSplit plan)
 range_split release (pairs_plan back count types test) =
@@ -370,17 +370,17 @@ braces_add release count concept asks =
     (some_of (λ pairs set. set pairs) (λ pairs. holds_of pairs) (groups_of release concept)))
 
 -- no group in some part is none in each
-none_in_each : (release : Release) (count : Cardinality) (concept : ℕ) → asks_none count ≡ true → (units : GroupPlans)
-    → (has_concept release concept && has_groups release count (some_group_means release units) concept)
+none_in_each : (release : Release) (count : Cardinality) (concept : ℕ) → asks_none count ≡ true → (units : PlansOfUnits)
+    → (has_concept release concept && has_groups release count (some_unit_means release units) concept)
     ≡ (has_concept release concept && all_mean release (plans_of_each (units_plan count) units) concept)
-none_in_each release count concept asks no_groups =
+none_in_each release count concept asks no_unit_plans =
     ap (λ (b : Bool). has_concept release concept && b)
     (CountLemmas.none_lie_in count (λ pairs. false) (groups_of release concept) asks
     ∙ ap not
     (some_of {X = List Pair} (λ pairs set. set pairs) (λ pairs. holds_of pairs) (groups_of release concept)).none)
-none_in_each release count concept asks (group_then first rest) =
-    let set : List Pair → Bool = group_means release first in
-    let others : List Pair → Bool = some_group_means release rest in
+none_in_each release count concept asks (unit_plan_then first rest) =
+    let set : List Pair → Bool = unit_means release first in
+    let others : List Pair → Bool = some_unit_means release rest in
     let groups : List (List Pair) = groups_of release concept in
     ap (λ (b : Bool). has_concept release concept && b)
     (CountLemmas.none_lie_in count (λ pairs. set pairs || others pairs) groups asks)
@@ -400,9 +400,9 @@ none_in_each release count concept asks (group_then first rest) =
     (all_mean release (plans_of_each (units_plan count) rest) concept)
 
 -- by what the count asks
-brace_or_keeps : (release : Release) (count : Cardinality) (units : GroupPlans) (some none : Bool)
+brace_or_keeps : (release : Release) (count : Cardinality) (units : PlansOfUnits) (some none : Bool)
     → asks_some count ≡ some → asks_none count ≡ none
-    → Keeps release (units_plan count (or_group units))
+    → Keeps release (units_plan count (or_units units))
     (if some then Some (or_plan (plans_of_each (units_plan count) units)) else only_if none (and_plan (plans_of_each (units_plan count) units)))
 brace_or_keeps release count units true none asks asks_not = λ concept.
     spread_braces release concept (units_plan count)
@@ -413,21 +413,21 @@ brace_or_keeps release count units false true asks asks_not =
 brace_or_keeps release count units false false asks asks_not = tt
 
 brace_or : (release : Release) (plan : Plan) → Keeps release plan (rewritten rule.BraceOr plan)
-brace_or release (units_plan count (or_group units)) =
+brace_or release (units_plan count (or_units units)) =
     brace_or_keeps release count units (asks_some count) (asks_none count) refl refl
 brace_or release plan = tt
 
 brace_one : (release : Release) (plan : Plan) → Keeps release plan (rewritten rule.BraceOne plan)
-brace_one release (units_plan count (pairs_group some types test)) =
-    keeps_if release (units_plan count (pairs_group some types test)) (pairs_plan false count types test)
+brace_one release (units_plan count (pairs_units some types test)) =
+    keeps_if release (units_plan count (pairs_units some types test)) (pairs_plan false count types test)
     ((asks_some count || asks_none count) && asks_some some) (λ holds concept.
     let asked = and_parts (asks_some count || asks_none count) (asks_some some) holds in
     let passes : Pair → Bool = λ pair. means release types pair.type_id && value_passes release test pair.value in
     ap (λ (b : Bool). has_concept release concept && b)
     (CountLemmas.lies_in_alike count
-    (count_by (group_means release (pairs_group some types test)) (groups_of release concept))
+    (count_by (unit_means release (pairs_units some types test)) (groups_of release concept))
     (count_by passes (out_pairs release concept)) asked.0
-    (CountLemmas.counts_some (group_means release (pairs_group some types test)) (groups_of release concept)
+    (CountLemmas.counts_some (unit_means release (pairs_units some types test)) (groups_of release concept)
     ∙ ap (λ (set : List Pair → Bool). list_any set (groups_of release concept))
     (fun_ext (λ pairs. CountLemmas.some_lie_in some passes pairs asked.1))
     ∙ some_pair_of_group release concept passes
@@ -436,14 +436,14 @@ brace_one release plan = tt
 
 -- where enough groups are in the `And`, one is, and so it has a pair that passes
 group_has_pair :
-    (release : Release) (count some : Cardinality) (types : Plan) (test : TestPlan) (rest : GroupPlans) (concept : ℕ)
+    (release : Release) (count some : Cardinality) (types : Plan) (test : TestPlan) (rest : PlansOfUnits) (concept : ℕ)
     → nat_le 1 count.min ≡ true → nat_le 1 some.min ≡ true
-    → has_groups release count (group_means release (and_group (group_then (pairs_group some types test) rest))) concept
+    → has_groups release count (unit_means release (and_units (unit_plan_then (pairs_units some types test) rest))) concept
     ≡ true
     → has_pairs (at_least 1) (means release types) (value_passes release test) (out_pairs release concept) ≡ true
 group_has_pair release count some types test rest concept asks asks_pair holds =
     let passes : Pair → Bool = λ pair. means release types pair.type_id && value_passes release test pair.value in
-    let both : List Pair → Bool = group_means release (and_group (group_then (pairs_group some types test) rest)) in
+    let both : List Pair → Bool = unit_means release (and_units (unit_plan_then (pairs_units some types test) rest)) in
     let any : list_any both (groups_of release concept) ≡ true =
     CountLemmas.some_of_enough count both (groups_of release concept) asks holds in
     let group = passing_item both (groups_of release concept) any in
@@ -455,9 +455,9 @@ group_has_pair release count some types test rest concept asks asks_pair holds =
     ∙ some_item_passes (list_any passes) (groups_of release concept) group.0 group.1 pair
 
 brace_guard : (release : Release) (plan : Plan) → Keeps release plan (rewritten rule.BraceGuard plan)
-brace_guard release (units_plan count (and_group (group_then (pairs_group some types test) rest))) =
-    keeps_if release (units_plan count (and_group (group_then (pairs_group some types test) rest)))
-    (both_plan (pairs_plan false (at_least 1) types test) (units_plan count (and_group (group_then (pairs_group some types test) rest))))
+brace_guard release (units_plan count (and_units (unit_plan_then (pairs_units some types test) rest))) =
+    keeps_if release (units_plan count (and_units (unit_plan_then (pairs_units some types test) rest)))
+    (both_plan (pairs_plan false (at_least 1) types test) (units_plan count (and_units (unit_plan_then (pairs_units some types test) rest))))
     (nat_le 1 count.min && nat_le 1 some.min) (λ holds concept.
     let asks = and_parts (nat_le 1 count.min) (nat_le 1 some.min) holds in
     BoolLemmas.guarded (has_concept release concept) _ _

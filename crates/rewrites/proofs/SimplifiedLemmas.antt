@@ -5,8 +5,8 @@ use Rattle.std.specs.Prelude.{unwrap_or}
 use Rattle.rf2_rows.specs.Release.{Release}
 use Rattle.set_algebra.specs.Plan.{Plan, empty_plan, all_plan, one_plan, walk_plan, members_plan, and_plan, or_plan}
 use Rattle.set_algebra.specs.Plan.{minus_plan, values_plan, pairs_plan, units_plan, Plans, no_plans, plan_then}
-use Rattle.set_algebra.specs.Plan.{GroupPlan, nothing_group, every_group, and_group, or_group, minus_group, pairs_group}
-use Rattle.set_algebra.specs.Plan.{GroupPlans, no_groups, group_then, TestPlan, within_plan, outside_plan, number_plan}
+use Rattle.set_algebra.specs.Plan.{PlanOfUnits, nothing_unit, every_unit, and_units, or_units, minus_units, pairs_units}
+use Rattle.set_algebra.specs.Plan.{PlansOfUnits, no_unit_plans, unit_plan_then, TestPlan, within_plan, outside_plan, number_plan}
 use Rattle.rewrites.specs.declared.rule.Rule.{Rule}
 use Rattle.rewrites.specs.declared.rule.Rule.TheVariants.{RangeAll, BraceOne, Same, Only}
 use Rattle.rewrites.specs.Rules.{rewritten, rewritten_group}
@@ -46,26 +46,26 @@ then_shortened : (old new : Plan) → MeanAlike old new → MeanAlike old (short
 then_shortened old new alike = plan_by_two old new (shortened new) alike (shortened_keeps new)
 
 -- the same of plans of groups
-group_or_itself : (plan : GroupPlan) (made : Option GroupPlan) → ((release : Release) → KeepsGroup release plan made)
+group_or_itself : (plan : PlanOfUnits) (made : Option PlanOfUnits) → ((release : Release) → KeepsGroup release plan made)
     → GroupsMeanAlike plan (unwrap_or made plan)
 group_or_itself plan None keeps = group_itself plan
 group_or_itself plan (Some new) keeps = record { mean = λ release. fun_ext (keeps release) }
 
-group_tried_keeps : (rule : Rule) (plan : GroupPlan) → GroupsMeanAlike plan (tried_group rule plan)
+group_tried_keeps : (rule : Rule) (plan : PlanOfUnits) → GroupsMeanAlike plan (tried_group rule plan)
 group_tried_keeps rule plan =
     group_or_itself plan (rewritten_group rule plan) (λ release. group_keeps release rule plan)
 
-group_shortened_keeps : (plan : GroupPlan) → GroupsMeanAlike plan (shortened_group plan)
+group_shortened_keeps : (plan : PlanOfUnits) → GroupsMeanAlike plan (shortened_group plan)
 unfolding shortened_group
 group_shortened_keeps plan =
-    let first : GroupPlan = tried_group RangeAll plan in
-    let second : GroupPlan = tried_group Same first in
+    let first : PlanOfUnits = tried_group RangeAll plan in
+    let second : PlanOfUnits = tried_group Same first in
     group_by_two plan second (tried_group Only second)
     (group_by_two plan first second (group_tried_keeps RangeAll plan) (group_tried_keeps Same first))
     (group_tried_keeps Only second)
 
-group_then_shortened : (old new : GroupPlan) → GroupsMeanAlike old new → GroupsMeanAlike old (shortened_group new)
-group_then_shortened old new alike = group_by_two old new (shortened_group new) alike (group_shortened_keeps new)
+unit_plan_then_shortened : (old new : PlanOfUnits) → GroupsMeanAlike old new → GroupsMeanAlike old (shortened_group new)
+unit_plan_then_shortened old new alike = group_by_two old new (shortened_group new) alike (group_shortened_keeps new)
 
 -- a simplified plan means the same, by its children and then the node itself
 mutual
@@ -95,23 +95,23 @@ mutual
   all_keep no_plans = tt
   all_keep (plan_then first rest) = (simplified_keeps first, all_keep rest)
 
-  group_simplified_keeps : (plan : GroupPlan) → GroupsMeanAlike plan (group_simplified plan)
-  group_simplified_keeps nothing_group = group_shortened_keeps nothing_group
-  group_simplified_keeps every_group = group_shortened_keeps every_group
-  group_simplified_keeps (and_group parts) =
-      group_then_shortened _ _ (and_groups_alike parts (all_groups_simplified parts) (all_groups_keep parts))
-  group_simplified_keeps (or_group parts) =
-      group_then_shortened _ _ (or_groups_alike parts (all_groups_simplified parts) (all_groups_keep parts))
-  group_simplified_keeps (minus_group first second) =
-      group_then_shortened _ _
+  group_simplified_keeps : (plan : PlanOfUnits) → GroupsMeanAlike plan (group_simplified plan)
+  group_simplified_keeps nothing_unit = group_shortened_keeps nothing_unit
+  group_simplified_keeps every_unit = group_shortened_keeps every_unit
+  group_simplified_keeps (and_units parts) =
+      unit_plan_then_shortened _ _ (and_groups_alike parts (all_groups_simplified parts) (all_groups_keep parts))
+  group_simplified_keeps (or_units parts) =
+      unit_plan_then_shortened _ _ (or_groups_alike parts (all_groups_simplified parts) (all_groups_keep parts))
+  group_simplified_keeps (minus_units first second) =
+      unit_plan_then_shortened _ _
       (minus_groups_alike first (group_simplified first) second (group_simplified second) (group_simplified_keeps first) (group_simplified_keeps second))
-  group_simplified_keeps (pairs_group count types test) =
-      group_then_shortened _ _
+  group_simplified_keeps (pairs_units count types test) =
+      unit_plan_then_shortened _ _
       (group_pairs_alike count types (simplified types) test (test_simplified test) (simplified_keeps types) (test_keeps test))
 
-  all_groups_keep : (parts : GroupPlans) → AllGroupsMeanAlike parts (all_groups_simplified parts)
-  all_groups_keep no_groups = tt
-  all_groups_keep (group_then first rest) = (group_simplified_keeps first, all_groups_keep rest)
+  all_groups_keep : (parts : PlansOfUnits) → AllGroupsMeanAlike parts (all_groups_simplified parts)
+  all_groups_keep no_unit_plans = tt
+  all_groups_keep (unit_plan_then first rest) = (group_simplified_keeps first, all_groups_keep rest)
 
   test_keeps : (test : TestPlan) → PassAlike test (test_simplified test)
   test_keeps (within_plan operand) = within_alike operand (simplified operand) (simplified_keeps operand)

@@ -6,10 +6,10 @@ use Rattle.std.proofs.lemmas.Bool.{false≢true}
 use Rattle.set_algebra.specs.declared.plan.ConceptPlan.{ConceptPlan}
 use Rattle.set_algebra.specs.declared.plan.UnitPlan.{UnitPlan}
 use Rattle.set_algebra.specs.EqualLaws.{decides_plan, decides_group}
-use Rattle.set_algebra.specs.Plan.{Plan, Plans, no_plans, plan_then, and_plan, or_plan, plan_of, plans_of, GroupPlan}
-use Rattle.set_algebra.specs.Plan.{GroupPlans, no_groups, group_then, and_group, or_group, group_plan_of}
-use Rattle.set_algebra.specs.Plan.{group_plans_of}
-use Rattle.set_algebra.specs.Views.{only_part, only_group_part}
+use Rattle.set_algebra.specs.Plan.{Plan, Plans, no_plans, plan_then, and_plan, or_plan, plan_of, plans_of, PlanOfUnits}
+use Rattle.set_algebra.specs.Plan.{PlansOfUnits, no_unit_plans, unit_plan_then, and_units, or_units, unit_plan_of}
+use Rattle.set_algebra.specs.Plan.{unit_plans_of}
+use Rattle.set_algebra.specs.inside.Views.{only_part, only_group_part}
 use Rattle.rewrites.specs.declared.rule.Rule.TheVariants.{Same}
 use Rattle.rewrites.specs.Counts.{only_if}
 use Rattle.rewrites.specs.Simplified.{tried, tried_group, begins_twice, group_begins_twice, simplified, all_simplified}
@@ -85,72 +85,72 @@ all_here (first ∷ rest) (suc i) is = ap (plan_then (simplified (plan_of first)
 
 -- plans of groups
 -- without the first of two equal plans
-pub first_group_dropped_and : (items new : List UnitPlan) → group_begins_twice (group_plans_of items) ≡ true
-    → new ≡ remove items 0 → and_group (group_plans_of new) ≡ tried_group Same (and_group (group_plans_of items))
+pub first_group_dropped_and : (items new : List UnitPlan) → group_begins_twice (unit_plans_of items) ≡ true
+    → new ≡ remove items 0 → and_units (unit_plans_of new) ≡ tried_group Same (and_units (unit_plans_of items))
 first_group_dropped_and [] new twice is = absurd (false≢true twice)
 first_group_dropped_and (first ∷ []) new twice is = absurd (false≢true twice)
 first_group_dropped_and (first ∷ (second ∷ rest)) new twice is =
-    let same : group_plan_of first ≡ group_plan_of second =
-    (decides_group (group_plan_of first) (group_plan_of second)).0 twice in
-    ap (λ (plans : List UnitPlan). and_group (group_plans_of plans)) is
-    ∙ ap (λ (plan : GroupPlan). and_group (group_then plan (group_plans_of rest))) (sym same)
+    let same : unit_plan_of first ≡ unit_plan_of second =
+    (decides_group (unit_plan_of first) (unit_plan_of second)).0 twice in
+    ap (λ (plans : List UnitPlan). and_units (unit_plans_of plans)) is
+    ∙ ap (λ (plan : PlanOfUnits). and_units (unit_plan_then plan (unit_plans_of rest))) (sym same)
     ∙ ap
-    (λ (b : Bool). unwrap_or (only_if b (and_group (group_then (group_plan_of first) (group_plans_of rest))))
-    (and_group (group_then (group_plan_of first) (group_then (group_plan_of second) (group_plans_of rest)))))
+    (λ (b : Bool). unwrap_or (only_if b (and_units (unit_plan_then (unit_plan_of first) (unit_plans_of rest))))
+    (and_units (unit_plan_then (unit_plan_of first) (unit_plan_then (unit_plan_of second) (unit_plans_of rest)))))
     (sym twice)
 
-pub first_group_dropped_or : (items new : List UnitPlan) → group_begins_twice (group_plans_of items) ≡ true
-    → new ≡ remove items 0 → or_group (group_plans_of new) ≡ tried_group Same (or_group (group_plans_of items))
+pub first_group_dropped_or : (items new : List UnitPlan) → group_begins_twice (unit_plans_of items) ≡ true
+    → new ≡ remove items 0 → or_units (unit_plans_of new) ≡ tried_group Same (or_units (unit_plans_of items))
 first_group_dropped_or [] new twice is = absurd (false≢true twice)
 first_group_dropped_or (first ∷ []) new twice is = absurd (false≢true twice)
 first_group_dropped_or (first ∷ (second ∷ rest)) new twice is =
-    let same : group_plan_of first ≡ group_plan_of second =
-    (decides_group (group_plan_of first) (group_plan_of second)).0 twice in
-    ap (λ (plans : List UnitPlan). or_group (group_plans_of plans)) is
-    ∙ ap (λ (plan : GroupPlan). or_group (group_then plan (group_plans_of rest))) (sym same)
+    let same : unit_plan_of first ≡ unit_plan_of second =
+    (decides_group (unit_plan_of first) (unit_plan_of second)).0 twice in
+    ap (λ (plans : List UnitPlan). or_units (unit_plans_of plans)) is
+    ∙ ap (λ (plan : PlanOfUnits). or_units (unit_plan_then plan (unit_plans_of rest))) (sym same)
     ∙ ap
-    (λ (b : Bool). unwrap_or (only_if b (or_group (group_then (group_plan_of first) (group_plans_of rest))))
-    (or_group (group_then (group_plan_of first) (group_then (group_plan_of second) (group_plans_of rest)))))
+    (λ (b : Bool). unwrap_or (only_if b (or_units (unit_plan_then (unit_plan_of first) (unit_plans_of rest))))
+    (or_units (unit_plan_then (unit_plan_of first) (unit_plan_then (unit_plan_of second) (unit_plans_of rest)))))
     (sym twice)
 
 -- a list of another length has no only plan
 pub not_only_group_part : (items : List UnitPlan) → (length items ≡ 1 → ⊥)
-    → only_group_part (group_plans_of items) ≡ None
+    → only_group_part (unit_plans_of items) ≡ None
 not_only_group_part [] long = refl
 not_only_group_part (first ∷ []) long = absurd (long refl)
 not_only_group_part (first ∷ (second ∷ rest)) long = refl
 
 -- a list of which the first are group_simplified
-abbrev pub groups_up_to_here : ℕ → GroupPlans → GroupPlans
+abbrev pub groups_up_to_here : ℕ → PlansOfUnits → PlansOfUnits
 groups_up_to_here zero parts = parts
-groups_up_to_here (suc i) no_groups = no_groups
-groups_up_to_here (suc i) (group_then first rest) = group_then (group_simplified first) (groups_up_to_here i rest)
+groups_up_to_here (suc i) no_unit_plans = no_unit_plans
+groups_up_to_here (suc i) (unit_plan_then first rest) = unit_plan_then (group_simplified first) (groups_up_to_here i rest)
 
 pub groups_here_more : (parts items : List UnitPlan) (i : ℕ) (old new : UnitPlan)
-    → group_plans_of items ≡ groups_up_to_here i (group_plans_of parts) → i < length items → old ≡ get_or items i old
-    → group_plan_of new ≡ group_simplified (group_plan_of old)
-    → group_plans_of (slice_set items i new) ≡ groups_up_to_here (i + 1) (group_plans_of parts)
+    → unit_plans_of items ≡ groups_up_to_here i (unit_plans_of parts) → i < length items → old ≡ get_or items i old
+    → unit_plan_of new ≡ group_simplified (unit_plan_of old)
+    → unit_plans_of (slice_set items i new) ≡ groups_up_to_here (i + 1) (unit_plans_of parts)
 groups_here_more parts [] i old new so_far within is one = absurd (omega arith)
 groups_here_more [] (first ∷ rest) zero old new so_far within is one = absurd (cc)
 groups_here_more [] (first ∷ rest) (suc i) old new so_far within is one = absurd (cc)
 groups_here_more (part ∷ parts) (first ∷ rest) zero old new so_far within is one =
-    let head : group_plan_of first ≡ group_plan_of part = cc in
-    let tail : group_plans_of rest ≡ group_plans_of parts = cc in
-    ap (λ (plan : GroupPlan). group_then plan (group_plans_of rest))
-    (one ∙ ap (λ (plan : UnitPlan). group_simplified (group_plan_of plan)) is ∙ ap group_simplified head)
-    ∙ ap (group_then (group_simplified (group_plan_of part))) tail
+    let head : unit_plan_of first ≡ unit_plan_of part = cc in
+    let tail : unit_plans_of rest ≡ unit_plans_of parts = cc in
+    ap (λ (plan : PlanOfUnits). unit_plan_then plan (unit_plans_of rest))
+    (one ∙ ap (λ (plan : UnitPlan). group_simplified (unit_plan_of plan)) is ∙ ap group_simplified head)
+    ∙ ap (unit_plan_then (group_simplified (unit_plan_of part))) tail
 groups_here_more (part ∷ parts) (first ∷ rest) (suc i) old new so_far within is one =
-    let head : group_plan_of first ≡ group_simplified (group_plan_of part) = cc in
-    let tail : group_plans_of rest ≡ groups_up_to_here i (group_plans_of parts) = cc in
+    let head : unit_plan_of first ≡ group_simplified (unit_plan_of part) = cc in
+    let tail : unit_plans_of rest ≡ groups_up_to_here i (unit_plans_of parts) = cc in
     rw add-one
-    (ap (λ (plan : GroupPlan). group_then plan (group_plans_of (slice_set rest i new))) head
-    ∙ ap (group_then (group_simplified (group_plan_of part)))
+    (ap (λ (plan : PlanOfUnits). unit_plan_then plan (unit_plans_of (slice_set rest i new))) head
+    ∙ ap (unit_plan_then (group_simplified (unit_plan_of part)))
     (groups_here_more parts rest i old new tail (omega arith) is one ∙ rw add-one refl))
 
 pub all_groups_here : (parts : List UnitPlan) (i : ℕ) → i ≡ length parts
-    → groups_up_to_here i (group_plans_of parts) ≡ all_groups_simplified (group_plans_of parts)
+    → groups_up_to_here i (unit_plans_of parts) ≡ all_groups_simplified (unit_plans_of parts)
 all_groups_here [] zero is = refl
 all_groups_here [] (suc i) is = refl
 all_groups_here (first ∷ rest) zero is = absurd (omega arith)
 all_groups_here (first ∷ rest) (suc i) is =
-    ap (group_then (group_simplified (group_plan_of first))) (all_groups_here rest i (omega arith))
+    ap (unit_plan_then (group_simplified (unit_plan_of first))) (all_groups_here rest i (omega arith))

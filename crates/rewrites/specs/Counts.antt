@@ -44,12 +44,12 @@ abbrev pub split : {X : Type 0} → (Cardinality → Cardinality → X) → Card
 split make count = split_at make count.min count.max
 
 -- of [0..k], where k is given and below 2 ^ 64 - 1, what is made of [k+1..*]
-abbrev pub turn_at : {X : Type 0} → (Cardinality → X) → ℕ → Option ℕ → Option X
-turn_at make least None = None
-turn_at make least (Some most) = only_if (nat_eq least 0 && nat_lt most (2 ^ 64 - 1)) (make (at_least (most + 1)))
+abbrev pub complement_at : {X : Type 0} → (Cardinality → X) → ℕ → Option ℕ → Option X
+complement_at make least None = None
+complement_at make least (Some most) = only_if (nat_eq least 0 && nat_lt most (2 ^ 64 - 1)) (make (at_least (most + 1)))
 
-abbrev pub turned : {X : Type 0} → (Cardinality → X) → Cardinality → Option X
-turned make count = turn_at make count.min count.max
+abbrev pub complement : {X : Type 0} → (Cardinality → X) → Cardinality → Option X
+complement make count = complement_at make count.min count.max
 
 -- the first of two for [0..*], and the second for [m..k] with m above k
 abbrev pub settle_at : {X : Type 0} → X → X → ℕ → Option ℕ → Option X

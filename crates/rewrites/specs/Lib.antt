@@ -1,6 +1,6 @@
 pub mod Counts
 pub mod Faults
-pub mod Gives
+pub mod inside
 pub mod PlanLists
 pub mod Rules
 pub mod RulesAtPlaces

@@ -4,8 +4,8 @@ use Rattle.std.specs.Prelude.{Bool, false, unwrap_or}
 use Rattle.set_algebra.specs.Equal.{same_plan, same_group}
 use Rattle.set_algebra.specs.Plan.{Plan, empty_plan, all_plan, one_plan, walk_plan, members_plan, and_plan, or_plan}
 use Rattle.set_algebra.specs.Plan.{minus_plan, values_plan, pairs_plan, units_plan, Plans, no_plans, plan_then}
-use Rattle.set_algebra.specs.Plan.{GroupPlan, nothing_group, every_group, and_group, or_group, minus_group, pairs_group}
-use Rattle.set_algebra.specs.Plan.{GroupPlans, no_groups, group_then, TestPlan, within_plan, outside_plan, number_plan}
+use Rattle.set_algebra.specs.Plan.{PlanOfUnits, nothing_unit, every_unit, and_units, or_units, minus_units, pairs_units}
+use Rattle.set_algebra.specs.Plan.{PlansOfUnits, no_unit_plans, unit_plan_then, TestPlan, within_plan, outside_plan, number_plan}
 use Rattle.rewrites.specs.declared.rule.Rule.{Rule}
 use Rattle.rewrites.specs.declared.rule.Rule.TheVariants.{RangeAll, BraceOne, Same, Only}
 use Rattle.rewrites.specs.Rules.{rewritten, rewritten_group}
@@ -14,14 +14,14 @@ use Rattle.rewrites.specs.Rules.{rewritten, rewritten_group}
 abbrev pub tried : Rule → Plan → Plan
 tried rule plan = unwrap_or (rewritten rule plan) plan
 
-abbrev pub tried_group : Rule → GroupPlan → GroupPlan
+abbrev pub tried_group : Rule → PlanOfUnits → PlanOfUnits
 tried_group rule plan = unwrap_or (rewritten_group rule plan) plan
 
 -- what the four rules make of a node whose children are simplified; BraceOne makes nothing of a plan of groups
 unfoldable pub shortened : Plan → Plan
 shortened plan = tried Only (tried Same (tried BraceOne (tried RangeAll plan)))
 
-unfoldable pub shortened_group : GroupPlan → GroupPlan
+unfoldable pub shortened_group : PlanOfUnits → PlanOfUnits
 shortened_group plan = tried_group Only (tried_group Same (tried_group RangeAll plan))
 
 abbrev mutual
@@ -43,19 +43,19 @@ abbrev mutual
   all_simplified no_plans = no_plans
   all_simplified (plan_then first rest) = plan_then (simplified first) (all_simplified rest)
 
-  pub group_simplified : GroupPlan → GroupPlan
-  group_simplified nothing_group = shortened_group nothing_group
-  group_simplified every_group = shortened_group every_group
-  group_simplified (and_group parts) = shortened_group (and_group (all_groups_simplified parts))
-  group_simplified (or_group parts) = shortened_group (or_group (all_groups_simplified parts))
-  group_simplified (minus_group first second) =
-      shortened_group (minus_group (group_simplified first) (group_simplified second))
-  group_simplified (pairs_group count types test) =
-      shortened_group (pairs_group count (simplified types) (test_simplified test))
+  pub group_simplified : PlanOfUnits → PlanOfUnits
+  group_simplified nothing_unit = shortened_group nothing_unit
+  group_simplified every_unit = shortened_group every_unit
+  group_simplified (and_units parts) = shortened_group (and_units (all_groups_simplified parts))
+  group_simplified (or_units parts) = shortened_group (or_units (all_groups_simplified parts))
+  group_simplified (minus_units first second) =
+      shortened_group (minus_units (group_simplified first) (group_simplified second))
+  group_simplified (pairs_units count types test) =
+      shortened_group (pairs_units count (simplified types) (test_simplified test))
 
-  pub all_groups_simplified : GroupPlans → GroupPlans
-  all_groups_simplified no_groups = no_groups
-  all_groups_simplified (group_then first rest) = group_then (group_simplified first) (all_groups_simplified rest)
+  pub all_groups_simplified : PlansOfUnits → PlansOfUnits
+  all_groups_simplified no_unit_plans = no_unit_plans
+  all_groups_simplified (unit_plan_then first rest) = unit_plan_then (group_simplified first) (all_groups_simplified rest)
 
   -- a test is no node: its plan is simplified
   pub test_simplified : TestPlan → TestPlan
@@ -68,6 +68,6 @@ abbrev pub begins_twice : Plans → Bool
 begins_twice (plan_then first (plan_then second rest)) = same_plan first second
 begins_twice parts = false
 
-abbrev pub group_begins_twice : GroupPlans → Bool
-group_begins_twice (group_then first (group_then second rest)) = same_group first second
+abbrev pub group_begins_twice : PlansOfUnits → Bool
+group_begins_twice (unit_plan_then first (unit_plan_then second rest)) = same_group first second
 group_begins_twice parts = false

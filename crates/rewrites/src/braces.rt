@@ -1,7 +1,7 @@
 //! Rules of braces: BraceOr, BraceOne and BraceGuard.
 ghost use Rattle.std.specs.Prelude.{◌≡◌, IfOk};
-ghost use Rattle.set_algebra.specs.Plan.{plan_of, plans_of, group_plans_of, units_plan};
-ghost use Rattle.rewrites.specs.Gives.{Gives};
+ghost use Rattle.set_algebra.specs.Plan.{plan_of, plans_of, unit_plans_of, units_plan};
+ghost use Rattle.rewrites.specs.inside.Gives.{Gives};
 ghost use Rattle.rewrites.specs.PlanLists.{plans_of_each};
 ghost use Rattle.rewrites.specs.Rules.{rewritten};
 ghost use Rattle.rewrites.specs.declared.rule.Rule.TheVariants.{BraceOr, BraceOne, BraceGuard};
@@ -32,7 +32,7 @@ fn each_units(
     count: Cardinality,
     parts: &[UnitPlan],
 ) -> Result<Vec<ConceptPlan>, AllocError>
-    ensures { IfOk result (λ made. plans_of made.items ≡ plans_of_each (units_plan count) (group_plans_of parts.now)) }
+    ensures { IfOk result (λ made. plans_of made.items ≡ plans_of_each (units_plan count) (unit_plans_of parts.now)) }
 {
     let mut made = Vec::new(alloc);
     for part in parts {

@@ -1,6 +1,6 @@
 //! A rule at a place, in place.
 ghost use Rattle.std.specs.Prelude.{suc, ◌≡◌, ◌∷◌, Bool, IfOk, option_map};
-ghost use Rattle.set_algebra.specs.Plan.{Plan, plan_of, plans_of, group_plan_of, group_plans_of, test_plan_of, and_plan, or_plan, values_plan, pairs_plan, and_group, or_group, pairs_group};
+ghost use Rattle.set_algebra.specs.Plan.{Plan, plan_of, plans_of, unit_plan_of, unit_plans_of, test_plan_of, and_plan, or_plan, values_plan, pairs_plan, and_units, or_units, pairs_units};
 ghost use Rattle.set_algebra.specs.Places.{concept_node, group_node};
 ghost use Rattle.constraint_tree.specs.declared.operator.Cardinality.{Cardinality};
 ghost use Rattle.rewrites.specs.Counts.{only_if};
@@ -93,7 +93,7 @@ fn change_test(
     place: &[u32],
 ) -> Result<bool, AllocError>
     ensures pairs { IfOk result (λ fits. (back : Bool) (count : Cardinality) (types : Plan) → only_if fits (concept_node (pairs_plan back count types (test_plan_of test.new))) ≡ rewritten_at rule (suc number ∷ place.now) (concept_node (pairs_plan back count types (test_plan_of test.old)))) }
-    ensures unit { IfOk result (λ fits. (count : Cardinality) (types : Plan) → only_if fits (group_node (pairs_group count types (test_plan_of test.new))) ≡ rewritten_at rule (suc number ∷ place.now) (group_node (pairs_group count types (test_plan_of test.old)))) }
+    ensures unit { IfOk result (λ fits. (count : Cardinality) (types : Plan) → only_if fits (group_node (pairs_units count types (test_plan_of test.new))) ≡ rewritten_at rule (suc number ∷ place.now) (group_node (pairs_units count types (test_plan_of test.old)))) }
 {
     match test {
         ValueTest::Within(operand) if number == 0 => Ok(change(alloc, operand, rule, place)?),
@@ -111,7 +111,7 @@ fn change_unit(
     rule: Rule,
     place: &[u32],
 ) -> Result<bool, AllocError>
-    ensures { IfOk result (λ fits. only_if fits (group_node (group_plan_of plan.new)) ≡ rewritten_at rule place.now (group_node (group_plan_of plan.old))) }
+    ensures { IfOk result (λ fits. only_if fits (group_node (unit_plan_of plan.new)) ≡ rewritten_at rule place.now (group_node (unit_plan_of plan.old))) }
 {
     let Some((number, rest)) = place.split_first() else {
         let fits = change_unit_here(alloc, plan, rule)?;
@@ -130,7 +130,7 @@ fn change_unit(
 }
 
 fn change_unit_here(alloc: Global, plan: &mut UnitPlan, rule: Rule) -> Result<bool, AllocError>
-    ensures { IfOk result (λ fits. only_if fits (group_node (group_plan_of plan.new)) ≡ option_map group_node (rewritten_group rule (group_plan_of plan.old))) }
+    ensures { IfOk result (λ fits. only_if fits (group_node (unit_plan_of plan.new)) ≡ option_map group_node (rewritten_group rule (unit_plan_of plan.old))) }
 {
     match unit_rewritten(alloc, rule, plan) {
         Ok(new) => {
@@ -150,8 +150,8 @@ fn change_unit_part(
     number: u32,
     place: &[u32],
 ) -> Result<bool, AllocError>
-    ensures and { IfOk result (λ fits. only_if fits (group_node (and_group (group_plans_of parts.new.items))) ≡ rewritten_at rule (number ∷ place.now) (group_node (and_group (group_plans_of parts.old.items)))) }
-    ensures or { IfOk result (λ fits. only_if fits (group_node (or_group (group_plans_of parts.new.items))) ≡ rewritten_at rule (number ∷ place.now) (group_node (or_group (group_plans_of parts.old.items)))) }
+    ensures and { IfOk result (λ fits. only_if fits (group_node (and_units (unit_plans_of parts.new.items))) ≡ rewritten_at rule (number ∷ place.now) (group_node (and_units (unit_plans_of parts.old.items)))) }
+    ensures or { IfOk result (λ fits. only_if fits (group_node (or_units (unit_plans_of parts.new.items))) ≡ rewritten_at rule (number ∷ place.now) (group_node (or_units (unit_plans_of parts.old.items)))) }
 {
     let number = number as usize;
     if number >= parts.len() {

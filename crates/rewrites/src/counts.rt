@@ -1,7 +1,7 @@
 //! Cardinalities that rules ask for and make.
 ghost use Rattle.std.specs.Prelude.{◌≡◌, true, false, Some, None, MatchResult};
 ghost use Rattle.constraint_tree.specs.declared.operator.Cardinality.{Cardinality};
-ghost use Rattle.rewrites.specs.Counts.{asks_some, asks_none, asks_nothing, asks_too_much, at_least, up_to, split, turned};
+ghost use Rattle.rewrites.specs.Counts.{asks_some, asks_none, asks_nothing, asks_too_much, at_least, up_to, split, complement};
 ghost use Rattle.rewrites.specs.declared.fault.RuleFault.TheVariants.{NotApplicable};
 
 use crate::fault::RuleFault;
@@ -81,8 +81,8 @@ pub(crate) fn split(count: Cardinality) -> Result<(Cardinality, Cardinality), Ru
 }
 
 // [k+1..*] of [0..k], where k is below the largest number.
-pub(crate) fn turned(count: Cardinality) -> Result<Cardinality, RuleFault>
-    ensures { MatchResult result (λ above. turned (λ above. above) count ≡ Some above) (λ fault. (fault ≡ NotApplicable) × (turned (λ above. above) count ≡ None)) }
+pub(crate) fn complement(count: Cardinality) -> Result<Cardinality, RuleFault>
+    ensures { MatchResult result (λ above. complement (λ above. above) count ≡ Some above) (λ fault. (fault ≡ NotApplicable) × (complement (λ above. above) count ≡ None)) }
 {
     match count.max {
         Some(most) => {

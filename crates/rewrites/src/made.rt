@@ -1,7 +1,7 @@
 //! Nodes made of copies of others.
 ghost use Rattle.std.specs.Prelude.{◌≡◌, IfOk};
 ghost use Rattle.set_algebra.specs.Lowering.{both_plan};
-ghost use Rattle.set_algebra.specs.Plan.{plan_of, group_plan_of, test_plan_of, pairs_plan, units_plan, pairs_group, minus_plan, all_plan, minus_group, every_group};
+ghost use Rattle.set_algebra.specs.Plan.{plan_of, unit_plan_of, test_plan_of, pairs_plan, units_plan, pairs_units, minus_plan, all_plan, minus_units, every_unit};
 ghost use Rattle.rewrites.specs.Rules.{both_groups};
 
 use constraint_tree::Cardinality;
@@ -16,7 +16,7 @@ pub(crate) fn in_box(alloc: Global, plan: ConceptPlan) -> Result<Box<ConceptPlan
 }
 
 pub(crate) fn unit_in_box(alloc: Global, plan: UnitPlan) -> Result<Box<UnitPlan>, AllocError>
-    ensures { IfOk result (λ own. group_plan_of own.value ≡ group_plan_of plan) }
+    ensures { IfOk result (λ own. unit_plan_of own.value ≡ unit_plan_of plan) }
 {
     Ok(Box::new(alloc, plan)?)
 }
@@ -43,7 +43,7 @@ pub(crate) fn units(
     count: Cardinality,
     units: &UnitPlan,
 ) -> Result<ConceptPlan, AllocError>
-    ensures { IfOk result (λ new. plan_of new ≡ units_plan count (group_plan_of units.now)) }
+    ensures { IfOk result (λ new. plan_of new ≡ units_plan count (unit_plan_of units.now)) }
 {
     Ok(ConceptPlan::Units {
         count,
@@ -57,7 +57,7 @@ pub(crate) fn unit_pairs(
     types: &ConceptPlan,
     test: &ValueTest,
 ) -> Result<UnitPlan, AllocError>
-    ensures { IfOk result (λ new. group_plan_of new ≡ pairs_group count (plan_of types.now) (test_plan_of test.now)) }
+    ensures { IfOk result (λ new. unit_plan_of new ≡ pairs_units count (plan_of types.now) (test_plan_of test.now)) }
 {
     Ok(UnitPlan::Pairs {
         count,
@@ -84,7 +84,7 @@ pub(crate) fn both_units(
     one: UnitPlan,
     other: UnitPlan,
 ) -> Result<UnitPlan, AllocError>
-    ensures { IfOk result (λ new. group_plan_of new ≡ both_groups (group_plan_of one) (group_plan_of other)) }
+    ensures { IfOk result (λ new. unit_plan_of new ≡ both_groups (unit_plan_of one) (unit_plan_of other)) }
 {
     Ok(UnitPlan::And(vec![in alloc; one, other]?))
 }
@@ -98,7 +98,7 @@ pub(crate) fn all_but(alloc: Global, plan: ConceptPlan) -> Result<ConceptPlan, A
 }
 
 pub(crate) fn every_but(alloc: Global, plan: UnitPlan) -> Result<UnitPlan, AllocError>
-    ensures { IfOk result (λ new. group_plan_of new ≡ minus_group every_group (group_plan_of plan)) }
+    ensures { IfOk result (λ new. unit_plan_of new ≡ minus_units every_unit (unit_plan_of plan)) }
 {
     let every = Box::new(alloc, UnitPlan::Every)?;
     Ok(UnitPlan::Minus(every, Box::new(alloc, plan)?))

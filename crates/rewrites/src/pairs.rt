@@ -1,7 +1,7 @@
 //! Rules of the types and the test of pairs: TypesOr and TestOr.
 ghost use Rattle.std.specs.Prelude.{◌≡◌, IfOk};
 ghost use Rattle.set_algebra.specs.Plan.{plan_of, plans_of, test_plan_of, pairs_plan, within_plan};
-ghost use Rattle.rewrites.specs.Gives.{Gives};
+ghost use Rattle.rewrites.specs.inside.Gives.{Gives};
 ghost use Rattle.rewrites.specs.PlanLists.{plans_each};
 ghost use Rattle.rewrites.specs.Rules.{rewritten};
 ghost use Rattle.rewrites.specs.declared.rule.Rule.TheVariants.{TypesOr, TestOr};

@@ -1,6 +1,6 @@
 //! Rules of the parts of `And`, `Or` and `Minus`: Turn, Join, Pair, Spread, Same, Only, MinusAnd and MinusOr.
 ghost use Rattle.set_algebra.specs.Plan.{plan_of};
-ghost use Rattle.rewrites.specs.Gives.{Gives};
+ghost use Rattle.rewrites.specs.inside.Gives.{Gives};
 ghost use Rattle.rewrites.specs.Rules.{rewritten};
 ghost use Rattle.rewrites.specs.declared.rule.Rule.TheVariants.{Turn, Join, Pair, Spread, Same, Only, MinusAnd, MinusOr};
 

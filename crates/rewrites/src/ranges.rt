@@ -2,11 +2,11 @@
 ghost use Rattle.std.specs.Prelude.{◌≡◌, option_map};
 ghost use Rattle.set_algebra.specs.Plan.{plan_of, all_plan, empty_plan};
 ghost use Rattle.rewrites.specs.Counts.{settled};
-ghost use Rattle.rewrites.specs.Gives.{Gives};
+ghost use Rattle.rewrites.specs.inside.Gives.{Gives};
 ghost use Rattle.rewrites.specs.Rules.{rewritten};
 ghost use Rattle.rewrites.specs.declared.rule.Rule.TheVariants.{RangeSplit, RangeTurn, RangeAll};
 
-use crate::counts::{asks_nothing, asks_too_much, split, turned};
+use crate::counts::{asks_nothing, asks_too_much, complement, split};
 use crate::fault::RuleFault;
 use crate::made::{all_but, both, pairs, units};
 use constraint_tree::Cardinality;
@@ -48,11 +48,11 @@ pub(crate) fn range_turn(alloc: Global, plan: &ConceptPlan) -> Result<ConceptPla
             types,
             test,
         } => {
-            let more = pairs(alloc, *back, turned(*count)?, types, test)?;
+            let more = pairs(alloc, *back, complement(*count)?, types, test)?;
             Ok(all_but(alloc, more)?)
         }
         ConceptPlan::Units { count, units: plan } => {
-            let more = units(alloc, turned(*count)?, plan)?;
+            let more = units(alloc, complement(*count)?, plan)?;
             Ok(all_but(alloc, more)?)
         }
         _ => Err(RuleFault::NotApplicable),

@@ -1,6 +1,6 @@
 //! Each rule at the root of a plan.
-ghost use Rattle.set_algebra.specs.Plan.{plan_of, group_plan_of};
-ghost use Rattle.rewrites.specs.Gives.{Gives, GivesGroup};
+ghost use Rattle.set_algebra.specs.Plan.{plan_of, unit_plan_of};
+ghost use Rattle.rewrites.specs.inside.Gives.{Gives, GivesGroup};
 ghost use Rattle.rewrites.specs.Rules.{rewritten, rewritten_group};
 
 use crate::fault::RuleFault;
@@ -44,7 +44,7 @@ pub(crate) fn unit_rewritten(
     rule: Rule,
     plan: &UnitPlan,
 ) -> Result<UnitPlan, RuleFault>
-    ensures { GivesGroup (rewritten_group rule (group_plan_of plan.now)) result }
+    ensures { GivesGroup (rewritten_group rule (unit_plan_of plan.now)) result }
 {
     match rule {
         Rule::Turn => unit_parts::turn(alloc, plan),

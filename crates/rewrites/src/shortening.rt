@@ -1,7 +1,7 @@
 //! What RangeAll, BraceOne, Same and Only make of a node, in place and without memory.
 ghost use Rattle.std.specs.Prelude.{◌≡◌, true, None, MatchResult};
 ghost use Rattle.set_algebra.specs.Plan.{plan_of, plans_of, no_plans, plan_then, and_plan, or_plan};
-ghost use Rattle.set_algebra.specs.Views.{only_part};
+ghost use Rattle.set_algebra.specs.inside.Views.{only_part};
 ghost use Rattle.rewrites.specs.Simplified.{begins_twice, tried, shortened};
 ghost use Rattle.rewrites.specs.declared.rule.Rule.TheVariants.{RangeAll, BraceOne, Same, Only};
 

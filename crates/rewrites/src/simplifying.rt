@@ -1,6 +1,6 @@
 //! A plan with four of the rules used at each node, where they apply.
 ghost use Rattle.std.specs.Prelude.{◌≡◌};
-ghost use Rattle.set_algebra.specs.Plan.{plan_of, plans_of, group_plan_of, group_plans_of, test_plan_of};
+ghost use Rattle.set_algebra.specs.Plan.{plan_of, plans_of, unit_plan_of, unit_plans_of, test_plan_of};
 ghost use Rattle.rewrites.specs.RulesAtPlaces.{AlwaysMeanTheSame};
 ghost use Rattle.rewrites.specs.Simplified.{shortened, shortened_group, simplified, all_simplified, group_simplified, all_groups_simplified, test_simplified};
 
@@ -77,7 +77,7 @@ fn simplify_test(test: &mut ValueTest)
 
 #[cycle(simplify)]
 fn simplify_unit(plan: &mut UnitPlan)
-    ensures { group_plan_of plan.new ≡ group_simplified (group_plan_of plan.old) }
+    ensures { unit_plan_of plan.new ≡ group_simplified (unit_plan_of plan.old) }
 {
     simplify_unit_children(plan);
     shorten_unit(plan);
@@ -86,7 +86,7 @@ fn simplify_unit(plan: &mut UnitPlan)
 #[cycle(simplify)]
 #[tactic(auto, using(set_algebra::proofs::PlanLemmas::plans_of_items))]
 fn simplify_unit_children(plan: &mut UnitPlan)
-    ensures { shortened_group (group_plan_of plan.new) ≡ group_simplified (group_plan_of plan.old) }
+    ensures { shortened_group (unit_plan_of plan.new) ≡ group_simplified (unit_plan_of plan.old) }
 {
     match plan {
         UnitPlan::And(parts) => simplify_unit_parts(parts),
@@ -105,7 +105,7 @@ fn simplify_unit_children(plan: &mut UnitPlan)
 
 #[cycle(simplify)]
 fn simplify_unit_parts(parts: &mut Vec<UnitPlan>)
-    ensures { group_plans_of parts.new.items ≡ all_groups_simplified (group_plans_of parts.old.items) }
+    ensures { unit_plans_of parts.new.items ≡ all_groups_simplified (unit_plans_of parts.old.items) }
 {
     for i in 0..parts.len() {
         simplify_unit(&mut parts[i]);

@@ -1,6 +1,6 @@
 //! Lists of plans of groups, made of copies.
 ghost use Rattle.std.specs.Prelude.{◌≡◌, IfOk};
-ghost use Rattle.set_algebra.specs.Plan.{group_plan_of, group_plans_of, no_groups, group_then, and_group};
+ghost use Rattle.set_algebra.specs.Plan.{unit_plan_of, unit_plans_of, no_unit_plans, unit_plan_then, and_units};
 ghost use Rattle.rewrites.specs.PlanLists.{groups_joined, groups_then, groups_each};
 
 use set_algebra::UnitPlan;
@@ -14,7 +14,7 @@ pub(crate) fn joined(
     parts: &[UnitPlan],
     others: &[UnitPlan],
 ) -> Result<Vec<UnitPlan>, AllocError>
-    ensures { IfOk result (λ both. group_plans_of both.items ≡ groups_joined (group_plans_of parts.now) (group_plans_of others.now)) }
+    ensures { IfOk result (λ both. unit_plans_of both.items ≡ groups_joined (unit_plans_of parts.now) (unit_plans_of others.now)) }
 {
     let mut both = each_unit(alloc, parts)?;
     let mut others = each_unit(alloc, others)?;
@@ -29,7 +29,7 @@ pub(crate) fn with_last(
     parts: &[UnitPlan],
     last: &UnitPlan,
 ) -> Result<Vec<UnitPlan>, AllocError>
-    ensures { IfOk result (λ all. group_plans_of all.items ≡ groups_then (group_plans_of parts.now) (group_plan_of last.now)) }
+    ensures { IfOk result (λ all. unit_plans_of all.items ≡ groups_then (unit_plans_of parts.now) (unit_plan_of last.now)) }
 {
     let mut all = each_unit(alloc, parts)?;
     all.push(last.copy(alloc)?)?;
@@ -43,7 +43,7 @@ pub(crate) fn with_first(
     first: UnitPlan,
     rest: &[UnitPlan],
 ) -> Result<Vec<UnitPlan>, AllocError>
-    ensures { IfOk result (λ all. group_plans_of all.items ≡ group_then (group_plan_of first) (group_plans_of rest.now)) }
+    ensures { IfOk result (λ all. unit_plans_of all.items ≡ unit_plan_then (unit_plan_of first) (unit_plans_of rest.now)) }
 {
     let mut all = vec![in alloc; first]?;
     let mut others = each_unit(alloc, rest)?;
@@ -56,7 +56,7 @@ pub(crate) fn two(
     one: &UnitPlan,
     other: &UnitPlan,
 ) -> Result<Vec<UnitPlan>, AllocError>
-    ensures { IfOk result (λ both. group_plans_of both.items ≡ group_then (group_plan_of one.now) (group_then (group_plan_of other.now) no_groups)) }
+    ensures { IfOk result (λ both. unit_plans_of both.items ≡ unit_plan_then (unit_plan_of one.now) (unit_plan_then (unit_plan_of other.now) no_unit_plans)) }
 {
     let one = one.copy(alloc)?;
     let other = other.copy(alloc)?;
@@ -70,7 +70,7 @@ pub(crate) fn and_first(
     first: &UnitPlan,
     rest: &[UnitPlan],
 ) -> Result<UnitPlan, AllocError>
-    ensures { IfOk result (λ new. group_plan_of new ≡ and_group (group_then (group_plan_of first.now) (group_plans_of rest.now))) }
+    ensures { IfOk result (λ new. unit_plan_of new ≡ and_units (unit_plan_then (unit_plan_of first.now) (unit_plans_of rest.now))) }
 {
     let first = first.copy(alloc)?;
     Ok(UnitPlan::And(with_first(alloc, first, rest)?))
@@ -83,7 +83,7 @@ pub(crate) fn each_with(
     parts: &[UnitPlan],
     rest: &[UnitPlan],
 ) -> Result<Vec<UnitPlan>, AllocError>
-    ensures { IfOk result (λ made. group_plans_of made.items ≡ groups_each (λ part. and_group (group_then part (group_plans_of rest.now))) (group_plans_of parts.now)) }
+    ensures { IfOk result (λ made. unit_plans_of made.items ≡ groups_each (λ part. and_units (unit_plan_then part (unit_plans_of rest.now))) (unit_plans_of parts.now)) }
 {
     let mut made = Vec::new(alloc);
     for part in parts {

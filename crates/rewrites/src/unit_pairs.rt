@@ -1,13 +1,13 @@
 //! Rules of pairs of groups: TypesOr, TestOr, RangeSplit, RangeTurn and RangeAll.
 ghost use Rattle.std.specs.Prelude.{◌≡◌, IfOk, option_map};
-ghost use Rattle.set_algebra.specs.Plan.{plan_of, plans_of, test_plan_of, group_plan_of, group_plans_of, pairs_group, every_group, nothing_group, within_plan};
+ghost use Rattle.set_algebra.specs.Plan.{plan_of, plans_of, test_plan_of, unit_plan_of, unit_plans_of, pairs_units, every_unit, nothing_unit, within_plan};
 ghost use Rattle.rewrites.specs.Counts.{settled};
-ghost use Rattle.rewrites.specs.Gives.{GivesGroup};
+ghost use Rattle.rewrites.specs.inside.Gives.{GivesGroup};
 ghost use Rattle.rewrites.specs.PlanLists.{groups_of_each};
 ghost use Rattle.rewrites.specs.Rules.{rewritten_group};
 ghost use Rattle.rewrites.specs.declared.rule.Rule.TheVariants.{TypesOr, TestOr, RangeSplit, RangeTurn, RangeAll};
 
-use crate::counts::{asks_nothing, asks_some, asks_too_much, fits, split, turned};
+use crate::counts::{asks_nothing, asks_some, asks_too_much, complement, fits, split};
 use crate::fault::RuleFault;
 use crate::made::{both_units, every_but, unit_pairs};
 use constraint_tree::Cardinality;
@@ -18,7 +18,7 @@ use std::alloc::{AllocError, Global};
 
 #[tactic(auto, using(set_algebra::proofs::PlanLemmas::plans_of_items))]
 pub(crate) fn types_or(alloc: Global, plan: &UnitPlan) -> Result<UnitPlan, RuleFault>
-    ensures { GivesGroup (rewritten_group TypesOr (group_plan_of plan.now)) result }
+    ensures { GivesGroup (rewritten_group TypesOr (unit_plan_of plan.now)) result }
 {
     let (count, types, test) = unit_pairs_of(plan)?;
     let parts = or_of(types)?;
@@ -32,7 +32,7 @@ fn each_type(
     parts: &[ConceptPlan],
     test: &ValueTest,
 ) -> Result<Vec<UnitPlan>, AllocError>
-    ensures { IfOk result (λ made. group_plans_of made.items ≡ groups_of_each (λ part. pairs_group count part (test_plan_of test.now)) (plans_of parts.now)) }
+    ensures { IfOk result (λ made. unit_plans_of made.items ≡ groups_of_each (λ part. pairs_units count part (test_plan_of test.now)) (plans_of parts.now)) }
 {
     let mut made = Vec::new(alloc);
     for part in parts {
@@ -44,7 +44,7 @@ fn each_type(
 
 #[tactic(auto, using(set_algebra::proofs::PlanLemmas::plans_of_items))]
 pub(crate) fn test_or(alloc: Global, plan: &UnitPlan) -> Result<UnitPlan, RuleFault>
-    ensures { GivesGroup (rewritten_group TestOr (group_plan_of plan.now)) result }
+    ensures { GivesGroup (rewritten_group TestOr (unit_plan_of plan.now)) result }
 {
     let (count, types, test) = unit_pairs_of(plan)?;
     let parts = or_of(within_of(test)?)?;
@@ -58,7 +58,7 @@ fn each_value(
     types: &ConceptPlan,
     parts: &[ConceptPlan],
 ) -> Result<Vec<UnitPlan>, AllocError>
-    ensures { IfOk result (λ made. group_plans_of made.items ≡ groups_of_each (λ part. pairs_group count (plan_of types.now) (within_plan part)) (plans_of parts.now)) }
+    ensures { IfOk result (λ made. unit_plans_of made.items ≡ groups_of_each (λ part. pairs_units count (plan_of types.now) (within_plan part)) (plans_of parts.now)) }
 {
     let mut made = Vec::new(alloc);
     for part in parts {
@@ -74,7 +74,7 @@ fn pairs_within(
     types: &ConceptPlan,
     operand: &ConceptPlan,
 ) -> Result<UnitPlan, AllocError>
-    ensures { IfOk result (λ new. group_plan_of new ≡ pairs_group count (plan_of types.now) (within_plan (plan_of operand.now))) }
+    ensures { IfOk result (λ new. unit_plan_of new ≡ pairs_units count (plan_of types.now) (within_plan (plan_of operand.now))) }
 {
     Ok(UnitPlan::Pairs {
         count,
@@ -84,7 +84,7 @@ fn pairs_within(
 }
 
 pub(crate) fn range_split(alloc: Global, plan: &UnitPlan) -> Result<UnitPlan, RuleFault>
-    ensures { GivesGroup (rewritten_group RangeSplit (group_plan_of plan.now)) result }
+    ensures { GivesGroup (rewritten_group RangeSplit (unit_plan_of plan.now)) result }
 {
     let (count, types, test) = unit_pairs_of(plan)?;
     let (least, most) = split(count)?;
@@ -94,22 +94,22 @@ pub(crate) fn range_split(alloc: Global, plan: &UnitPlan) -> Result<UnitPlan, Ru
 }
 
 pub(crate) fn range_turn(alloc: Global, plan: &UnitPlan) -> Result<UnitPlan, RuleFault>
-    ensures { GivesGroup (rewritten_group RangeTurn (group_plan_of plan.now)) result }
+    ensures { GivesGroup (rewritten_group RangeTurn (unit_plan_of plan.now)) result }
 {
     let (count, types, test) = unit_pairs_of(plan)?;
-    let more = unit_pairs(alloc, turned(count)?, types, test)?;
+    let more = unit_pairs(alloc, complement(count)?, types, test)?;
     Ok(every_but(alloc, more)?)
 }
 
 pub(crate) fn range_all(plan: &UnitPlan) -> Result<UnitPlan, RuleFault>
-    ensures { GivesGroup (rewritten_group RangeAll (group_plan_of plan.now)) result }
+    ensures { GivesGroup (rewritten_group RangeAll (unit_plan_of plan.now)) result }
 {
     settled(plan).ok_or(RuleFault::NotApplicable)
 }
 
 // What RangeAll makes of the plan. It takes no memory.
 pub(crate) fn settled(plan: &UnitPlan) -> Option<UnitPlan>
-    ensures { option_map group_plan_of result ≡ rewritten_group RangeAll (group_plan_of plan.now) }
+    ensures { option_map unit_plan_of result ≡ rewritten_group RangeAll (unit_plan_of plan.now) }
 {
     match plan {
         UnitPlan::Pairs { count, .. } => settled_count(*count),
@@ -118,7 +118,7 @@ pub(crate) fn settled(plan: &UnitPlan) -> Option<UnitPlan>
 }
 
 fn settled_count(count: Cardinality) -> Option<UnitPlan>
-    ensures { option_map group_plan_of result ≡ settled every_group nothing_group count }
+    ensures { option_map unit_plan_of result ≡ settled every_unit nothing_unit count }
 {
     if asks_nothing(count) {
         return Some(UnitPlan::Every);

@@ -1,6 +1,6 @@
 //! Rules of the parts of `And`, `Or` and `Minus` of groups: Turn, Join, Pair, Spread, Same, Only, MinusAnd and MinusOr.
-ghost use Rattle.set_algebra.specs.Plan.{group_plan_of};
-ghost use Rattle.rewrites.specs.Gives.{GivesGroup};
+ghost use Rattle.set_algebra.specs.Plan.{unit_plan_of};
+ghost use Rattle.rewrites.specs.inside.Gives.{GivesGroup};
 ghost use Rattle.rewrites.specs.Rules.{rewritten_group};
 ghost use Rattle.rewrites.specs.declared.rule.Rule.TheVariants.{Turn, Join, Pair, Spread, Same, Only, MinusAnd, MinusOr};
 
@@ -15,7 +15,7 @@ use std::alloc::Global;
 
 #[tactic(auto, using(set_algebra::proofs::PlanLemmas::plans_of_items))]
 pub(crate) fn turn(alloc: Global, plan: &UnitPlan) -> Result<UnitPlan, RuleFault>
-    ensures { GivesGroup (rewritten_group Turn (group_plan_of plan.now)) result }
+    ensures { GivesGroup (rewritten_group Turn (unit_plan_of plan.now)) result }
 {
     match plan {
         UnitPlan::And(parts) => {
@@ -34,7 +34,7 @@ pub(crate) fn turn(alloc: Global, plan: &UnitPlan) -> Result<UnitPlan, RuleFault
 
 #[tactic(auto, using(set_algebra::proofs::PlanLemmas::plans_of_items))]
 pub(crate) fn join(alloc: Global, plan: &UnitPlan) -> Result<UnitPlan, RuleFault>
-    ensures { GivesGroup (rewritten_group Join (group_plan_of plan.now)) result }
+    ensures { GivesGroup (rewritten_group Join (unit_plan_of plan.now)) result }
 {
     match plan {
         UnitPlan::And(parts) => {
@@ -51,7 +51,7 @@ pub(crate) fn join(alloc: Global, plan: &UnitPlan) -> Result<UnitPlan, RuleFault
 
 #[tactic(auto, using(set_algebra::proofs::PlanLemmas::plans_of_items))]
 pub(crate) fn pair(alloc: Global, plan: &UnitPlan) -> Result<UnitPlan, RuleFault>
-    ensures { GivesGroup (rewritten_group Pair (group_plan_of plan.now)) result }
+    ensures { GivesGroup (rewritten_group Pair (unit_plan_of plan.now)) result }
 {
     match plan {
         UnitPlan::And(parts) => {
@@ -74,7 +74,7 @@ pub(crate) fn pair(alloc: Global, plan: &UnitPlan) -> Result<UnitPlan, RuleFault
 
 #[tactic(auto, using(set_algebra::proofs::PlanLemmas::plans_of_items))]
 pub(crate) fn spread(alloc: Global, plan: &UnitPlan) -> Result<UnitPlan, RuleFault>
-    ensures { GivesGroup (rewritten_group Spread (group_plan_of plan.now)) result }
+    ensures { GivesGroup (rewritten_group Spread (unit_plan_of plan.now)) result }
 {
     let (first, rest) = first_unit_of(unit_and_of(plan)?)?;
     Ok(UnitPlan::Or(each_with(alloc, unit_or_of(first)?, rest)?))
@@ -82,7 +82,7 @@ pub(crate) fn spread(alloc: Global, plan: &UnitPlan) -> Result<UnitPlan, RuleFau
 
 #[tactic(auto, using(set_algebra::proofs::PlanLemmas::plans_of_items))]
 pub(crate) fn same(alloc: Global, plan: &UnitPlan) -> Result<UnitPlan, RuleFault>
-    ensures { GivesGroup (rewritten_group Same (group_plan_of plan.now)) result }
+    ensures { GivesGroup (rewritten_group Same (unit_plan_of plan.now)) result }
 {
     match plan {
         UnitPlan::And(parts) => {
@@ -107,7 +107,7 @@ pub(crate) fn same(alloc: Global, plan: &UnitPlan) -> Result<UnitPlan, RuleFault
 
 #[tactic(auto, using(set_algebra::proofs::PlanLemmas::plans_of_items))]
 pub(crate) fn only(alloc: Global, plan: &UnitPlan) -> Result<UnitPlan, RuleFault>
-    ensures { GivesGroup (rewritten_group Only (group_plan_of plan.now)) result }
+    ensures { GivesGroup (rewritten_group Only (unit_plan_of plan.now)) result }
 {
     match plan {
         UnitPlan::And(parts) => {
@@ -124,7 +124,7 @@ pub(crate) fn only(alloc: Global, plan: &UnitPlan) -> Result<UnitPlan, RuleFault
 
 #[tactic(auto, using(set_algebra::proofs::PlanLemmas::plans_of_items))]
 pub(crate) fn minus_and(alloc: Global, plan: &UnitPlan) -> Result<UnitPlan, RuleFault>
-    ensures { GivesGroup (rewritten_group MinusAnd (group_plan_of plan.now)) result }
+    ensures { GivesGroup (rewritten_group MinusAnd (unit_plan_of plan.now)) result }
 {
     let (first, rest) = first_unit_of(unit_and_of(plan)?)?;
     let (from, without) = unit_minus_of(first)?;
@@ -134,7 +134,7 @@ pub(crate) fn minus_and(alloc: Global, plan: &UnitPlan) -> Result<UnitPlan, Rule
 
 #[tactic(auto, using(set_algebra::proofs::PlanLemmas::plans_of_items))]
 pub(crate) fn minus_or(alloc: Global, plan: &UnitPlan) -> Result<UnitPlan, RuleFault>
-    ensures { GivesGroup (rewritten_group MinusOr (group_plan_of plan.now)) result }
+    ensures { GivesGroup (rewritten_group MinusOr (unit_plan_of plan.now)) result }
 {
     let (from, without) = unit_minus_of(plan)?;
     let (first, rest) = first_unit_of(unit_or_of(without)?)?;

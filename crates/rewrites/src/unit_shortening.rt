@@ -1,7 +1,7 @@
 //! What RangeAll, Same and Only make of a node of groups, in place and without memory.
 ghost use Rattle.std.specs.Prelude.{◌≡◌, None, MatchResult};
-ghost use Rattle.set_algebra.specs.Plan.{group_plan_of, group_plans_of, no_groups, group_then, and_group, or_group};
-ghost use Rattle.set_algebra.specs.Views.{only_group_part};
+ghost use Rattle.set_algebra.specs.Plan.{unit_plan_of, unit_plans_of, no_unit_plans, unit_plan_then, and_units, or_units};
+ghost use Rattle.set_algebra.specs.inside.Views.{only_group_part};
 ghost use Rattle.rewrites.specs.Simplified.{group_begins_twice, tried_group, shortened_group};
 ghost use Rattle.rewrites.specs.declared.rule.Rule.TheVariants.{RangeAll, Same, Only};
 
@@ -12,7 +12,7 @@ use std::mem;
 
 #[tactic(auto, unfolding(crate::specs::Simplified::shortened_group))]
 pub(crate) fn shorten_unit(plan: &mut UnitPlan)
-    ensures { group_plan_of plan.new ≡ shortened_group (group_plan_of plan.old) }
+    ensures { unit_plan_of plan.new ≡ shortened_group (unit_plan_of plan.old) }
 {
     let node = mem::replace(plan, UnitPlan::Nothing);
     *plan = without_only(without_same(without_range(node)));
@@ -20,7 +20,7 @@ pub(crate) fn shorten_unit(plan: &mut UnitPlan)
 
 // Where a rule below makes nothing of the node, it comes back as it is.
 fn without_range(plan: UnitPlan) -> UnitPlan
-    ensures { group_plan_of result ≡ tried_group RangeAll (group_plan_of plan) }
+    ensures { unit_plan_of result ≡ tried_group RangeAll (unit_plan_of plan) }
 {
     match settled(&plan) {
         Some(new) => new,
@@ -30,7 +30,7 @@ fn without_range(plan: UnitPlan) -> UnitPlan
 
 #[tactic(auto, using(set_algebra::proofs::PlanLemmas::plans_of_items))]
 fn without_same(plan: UnitPlan) -> UnitPlan
-    ensures { group_plan_of result ≡ tried_group Same (group_plan_of plan) }
+    ensures { unit_plan_of result ≡ tried_group Same (unit_plan_of plan) }
 {
     match plan {
         UnitPlan::And(parts) => UnitPlan::And(fewer(parts)),
@@ -48,8 +48,8 @@ fn without_same(plan: UnitPlan) -> UnitPlan
 
 // The parts without the first, where the second is equal to it.
 fn fewer(parts: Vec<UnitPlan>) -> Vec<UnitPlan>
-    ensures and { and_group (group_plans_of result.items) ≡ tried_group Same (and_group (group_plans_of parts.items)) }
-    ensures or { or_group (group_plans_of result.items) ≡ tried_group Same (or_group (group_plans_of parts.items)) }
+    ensures and { and_units (unit_plans_of result.items) ≡ tried_group Same (and_units (unit_plans_of parts.items)) }
+    ensures or { or_units (unit_plans_of result.items) ≡ tried_group Same (or_units (unit_plans_of parts.items)) }
 {
     let mut parts = parts;
     if begins_twice(&parts) {
@@ -60,7 +60,7 @@ fn fewer(parts: Vec<UnitPlan>) -> Vec<UnitPlan>
 
 // Whether the first two are equal.
 fn begins_twice(parts: &[UnitPlan]) -> bool
-    ensures { result ≡ group_begins_twice (group_plans_of parts.now) }
+    ensures { result ≡ group_begins_twice (unit_plans_of parts.now) }
 {
     let Ok((first, others)) = first_unit_of(parts) else {
         return false;
@@ -73,7 +73,7 @@ fn begins_twice(parts: &[UnitPlan]) -> bool
 
 #[tactic(auto, using(set_algebra::proofs::PlanLemmas::plans_of_items))]
 fn without_only(plan: UnitPlan) -> UnitPlan
-    ensures { group_plan_of result ≡ tried_group Only (group_plan_of plan) }
+    ensures { unit_plan_of result ≡ tried_group Only (unit_plan_of plan) }
 {
     match plan {
         UnitPlan::And(parts) => match take_only(parts) {
@@ -90,7 +90,7 @@ fn without_only(plan: UnitPlan) -> UnitPlan
 
 // The only part, or the parts as they were.
 fn take_only(parts: Vec<UnitPlan>) -> Result<UnitPlan, Vec<UnitPlan>>
-    ensures { MatchResult result (λ only. group_plans_of parts.items ≡ group_then (group_plan_of only) no_groups) (λ same. (group_plans_of same.items ≡ group_plans_of parts.items) × (only_group_part (group_plans_of parts.items) ≡ None)) }
+    ensures { MatchResult result (λ only. unit_plans_of parts.items ≡ unit_plan_then (unit_plan_of only) no_unit_plans) (λ same. (unit_plans_of same.items ≡ unit_plans_of parts.items) × (only_group_part (unit_plans_of parts.items) ≡ None)) }
 {
     let mut parts = parts;
     if parts.len() != 1 {

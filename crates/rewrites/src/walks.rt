@@ -1,7 +1,7 @@
 //! Rules of walks and members: WalkOr and WalkTwice.
 ghost use Rattle.std.specs.Prelude.{◌≡◌, IfOk};
 ghost use Rattle.set_algebra.specs.Plan.{plan_of, plans_of, walk_plan, members_plan};
-ghost use Rattle.rewrites.specs.Gives.{Gives};
+ghost use Rattle.rewrites.specs.inside.Gives.{Gives};
 ghost use Rattle.rewrites.specs.PlanLists.{plans_each};
 ghost use Rattle.rewrites.specs.Rules.{rewritten, goes_through, walk_of_walk};
 ghost use Rattle.rewrites.specs.declared.rule.Rule.TheVariants.{WalkOr, WalkTwice};

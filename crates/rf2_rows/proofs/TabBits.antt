@@ -9,7 +9,7 @@ use Rattle.std.proofs.lemmas.List.Sums.{prefix_len-le-length, prefix_len_passes,
 use Rattle.std.proofs.lemmas.Simd.{trailing_mask_l, leading_from_mask_l}
 use Rattle.std.specs.Int.Count.{count_trailing_zeros}
 use Rattle.std.specs.List.{prefix_len}
-use Rattle.rf2_rows.specs.Tabs.{NoTab, tab_bits, tabs_in, parts_from}
+use Rattle.rf2_rows.specs.inside.Tabs.{NoTab, tab_bits, tabs_in, parts_from}
 use Rattle.rf2_rows.proofs.Parts.{parts_cut}
 use Rattle.std.proofs.lemmas.Bool.{cases_lt}
 use Rattle.std.proofs.lemmas.Bool.Decides.{nat_tests}

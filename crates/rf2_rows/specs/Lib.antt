@@ -1,14 +1,12 @@
 pub mod Columns
 pub mod Files
-pub mod Formats
 pub mod Groups
+pub mod inside
 pub mod Numbers
 pub mod Pairs
 pub mod Parts
-pub mod RecentInside
 pub mod Release
-pub mod RowTexts
 pub mod Rows
-pub mod Tabs
+pub mod RowTexts
 pub mod Values
 pub mod Versions

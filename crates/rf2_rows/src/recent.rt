@@ -70,7 +70,7 @@ struct ReadConcept {
 
 impl Model for ReadConcept {
     ghost use Rattle.std.specs.Prelude.{ℕ, Option};
-    ghost use Rattle.rf2_rows.specs.RecentInside.{IsOfText};
+    ghost use Rattle.rf2_rows.specs.inside.RecentInside.{IsOfText};
 
     ghost Value = { Option ℕ };
 

@@ -2,7 +2,7 @@
 ghost use Rattle.std.specs.Prelude.{◌≡◌, ◌+◌, ◌<◌, ◌≤◌, ◌++◌, [], length, IsNone, IfSome};
 ghost use Rattle.rf2_rows.specs.Parts.{texts_of};
 ghost use Rattle.rf2_rows.specs.Rows.{fields_of};
-ghost use Rattle.rf2_rows.specs.Tabs.{NoTab, parts_from, tab_bits, tabs_in};
+ghost use Rattle.rf2_rows.specs.inside.Tabs.{NoTab, parts_from, tab_bits, tabs_in};
 
 use arrayvec::ArrayVec;
 use std::simd::prelude::*;

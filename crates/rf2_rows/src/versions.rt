@@ -1,7 +1,7 @@
 //! Whether two lines are one row, whatever the texts of their columns look like.
 ghost use Rattle.std.specs.Prelude.{◌≡◌, ◌==◌, true, map, None, bytes_eq};
 ghost use Rattle.rf2_rows.specs.Columns.{cause_of, columns_of, time_format, uuid_format, value_format};
-ghost use Rattle.rf2_rows.specs.Formats.{format_of};
+ghost use Rattle.rf2_rows.specs.inside.Formats.{format_of};
 ghost use Rattle.rf2_rows.specs.Numbers.{is_number, number_of};
 ghost use Rattle.rf2_rows.specs.Pairs.{value_eq};
 ghost use Rattle.rf2_rows.specs.Parts.{texts_of};

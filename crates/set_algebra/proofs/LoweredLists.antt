@@ -5,7 +5,7 @@ use Rattle.constraint_tree.specs.declared.tree.Constraint.{Constraint}
 use Rattle.constraint_tree.specs.declared.tree.Refinement.{Refinement}
 use Rattle.constraint_tree.specs.declared.tree.AttributeSet.{AttributeSet}
 use Rattle.constraint_tree.specs.Tree.{tree_of, trees_of, refinement_tree_of, refinement_trees_of, set_tree_of, set_trees_of}
-use Rattle.set_algebra.specs.Plan.{plan_then, group_then}
+use Rattle.set_algebra.specs.Plan.{plan_then, unit_plan_then}
 use Rattle.set_algebra.specs.Lowering.{lowered, lowered_trees, lowered_refinement, lowered_refinements, lowered_set, lowered_sets}
 use Rattle.set_algebra.proofs.ListLemmas.{plans_push, groups_push}
 
@@ -22,7 +22,7 @@ lowered_refinements-push (first ∷ rest) part = ap (plan_then (lowered_refineme
 lowered_sets-push : (parts : List AttributeSet) (part : AttributeSet) → lowered_sets (set_trees_of (parts ++ part ∷ [])) ≡ groups_push (lowered_sets (set_trees_of parts)) (lowered_set (set_tree_of part))
 unfolding groups_push
 lowered_sets-push [] part = refl
-lowered_sets-push (first ∷ rest) part = ap (group_then (lowered_set (set_tree_of first))) (lowered_sets-push rest part)
+lowered_sets-push (first ∷ rest) part = ap (unit_plan_then (lowered_set (set_tree_of first))) (lowered_sets-push rest part)
 
 -- the plans of the parts so far, and of the next
 pub lowered_so_far : (parts : List Constraint) (i : ℕ) (part : Constraint) → i < length parts → part ≡ get_or parts i part → lowered_trees (trees_of (take (i + 1) parts)) ≡ plans_push (lowered_trees (trees_of (take i parts))) (lowered (tree_of part))

@@ -10,7 +10,7 @@ use Rattle.constraint_tree.specs.Denotation.{denotes, counted_pairs, all_denote,
 use Rattle.constraint_tree.specs.Tree.{Tree, concept_tree, any_tree, walk_tree, member_tree, and_tree, or_tree, minus_tree, dotted_tree, refined_tree, Trees, no_trees, tree_then, RefinementTree, one_refinement, group_refinement, and_refinement, or_refinement, RefinementTrees, no_refinements, refinement_then, AttributeSetTree, one_set, and_set, or_set, AttributeSetTrees, no_sets, set_then, AttributeTree, attribute_tree, TestTree, within_test, outside_test, number_test}
 use Rattle.constraint_tree.proofs.DenotationLemmas.{denotes_concepts_in_force}
 use Rattle.constraint_tree.proofs.WalkLemmas.{tells_in_force}
-use Rattle.set_algebra.specs.Meaning.{means, all_mean, some_means, leads, group_means, all_group_mean, some_group_means, value_passes, has_pairs, has_groups, pairs_of}
+use Rattle.set_algebra.specs.Meaning.{means, all_mean, some_means, leads, unit_means, all_units_mean, some_unit_means, value_passes, has_pairs, has_groups, pairs_of}
 use Rattle.set_algebra.specs.Lowering.{lowered, lowered_trees, lowered_attribute, lowered_in_group, lowered_refinement, lowered_refinements, lowered_set, lowered_sets, lowered_test}
 
 -- what is in the focus is in force, so the second test of that changes nothing
@@ -101,21 +101,21 @@ mutual
   same_refinement_some release (refinement_then first rest) concept =
       or_more (has_concept release concept) _ _ _ _ (same_refinement release first concept) (same_refinement_some release rest concept)
 
-  same_set : (release : Release) (set : AttributeSetTree) (pairs : List Pair) → group_means release (lowered_set set) pairs ≡ has_set release set pairs
+  same_set : (release : Release) (set : AttributeSetTree) (pairs : List Pair) → unit_means release (lowered_set set) pairs ≡ has_set release set pairs
   same_set release (one_set attribute) pairs = same_in_group release attribute pairs
   same_set release (and_set parts) pairs = same_set_all release parts pairs
   same_set release (or_set parts) pairs = same_set_some release parts pairs
 
-  same_set_all : (release : Release) (parts : AttributeSetTrees) (pairs : List Pair) → all_group_mean release (lowered_sets parts) pairs ≡ has_all release parts pairs
+  same_set_all : (release : Release) (parts : AttributeSetTrees) (pairs : List Pair) → all_units_mean release (lowered_sets parts) pairs ≡ has_all release parts pairs
   same_set_all release no_sets pairs = refl
   same_set_all release (set_then first rest) pairs =
-      ap (λ (holds : Bool). holds && all_group_mean release (lowered_sets rest) pairs) (same_set release first pairs)
+      ap (λ (holds : Bool). holds && all_units_mean release (lowered_sets rest) pairs) (same_set release first pairs)
       ∙ ap (λ (holds : Bool). has_set release first pairs && holds) (same_set_all release rest pairs)
 
-  same_set_some : (release : Release) (parts : AttributeSetTrees) (pairs : List Pair) → some_group_means release (lowered_sets parts) pairs ≡ has_some release parts pairs
+  same_set_some : (release : Release) (parts : AttributeSetTrees) (pairs : List Pair) → some_unit_means release (lowered_sets parts) pairs ≡ has_some release parts pairs
   same_set_some release no_sets pairs = refl
   same_set_some release (set_then first rest) pairs =
-      ap (λ (holds : Bool). holds || some_group_means release (lowered_sets rest) pairs) (same_set release first pairs)
+      ap (λ (holds : Bool). holds || some_unit_means release (lowered_sets rest) pairs) (same_set release first pairs)
       ∙ ap (λ (holds : Bool). has_set release first pairs || holds) (same_set_some release rest pairs)
 
   same_attribute : (release : Release) (attribute : AttributeTree) (concept : ℕ) → means release (lowered_attribute attribute) concept ≡ (has_concept release concept && has_attribute release attribute (counted_pairs release attribute concept))
@@ -123,7 +123,7 @@ mutual
       ap (λ (holds : Bool). has_concept release concept && holds)
       (pairs_alike count (pairs_of release reverse concept) _ _ _ _ (fun_ext (same_meaning release name)) (fun_ext (same_passes release test)))
 
-  same_in_group : (release : Release) (attribute : AttributeTree) (pairs : List Pair) → group_means release (lowered_in_group attribute) pairs ≡ has_attribute release attribute pairs
+  same_in_group : (release : Release) (attribute : AttributeTree) (pairs : List Pair) → unit_means release (lowered_in_group attribute) pairs ≡ has_attribute release attribute pairs
   same_in_group release (attribute_tree count reverse name test) pairs =
       pairs_alike count pairs _ _ _ _ (fun_ext (same_meaning release name)) (fun_ext (same_passes release test))
 

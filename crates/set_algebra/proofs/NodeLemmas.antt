@@ -2,7 +2,7 @@
 use Rattle.std.proofs.Common.{ℕ, zero, suc, ◌≡◌, Option, Some, None, List, [], ◌∷◌, refl, sym, ap, ◌∙◌}
 use Rattle.std.specs.Prelude.{slice_get, slice_set}
 use Rattle.set_algebra.specs.Places.{Node, concept_node, group_node, plan_nodes, group_nodes, test_nodes, plan_children, group_children, children, inside, node_at, plans_with, groups_with, test_with, plan_with, group_with, with_child, with_changed, put_at, AreOfOneSort, ReplacesOneChild, FindsWhatIsPut, PutsBack}
-use Rattle.set_algebra.specs.Plan.{Plan, empty_plan, all_plan, one_plan, walk_plan, members_plan, and_plan, or_plan, minus_plan, values_plan, pairs_plan, units_plan, Plans, no_plans, plan_then, GroupPlan, nothing_group, every_group, and_group, or_group, minus_group, pairs_group, GroupPlans, no_groups, group_then, TestPlan, within_plan, outside_plan, number_plan}
+use Rattle.set_algebra.specs.Plan.{Plan, empty_plan, all_plan, one_plan, walk_plan, members_plan, and_plan, or_plan, minus_plan, values_plan, pairs_plan, units_plan, Plans, no_plans, plan_then, PlanOfUnits, nothing_unit, every_unit, and_units, or_units, minus_units, pairs_units, PlansOfUnits, no_unit_plans, unit_plan_then, TestPlan, within_plan, outside_plan, number_plan}
 use Rattle.set_algebra.proofs.PlaceLemmas.{no_group_among, no_group_in_test, no_plan_among}
 
 -- the nodes of a list with another in it
@@ -11,10 +11,10 @@ plans_replaced no_plans number new = refl
 plans_replaced (plan_then first rest) zero new = refl
 plans_replaced (plan_then first rest) (suc number) new = ap (λ (nodes : List Node). concept_node first ∷ nodes) (plans_replaced rest number new)
 
-groups_replaced : (parts : GroupPlans) (number : ℕ) (new : GroupPlan) → group_nodes (groups_with parts number new) ≡ slice_set (group_nodes parts) number (group_node new)
-groups_replaced no_groups number new = refl
-groups_replaced (group_then first rest) zero new = refl
-groups_replaced (group_then first rest) (suc number) new = ap (λ (nodes : List Node). group_node first ∷ nodes) (groups_replaced rest number new)
+groups_replaced : (parts : PlansOfUnits) (number : ℕ) (new : PlanOfUnits) → group_nodes (groups_with parts number new) ≡ slice_set (group_nodes parts) number (group_node new)
+groups_replaced no_unit_plans number new = refl
+groups_replaced (unit_plan_then first rest) zero new = refl
+groups_replaced (unit_plan_then first rest) (suc number) new = ap (λ (nodes : List Node). group_node first ∷ nodes) (groups_replaced rest number new)
 
 test_replaced : (test : TestPlan) (number : ℕ) (new : Plan) → test_nodes (test_with test number new) ≡ slice_set (test_nodes test) number (concept_node new)
 test_replaced (within_plan operand) zero new = refl
@@ -43,7 +43,7 @@ plan_replaced (pairs_plan back count types test) (suc number) old new is = ap (�
 plan_replaced (units_plan count units) zero old new is = absurd (cc)
 plan_replaced (units_plan count units) (suc number) old new is = absurd (cc)
 
-braces_replaced : (plan : Plan) (number : ℕ) (old new : GroupPlan) → slice_get (plan_children plan) number ≡ Some (group_node old) → plan_children (plan_with plan number (group_node new)) ≡ slice_set (plan_children plan) number (group_node new)
+braces_replaced : (plan : Plan) (number : ℕ) (old new : PlanOfUnits) → slice_get (plan_children plan) number ≡ Some (group_node old) → plan_children (plan_with plan number (group_node new)) ≡ slice_set (plan_children plan) number (group_node new)
 braces_replaced empty_plan number old new is = absurd (cc)
 braces_replaced all_plan number old new is = absurd (cc)
 braces_replaced (one_plan value) number old new is = absurd (cc)
@@ -63,32 +63,32 @@ braces_replaced (pairs_plan back count types test) (suc number) old new is = abs
 braces_replaced (units_plan count units) zero old new is = refl
 braces_replaced (units_plan count units) (suc number) old new is = absurd (cc)
 
-group_plan_replaced : (plan : GroupPlan) (number : ℕ) (old new : Plan) → slice_get (group_children plan) number ≡ Some (concept_node old) → group_children (group_with plan number (concept_node new)) ≡ slice_set (group_children plan) number (concept_node new)
-group_plan_replaced nothing_group number old new is = absurd (cc)
-group_plan_replaced every_group number old new is = absurd (cc)
-group_plan_replaced (and_group parts) number old new is = absurd (no_plan_among parts number old is)
-group_plan_replaced (or_group parts) number old new is = absurd (no_plan_among parts number old is)
-group_plan_replaced (minus_group first second) zero old new is = absurd (cc)
-group_plan_replaced (minus_group first second) (suc zero) old new is = absurd (cc)
-group_plan_replaced (minus_group first second) (suc (suc number)) old new is = absurd (cc)
-group_plan_replaced (pairs_group count types test) zero old new is = refl
-group_plan_replaced (pairs_group count types test) (suc number) old new is = ap (λ (nodes : List Node). concept_node types ∷ nodes) (test_replaced test number new)
+unit_plan_replaced : (plan : PlanOfUnits) (number : ℕ) (old new : Plan) → slice_get (group_children plan) number ≡ Some (concept_node old) → group_children (group_with plan number (concept_node new)) ≡ slice_set (group_children plan) number (concept_node new)
+unit_plan_replaced nothing_unit number old new is = absurd (cc)
+unit_plan_replaced every_unit number old new is = absurd (cc)
+unit_plan_replaced (and_units parts) number old new is = absurd (no_plan_among parts number old is)
+unit_plan_replaced (or_units parts) number old new is = absurd (no_plan_among parts number old is)
+unit_plan_replaced (minus_units first second) zero old new is = absurd (cc)
+unit_plan_replaced (minus_units first second) (suc zero) old new is = absurd (cc)
+unit_plan_replaced (minus_units first second) (suc (suc number)) old new is = absurd (cc)
+unit_plan_replaced (pairs_units count types test) zero old new is = refl
+unit_plan_replaced (pairs_units count types test) (suc number) old new is = ap (λ (nodes : List Node). concept_node types ∷ nodes) (test_replaced test number new)
 
-group_replaced : (plan : GroupPlan) (number : ℕ) (old new : GroupPlan) → slice_get (group_children plan) number ≡ Some (group_node old) → group_children (group_with plan number (group_node new)) ≡ slice_set (group_children plan) number (group_node new)
-group_replaced nothing_group number old new is = absurd (cc)
-group_replaced every_group number old new is = absurd (cc)
-group_replaced (and_group parts) number old new is = groups_replaced parts number new
-group_replaced (or_group parts) number old new is = groups_replaced parts number new
-group_replaced (minus_group first second) zero old new is = refl
-group_replaced (minus_group first second) (suc zero) old new is = refl
-group_replaced (minus_group first second) (suc (suc number)) old new is = absurd (cc)
-group_replaced (pairs_group count types test) zero old new is = absurd (cc)
-group_replaced (pairs_group count types test) (suc number) old new is = absurd (no_group_in_test test number old is)
+group_replaced : (plan : PlanOfUnits) (number : ℕ) (old new : PlanOfUnits) → slice_get (group_children plan) number ≡ Some (group_node old) → group_children (group_with plan number (group_node new)) ≡ slice_set (group_children plan) number (group_node new)
+group_replaced nothing_unit number old new is = absurd (cc)
+group_replaced every_unit number old new is = absurd (cc)
+group_replaced (and_units parts) number old new is = groups_replaced parts number new
+group_replaced (or_units parts) number old new is = groups_replaced parts number new
+group_replaced (minus_units first second) zero old new is = refl
+group_replaced (minus_units first second) (suc zero) old new is = refl
+group_replaced (minus_units first second) (suc (suc number)) old new is = absurd (cc)
+group_replaced (pairs_units count types test) zero old new is = absurd (cc)
+group_replaced (pairs_units count types test) (suc number) old new is = absurd (no_group_in_test test number old is)
 
 pub replaces_one_child : ReplacesOneChild
 replaces_one_child (concept_node plan) number (concept_node old) (concept_node new) is sort = plan_replaced plan number old new is
 replaces_one_child (concept_node plan) number (group_node old) (group_node new) is sort = braces_replaced plan number old new is
-replaces_one_child (group_node plan) number (concept_node old) (concept_node new) is sort = group_plan_replaced plan number old new is
+replaces_one_child (group_node plan) number (concept_node old) (concept_node new) is sort = unit_plan_replaced plan number old new is
 replaces_one_child (group_node plan) number (group_node old) (group_node new) is sort = group_replaced plan number old new is
 replaces_one_child (concept_node plan) number (concept_node old) (group_node new) is sort = absurd sort
 replaces_one_child (concept_node plan) number (group_node old) (concept_node new) is sort = absurd sort
@@ -138,10 +138,10 @@ plans_back no_plans number old is = refl
 plans_back (plan_then first rest) zero old is = let here : first ≡ old = cc in ap (λ (plan : Plan). plan_then plan rest) (sym here)
 plans_back (plan_then first rest) (suc number) old is = ap (plan_then first) (plans_back rest number old is)
 
-groups_back : (parts : GroupPlans) (number : ℕ) (old : GroupPlan) → slice_get (group_nodes parts) number ≡ Some (group_node old) → groups_with parts number old ≡ parts
-groups_back no_groups number old is = refl
-groups_back (group_then first rest) zero old is = let here : first ≡ old = cc in ap (λ (plan : GroupPlan). group_then plan rest) (sym here)
-groups_back (group_then first rest) (suc number) old is = ap (group_then first) (groups_back rest number old is)
+groups_back : (parts : PlansOfUnits) (number : ℕ) (old : PlanOfUnits) → slice_get (group_nodes parts) number ≡ Some (group_node old) → groups_with parts number old ≡ parts
+groups_back no_unit_plans number old is = refl
+groups_back (unit_plan_then first rest) zero old is = let here : first ≡ old = cc in ap (λ (plan : PlanOfUnits). unit_plan_then plan rest) (sym here)
+groups_back (unit_plan_then first rest) (suc number) old is = ap (unit_plan_then first) (groups_back rest number old is)
 
 test_back : (test : TestPlan) (number : ℕ) (old : Plan) → slice_get (test_nodes test) number ≡ Some (concept_node old) → test_with test number old ≡ test
 test_back (within_plan operand) zero old is = cc
@@ -181,22 +181,22 @@ plan_back (units_plan count units) zero (concept_node old) is = absurd (cc)
 plan_back (units_plan count units) zero (group_node old) is = cc
 plan_back (units_plan count units) (suc number) old is = absurd (cc)
 
-group_back : (plan : GroupPlan) (number : ℕ) (old : Node) → slice_get (group_children plan) number ≡ Some old → group_with plan number old ≡ plan
-group_back nothing_group number old is = absurd (cc)
-group_back every_group number old is = absurd (cc)
-group_back (and_group parts) number (group_node old) is = ap and_group (groups_back parts number old is)
-group_back (and_group parts) number (concept_node old) is = absurd (no_plan_among parts number old is)
-group_back (or_group parts) number (group_node old) is = ap or_group (groups_back parts number old is)
-group_back (or_group parts) number (concept_node old) is = absurd (no_plan_among parts number old is)
-group_back (minus_group first second) zero (group_node old) is = cc
-group_back (minus_group first second) zero (concept_node old) is = absurd (cc)
-group_back (minus_group first second) (suc zero) (group_node old) is = cc
-group_back (minus_group first second) (suc zero) (concept_node old) is = absurd (cc)
-group_back (minus_group first second) (suc (suc number)) old is = absurd (cc)
-group_back (pairs_group count types test) zero (concept_node old) is = cc
-group_back (pairs_group count types test) zero (group_node old) is = absurd (cc)
-group_back (pairs_group count types test) (suc number) (concept_node old) is = ap (pairs_group count types) (test_back test number old is)
-group_back (pairs_group count types test) (suc number) (group_node old) is = absurd (no_group_in_test test number old is)
+group_back : (plan : PlanOfUnits) (number : ℕ) (old : Node) → slice_get (group_children plan) number ≡ Some old → group_with plan number old ≡ plan
+group_back nothing_unit number old is = absurd (cc)
+group_back every_unit number old is = absurd (cc)
+group_back (and_units parts) number (group_node old) is = ap and_units (groups_back parts number old is)
+group_back (and_units parts) number (concept_node old) is = absurd (no_plan_among parts number old is)
+group_back (or_units parts) number (group_node old) is = ap or_units (groups_back parts number old is)
+group_back (or_units parts) number (concept_node old) is = absurd (no_plan_among parts number old is)
+group_back (minus_units first second) zero (group_node old) is = cc
+group_back (minus_units first second) zero (concept_node old) is = absurd (cc)
+group_back (minus_units first second) (suc zero) (group_node old) is = cc
+group_back (minus_units first second) (suc zero) (concept_node old) is = absurd (cc)
+group_back (minus_units first second) (suc (suc number)) old is = absurd (cc)
+group_back (pairs_units count types test) zero (concept_node old) is = cc
+group_back (pairs_units count types test) zero (group_node old) is = absurd (cc)
+group_back (pairs_units count types test) (suc number) (concept_node old) is = ap (pairs_units count types) (test_back test number old is)
+group_back (pairs_units count types test) (suc number) (group_node old) is = absurd (no_group_in_test test number old is)
 
 child_back : (whole : Node) (number : ℕ) (old : Node) → slice_get (children whole) number ≡ Some old → with_child whole number old ≡ whole
 child_back (concept_node plan) number old is = ap concept_node (plan_back plan number old is)

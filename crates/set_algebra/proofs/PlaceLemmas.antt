@@ -8,16 +8,16 @@ use Rattle.rf2_rows.specs.Pairs.{Pair}
 use Rattle.constraint_tree.specs.Passing.{is_within, is_outside}
 use Rattle.constraint_tree.specs.Walks.{has_concept, walks}
 use Rattle.constraint_tree.specs.Denotation.{is_value, is_component}
-use Rattle.set_algebra.specs.Meaning.{means, all_mean, some_means, leads, group_means, all_group_mean, some_group_means, value_passes, has_pairs, has_groups, pairs_of}
+use Rattle.set_algebra.specs.Meaning.{means, all_mean, some_means, leads, unit_means, all_units_mean, some_unit_means, value_passes, has_pairs, has_groups, pairs_of}
 use Rattle.set_algebra.specs.Places.{Node, concept_node, group_node, plan_nodes, group_nodes, test_nodes, plan_children, group_children, children, inside, node_at, plans_with, groups_with, test_with, plan_with, group_with, with_child, with_changed, put_at, MeanTheSame, KeepsMeaningAtPlaces}
-use Rattle.set_algebra.specs.Plan.{Plan, empty_plan, all_plan, one_plan, walk_plan, members_plan, and_plan, or_plan, minus_plan, values_plan, pairs_plan, units_plan, Plans, no_plans, plan_then, GroupPlan, nothing_group, every_group, and_group, or_group, minus_group, pairs_group, GroupPlans, no_groups, group_then, TestPlan, within_plan, outside_plan, number_plan}
+use Rattle.set_algebra.specs.Plan.{Plan, empty_plan, all_plan, one_plan, walk_plan, members_plan, and_plan, or_plan, minus_plan, values_plan, pairs_plan, units_plan, Plans, no_plans, plan_then, PlanOfUnits, nothing_unit, every_unit, and_units, or_units, minus_units, pairs_units, PlansOfUnits, no_unit_plans, unit_plan_then, TestPlan, within_plan, outside_plan, number_plan}
 
 -- a child that is there and means the same as another
 found_plan : (release : Release) (here child new : Plan) → Some (concept_node here) ≡ Some (concept_node child) → means release child ≡ means release new → means release here ≡ means release new
 found_plan release here child new is same = let same_child : here ≡ child = cc in ap (means release) same_child ∙ same
 
-found_group : (release : Release) (here child new : GroupPlan) → Some (group_node here) ≡ Some (group_node child) → group_means release child ≡ group_means release new → group_means release here ≡ group_means release new
-found_group release here child new is same = let same_child : here ≡ child = cc in ap (group_means release) same_child ∙ same
+found_group : (release : Release) (here child new : PlanOfUnits) → Some (group_node here) ≡ Some (group_node child) → unit_means release child ≡ unit_means release new → unit_means release here ≡ unit_means release new
+found_group release here child new is same = let same_child : here ≡ child = cc in ap (unit_means release) same_child ∙ same
 
 -- in a list of plans
 all_keep : (release : Release) (parts : Plans) (number : ℕ) (child new : Plan) → slice_get (plan_nodes parts) number ≡ Some (concept_node child) → means release child ≡ means release new → all_mean release parts ≡ all_mean release (plans_with parts number new)
@@ -41,19 +41,19 @@ along_keep release (plan_then first rest) zero child new set is same =
 along_keep release (plan_then first rest) (suc number) child new set is same =
     along_keep release rest number child new (is_value release set (means release first)) is same
 
-all_groups_keep : (release : Release) (parts : GroupPlans) (number : ℕ) (child new : GroupPlan) → slice_get (group_nodes parts) number ≡ Some (group_node child) → group_means release child ≡ group_means release new → all_group_mean release parts ≡ all_group_mean release (groups_with parts number new)
-all_groups_keep release no_groups number child new is same = absurd (cc)
-all_groups_keep release (group_then first rest) zero child new is same =
-    ap {B = List Pair → Bool} (λ (set : List Pair → Bool) (pairs : List Pair). set pairs && all_group_mean release rest pairs) (found_group release first child new is same)
-all_groups_keep release (group_then first rest) (suc number) child new is same =
-    ap {B = List Pair → Bool} (λ (set : List Pair → Bool) (pairs : List Pair). group_means release first pairs && set pairs) (all_groups_keep release rest number child new is same)
+all_groups_keep : (release : Release) (parts : PlansOfUnits) (number : ℕ) (child new : PlanOfUnits) → slice_get (group_nodes parts) number ≡ Some (group_node child) → unit_means release child ≡ unit_means release new → all_units_mean release parts ≡ all_units_mean release (groups_with parts number new)
+all_groups_keep release no_unit_plans number child new is same = absurd (cc)
+all_groups_keep release (unit_plan_then first rest) zero child new is same =
+    ap {B = List Pair → Bool} (λ (set : List Pair → Bool) (pairs : List Pair). set pairs && all_units_mean release rest pairs) (found_group release first child new is same)
+all_groups_keep release (unit_plan_then first rest) (suc number) child new is same =
+    ap {B = List Pair → Bool} (λ (set : List Pair → Bool) (pairs : List Pair). unit_means release first pairs && set pairs) (all_groups_keep release rest number child new is same)
 
-some_groups_keep : (release : Release) (parts : GroupPlans) (number : ℕ) (child new : GroupPlan) → slice_get (group_nodes parts) number ≡ Some (group_node child) → group_means release child ≡ group_means release new → some_group_means release parts ≡ some_group_means release (groups_with parts number new)
-some_groups_keep release no_groups number child new is same = absurd (cc)
-some_groups_keep release (group_then first rest) zero child new is same =
-    ap {B = List Pair → Bool} (λ (set : List Pair → Bool) (pairs : List Pair). set pairs || some_group_means release rest pairs) (found_group release first child new is same)
-some_groups_keep release (group_then first rest) (suc number) child new is same =
-    ap {B = List Pair → Bool} (λ (set : List Pair → Bool) (pairs : List Pair). group_means release first pairs || set pairs) (some_groups_keep release rest number child new is same)
+some_groups_keep : (release : Release) (parts : PlansOfUnits) (number : ℕ) (child new : PlanOfUnits) → slice_get (group_nodes parts) number ≡ Some (group_node child) → unit_means release child ≡ unit_means release new → some_unit_means release parts ≡ some_unit_means release (groups_with parts number new)
+some_groups_keep release no_unit_plans number child new is same = absurd (cc)
+some_groups_keep release (unit_plan_then first rest) zero child new is same =
+    ap {B = List Pair → Bool} (λ (set : List Pair → Bool) (pairs : List Pair). set pairs || some_unit_means release rest pairs) (found_group release first child new is same)
+some_groups_keep release (unit_plan_then first rest) (suc number) child new is same =
+    ap {B = List Pair → Bool} (λ (set : List Pair → Bool) (pairs : List Pair). unit_means release first pairs || set pairs) (some_groups_keep release rest number child new is same)
 
 -- in a test
 test_keeps : (release : Release) (test : TestPlan) (number : ℕ) (child new : Plan) → slice_get (test_nodes test) number ≡ Some (concept_node child) → means release child ≡ means release new → value_passes release test ≡ value_passes release (test_with test number new)
@@ -92,19 +92,19 @@ plan_keeps release (units_plan count units) zero child new is same = absurd (cc)
 plan_keeps release (units_plan count units) (suc number) child new is same = absurd (cc)
 
 -- a plan of groups in a plan of concepts: its braces
-pub no_group_among : (parts : Plans) (number : ℕ) (child : GroupPlan) → slice_get (plan_nodes parts) number ≡ Some (group_node child) → ⊥
+pub no_group_among : (parts : Plans) (number : ℕ) (child : PlanOfUnits) → slice_get (plan_nodes parts) number ≡ Some (group_node child) → ⊥
 no_group_among no_plans number child is = absurd (cc)
 no_group_among (plan_then first rest) zero child is = absurd (cc)
 no_group_among (plan_then first rest) (suc number) child is = no_group_among rest number child is
 
-pub no_group_in_test : (test : TestPlan) (number : ℕ) (child : GroupPlan) → slice_get (test_nodes test) number ≡ Some (group_node child) → ⊥
+pub no_group_in_test : (test : TestPlan) (number : ℕ) (child : PlanOfUnits) → slice_get (test_nodes test) number ≡ Some (group_node child) → ⊥
 no_group_in_test (within_plan operand) zero child is = absurd (cc)
 no_group_in_test (within_plan operand) (suc number) child is = absurd (cc)
 no_group_in_test (outside_plan operand) zero child is = absurd (cc)
 no_group_in_test (outside_plan operand) (suc number) child is = absurd (cc)
 no_group_in_test (number_plan compare value) number child is = absurd (cc)
 
-braces_keep : (release : Release) (plan : Plan) (number : ℕ) (child new : GroupPlan) → slice_get (plan_children plan) number ≡ Some (group_node child) → group_means release child ≡ group_means release new → means release plan ≡ means release (plan_with plan number (group_node new))
+braces_keep : (release : Release) (plan : Plan) (number : ℕ) (child new : PlanOfUnits) → slice_get (plan_children plan) number ≡ Some (group_node child) → unit_means release child ≡ unit_means release new → means release plan ≡ means release (plan_with plan number (group_node new))
 braces_keep release empty_plan number child new is same = absurd (cc)
 braces_keep release all_plan number child new is same = absurd (cc)
 braces_keep release (one_plan value) number child new is same = absurd (cc)
@@ -126,37 +126,37 @@ braces_keep release (units_plan count units) zero child new is same =
 braces_keep release (units_plan count units) (suc number) child new is same = absurd (cc)
 
 -- a plan of concepts in a plan of groups: the types and the values of its pairs
-pub no_plan_among : (parts : GroupPlans) (number : ℕ) (child : Plan) → slice_get (group_nodes parts) number ≡ Some (concept_node child) → ⊥
-no_plan_among no_groups number child is = absurd (cc)
-no_plan_among (group_then first rest) zero child is = absurd (cc)
-no_plan_among (group_then first rest) (suc number) child is = no_plan_among rest number child is
+pub no_plan_among : (parts : PlansOfUnits) (number : ℕ) (child : Plan) → slice_get (group_nodes parts) number ≡ Some (concept_node child) → ⊥
+no_plan_among no_unit_plans number child is = absurd (cc)
+no_plan_among (unit_plan_then first rest) zero child is = absurd (cc)
+no_plan_among (unit_plan_then first rest) (suc number) child is = no_plan_among rest number child is
 
-group_keeps_plan : (release : Release) (plan : GroupPlan) (number : ℕ) (child new : Plan) → slice_get (group_children plan) number ≡ Some (concept_node child) → means release child ≡ means release new → group_means release plan ≡ group_means release (group_with plan number (concept_node new))
-group_keeps_plan release nothing_group number child new is same = absurd (cc)
-group_keeps_plan release every_group number child new is same = absurd (cc)
-group_keeps_plan release (and_group parts) number child new is same = absurd (no_plan_among parts number child is)
-group_keeps_plan release (or_group parts) number child new is same = absurd (no_plan_among parts number child is)
-group_keeps_plan release (minus_group first second) zero child new is same = absurd (cc)
-group_keeps_plan release (minus_group first second) (suc zero) child new is same = absurd (cc)
-group_keeps_plan release (minus_group first second) (suc (suc number)) child new is same = absurd (cc)
-group_keeps_plan release (pairs_group count types test) zero child new is same =
+group_keeps_plan : (release : Release) (plan : PlanOfUnits) (number : ℕ) (child new : Plan) → slice_get (group_children plan) number ≡ Some (concept_node child) → means release child ≡ means release new → unit_means release plan ≡ unit_means release (group_with plan number (concept_node new))
+group_keeps_plan release nothing_unit number child new is same = absurd (cc)
+group_keeps_plan release every_unit number child new is same = absurd (cc)
+group_keeps_plan release (and_units parts) number child new is same = absurd (no_plan_among parts number child is)
+group_keeps_plan release (or_units parts) number child new is same = absurd (no_plan_among parts number child is)
+group_keeps_plan release (minus_units first second) zero child new is same = absurd (cc)
+group_keeps_plan release (minus_units first second) (suc zero) child new is same = absurd (cc)
+group_keeps_plan release (minus_units first second) (suc (suc number)) child new is same = absurd (cc)
+group_keeps_plan release (pairs_units count types test) zero child new is same =
     ap (λ (set : ℕ → Bool). has_pairs count set (value_passes release test)) (found_plan release types child new is same)
-group_keeps_plan release (pairs_group count types test) (suc number) child new is same =
+group_keeps_plan release (pairs_units count types test) (suc number) child new is same =
     ap (λ (values : Value → Bool). has_pairs count (means release types) values) (test_keeps release test number child new is same)
 
 -- a plan of groups in a plan of groups
-group_keeps : (release : Release) (plan : GroupPlan) (number : ℕ) (child new : GroupPlan) → slice_get (group_children plan) number ≡ Some (group_node child) → group_means release child ≡ group_means release new → group_means release plan ≡ group_means release (group_with plan number (group_node new))
-group_keeps release nothing_group number child new is same = absurd (cc)
-group_keeps release every_group number child new is same = absurd (cc)
-group_keeps release (and_group parts) number child new is same = all_groups_keep release parts number child new is same
-group_keeps release (or_group parts) number child new is same = some_groups_keep release parts number child new is same
-group_keeps release (minus_group first second) zero child new is same =
-    ap {B = List Pair → Bool} (λ (set : List Pair → Bool) (pairs : List Pair). set pairs && not (group_means release second pairs)) (found_group release first child new is same)
-group_keeps release (minus_group first second) (suc zero) child new is same =
-    ap {B = List Pair → Bool} (λ (set : List Pair → Bool) (pairs : List Pair). group_means release first pairs && not (set pairs)) (found_group release second child new is same)
-group_keeps release (minus_group first second) (suc (suc number)) child new is same = absurd (cc)
-group_keeps release (pairs_group count types test) zero child new is same = absurd (cc)
-group_keeps release (pairs_group count types test) (suc number) child new is same = absurd (no_group_in_test test number child is)
+group_keeps : (release : Release) (plan : PlanOfUnits) (number : ℕ) (child new : PlanOfUnits) → slice_get (group_children plan) number ≡ Some (group_node child) → unit_means release child ≡ unit_means release new → unit_means release plan ≡ unit_means release (group_with plan number (group_node new))
+group_keeps release nothing_unit number child new is same = absurd (cc)
+group_keeps release every_unit number child new is same = absurd (cc)
+group_keeps release (and_units parts) number child new is same = all_groups_keep release parts number child new is same
+group_keeps release (or_units parts) number child new is same = some_groups_keep release parts number child new is same
+group_keeps release (minus_units first second) zero child new is same =
+    ap {B = List Pair → Bool} (λ (set : List Pair → Bool) (pairs : List Pair). set pairs && not (unit_means release second pairs)) (found_group release first child new is same)
+group_keeps release (minus_units first second) (suc zero) child new is same =
+    ap {B = List Pair → Bool} (λ (set : List Pair → Bool) (pairs : List Pair). unit_means release first pairs && not (set pairs)) (found_group release second child new is same)
+group_keeps release (minus_units first second) (suc (suc number)) child new is same = absurd (cc)
+group_keeps release (pairs_units count types test) zero child new is same = absurd (cc)
+group_keeps release (pairs_units count types test) (suc number) child new is same = absurd (no_group_in_test test number child is)
 
 -- a node of either sort in one of either sort
 child_keeps : (release : Release) (whole : Node) (number : ℕ) (child new : Node) → slice_get (children whole) number ≡ Some child → MeanTheSame release child new → MeanTheSame release whole (with_child whole number new)

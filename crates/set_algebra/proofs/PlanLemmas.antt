@@ -6,7 +6,7 @@ use Rattle.set_algebra.specs.declared.plan.ConceptPlan.TheVariants as concept_pl
 use Rattle.set_algebra.specs.declared.plan.ConceptPlan.TheBlock.{hidden-the_row-ConceptPlan-0, hidden-the_row-UnitPlan-1}
 use Rattle.set_algebra.specs.declared.plan.UnitPlan.{UnitPlan, Row_of-UnitPlan, end_of-UnitPlan, more_of-UnitPlan, items-the_row-UnitPlan, items_hidden-the_row-UnitPlan-1}
 use Rattle.set_algebra.specs.declared.plan.UnitPlan.TheVariants as unit_plan
-use Rattle.set_algebra.specs.Plan.{plan_of, row_of_plans, plans_of, plan_then, and_plan, or_plan, values_plan, group_plan_of, row_of_groups, group_plans_of, group_then, and_group, or_group}
+use Rattle.set_algebra.specs.Plan.{plan_of, row_of_plans, plans_of, plan_then, and_plan, or_plan, values_plan, unit_plan_of, row_of_units, unit_plans_of, unit_plan_then, and_units, or_units}
 use mathlib.Core.Former.{Count}
 
 -- the plans of a row are those of its items
@@ -14,9 +14,9 @@ row_of_plans-items : {size : Count} (row : Row_of-ConceptPlan size) → row_of_p
 row_of_plans-items end_of-ConceptPlan = refl
 row_of_plans-items (more_of-ConceptPlan first rest) = ap (plan_then (plan_of first)) (row_of_plans-items rest)
 
-row_of_groups-items : {size : Count} (row : Row_of-UnitPlan size) → row_of_groups row ≡ group_plans_of (items-the_row-UnitPlan size row)
-row_of_groups-items end_of-UnitPlan = refl
-row_of_groups-items (more_of-UnitPlan first rest) = ap (group_then (group_plan_of first)) (row_of_groups-items rest)
+row_of_units-items : {size : Count} (row : Row_of-UnitPlan size) → row_of_units row ≡ unit_plans_of (items-the_row-UnitPlan size row)
+row_of_units-items end_of-UnitPlan = refl
+row_of_units-items (more_of-UnitPlan first rest) = ap (unit_plan_then (unit_plan_of first)) (row_of_units-items rest)
 
 -- the plan of a variant with a `Vec`, by the items
 pub plan_of-And : (parts : Vec ConceptPlan Global) → plan_of (concept_plan.And parts) ≡ and_plan (plans_of parts.items)
@@ -28,11 +28,11 @@ plan_of-Or parts = ap or_plan (row_of_plans-items (hidden-the_row-ConceptPlan-0 
 pub plan_of-Values : (start : Box ConceptPlan Global) (names : Vec ConceptPlan Global) → plan_of (concept_plan.Values start names) ≡ values_plan (plan_of start.value) (plans_of names.items)
 plan_of-Values start names = ap (values_plan (plan_of start.value)) (row_of_plans-items (hidden-the_row-ConceptPlan-0 names) ∙ ap plans_of (items_hidden-the_row-ConceptPlan-0 names))
 
-pub group_plan_of-And : (parts : Vec UnitPlan Global) → group_plan_of (unit_plan.And parts) ≡ and_group (group_plans_of parts.items)
-group_plan_of-And parts = ap and_group (row_of_groups-items (hidden-the_row-UnitPlan-1 parts) ∙ ap group_plans_of (items_hidden-the_row-UnitPlan-1 parts))
+pub unit_plan_of-And : (parts : Vec UnitPlan Global) → unit_plan_of (unit_plan.And parts) ≡ and_units (unit_plans_of parts.items)
+unit_plan_of-And parts = ap and_units (row_of_units-items (hidden-the_row-UnitPlan-1 parts) ∙ ap unit_plans_of (items_hidden-the_row-UnitPlan-1 parts))
 
-pub group_plan_of-Or : (parts : Vec UnitPlan Global) → group_plan_of (unit_plan.Or parts) ≡ or_group (group_plans_of parts.items)
-group_plan_of-Or parts = ap or_group (row_of_groups-items (hidden-the_row-UnitPlan-1 parts) ∙ ap group_plans_of (items_hidden-the_row-UnitPlan-1 parts))
+pub unit_plan_of-Or : (parts : Vec UnitPlan Global) → unit_plan_of (unit_plan.Or parts) ≡ or_units (unit_plans_of parts.items)
+unit_plan_of-Or parts = ap or_units (row_of_units-items (hidden-the_row-UnitPlan-1 parts) ∙ ap unit_plans_of (items_hidden-the_row-UnitPlan-1 parts))
 
 -- all of them, for functions that go down a plan
-pub ruleset plans_of_items = (plan_of-And, plan_of-Or, plan_of-Values, group_plan_of-And, group_plan_of-Or)
+pub ruleset plans_of_items = (plan_of-And, plan_of-Or, plan_of-Values, unit_plan_of-And, unit_plan_of-Or)

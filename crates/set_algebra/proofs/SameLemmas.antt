@@ -4,7 +4,7 @@ use Rattle.std.specs.declared.alloc.Global.{Global}
 use Rattle.set_algebra.specs.declared.plan.ConceptPlan.{ConceptPlan}
 use Rattle.set_algebra.specs.declared.plan.ConceptPlan.TheVariants as concept_plan
 use Rattle.set_algebra.specs.declared.plan.UnitPlan.{UnitPlan}
-use Rattle.set_algebra.specs.Plan.{Plan, Plans, values_plan, plan_of, plans_of, GroupPlans, group_plan_of, group_plans_of}
+use Rattle.set_algebra.specs.Plan.{Plan, Plans, values_plan, plan_of, plans_of, PlansOfUnits, unit_plan_of, unit_plans_of}
 use Rattle.set_algebra.proofs.ListLemmas.{plans_push, groups_push, plans_so_far, groups_so_far}
 use Rattle.set_algebra.proofs.PlanLemmas.{plan_of-Values}
 
@@ -15,11 +15,11 @@ same_lengths [] (other ∷ others) same = absurd (cc)
 same_lengths (first ∷ rest) [] same = absurd (cc)
 same_lengths (first ∷ rest) (other ∷ others) same = let tails : plans_of rest ≡ plans_of others = cc in ap suc (same_lengths rest others tails)
 
-pub same_unit_lengths : (parts others : List UnitPlan) → group_plans_of parts ≡ group_plans_of others → length parts ≡ length others
+pub same_unit_lengths : (parts others : List UnitPlan) → unit_plans_of parts ≡ unit_plans_of others → length parts ≡ length others
 same_unit_lengths [] [] same = refl
 same_unit_lengths [] (other ∷ others) same = absurd (cc)
 same_unit_lengths (first ∷ rest) [] same = absurd (cc)
-same_unit_lengths (first ∷ rest) (other ∷ others) same = let tails : group_plans_of rest ≡ group_plans_of others = cc in ap suc (same_unit_lengths rest others tails)
+same_unit_lengths (first ∷ rest) (other ∷ others) same = let tails : unit_plans_of rest ≡ unit_plans_of others = cc in ap suc (same_unit_lengths rest others tails)
 
 pub same_at : (parts others : List ConceptPlan) (i : ℕ) (part other : ConceptPlan) → i < length parts → part ≡ get_or parts i part → other ≡ get_or others i other → plans_of parts ≡ plans_of others → plan_of part ≡ plan_of other
 same_at [] others i part other within is other_is same = absurd (omega arith)
@@ -29,13 +29,13 @@ same_at (first ∷ rest) (other_first ∷ others) zero part other within is othe
 same_at (first ∷ rest) (other_first ∷ others) (suc i) part other within is other_is same =
     let tails : plans_of rest ≡ plans_of others = cc in same_at rest others i part other (omega arith) is other_is tails
 
-pub same_unit_at : (parts others : List UnitPlan) (i : ℕ) (part other : UnitPlan) → i < length parts → part ≡ get_or parts i part → other ≡ get_or others i other → group_plans_of parts ≡ group_plans_of others → group_plan_of part ≡ group_plan_of other
+pub same_unit_at : (parts others : List UnitPlan) (i : ℕ) (part other : UnitPlan) → i < length parts → part ≡ get_or parts i part → other ≡ get_or others i other → unit_plans_of parts ≡ unit_plans_of others → unit_plan_of part ≡ unit_plan_of other
 same_unit_at [] others i part other within is other_is same = absurd (omega arith)
 same_unit_at (first ∷ rest) [] i part other within is other_is same = absurd (cc)
 same_unit_at (first ∷ rest) (other_first ∷ others) zero part other within is other_is same =
-    let heads : group_plan_of first ≡ group_plan_of other_first = cc in ap group_plan_of is ∙ heads ∙ sym (ap group_plan_of other_is)
+    let heads : unit_plan_of first ≡ unit_plan_of other_first = cc in ap unit_plan_of is ∙ heads ∙ sym (ap unit_plan_of other_is)
 same_unit_at (first ∷ rest) (other_first ∷ others) (suc i) part other within is other_is same =
-    let tails : group_plans_of rest ≡ group_plans_of others = cc in same_unit_at rest others i part other (omega arith) is other_is tails
+    let tails : unit_plans_of rest ≡ unit_plans_of others = cc in same_unit_at rest others i part other (omega arith) is other_is tails
 
 -- the same so far, and the next: the step of a loop over two lists
 pub same_more : (parts others : List ConceptPlan) (i : ℕ) (part other : ConceptPlan) → i < length parts → length parts ≡ length others → part ≡ get_or parts i part → other ≡ get_or others i other → plans_of (take i parts) ≡ plans_of (take i others) → plan_of part ≡ plan_of other → plans_of (take (i + 1) parts) ≡ plans_of (take (i + 1) others)
@@ -45,11 +45,11 @@ same_more parts others i part other within long is other_is so_far one =
     ∙ ap (plans_push (plans_of (take i others))) one
     ∙ sym (plans_so_far others i other (omega arith) other_is)
 
-pub same_unit_more : (parts others : List UnitPlan) (i : ℕ) (part other : UnitPlan) → i < length parts → length parts ≡ length others → part ≡ get_or parts i part → other ≡ get_or others i other → group_plans_of (take i parts) ≡ group_plans_of (take i others) → group_plan_of part ≡ group_plan_of other → group_plans_of (take (i + 1) parts) ≡ group_plans_of (take (i + 1) others)
+pub same_unit_more : (parts others : List UnitPlan) (i : ℕ) (part other : UnitPlan) → i < length parts → length parts ≡ length others → part ≡ get_or parts i part → other ≡ get_or others i other → unit_plans_of (take i parts) ≡ unit_plans_of (take i others) → unit_plan_of part ≡ unit_plan_of other → unit_plans_of (take (i + 1) parts) ≡ unit_plans_of (take (i + 1) others)
 same_unit_more parts others i part other within long is other_is so_far one =
     groups_so_far parts i part within is
-    ∙ ap (λ (plans : GroupPlans). groups_push plans (group_plan_of part)) so_far
-    ∙ ap (groups_push (group_plans_of (take i others))) one
+    ∙ ap (λ (plans : PlansOfUnits). groups_push plans (unit_plan_of part)) so_far
+    ∙ ap (groups_push (unit_plans_of (take i others))) one
     ∙ sym (groups_so_far others i other (omega arith) other_is)
 
 -- values from equal starts are the same plan exactly where their names are

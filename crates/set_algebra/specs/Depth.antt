@@ -1,7 +1,7 @@
 -- How deep a plan is: the number of nodes on the longest way from the root, where the plans of both
 -- sorts are nodes, and a test is none.
 use Rattle.std.specs.Prelude.{ℕ, suc, max}
-use Rattle.set_algebra.specs.Plan.{Plan, empty_plan, all_plan, one_plan, walk_plan, members_plan, and_plan, or_plan, minus_plan, values_plan, pairs_plan, units_plan, Plans, no_plans, plan_then, GroupPlan, nothing_group, every_group, and_group, or_group, minus_group, pairs_group, GroupPlans, no_groups, group_then, TestPlan, within_plan, outside_plan, number_plan}
+use Rattle.set_algebra.specs.Plan.{Plan, empty_plan, all_plan, one_plan, walk_plan, members_plan, and_plan, or_plan, minus_plan, values_plan, pairs_plan, units_plan, Plans, no_plans, plan_then, PlanOfUnits, nothing_unit, every_unit, and_units, or_units, minus_units, pairs_units, PlansOfUnits, no_unit_plans, unit_plan_then, TestPlan, within_plan, outside_plan, number_plan}
 
 abbrev mutual
   pub plan_depth : Plan → ℕ
@@ -22,17 +22,17 @@ abbrev mutual
   plans_depth no_plans = 0
   plans_depth (plan_then first rest) = max (plan_depth first) (plans_depth rest)
 
-  pub group_depth : GroupPlan → ℕ
-  group_depth nothing_group = 1
-  group_depth every_group = 1
-  group_depth (and_group parts) = suc (groups_depth parts)
-  group_depth (or_group parts) = suc (groups_depth parts)
-  group_depth (minus_group first second) = suc (max (group_depth first) (group_depth second))
-  group_depth (pairs_group count types test) = suc (max (plan_depth types) (test_depth test))
+  pub group_depth : PlanOfUnits → ℕ
+  group_depth nothing_unit = 1
+  group_depth every_unit = 1
+  group_depth (and_units parts) = suc (groups_depth parts)
+  group_depth (or_units parts) = suc (groups_depth parts)
+  group_depth (minus_units first second) = suc (max (group_depth first) (group_depth second))
+  group_depth (pairs_units count types test) = suc (max (plan_depth types) (test_depth test))
 
-  pub groups_depth : GroupPlans → ℕ
-  groups_depth no_groups = 0
-  groups_depth (group_then first rest) = max (group_depth first) (groups_depth rest)
+  pub groups_depth : PlansOfUnits → ℕ
+  groups_depth no_unit_plans = 0
+  groups_depth (unit_plan_then first rest) = max (group_depth first) (groups_depth rest)
 
   pub test_depth : TestPlan → ℕ
   test_depth (within_plan operand) = plan_depth operand

@@ -7,7 +7,7 @@ use Rattle.constraint_tree.specs.declared.operator.Compare.{Compare}
 use Rattle.constraint_tree.specs.declared.operator.Cardinality.{Cardinality}
 use Rattle.constraint_tree.specs.declared.operator.Compare.TheVariants.{Equal, NotEqual, Less, LessOrEqual, Greater, GreaterOrEqual}
 use Rattle.constraint_tree.specs.declared.operator.Operator.TheVariants.{Descendants, DescendantsOrSelf, Children, ChildrenOrSelf, Ancestors, AncestorsOrSelf, Parents, ParentsOrSelf, Top, Bottom}
-use Rattle.set_algebra.specs.Plan.{Plan, empty_plan, all_plan, one_plan, walk_plan, members_plan, and_plan, or_plan, minus_plan, values_plan, pairs_plan, units_plan, Plans, no_plans, plan_then, GroupPlan, nothing_group, every_group, and_group, or_group, minus_group, pairs_group, GroupPlans, no_groups, group_then, TestPlan, within_plan, outside_plan, number_plan}
+use Rattle.set_algebra.specs.Plan.{Plan, empty_plan, all_plan, one_plan, walk_plan, members_plan, and_plan, or_plan, minus_plan, values_plan, pairs_plan, units_plan, Plans, no_plans, plan_then, PlanOfUnits, nothing_unit, every_unit, and_units, or_units, minus_units, pairs_units, PlansOfUnits, no_unit_plans, unit_plan_then, TestPlan, within_plan, outside_plan, number_plan}
 
 abbrev pub same_operator : Operator → Operator → Bool
 same_operator Descendants Descendants = true
@@ -64,20 +64,20 @@ abbrev mutual
   same_plans (plan_then first rest) (plan_then other others) = same_plan first other && same_plans rest others
   same_plans some others = false
 
-  pub same_group : GroupPlan → GroupPlan → Bool
-  same_group nothing_group nothing_group = true
-  same_group every_group every_group = true
-  same_group (and_group parts) (and_group others) = same_groups parts others
-  same_group (or_group parts) (or_group others) = same_groups parts others
-  same_group (minus_group first second) (minus_group other_first other_second) =
+  pub same_group : PlanOfUnits → PlanOfUnits → Bool
+  same_group nothing_unit nothing_unit = true
+  same_group every_unit every_unit = true
+  same_group (and_units parts) (and_units others) = same_groups parts others
+  same_group (or_units parts) (or_units others) = same_groups parts others
+  same_group (minus_units first second) (minus_units other_first other_second) =
       same_group first other_first && same_group second other_second
-  same_group (pairs_group count types test) (pairs_group other_count others other) =
+  same_group (pairs_units count types test) (pairs_units other_count others other) =
       same_cardinality count other_count && (same_plan types others && same_test test other)
   same_group one other = false
 
-  pub same_groups : GroupPlans → GroupPlans → Bool
-  same_groups no_groups no_groups = true
-  same_groups (group_then first rest) (group_then other others) = same_group first other && same_groups rest others
+  pub same_groups : PlansOfUnits → PlansOfUnits → Bool
+  same_groups no_unit_plans no_unit_plans = true
+  same_groups (unit_plan_then first rest) (unit_plan_then other others) = same_group first other && same_groups rest others
   same_groups some others = false
 
   pub same_test : TestPlan → TestPlan → Bool

@@ -11,7 +11,7 @@ use Rattle.constraint_tree.specs.declared.operator.Cardinality.{Cardinality}
 use Rattle.constraint_tree.specs.declared.operator.Compare.TheVariants.{Equal, NotEqual, Less, LessOrEqual, Greater, GreaterOrEqual}
 use Rattle.constraint_tree.specs.declared.operator.Operator.TheVariants.{Descendants, DescendantsOrSelf, Children, ChildrenOrSelf, Ancestors, AncestorsOrSelf, Parents, ParentsOrSelf, Top, Bottom}
 use Rattle.set_algebra.specs.Equal.{same_operator, same_most, same_comparison, same_cardinality, same_plan, same_plans, same_group, same_groups, same_test}
-use Rattle.set_algebra.specs.Plan.{Plan, empty_plan, all_plan, one_plan, walk_plan, members_plan, and_plan, or_plan, minus_plan, values_plan, pairs_plan, units_plan, Plans, no_plans, plan_then, GroupPlan, nothing_group, every_group, and_group, or_group, minus_group, pairs_group, GroupPlans, no_groups, group_then, TestPlan, within_plan, outside_plan, number_plan}
+use Rattle.set_algebra.specs.Plan.{Plan, empty_plan, all_plan, one_plan, walk_plan, members_plan, and_plan, or_plan, minus_plan, values_plan, pairs_plan, units_plan, Plans, no_plans, plan_then, PlanOfUnits, nothing_unit, every_unit, and_units, or_units, minus_units, pairs_units, PlansOfUnits, no_unit_plans, unit_plan_then, TestPlan, within_plan, outside_plan, number_plan}
 
 operator_is : (one other : Operator) → same_operator one other ≡ true → one ≡ other
 operator_is Descendants Descendants same = refl
@@ -117,29 +117,29 @@ mutual
       ∙ ap (plan_then other) (plans_are rest others parts.1)
   plans_are some others same = absurd (false≢true same)
 
-  group_is : (one other : GroupPlan) → same_group one other ≡ true → one ≡ other
-  group_is nothing_group nothing_group same = refl
-  group_is every_group every_group same = refl
-  group_is (and_group parts) (and_group others) same = ap and_group (groups_are parts others same)
-  group_is (or_group parts) (or_group others) same = ap or_group (groups_are parts others same)
-  group_is (minus_group first second) (minus_group other_first other_second) same =
+  group_is : (one other : PlanOfUnits) → same_group one other ≡ true → one ≡ other
+  group_is nothing_unit nothing_unit same = refl
+  group_is every_unit every_unit same = refl
+  group_is (and_units parts) (and_units others) same = ap and_units (groups_are parts others same)
+  group_is (or_units parts) (or_units others) same = ap or_units (groups_are parts others same)
+  group_is (minus_units first second) (minus_units other_first other_second) same =
       let parts = and_parts (same_group first other_first) _ same in
-      ap (λ (plan : GroupPlan). minus_group plan second) (group_is first other_first parts.0)
-      ∙ ap (minus_group other_first) (group_is second other_second parts.1)
-  group_is (pairs_group count types test) (pairs_group other_count others other) same =
+      ap (λ (plan : PlanOfUnits). minus_units plan second) (group_is first other_first parts.0)
+      ∙ ap (minus_units other_first) (group_is second other_second parts.1)
+  group_is (pairs_units count types test) (pairs_units other_count others other) same =
       let parts = and_parts (same_cardinality count other_count) _ same in
       let tests = and_parts (same_plan types others) _ parts.1 in
-      ap (λ (n : Cardinality). pairs_group n types test) (cardinality_is count other_count parts.0)
-      ∙ ap (λ (plan : Plan). pairs_group other_count plan test) (plan_is types others tests.0)
-      ∙ ap (pairs_group other_count others) (test_is test other tests.1)
+      ap (λ (n : Cardinality). pairs_units n types test) (cardinality_is count other_count parts.0)
+      ∙ ap (λ (plan : Plan). pairs_units other_count plan test) (plan_is types others tests.0)
+      ∙ ap (pairs_units other_count others) (test_is test other tests.1)
   group_is one other same = absurd (false≢true same)
 
-  groups_are : (some others : GroupPlans) → same_groups some others ≡ true → some ≡ others
-  groups_are no_groups no_groups same = refl
-  groups_are (group_then first rest) (group_then other others) same =
+  groups_are : (some others : PlansOfUnits) → same_groups some others ≡ true → some ≡ others
+  groups_are no_unit_plans no_unit_plans same = refl
+  groups_are (unit_plan_then first rest) (unit_plan_then other others) same =
       let parts = and_parts (same_group first other) _ same in
-      ap (λ (plan : GroupPlan). group_then plan rest) (group_is first other parts.0)
-      ∙ ap (group_then other) (groups_are rest others parts.1)
+      ap (λ (plan : PlanOfUnits). unit_plan_then plan rest) (group_is first other parts.0)
+      ∙ ap (unit_plan_then other) (groups_are rest others parts.1)
   groups_are some others same = absurd (false≢true same)
 
   test_is : (one other : TestPlan) → same_test one other ≡ true → one ≡ other
@@ -173,18 +173,18 @@ mutual
   plans_themselves no_plans = refl
   plans_themselves (plan_then first rest) = and_from _ _ (plan_itself first) (plans_themselves rest)
 
-  group_itself : (plan : GroupPlan) → same_group plan plan ≡ true
-  group_itself nothing_group = refl
-  group_itself every_group = refl
-  group_itself (and_group parts) = groups_themselves parts
-  group_itself (or_group parts) = groups_themselves parts
-  group_itself (minus_group first second) = and_from _ _ (group_itself first) (group_itself second)
-  group_itself (pairs_group count types test) =
+  group_itself : (plan : PlanOfUnits) → same_group plan plan ≡ true
+  group_itself nothing_unit = refl
+  group_itself every_unit = refl
+  group_itself (and_units parts) = groups_themselves parts
+  group_itself (or_units parts) = groups_themselves parts
+  group_itself (minus_units first second) = and_from _ _ (group_itself first) (group_itself second)
+  group_itself (pairs_units count types test) =
       and_from _ _ (cardinality_itself count) (and_from _ _ (plan_itself types) (test_itself test))
 
-  groups_themselves : (plans : GroupPlans) → same_groups plans plans ≡ true
-  groups_themselves no_groups = refl
-  groups_themselves (group_then first rest) = and_from _ _ (group_itself first) (groups_themselves rest)
+  groups_themselves : (plans : PlansOfUnits) → same_groups plans plans ≡ true
+  groups_themselves no_unit_plans = refl
+  groups_themselves (unit_plan_then first rest) = and_from _ _ (group_itself first) (groups_themselves rest)
 
   test_itself : (test : TestPlan) → same_test test test ≡ true
   test_itself (within_plan operand) = plan_itself operand
@@ -194,8 +194,8 @@ mutual
 pub decides_plan : (one other : Plan) → Decides (same_plan one other) (one ≡ other)
 decides_plan one other = (plan_is one other, λ is. subst (λ (plan : Plan). same_plan one plan ≡ true) is (plan_itself one))
 
-pub decides_group : (one other : GroupPlan) → Decides (same_group one other) (one ≡ other)
-decides_group one other = (group_is one other, λ is. subst (λ (plan : GroupPlan). same_group one plan ≡ true) is (group_itself one))
+pub decides_group : (one other : PlanOfUnits) → Decides (same_group one other) (one ≡ other)
+decides_group one other = (group_is one other, λ is. subst (λ (plan : PlanOfUnits). same_group one plan ≡ true) is (group_itself one))
 
 pub decides_test : (one other : TestPlan) → Decides (same_test one other) (one ≡ other)
 decides_test one other = (test_is one other, λ is. subst (λ (test : TestPlan). same_test one test ≡ true) is (test_itself one))

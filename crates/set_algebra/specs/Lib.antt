@@ -1,10 +1,10 @@
 pub mod Depth
 pub mod Equal
 pub mod EqualLaws
+pub mod inside
 pub mod Lowering
 pub mod Meaning
 pub mod Places
 pub mod Plan
-pub mod Views
 pub mod WorkedPlans
 pub mod WrongPlans

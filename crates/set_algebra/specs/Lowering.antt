@@ -1,7 +1,7 @@
 -- The plan that a constraint is executed by. It follows the tree: what a refinement asks is a set of
 -- concepts, what braces ask a set of groups, and `A : r` is what is in A and in r.
 use Rattle.constraint_tree.specs.Tree.{Tree, concept_tree, any_tree, walk_tree, member_tree, and_tree, or_tree, minus_tree, dotted_tree, refined_tree, Trees, no_trees, tree_then, RefinementTree, one_refinement, group_refinement, and_refinement, or_refinement, RefinementTrees, no_refinements, refinement_then, AttributeSetTree, one_set, and_set, or_set, AttributeSetTrees, no_sets, set_then, AttributeTree, attribute_tree, TestTree, within_test, outside_test, number_test}
-use Rattle.set_algebra.specs.Plan.{Plan, all_plan, one_plan, walk_plan, members_plan, and_plan, or_plan, minus_plan, values_plan, pairs_plan, units_plan, Plans, no_plans, plan_then, GroupPlan, and_group, or_group, pairs_group, GroupPlans, no_groups, group_then, TestPlan, within_plan, outside_plan, number_plan}
+use Rattle.set_algebra.specs.Plan.{Plan, all_plan, one_plan, walk_plan, members_plan, and_plan, or_plan, minus_plan, values_plan, pairs_plan, units_plan, Plans, no_plans, plan_then, PlanOfUnits, and_units, or_units, pairs_units, PlansOfUnits, no_unit_plans, unit_plan_then, TestPlan, within_plan, outside_plan, number_plan}
 
 -- both
 abbrev pub both_plan : Plan → Plan → Plan
@@ -40,18 +40,18 @@ abbrev mutual
       pairs_plan reverse count (lowered name) (lowered_test test)
 
   -- the groups that have what an attribute set asks. No attribute of a set is read backwards
-  pub lowered_set : AttributeSetTree → GroupPlan
+  pub lowered_set : AttributeSetTree → PlanOfUnits
   lowered_set (one_set attribute) = lowered_in_group attribute
-  lowered_set (and_set parts) = and_group (lowered_sets parts)
-  lowered_set (or_set parts) = or_group (lowered_sets parts)
+  lowered_set (and_set parts) = and_units (lowered_sets parts)
+  lowered_set (or_set parts) = or_units (lowered_sets parts)
 
-  pub lowered_sets : AttributeSetTrees → GroupPlans
-  lowered_sets no_sets = no_groups
-  lowered_sets (set_then first rest) = group_then (lowered_set first) (lowered_sets rest)
+  pub lowered_sets : AttributeSetTrees → PlansOfUnits
+  lowered_sets no_sets = no_unit_plans
+  lowered_sets (set_then first rest) = unit_plan_then (lowered_set first) (lowered_sets rest)
 
-  pub lowered_in_group : AttributeTree → GroupPlan
+  pub lowered_in_group : AttributeTree → PlanOfUnits
   lowered_in_group (attribute_tree count reverse name test) =
-      pairs_group count (lowered name) (lowered_test test)
+      pairs_units count (lowered name) (lowered_test test)
 
   pub lowered_test : TestTree → TestPlan
   lowered_test (within_test operand) = within_plan (lowered operand)

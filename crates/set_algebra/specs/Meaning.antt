@@ -10,7 +10,7 @@ use Rattle.constraint_tree.specs.declared.operator.Cardinality.{Cardinality}
 use Rattle.constraint_tree.specs.Passing.{is_within, is_outside, is_number_that, lies_in}
 use Rattle.constraint_tree.specs.Walks.{has_concept, walks}
 use Rattle.constraint_tree.specs.Denotation.{is_component, is_value}
-use Rattle.set_algebra.specs.Plan.{Plan, empty_plan, all_plan, one_plan, walk_plan, members_plan, and_plan, or_plan, minus_plan, values_plan, pairs_plan, units_plan, Plans, no_plans, plan_then, GroupPlan, nothing_group, every_group, and_group, or_group, minus_group, pairs_group, GroupPlans, no_groups, group_then, TestPlan, within_plan, outside_plan, number_plan}
+use Rattle.set_algebra.specs.Plan.{Plan, empty_plan, all_plan, one_plan, walk_plan, members_plan, and_plan, or_plan, minus_plan, values_plan, pairs_plan, units_plan, Plans, no_plans, plan_then, PlanOfUnits, nothing_unit, every_unit, and_units, or_units, minus_units, pairs_units, PlansOfUnits, no_unit_plans, unit_plan_then, TestPlan, within_plan, outside_plan, number_plan}
 
 -- the distinct pairs of a concept, or those of type and source of the rows whose value it is
 abbrev pub pairs_of : Release → Bool → ℕ → List Pair
@@ -43,7 +43,7 @@ abbrev mutual
       has_concept release concept
       && has_pairs count (means release types) (value_passes release test) (pairs_of release back concept)
   means release (units_plan count units) concept =
-      has_concept release concept && has_groups release count (group_means release units) concept
+      has_concept release concept && has_groups release count (unit_means release units) concept
 
   -- of no plans everything is in all, and nothing in some
   pub all_mean : Release → Plans → ℕ → Bool
@@ -63,25 +63,25 @@ abbrev mutual
       leads release (is_value release set (means release types)) others concept
 
   -- whether a group is in the set that a plan means
-  pub group_means : Release → GroupPlan → List Pair → Bool
-  group_means release nothing_group pairs = false
-  group_means release every_group pairs = true
-  group_means release (and_group parts) pairs = all_group_mean release parts pairs
-  group_means release (or_group parts) pairs = some_group_means release parts pairs
-  group_means release (minus_group first second) pairs =
-      group_means release first pairs && not (group_means release second pairs)
-  group_means release (pairs_group count types test) pairs =
+  pub unit_means : Release → PlanOfUnits → List Pair → Bool
+  unit_means release nothing_unit pairs = false
+  unit_means release every_unit pairs = true
+  unit_means release (and_units parts) pairs = all_units_mean release parts pairs
+  unit_means release (or_units parts) pairs = some_unit_means release parts pairs
+  unit_means release (minus_units first second) pairs =
+      unit_means release first pairs && not (unit_means release second pairs)
+  unit_means release (pairs_units count types test) pairs =
       has_pairs count (means release types) (value_passes release test) pairs
 
-  pub all_group_mean : Release → GroupPlans → List Pair → Bool
-  all_group_mean release no_groups pairs = true
-  all_group_mean release (group_then first rest) pairs =
-      group_means release first pairs && all_group_mean release rest pairs
+  pub all_units_mean : Release → PlansOfUnits → List Pair → Bool
+  all_units_mean release no_unit_plans pairs = true
+  all_units_mean release (unit_plan_then first rest) pairs =
+      unit_means release first pairs && all_units_mean release rest pairs
 
-  pub some_group_means : Release → GroupPlans → List Pair → Bool
-  some_group_means release no_groups pairs = false
-  some_group_means release (group_then first rest) pairs =
-      group_means release first pairs || some_group_means release rest pairs
+  pub some_unit_means : Release → PlansOfUnits → List Pair → Bool
+  some_unit_means release no_unit_plans pairs = false
+  some_unit_means release (unit_plan_then first rest) pairs =
+      unit_means release first pairs || some_unit_means release rest pairs
 
   -- whether the value of a pair passes a test
   pub value_passes : Release → TestPlan → Value → Bool

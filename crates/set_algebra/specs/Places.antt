@@ -3,21 +3,21 @@
 use Rattle.std.specs.Prelude.{ℕ, zero, suc, ◌≡◌, Option, Some, None, List, [], ◌∷◌, slice_get, slice_set}
 use Rattle.rf2_rows.specs.Release.{Release}
 use Rattle.rf2_rows.specs.Pairs.{Pair}
-use Rattle.set_algebra.specs.Plan.{Plan, empty_plan, all_plan, one_plan, walk_plan, members_plan, and_plan, or_plan, minus_plan, values_plan, pairs_plan, units_plan, Plans, no_plans, plan_then, GroupPlan, nothing_group, every_group, and_group, or_group, minus_group, pairs_group, GroupPlans, no_groups, group_then, TestPlan, within_plan, outside_plan, number_plan}
-use Rattle.set_algebra.specs.Meaning.{means, group_means}
+use Rattle.set_algebra.specs.Plan.{Plan, empty_plan, all_plan, one_plan, walk_plan, members_plan, and_plan, or_plan, minus_plan, values_plan, pairs_plan, units_plan, Plans, no_plans, plan_then, PlanOfUnits, nothing_unit, every_unit, and_units, or_units, minus_units, pairs_units, PlansOfUnits, no_unit_plans, unit_plan_then, TestPlan, within_plan, outside_plan, number_plan}
+use Rattle.set_algebra.specs.Meaning.{means, unit_means}
 
 -- a node: a plan of either sort
 pub data Node : Type 0 where
   concept_node : Plan → Node
-  group_node : GroupPlan → Node
+  group_node : PlanOfUnits → Node
 
 abbrev pub plan_nodes : Plans → List Node
 plan_nodes no_plans = []
 plan_nodes (plan_then first rest) = concept_node first ∷ plan_nodes rest
 
-abbrev pub group_nodes : GroupPlans → List Node
-group_nodes no_groups = []
-group_nodes (group_then first rest) = group_node first ∷ group_nodes rest
+abbrev pub group_nodes : PlansOfUnits → List Node
+group_nodes no_unit_plans = []
+group_nodes (unit_plan_then first rest) = group_node first ∷ group_nodes rest
 
 abbrev pub test_nodes : TestPlan → List Node
 test_nodes (within_plan operand) = concept_node operand ∷ []
@@ -39,13 +39,13 @@ plan_children (values_plan start names) = concept_node start ∷ plan_nodes name
 plan_children (pairs_plan back count types test) = concept_node types ∷ test_nodes test
 plan_children (units_plan count units) = group_node units ∷ []
 
-abbrev pub group_children : GroupPlan → List Node
-group_children nothing_group = []
-group_children every_group = []
-group_children (and_group parts) = group_nodes parts
-group_children (or_group parts) = group_nodes parts
-group_children (minus_group first second) = group_node first ∷ group_node second ∷ []
-group_children (pairs_group count types test) = concept_node types ∷ test_nodes test
+abbrev pub group_children : PlanOfUnits → List Node
+group_children nothing_unit = []
+group_children every_unit = []
+group_children (and_units parts) = group_nodes parts
+group_children (or_units parts) = group_nodes parts
+group_children (minus_units first second) = group_node first ∷ group_node second ∷ []
+group_children (pairs_units count types test) = concept_node types ∷ test_nodes test
 
 abbrev pub children : Node → List Node
 children (concept_node plan) = plan_children plan
@@ -66,10 +66,10 @@ plans_with no_plans number new = no_plans
 plans_with (plan_then first rest) zero new = plan_then new rest
 plans_with (plan_then first rest) (suc number) new = plan_then first (plans_with rest number new)
 
-abbrev pub groups_with : GroupPlans → ℕ → GroupPlan → GroupPlans
-groups_with no_groups number new = no_groups
-groups_with (group_then first rest) zero new = group_then new rest
-groups_with (group_then first rest) (suc number) new = group_then first (groups_with rest number new)
+abbrev pub groups_with : PlansOfUnits → ℕ → PlanOfUnits → PlansOfUnits
+groups_with no_unit_plans number new = no_unit_plans
+groups_with (unit_plan_then first rest) zero new = unit_plan_then new rest
+groups_with (unit_plan_then first rest) (suc number) new = unit_plan_then first (groups_with rest number new)
 
 abbrev pub test_with : TestPlan → ℕ → Plan → TestPlan
 test_with (within_plan operand) zero new = within_plan new
@@ -92,14 +92,14 @@ plan_with (pairs_plan back count types test) (suc number) (concept_node new) =
 plan_with (units_plan count units) zero (group_node new) = units_plan count new
 plan_with plan number new = plan
 
-abbrev pub group_with : GroupPlan → ℕ → Node → GroupPlan
-group_with (and_group parts) number (group_node new) = and_group (groups_with parts number new)
-group_with (or_group parts) number (group_node new) = or_group (groups_with parts number new)
-group_with (minus_group first second) zero (group_node new) = minus_group new second
-group_with (minus_group first second) (suc zero) (group_node new) = minus_group first new
-group_with (pairs_group count types test) zero (concept_node new) = pairs_group count new test
-group_with (pairs_group count types test) (suc number) (concept_node new) =
-    pairs_group count types (test_with test number new)
+abbrev pub group_with : PlanOfUnits → ℕ → Node → PlanOfUnits
+group_with (and_units parts) number (group_node new) = and_units (groups_with parts number new)
+group_with (or_units parts) number (group_node new) = or_units (groups_with parts number new)
+group_with (minus_units first second) zero (group_node new) = minus_units new second
+group_with (minus_units first second) (suc zero) (group_node new) = minus_units first new
+group_with (pairs_units count types test) zero (concept_node new) = pairs_units count new test
+group_with (pairs_units count types test) (suc number) (concept_node new) =
+    pairs_units count types (test_with test number new)
 group_with plan number new = plan
 
 abbrev pub with_child : Node → ℕ → Node → Node
@@ -150,7 +150,7 @@ abbrev pub MeanTheSame : Release → Node → Node → Type 0
 MeanTheSame release (concept_node one) (concept_node other) =
     (concept : ℕ) → means release one concept ≡ means release other concept
 MeanTheSame release (group_node one) (group_node other) =
-    (pairs : List Pair) → group_means release one pairs ≡ group_means release other pairs
+    (pairs : List Pair) → unit_means release one pairs ≡ unit_means release other pairs
 MeanTheSame release one other = ⊥
 
 -- a node that means the same, put at the place of another, leaves what the whole means

@@ -25,24 +25,24 @@ mutual
     minus_plan : Plan → Plan → Plan
     values_plan : Plan → Plans → Plan
     pairs_plan : Bool → Cardinality → Plan → TestPlan → Plan
-    units_plan : Cardinality → GroupPlan → Plan
+    units_plan : Cardinality → PlanOfUnits → Plan
 
   pub data Plans : Type 0 where
     no_plans : Plans
     plan_then : Plan → Plans → Plans
 
   -- of groups
-  pub data GroupPlan : Type 0 where
-    nothing_group : GroupPlan
-    every_group : GroupPlan
-    and_group : GroupPlans → GroupPlan
-    or_group : GroupPlans → GroupPlan
-    minus_group : GroupPlan → GroupPlan → GroupPlan
-    pairs_group : Cardinality → Plan → TestPlan → GroupPlan
+  pub data PlanOfUnits : Type 0 where
+    nothing_unit : PlanOfUnits
+    every_unit : PlanOfUnits
+    and_units : PlansOfUnits → PlanOfUnits
+    or_units : PlansOfUnits → PlanOfUnits
+    minus_units : PlanOfUnits → PlanOfUnits → PlanOfUnits
+    pairs_units : Cardinality → Plan → TestPlan → PlanOfUnits
 
-  pub data GroupPlans : Type 0 where
-    no_groups : GroupPlans
-    group_then : GroupPlan → GroupPlans → GroupPlans
+  pub data PlansOfUnits : Type 0 where
+    no_unit_plans : PlansOfUnits
+    unit_plan_then : PlanOfUnits → PlansOfUnits → PlansOfUnits
 
   -- what the value of a pair must pass
   pub data TestPlan : Type 0 where
@@ -55,9 +55,9 @@ abbrev pub plans_from : List Plan → Plans
 plans_from [] = no_plans
 plans_from (plan ∷ plans) = plan_then plan (plans_from plans)
 
-abbrev pub groups_from : List GroupPlan → GroupPlans
-groups_from [] = no_groups
-groups_from (plan ∷ plans) = group_then plan (groups_from plans)
+abbrev pub units_from : List PlanOfUnits → PlansOfUnits
+units_from [] = no_unit_plans
+units_from (plan ∷ plans) = unit_plan_then plan (units_from plans)
 
 -- the plan of a value of the code: a `Box` is what it holds, a `Vec` the list of its items
 abbrev mutual
@@ -72,23 +72,23 @@ abbrev mutual
   plan_of (concept_plan.Minus' pointer first other second) = minus_plan (plan_of first) (plan_of second)
   plan_of (concept_plan.Values' pointer start shape names) = values_plan (plan_of start) (row_of_plans names)
   plan_of (concept_plan.Pairs' back count pointer types test) = pairs_plan back count (plan_of types) (test_plan_of test)
-  plan_of (concept_plan.Units' count pointer units) = units_plan count (group_plan_of units)
+  plan_of (concept_plan.Units' count pointer units) = units_plan count (unit_plan_of units)
 
   pub row_of_plans : {size : _} → Row_of-ConceptPlan size → Plans
   row_of_plans end_of-ConceptPlan = no_plans
   row_of_plans (more_of-ConceptPlan first rest) = plan_then (plan_of first) (row_of_plans rest)
 
-  pub group_plan_of : UnitPlan → GroupPlan
-  group_plan_of unit_plan.Nothing = nothing_group
-  group_plan_of unit_plan.Every = every_group
-  group_plan_of (unit_plan.And' shape parts) = and_group (row_of_groups parts)
-  group_plan_of (unit_plan.Or' shape parts) = or_group (row_of_groups parts)
-  group_plan_of (unit_plan.Minus' pointer first other second) = minus_group (group_plan_of first) (group_plan_of second)
-  group_plan_of (unit_plan.Pairs' count pointer types test) = pairs_group count (plan_of types) (test_plan_of test)
+  pub unit_plan_of : UnitPlan → PlanOfUnits
+  unit_plan_of unit_plan.Nothing = nothing_unit
+  unit_plan_of unit_plan.Every = every_unit
+  unit_plan_of (unit_plan.And' shape parts) = and_units (row_of_units parts)
+  unit_plan_of (unit_plan.Or' shape parts) = or_units (row_of_units parts)
+  unit_plan_of (unit_plan.Minus' pointer first other second) = minus_units (unit_plan_of first) (unit_plan_of second)
+  unit_plan_of (unit_plan.Pairs' count pointer types test) = pairs_units count (plan_of types) (test_plan_of test)
 
-  pub row_of_groups : {size : _} → Row_of-UnitPlan size → GroupPlans
-  row_of_groups end_of-UnitPlan = no_groups
-  row_of_groups (more_of-UnitPlan first rest) = group_then (group_plan_of first) (row_of_groups rest)
+  pub row_of_units : {size : _} → Row_of-UnitPlan size → PlansOfUnits
+  row_of_units end_of-UnitPlan = no_unit_plans
+  row_of_units (more_of-UnitPlan first rest) = unit_plan_then (unit_plan_of first) (row_of_units rest)
 
   pub test_plan_of : ValueTest → TestPlan
   test_plan_of (value_test.Within' pointer operand) = within_plan (plan_of operand)
@@ -99,5 +99,5 @@ abbrev mutual
 abbrev pub plans_of : List ConceptPlan → Plans
 plans_of parts = plans_from (map plan_of parts)
 
-abbrev pub group_plans_of : List UnitPlan → GroupPlans
-group_plans_of parts = groups_from (map group_plan_of parts)
+abbrev pub unit_plans_of : List UnitPlan → PlansOfUnits
+unit_plans_of parts = units_from (map unit_plan_of parts)

@@ -9,7 +9,7 @@ use Rattle.constraint_tree.specs.Sample.{sample, sample_concepts, alpha, beta, g
 use Rattle.constraint_tree.specs.WorkedQueries.{self_or_descendants_of, all_of, values_along, below_alpha, alpha_or_below, at_least, between, counted, has, any_concept, with_attribute, with_braces, finds_u, two, two_and_a_half, two_point_six, three, braces_query, no_braces_query, two_of_u_query, two_groups_query, none_of_u, none_in_braces_query, reverse_query, not_three_query, either_of, top_query, ancestors_query, parents_query, walk_of_and_query}
 use Rattle.set_algebra.specs.Lowering.{lowered, both_plan}
 use Rattle.set_algebra.specs.Meaning.{meaning}
-use Rattle.set_algebra.specs.Plan.{Plan, all_plan, one_plan, walk_plan, and_plan, pairs_plan, units_plan, plans_from, GroupPlan, and_group, pairs_group, groups_from, within_plan, number_plan}
+use Rattle.set_algebra.specs.Plan.{Plan, all_plan, one_plan, walk_plan, and_plan, pairs_plan, units_plan, plans_from, PlanOfUnits, and_units, pairs_units, units_from, within_plan, number_plan}
 
 -- Four plans.
 
@@ -33,17 +33,17 @@ HasPlanOfNumber =
     (both_plan all_plan (pairs_plan false (at_least 1) (one_plan type_u) (number_plan Greater two)))
 
 -- 104001=<<106004 and 105000=*, of a group
-abbrev pub x_group : GroupPlan
-x_group = pairs_group (at_least 1) (one_plan type_t) (within_plan (walk_plan DescendantsOrSelf (one_plan value_x)))
+abbrev pub x_group : PlanOfUnits
+x_group = pairs_units (at_least 1) (one_plan type_t) (within_plan (walk_plan DescendantsOrSelf (one_plan value_x)))
 
-abbrev pub u_group : GroupPlan
-u_group = pairs_group (at_least 1) (one_plan type_u) (within_plan all_plan)
+abbrev pub u_group : PlanOfUnits
+u_group = pairs_units (at_least 1) (one_plan type_u) (within_plan all_plan)
 
 -- <100005:{104001=<<106004,105000=*}
 abbrev pub HasPlanOfBraces : Type 0
 HasPlanOfBraces =
     HasPlan braces_query
-    (both_plan below_alpha_plan (units_plan (at_least 1) (and_group (groups_from (x_group ∷ u_group ∷ [])))))
+    (both_plan below_alpha_plan (units_plan (at_least 1) (and_units (units_from (x_group ∷ u_group ∷ [])))))
 
 -- 100005,100005
 abbrev pub HasPlanOfTwice : Type 0

@@ -6,7 +6,7 @@ use Rattle.constraint_tree.specs.Sample.{sample, beta, gamma, delta, type_t, typ
 use Rattle.constraint_tree.specs.WorkedQueries.{below_alpha, at_least, braces_query, two_groups_query, with_braces, finds_u}
 use Rattle.set_algebra.specs.Lowering.{lowered, both_plan}
 use Rattle.set_algebra.specs.Meaning.{meaning}
-use Rattle.set_algebra.specs.Plan.{Plan, all_plan, one_plan, and_plan, or_plan, pairs_plan, units_plan, plans_from, GroupPlan, pairs_group, within_plan}
+use Rattle.set_algebra.specs.Plan.{Plan, all_plan, one_plan, and_plan, or_plan, pairs_plan, units_plan, plans_from, PlanOfUnits, pairs_units, within_plan}
 use Rattle.set_algebra.specs.WorkedPlans.{below_alpha_plan, x_group, u_group}
 
 -- the plan of the query means the first list, and the other plan the second, which is another
@@ -26,8 +26,8 @@ MisplansSplitBraces = Misplans braces_query split_braces_plan (beta ∷ []) (bet
 
 -- `[2..*] { a OR b }` as `[2..*] { a }` or `[2..*] { b }`: two groups of one kind
 -- <100005:[2..*]{104001=* OR 105000=*}
-abbrev pub t_group : GroupPlan
-t_group = pairs_group (at_least 1) (one_plan type_t) (within_plan all_plan)
+abbrev pub t_group : PlanOfUnits
+t_group = pairs_units (at_least 1) (one_plan type_t) (within_plan all_plan)
 
 abbrev pub spread_count_plan : Plan
 spread_count_plan =

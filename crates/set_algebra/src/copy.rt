@@ -1,6 +1,6 @@
 //! Copies of plans and of their pieces.
 ghost use Rattle.std.specs.Prelude.{◌≡◌, IfOk};
-ghost use Rattle.set_algebra.specs.Plan.{plan_of, plans_of, group_plan_of, group_plans_of, test_plan_of};
+ghost use Rattle.set_algebra.specs.Plan.{plan_of, plans_of, unit_plan_of, unit_plans_of, test_plan_of};
 
 use crate::plan::{ConceptPlan, UnitPlan, ValueTest};
 use std::alloc::{AllocError, Global};
@@ -54,7 +54,7 @@ impl UnitPlan {
     #[cycle(copy)]
     #[tactic(auto, using(crate::proofs::PlanLemmas::plans_of_items))]
     pub fn copy(&self, alloc: Global) -> Result<UnitPlan, AllocError>
-        ensures { IfOk result (λ copy. group_plan_of copy ≡ group_plan_of self.now) }
+        ensures { IfOk result (λ copy. unit_plan_of copy ≡ unit_plan_of self.now) }
     {
         Ok(match self {
             UnitPlan::Nothing => UnitPlan::Nothing,
@@ -99,7 +99,7 @@ pub fn boxed(alloc: Global, plan: &ConceptPlan) -> Result<Box<ConceptPlan>, Allo
 /// A copy of the plan of groups in a box. The error is want of memory.
 #[cycle(copy)]
 pub fn boxed_unit(alloc: Global, plan: &UnitPlan) -> Result<Box<UnitPlan>, AllocError>
-    ensures { IfOk result (λ copy. group_plan_of copy.value ≡ group_plan_of plan.now) }
+    ensures { IfOk result (λ copy. unit_plan_of copy.value ≡ unit_plan_of plan.now) }
 {
     let copy = plan.copy(alloc)?;
     Ok(Box::new(alloc, copy)?)
@@ -121,7 +121,7 @@ pub fn each(alloc: Global, plans: &[ConceptPlan]) -> Result<Vec<ConceptPlan>, Al
 /// A copy of each plan of groups, in their order. The error is want of memory.
 #[cycle(copy)]
 pub fn each_unit(alloc: Global, plans: &[UnitPlan]) -> Result<Vec<UnitPlan>, AllocError>
-    ensures { IfOk result (λ copies. group_plans_of copies.items ≡ group_plans_of plans.now) }
+    ensures { IfOk result (λ copies. unit_plans_of copies.items ≡ unit_plans_of plans.now) }
 {
     let mut copies = Vec::new(alloc);
     for plan in plans {

@@ -1,7 +1,7 @@
 //! How deep a plan is.
 ghost use Rattle.std.specs.Prelude.{◌≡◌, ◌-◌, ◌^◌, min};
 ghost use Rattle.set_algebra.specs.Depth.{plan_depth, plans_depth, group_depth, groups_depth, test_depth};
-ghost use Rattle.set_algebra.specs.Plan.{plan_of, plans_of, group_plan_of, group_plans_of, test_plan_of};
+ghost use Rattle.set_algebra.specs.Plan.{plan_of, plans_of, unit_plan_of, unit_plans_of, test_plan_of};
 
 use crate::plan::{ConceptPlan, UnitPlan, ValueTest};
 
@@ -38,7 +38,7 @@ impl UnitPlan {
     #[cycle(depth)]
     #[tactic(auto, using(crate::proofs::PlanLemmas::plans_of_items))]
     pub fn depth(&self) -> u64
-        ensures { result ≡ min (group_depth (group_plan_of self.now)) (2 ^ 64 - 1) }
+        ensures { result ≡ min (group_depth (unit_plan_of self.now)) (2 ^ 64 - 1) }
     {
         match self {
             UnitPlan::Nothing | UnitPlan::Every => 1,
@@ -78,7 +78,7 @@ fn deepest(parts: &[ConceptPlan]) -> u64
 
 #[cycle(depth)]
 fn deepest_unit(parts: &[UnitPlan]) -> u64
-    ensures { result ≡ min (groups_depth (group_plans_of parts.now)) (2 ^ 64 - 1) }
+    ensures { result ≡ min (groups_depth (unit_plans_of parts.now)) (2 ^ 64 - 1) }
 {
     let mut deepest = 0u64;
     for part in parts {

@@ -3,7 +3,7 @@ ghost use Rattle.std.specs.Prelude.{◌≡◌, ◌↔◌, IsTrue};
 ghost use Rattle.std.specs.Ordering.{on};
 ghost use Rattle.std.specs.Cmp.{on_equiv, partial_equiv_from_equiv, decided};
 ghost use Rattle.set_algebra.specs.Equal.{same_plan, same_group, same_test};
-ghost use Rattle.set_algebra.specs.Plan.{plan_of, plans_of, group_plan_of, group_plans_of, test_plan_of};
+ghost use Rattle.set_algebra.specs.Plan.{plan_of, plans_of, unit_plan_of, unit_plans_of, test_plan_of};
 ghost use Rattle.set_algebra.specs.EqualLaws.{decides_plan, decides_group, decides_test};
 
 use crate::plan::{ConceptPlan, UnitPlan, ValueTest};
@@ -22,13 +22,13 @@ impl PartialEq for ConceptPlan {
 }
 
 impl PartialEq for UnitPlan {
-    ghost eq = { on group_plan_of same_group };
+    ghost eq = { on unit_plan_of same_group };
 
-    ghost laws = { partial_equiv_from_equiv (on_equiv group_plan_of (decided same_group decides_group)) };
+    ghost laws = { partial_equiv_from_equiv (on_equiv unit_plan_of (decided same_group decides_group)) };
 
     fn eq(&self, other: &UnitPlan) -> bool
-        ensures test { result ≡ same_group (group_plan_of self.now) (group_plan_of other.now) }
-        ensures data { IsTrue result ↔ (group_plan_of self.now ≡ group_plan_of other.now) }
+        ensures test { result ≡ same_group (unit_plan_of self.now) (unit_plan_of other.now) }
+        ensures data { IsTrue result ↔ (unit_plan_of self.now ≡ unit_plan_of other.now) }
     {
         same_unit(self, other)
     }
@@ -100,7 +100,7 @@ fn same(one: &ConceptPlan, other: &ConceptPlan) -> bool
 #[cycle(equal)]
 #[tactic(auto, using(crate::proofs::PlanLemmas::plans_of_items))]
 fn same_unit(one: &UnitPlan, other: &UnitPlan) -> bool
-    ensures { IsTrue result ↔ (group_plan_of one.now ≡ group_plan_of other.now) }
+    ensures { IsTrue result ↔ (unit_plan_of one.now ≡ unit_plan_of other.now) }
 {
     match (one, other) {
         (UnitPlan::Nothing, UnitPlan::Nothing) | (UnitPlan::Every, UnitPlan::Every) => true,
@@ -152,7 +152,7 @@ fn same_each(parts: &[ConceptPlan], others: &[ConceptPlan]) -> bool
 
 #[cycle(equal)]
 fn same_each_unit(parts: &[UnitPlan], others: &[UnitPlan]) -> bool
-    ensures { IsTrue result ↔ (group_plans_of parts.now ≡ group_plans_of others.now) }
+    ensures { IsTrue result ↔ (unit_plans_of parts.now ≡ unit_plans_of others.now) }
 {
     if parts.len() != others.len() {
         return false;

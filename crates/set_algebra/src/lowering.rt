@@ -5,7 +5,7 @@ ghost use Rattle.constraint_tree.specs.Denotation.{denotes};
 ghost use Rattle.constraint_tree.specs.Tree.{tree_of, trees_of, refinement_tree_of, refinement_trees_of, set_tree_of, set_trees_of, attribute_tree_of, test_tree_of};
 ghost use Rattle.set_algebra.specs.Lowering.{lowered, lowered_trees, lowered_refinement, lowered_refinements, lowered_attribute, lowered_set, lowered_sets, lowered_in_group, lowered_test};
 ghost use Rattle.set_algebra.specs.Meaning.{means};
-ghost use Rattle.set_algebra.specs.Plan.{plan_of, plans_of, group_plan_of, group_plans_of, test_plan_of};
+ghost use Rattle.set_algebra.specs.Plan.{plan_of, plans_of, unit_plan_of, unit_plans_of, test_plan_of};
 
 use crate::plan::{ConceptPlan, UnitPlan, ValueTest};
 use constraint_tree::{Attribute, AttributeSet, Constraint, Refinement, Test};
@@ -112,7 +112,7 @@ fn each_satisfying(alloc: Global, parts: &[Refinement]) -> Result<Vec<ConceptPla
 #[cycle(lower)]
 #[tactic(auto, using(constraint_tree::proofs::TreeLemmas::trees_of_items, crate::proofs::PlanLemmas::plans_of_items))]
 fn groups(alloc: Global, set: &AttributeSet) -> Result<UnitPlan, AllocError>
-    ensures { IfOk result (λ plan. group_plan_of plan ≡ lowered_set (set_tree_of set.now)) }
+    ensures { IfOk result (λ plan. unit_plan_of plan ≡ lowered_set (set_tree_of set.now)) }
 {
     match set {
         AttributeSet::One(attribute) => Ok(UnitPlan::Pairs {
@@ -127,7 +127,7 @@ fn groups(alloc: Global, set: &AttributeSet) -> Result<UnitPlan, AllocError>
 
 #[cycle(lower)]
 fn each_groups(alloc: Global, parts: &[AttributeSet]) -> Result<Vec<UnitPlan>, AllocError>
-    ensures { IfOk result (λ plans. group_plans_of plans.items ≡ lowered_sets (set_trees_of parts.now)) }
+    ensures { IfOk result (λ plans. unit_plans_of plans.items ≡ lowered_sets (set_trees_of parts.now)) }
 {
     let mut plans = Vec::new(alloc);
     for part in parts {

@@ -2,8 +2,8 @@
 //!
 //! `specs/Views.antt` has the words for what is there, so that a contract also says when there is nothing.
 ghost use Rattle.std.specs.Prelude.{◌≡◌, None, MatchResult};
-ghost use Rattle.set_algebra.specs.Plan.{plan_of, plans_of, group_plan_of, group_plans_of, test_plan_of, no_plans, plan_then, and_plan, or_plan, minus_plan, walk_plan, pairs_plan, units_plan, no_groups, group_then, and_group, or_group, minus_group, pairs_group, within_plan};
-ghost use Rattle.set_algebra.specs.Views.{and_parts, or_parts, minus_parts, walk_parts, pairs_parts, units_parts, group_and_parts, group_or_parts, group_minus_parts, group_pairs_parts, within_part, only_part, only_group_part};
+ghost use Rattle.set_algebra.specs.Plan.{plan_of, plans_of, unit_plan_of, unit_plans_of, test_plan_of, no_plans, plan_then, and_plan, or_plan, minus_plan, walk_plan, pairs_plan, units_plan, no_unit_plans, unit_plan_then, and_units, or_units, minus_units, pairs_units, within_plan};
+ghost use Rattle.set_algebra.specs.inside.Views.{and_parts, or_parts, minus_parts, walk_parts, pairs_parts, units_parts, group_and_parts, group_or_parts, group_minus_parts, group_pairs_parts, within_part, only_part, only_group_part};
 
 use crate::plan::{ConceptPlan, UnitPlan, ValueTest};
 use constraint_tree::{Cardinality, Operator};
@@ -73,7 +73,7 @@ pub fn pairs_of(
 
 /// The count and the plan of groups of `Units`.
 pub fn units_of(plan: &ConceptPlan) -> Result<(Cardinality, &UnitPlan), OtherForm>
-    ensures { MatchResult result (λ units. plan_of plan.now ≡ units_plan units.0 (group_plan_of units.1.now)) (λ _. units_parts (plan_of plan.now) ≡ None) }
+    ensures { MatchResult result (λ units. plan_of plan.now ≡ units_plan units.0 (unit_plan_of units.1.now)) (λ _. units_parts (plan_of plan.now) ≡ None) }
 {
     match plan {
         ConceptPlan::Units { count, units } => Ok((*count, units)),
@@ -84,7 +84,7 @@ pub fn units_of(plan: &ConceptPlan) -> Result<(Cardinality, &UnitPlan), OtherFor
 /// The parts of an `And` of groups.
 #[tactic(auto, using(crate::proofs::PlanLemmas::plans_of_items))]
 pub fn unit_and_of(plan: &UnitPlan) -> Result<&[UnitPlan], OtherForm>
-    ensures { MatchResult result (λ parts. group_plan_of plan.now ≡ and_group (group_plans_of parts.now)) (λ _. group_and_parts (group_plan_of plan.now) ≡ None) }
+    ensures { MatchResult result (λ parts. unit_plan_of plan.now ≡ and_units (unit_plans_of parts.now)) (λ _. group_and_parts (unit_plan_of plan.now) ≡ None) }
 {
     match plan {
         UnitPlan::And(parts) => Ok(parts),
@@ -95,7 +95,7 @@ pub fn unit_and_of(plan: &UnitPlan) -> Result<&[UnitPlan], OtherForm>
 /// The parts of an `Or` of groups.
 #[tactic(auto, using(crate::proofs::PlanLemmas::plans_of_items))]
 pub fn unit_or_of(plan: &UnitPlan) -> Result<&[UnitPlan], OtherForm>
-    ensures { MatchResult result (λ parts. group_plan_of plan.now ≡ or_group (group_plans_of parts.now)) (λ _. group_or_parts (group_plan_of plan.now) ≡ None) }
+    ensures { MatchResult result (λ parts. unit_plan_of plan.now ≡ or_units (unit_plans_of parts.now)) (λ _. group_or_parts (unit_plan_of plan.now) ≡ None) }
 {
     match plan {
         UnitPlan::Or(parts) => Ok(parts),
@@ -105,7 +105,7 @@ pub fn unit_or_of(plan: &UnitPlan) -> Result<&[UnitPlan], OtherForm>
 
 /// The first and the second of a `Minus` of groups.
 pub fn unit_minus_of(plan: &UnitPlan) -> Result<(&UnitPlan, &UnitPlan), OtherForm>
-    ensures { MatchResult result (λ both. group_plan_of plan.now ≡ minus_group (group_plan_of both.0.now) (group_plan_of both.1.now)) (λ _. group_minus_parts (group_plan_of plan.now) ≡ None) }
+    ensures { MatchResult result (λ both. unit_plan_of plan.now ≡ minus_units (unit_plan_of both.0.now) (unit_plan_of both.1.now)) (λ _. group_minus_parts (unit_plan_of plan.now) ≡ None) }
 {
     match plan {
         UnitPlan::Minus(first, second) => Ok((first, second)),
@@ -115,7 +115,7 @@ pub fn unit_minus_of(plan: &UnitPlan) -> Result<(&UnitPlan, &UnitPlan), OtherFor
 
 /// The count, the types and the test of `Pairs` of groups.
 pub fn unit_pairs_of(plan: &UnitPlan) -> Result<(Cardinality, &ConceptPlan, &ValueTest), OtherForm>
-    ensures { MatchResult result (λ pairs. group_plan_of plan.now ≡ pairs_group pairs.0 (plan_of pairs.1.now) (test_plan_of pairs.2.now)) (λ _. group_pairs_parts (group_plan_of plan.now) ≡ None) }
+    ensures { MatchResult result (λ pairs. unit_plan_of plan.now ≡ pairs_units pairs.0 (plan_of pairs.1.now) (test_plan_of pairs.2.now)) (λ _. group_pairs_parts (unit_plan_of plan.now) ≡ None) }
 {
     match plan {
         UnitPlan::Pairs { count, types, test } => Ok((*count, types, test)),
@@ -145,7 +145,7 @@ pub fn first_of(parts: &[ConceptPlan]) -> Result<(&ConceptPlan, &[ConceptPlan]),
 
 /// The first of a list of plans of groups that is not empty, and the rest.
 pub fn first_unit_of(parts: &[UnitPlan]) -> Result<(&UnitPlan, &[UnitPlan]), OtherForm>
-    ensures { MatchResult result (λ list. group_plans_of parts.now ≡ group_then (group_plan_of list.0.now) (group_plans_of list.1.now)) (λ _. group_plans_of parts.now ≡ no_groups) }
+    ensures { MatchResult result (λ list. unit_plans_of parts.now ≡ unit_plan_then (unit_plan_of list.0.now) (unit_plans_of list.1.now)) (λ _. unit_plans_of parts.now ≡ no_unit_plans) }
 {
     match parts.split_first() {
         Some((first, rest)) => Ok((first, rest)),
@@ -166,7 +166,7 @@ pub fn only_of(parts: &[ConceptPlan]) -> Result<&ConceptPlan, OtherForm>
 
 /// The only plan of a list of one plan of groups.
 pub fn only_unit_of(parts: &[UnitPlan]) -> Result<&UnitPlan, OtherForm>
-    ensures { MatchResult result (λ only. group_plans_of parts.now ≡ group_then (group_plan_of only.now) no_groups) (λ _. only_group_part (group_plans_of parts.now) ≡ None) }
+    ensures { MatchResult result (λ only. unit_plans_of parts.now ≡ unit_plan_then (unit_plan_of only.now) no_unit_plans) (λ _. only_group_part (unit_plans_of parts.now) ≡ None) }
 {
     let (only, rest) = first_unit_of(parts)?;
     match rest.split_first() {

@@ -10,9 +10,9 @@ use Rattle.std.proofs.lemmas.List.Folds.{list_any-append}
 use Rattle.snapshot.specs.Chosen.{choices, chosen, is_superseded, marked}
 use Rattle.snapshot.specs.Contents.{text_of_row}
 use Rattle.snapshot.specs.Files.{Place, RowAt}
-use Rattle.snapshot.specs.Kept.{AreFew, IsReadFrom}
+use Rattle.snapshot.specs.inside.RowStore.{AreFew, IsReadFrom}
 use Rattle.snapshot.specs.Limits.{row_total}
-use Rattle.snapshot.specs.Listed.{Listed, concept_listed}
+use Rattle.snapshot.specs.inside.ReleaseLists.{ReleaseLists, concept_listed}
 use Rattle.snapshot.specs.declared.limits.Limits.{Limits}
 use Rattle.snapshot.proofs.ChosenItemLemmas.{length-marked}
 use Rattle.snapshot.proofs.SingleLemmas.{any-at}
@@ -63,5 +63,5 @@ length-picked pick [] = omega arith
 length-picked {X} {Y} pick (item ∷ items) = grind (arith, filter_map, cons_option, (length-picked pick items))
 
 -- what was read of places without a fault is few
-pub AreFew-read : (limits : Limits) (places : List Place) (count : ℕ) (listed : Listed) → row_total limits ≤ 68000000 → IsReadFrom limits places count listed → AreFew count listed
+pub AreFew-read : (limits : Limits) (places : List Place) (count : ℕ) (listed : ReleaseLists) → row_total limits ≤ 68000000 → IsReadFrom limits places count listed → AreFew count listed
 AreFew-read limits places count listed room read = grind (arith, length-map, length-marked, length-picked)

@@ -1,8 +1,8 @@
 -- Attribute rows keep their values while more of the values that are no concepts come.
 use Rattle.std.proofs.Common.{arith, ◌≡◌, ◌∙◌, List, ap, get_or, length, length-append, refl}
-use Rattle.snapshot.specs.AttributesInside.{IsWithinValues, attribute_in, value_in}
-use Rattle.snapshot.specs.ConcreteValues.{Concrete, concrete_value, no_text}
-use Rattle.snapshot.specs.Spans.{Extends}
+use Rattle.snapshot.specs.inside.AttributesInside.{IsWithinValues, attribute_in, value_in}
+use Rattle.snapshot.specs.inside.ConcreteValues.{Concrete, concrete_value, no_text}
+use Rattle.snapshot.specs.inside.Spans.{Extends}
 use Rattle.std.proofs.lemmas.List.{get_or_append_left, length-map}
 use Rattle.snapshot.specs.declared.attributes.KeptRow.{KeptRow}
 use Rattle.snapshot.specs.declared.attributes.KeptValue.{KeptValue}

@@ -1,7 +1,7 @@
 -- Buckets of rising identifiers: those before an identifier's bucket are less than it, and those behind are greater.
 use Rattle.std.proofs.Common.{rules, ℕ, ◌+◌, ◌≡◌, ◌≤◌, ◌<◌, List, length, get_or, arith}
 use Rattle.std.specs.List.Sorted.{IsStrictlyIncreasing}
-use Rattle.snapshot.specs.Buckets.{AreBucketStarts, IsBucketStart, bucket_count, bucket_of}
+use Rattle.snapshot.specs.inside.Buckets.{AreBucketStarts, IsBucketStart, bucket_count, bucket_of}
 use Rattle.snapshot.proofs.RisingLemmas.{not_falling}
 
 pub bucket_below : (id : ℕ) → bucket_of id < bucket_count

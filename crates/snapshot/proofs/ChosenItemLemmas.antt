@@ -7,7 +7,7 @@ use Rattle.std.proofs.lemmas.List.{drop_all}
 use Rattle.std.proofs.lemmas.List.Elements.{All-cons, All-drop, All-nil}
 use Rattle.rf2_rows.specs.RowTexts.{RowText}
 use Rattle.snapshot.specs.Chosen.{marked}
-use Rattle.snapshot.specs.Listed.{in_list, items_chosen, same_listing}
+use Rattle.snapshot.specs.inside.ReleaseLists.{in_list, items_chosen, same_listing}
 use Rattle.snapshot.specs.declared.row_lists.Listing.{Listing}
 
 -- what is still to come of the chosen items from a row on

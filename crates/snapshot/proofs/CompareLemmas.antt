@@ -7,24 +7,24 @@ use Rattle.std.proofs.lemmas.List.{get_or-map, length-map, map-append}
 use Rattle.std.proofs.lemmas.List.Elements.{All-cons, All-nil, All-push, All-tail}
 use Rattle.rf2_rows.specs.Rows.{row_fault}
 use Rattle.snapshot.specs.Chosen.{choices, conflicts, same_component}
-use Rattle.snapshot.specs.Compared.{Compared, IsCompared, IsComparedRow, IsDenied, IsDeniedRow, IsExpected, IsRefused, IsTaken, clashes, compared_in, noted_of}
+use Rattle.snapshot.specs.inside.Comparison.{Comparison, IsCompared, IsComparedRow, IsDenied, IsDeniedRow, IsExpected, IsRefused, IsTaken, clashes, compared_in, noted_of}
 use Rattle.snapshot.specs.declared.comparing.Comparing.{Comparing}
 use Rattle.snapshot.specs.Contents.{text_of_row}
 use Rattle.snapshot.specs.Files.{Place, RowAt, row_at, rows_of, later_line}
 use Rattle.hierarchy.specs.Members.{has}
-use Rattle.snapshot.specs.Keys.{IsMet, IsShort, Keyed, key_in, uuids_behind}
-use Rattle.snapshot.specs.Noted.{AreOfItsKind, Covers, Noted}
-use Rattle.snapshot.specs.Taken.{HasTaken, Taken}
-use Rattle.snapshot.specs.Taking.{StopsAt, TakesAll, next, taken}
+use Rattle.snapshot.specs.inside.Keys.{IsMet, IsShort, Keyed, key_in, uuids_behind}
+use Rattle.snapshot.specs.inside.KeyedRows.{AreOfItsKind, Covers, KeyedRow}
+use Rattle.snapshot.specs.inside.VersionTable.{HasTaken, VersionTable}
+use Rattle.snapshot.specs.inside.Traversal.{StopsAt, TakesAll, next, taken}
 use Rattle.snapshot.specs.declared.fault.LoadFault.{LoadFault}
-use Rattle.snapshot.specs.Seen.{AreSeen, AreShort, first_conflict, keys_behind, uuids_after}
+use Rattle.snapshot.specs.inside.FirstPass.{AreSeen, AreShort, first_conflict, keys_behind, uuids_after}
 use Rattle.hierarchy.proofs.ReleaseLemmas.{had_contained}
 use Rattle.snapshot.proofs.NumberingLemmas.{get_or-place_of, place_below, place_of}
 use Rattle.snapshot.proofs.SingleLemmas.{any-none, key-twice, met-seen}
 use Rattle.snapshot.proofs.KindLemmas.{kind_same}
 use Rattle.rf2_rows.specs.declared.kind.FileKind.{FileKind}
 use Rattle.release_files.specs.Lines.{LineText}
-use Rattle.snapshot.specs.Noted as by_key
+use Rattle.snapshot.specs.inside.KeyedRows as by_key
 
 -- ---- keys tell components
 -- UUIDs that were met are below the number of them, and at their own places
@@ -40,7 +40,7 @@ abbrev pub AreKnown : List ℕ → List RowAt → Type 0
 AreKnown uuids rows = All (IsKnown uuids) rows
 
 -- tests of noted rows are tests of the rows
-any-noted : (uuids : List ℕ) (p : RowAt → Bool) (q : Noted → Bool) (rows : List RowAt) → AreKnown uuids rows
+any-noted : (uuids : List ℕ) (p : RowAt → Bool) (q : KeyedRow → Bool) (rows : List RowAt) → AreKnown uuids rows
     → ((other : RowAt) → IsKnown uuids other → q (noted_of uuids other) ≡ p other) → list_any q (map (noted_of uuids) rows) ≡ list_any p rows
 any-noted uuids p q [] known same = refl
 any-noted uuids p q (row ∷ rows) known same = grind (arith, same row (known 0 row (omega arith)), (any-noted uuids p q rows (All-tail (IsKnown uuids) row rows known) same))
@@ -70,7 +70,7 @@ denies old place new fault = IsDenied (compared_in old) place fault
 
 -- the keys of rows
 abbrev pub keys_of : List ℕ → List RowAt → List ℕ
-keys_of uuids rows = map (λ (row : Noted). row.key) (map (noted_of uuids) rows)
+keys_of uuids rows = map (λ (row : KeyedRow). row.key) (map (noted_of uuids) rows)
 
 -- ---- what was seen
 uuids_after-append : (uuids : List ℕ) (front rows : List RowAt) → uuids_after uuids (front ++ rows) ≡ uuids_after (uuids_after uuids front) rows
@@ -100,7 +100,7 @@ finds repeated earlier rows row covers there =
     grind (arith, (met-seen (uuids_after [] earlier) rows (text_of_row row)), (uuids_after-append [] earlier (row ∷ rows)), had_contained repeated key (covers key (key-twice earlier rows row some)))
 
 module _ (keyed : Keyed) (repeated : List ℕ) (places : List Place) (seen beyond : List RowAt) (are : AreSeen keyed places seen beyond) (covers : Covers repeated keyed.keys) (few : length keyed.uuids < 2 ^ 63) where
-  abbrev note : RowAt → Noted
+  abbrev note : RowAt → KeyedRow
   note = noted_of keyed.uuids
 
   known : AreKnown keyed.uuids seen
@@ -125,7 +125,7 @@ module _ (keyed : Keyed) (repeated : List ℕ) (places : List Place) (seen beyon
   }
 
   -- the rows that were compared, and those that are still to come
-  record Ahead (compared : Compared) (rows earlier ahead : List RowAt) : Type 0 where
+  record Ahead (compared : Comparison) (rows earlier ahead : List RowAt) : Type 0 where
     pub rest : List RowAt
     pub all : rows ≡ ahead ++ rest
     pub cut : earlier ++ ahead ≡ seen
@@ -135,26 +135,26 @@ module _ (keyed : Keyed) (repeated : List ℕ) (places : List Place) (seen beyon
     pub repeated_is : compared.taken.repeated ≡ repeated
     pub taken_is : HasTaken compared.taken (map note earlier)
 
-  abbrev Onward : Compared → List RowAt → Type 0
+  abbrev Onward : Comparison → List RowAt → Type 0
   Onward compared rows = (earlier : List RowAt) × (ahead : List RowAt) × Ahead compared rows earlier ahead
 
   -- the next row is expected
-  expected : (compared : Compared) (earlier : List RowAt) (row : RowAt) → compared.uuids ≡ keyed.uuids → HasTaken compared.taken (map note earlier) → IsGiven earlier row
+  expected : (compared : Comparison) (earlier : List RowAt) (row : RowAt) → compared.uuids ≡ keyed.uuids → HasTaken compared.taken (map note earlier) → IsGiven earlier row
       → IsExpected compared (map note earlier) (note row).key row.kind row.text
   expected compared earlier row same before is =
       record { taken = before; kinds = rw same (of_its_kind keyed.uuids few earlier row is.before is.own); met = rw same is.own.1; accepted = is.accepted; same_key = rw same refl }
 
-  clash : (earlier : List RowAt) (row : RowAt) (held : Taken) → held.repeated ≡ repeated → IsGiven earlier row
+  clash : (earlier : List RowAt) (row : RowAt) (held : VersionTable) → held.repeated ≡ repeated → IsGiven earlier row
       → clashes held (map note earlier) (note row) ≡ list_any (λ other. conflicts other row) earlier
   clash earlier row held same is = grind (arith, known, any-noted, tells)
 
   -- one place more
-  step : (old middle : Compared) (at : Option RowAt) (rows earlier ahead : List RowAt) → IsComparedRow old old.left at middle → Ahead old (cons_option at rows) earlier ahead → Onward middle rows
+  step : (old middle : Comparison) (at : Option RowAt) (rows earlier ahead : List RowAt) → IsComparedRow old old.left at middle → Ahead old (cons_option at rows) earlier ahead → Onward middle rows
   step old middle None rows earlier ahead same start = (earlier, ahead, rw same start)
   step old middle (Some row) rows earlier [] moved start = grind (arith, common_steps, nat_tests)
   step old middle (Some row) rows earlier (own ∷ ahead) moved start =
       let is : row ≡ own = cc (start.all) in
-      let before : Compared = record old { left = keys_of keyed.uuids ahead } in
+      let before : Comparison = record old { left = keys_of keyed.uuids ahead } in
       let taken : IsTaken before (note own).key own.kind own.text middle = grind arith in
       let known = given earlier ahead own start.cut in
       let told : IsExpected before (map note earlier) (note own).key own.kind own.text = expected before earlier own start.uuids start.taken_is known in
@@ -183,15 +183,15 @@ module _ (keyed : Keyed) (repeated : List ℕ) (places : List Place) (seen beyon
   -- no row conflicts with an earlier one, none is left, and what is chosen of those that were taken is chosen
   abbrev pub IsChosenFrom : Comparing → Type 0
   IsChosenFrom new = (first_conflict [] seen ≡ None) × ((compared_in new).left ≡ []) × ((chosen : List Bool)
-      → ((rows : List Noted) → HasTaken (compared_in new).taken rows → Covers (compared_in new).taken.repeated (map (λ (row : Noted). row.key) rows) → chosen ≡ by_key.choices rows [] rows)
+      → ((rows : List KeyedRow) → HasTaken (compared_in new).taken rows → Covers (compared_in new).taken.repeated (map (λ (row : KeyedRow). row.key) rows) → chosen ≡ by_key.choices rows [] rows)
       → chosen ≡ choices seen [] seen)
 
   -- the second pass begins
-  module _ (old : Comparing) (uuids : (compared_in old).uuids ≡ keyed.uuids) (left : (compared_in old).left ≡ keyed.keys) (start : Taken) (taken_is : (compared_in old).taken ≡ start)
+  module _ (old : Comparing) (uuids : (compared_in old).uuids ≡ keyed.uuids) (left : (compared_in old).left ≡ keyed.keys) (start : VersionTable) (taken_is : (compared_in old).taken ≡ start)
       (repeated_is : start.repeated ≡ repeated) (taken : HasTaken start []) where
     begins : Ahead (compared_in old) (rows_of places) [] seen
     begins =
-        let repeated_is : (compared_in old).taken.repeated ≡ repeated = ap (λ (taken : Taken). taken.repeated) taken_is ∙ repeated_is in
+        let repeated_is : (compared_in old).taken.repeated ≡ repeated = ap (λ (taken : VersionTable). taken.repeated) taken_is ∙ repeated_is in
         record { rest = beyond; all = are.front; cut = refl; conflict = refl; left = left ∙ keys_are; uuids = uuids; repeated_is = repeated_is; taken_is = rw taken_is taken }
 
     -- it went to the end
@@ -214,7 +214,7 @@ module _ (keyed : Keyed) (repeated : List ℕ) (places : List Place) (seen beyon
         by (Some row) denied (now, [], goes) = absurd (rw goes.left at denied)
         by (Some row) denied (now, own ∷ rows, goes) =
             let is : row ≡ own = cc (goes.all) in
-            let before : Compared = record (compared_in stop.middle) { left = keys_of keyed.uuids rows } in
+            let before : Comparison = record (compared_in stop.middle) { left = keys_of keyed.uuids rows } in
             let known = given now rows own goes.cut in
             let refused : IsRefused before own.file own.line (note own).key own.kind own.text fault = grind (arith, compared_in) in
             let both = refused (map note now) (expected before now own goes.uuids goes.taken_is known) in
@@ -223,6 +223,6 @@ module _ (keyed : Keyed) (repeated : List ℕ) (places : List Place) (seen beyon
 -- Comparing the row on a line.
 
 -- the line of a row that is still to come
-pub denied-line : (old : Compared) (file : ℕ) (kind : FileKind) (line : LineText) (fault : LoadFault) (key : ℕ) (left : List ℕ) → old.left ≡ key ∷ left → 0 < length line.bytes
+pub denied-line : (old : Comparison) (file : ℕ) (kind : FileKind) (line : LineText) (fault : LoadFault) (key : ℕ) (left : List ℕ) → old.left ≡ key ∷ left → 0 < length line.bytes
     → IsRefused (record old { left = left }) file line.number key kind line.bytes fault → IsDenied old (later_line file kind line) fault
 denied-line old file kind line fault key left ahead some refused = grind (arith, common_steps, nat_tests)

@@ -1,8 +1,8 @@
 -- Values that are no concepts stay the same while the buffer of their texts grows.
 use Rattle.std.proofs.Common.{ℕ, ◌≡◌, List, ap, refl}
-use Rattle.snapshot.specs.ConcreteInside.{IsPlaced, concrete_in}
-use Rattle.snapshot.specs.ConcreteValues.{a_text}
-use Rattle.snapshot.specs.Spans.{Extends}
+use Rattle.snapshot.specs.inside.ConcreteInside.{IsPlaced, concrete_in}
+use Rattle.snapshot.specs.inside.ConcreteValues.{a_text}
+use Rattle.snapshot.specs.inside.Spans.{Extends}
 use Rattle.snapshot.specs.declared.concrete_values.KeptConcrete.{KeptConcrete}
 use Rattle.snapshot.specs.declared.concrete_values.KeptConcrete.TheVariants.{Decimal, Other}
 use Rattle.snapshot.proofs.SpanLemmas.{span-extends, text-extends}

@@ -7,14 +7,15 @@ use Rattle.std.proofs.lemmas.Bool.{and_parts}
 use Rattle.std.proofs.lemmas.List.Elements.{All-weaker, filter_passes}
 use Rattle.std.proofs.lemmas.List.Sums.{length-filter, count_by-le-length}
 use Rattle.std.specs.List.Sorted.{IsStrictlyIncreasing}
-use Rattle.snapshot.specs.LeastCycle.{IsLeastCycle}
+use Rattle.snapshot.specs.inside.LeastCycle.{IsLeastCycle}
 use Rattle.rf2_rows.specs.Release.{Attribute, Name}
 use Rattle.snapshot.specs.Contents.{Contents, IsFaultOf, first_cyclic, least_cyclic, unless_cyclic}
 use Rattle.snapshot.specs.InForce.{put, rising, rows_among}
-use Rattle.snapshot.specs.Kept.{IsCycle, attributes_among, contents_from, finished, is_value_among, names_among, release_from}
-use Rattle.snapshot.specs.Listed.{Listed}
+use Rattle.snapshot.specs.inside.RowStore.{IsCycle, attributes_among, contents_from, finished, names_among, release_from}
+use Rattle.snapshot.specs.ValuesInForce.{is_value_among}
+use Rattle.snapshot.specs.inside.ReleaseLists.{ReleaseLists}
 use Rattle.snapshot.specs.Numbering.{numbered_row, row_of_numbers}
-use Rattle.snapshot.specs.Taking.{FailsAtRead, RaisesOnlyAtDevice, file_of, is_device}
+use Rattle.snapshot.specs.DeviceFaults.{FailsAtRead, RaisesOnlyAtDevice, file_of, is_device}
 use Rattle.snapshot.specs.declared.fault.LoadFault.{LoadFault}
 use Rattle.snapshot.specs.declared.fault.LoadFault.TheVariants.{Cycle, Memory, NoConceptFile}
 use Rattle.snapshot.proofs.NumberingLemmas.{first_cyclic-Some, rows_of_numbers}
@@ -38,7 +39,7 @@ contents_by_number language files concepts isa attributes members names passed =
 }
 
 -- where no concept reaches itself, the snapshot is of the contents made of what was listed
-pub finished-Ok : (language : List ℕ) (files count : ℕ) (listed : Listed) (concepts : List ℕ) (isa : List (ℕ × ℕ)) (attributes : List Attribute) (members : List (ℕ × ℕ)) (names : List Name) (passed : ℕ)
+pub finished-Ok : (language : List ℕ) (files count : ℕ) (listed : ReleaseLists) (concepts : List ℕ) (isa : List (ℕ × ℕ)) (attributes : List Attribute) (members : List (ℕ × ℕ)) (names : List Name) (passed : ℕ)
     → concepts ≡ rising listed.active_concepts → isa ≡ filter_map (numbered_row concepts) listed.isa_ends
     → attributes ≡ attributes_among concepts listed.attributes → members ≡ filter_map (numbered_row concepts) listed.member_ends
     → names ≡ names_among concepts listed.names
@@ -48,7 +49,7 @@ pub finished-Ok : (language : List ℕ) (files count : ℕ) (listed : Listed) (c
 finished-Ok language files count listed concepts isa attributes members names passed rises isa_is attributes_are members_are named acyclic counted = grind (arith, rows_of_numbers, length-map)
 
 -- where one does, the least is the fault
-pub finished-Err : (language : List ℕ) (files count : ℕ) (listed : Listed) (concepts : List ℕ) (fault : LoadFault)
+pub finished-Err : (language : List ℕ) (files count : ℕ) (listed : ReleaseLists) (concepts : List ℕ) (fault : LoadFault)
     → concepts ≡ rising listed.active_concepts → IsCycle fault (first_cyclic concepts (rows_among concepts listed.isa_ends))
     → IsFaultOf fault (finished language files count listed)
 finished-Err language files count listed concepts fault rises cycle other = grind (arith, common_steps, nat_tests)
@@ -86,7 +87,7 @@ cycle-own fault contents None said = absurd (grind arith)
 cycle-own fault contents (Some concept) said = absurd (grind arith)
 
 -- so is each fault of what is finished
-pub finished-own : (language : List ℕ) (files count : ℕ) (listed : Listed) (fault : LoadFault)
+pub finished-own : (language : List ℕ) (files count : ℕ) (listed : ReleaseLists) (fault : LoadFault)
     → IsFaultOf fault (finished language files count listed) → IsOfNoFile fault
 finished-own language files count listed fault said =
     cycle-own fault (contents_from language files count listed) (least_cyclic (release_from listed)) said

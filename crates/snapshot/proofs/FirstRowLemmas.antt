@@ -10,9 +10,9 @@ use Rattle.std.proofs.lemmas.Option.{slice_get-map, slice_get_read}
 use Rattle.std.proofs.lemmas.List.Quantifiers.{position-Some}
 use Rattle.std.proofs.lemmas.List.Sums.{fails_before_first}
 use Rattle.rf2_rows.specs.Release.{Name}
-use Rattle.snapshot.specs.FirstRows.{AreFirstPlaces, IsFirstOfTwo, IsFirstPlace}
+use Rattle.snapshot.specs.inside.FirstRows.{AreFirstPlaces, IsFirstOfTwo, IsFirstPlace}
 use Rattle.snapshot.specs.Name.{first_name, names_of}
-use Rattle.snapshot.specs.NamesInside.{name_in}
+use Rattle.snapshot.specs.inside.NamesInside.{name_in}
 use Rattle.snapshot.specs.Numbering.{concept_number}
 use Rattle.snapshot.specs.declared.names.NameRow.{NameRow}
 use Rattle.snapshot.proofs.LineLemmas.{place_within}

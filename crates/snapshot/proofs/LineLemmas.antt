@@ -5,8 +5,8 @@ use Rattle.std.proofs.lemmas.Grind.{common_steps}
 use Rattle.std.proofs.lemmas.List.{get_or-map, get_or_default, get_or_read, map_more}
 use Rattle.std.proofs.lemmas.Option.{slice_get_within}
 use Rattle.rf2_rows.specs.Release.{Name}
-use Rattle.snapshot.specs.FirstRows.{AreFirstPlaces}
-use Rattle.hierarchy.specs.KeyedListsInside.{AreStarts}
+use Rattle.snapshot.specs.inside.FirstRows.{AreFirstPlaces}
+use Rattle.hierarchy.specs.inside.KeyedListsInside.{AreStarts}
 use Rattle.snapshot.specs.Line.{concept_line}
 use Rattle.snapshot.specs.Name.{first_name, name_among, names_of}
 use Rattle.snapshot.proofs.FinishLemmas.{length-names_among}

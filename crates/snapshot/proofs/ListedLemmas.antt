@@ -5,13 +5,13 @@ use Rattle.std.proofs.lemmas.List.Elements.{filter_map-append}
 use Rattle.rf2_rows.specs.RowTexts.{RowText}
 use Rattle.snapshot.specs.Contents.{text_of_row}
 use Rattle.snapshot.specs.Files.{RowAt}
-use Rattle.snapshot.specs.Kept.{Kept, kept_behind, nothing_kept}
-use Rattle.snapshot.specs.Listed.{listed_behind, listed_of}
+use Rattle.snapshot.specs.inside.RowStore.{RowStore, kept_behind, nothing_kept}
+use Rattle.snapshot.specs.inside.ReleaseLists.{listed_behind, listed_of}
 use Rattle.snapshot.specs.declared.limits.Limits.{Limits}
-use Rattle.snapshot.specs.Seen.{kept_rows}
+use Rattle.snapshot.specs.inside.FirstPass.{kept_rows}
 
 -- what is listed behind rows
-listed-more : (kept : Kept) (front : List RowText) (rows : List RowAt) → kept.listed ≡ listed_of front
+listed-more : (kept : RowStore) (front : List RowText) (rows : List RowAt) → kept.listed ≡ listed_of front
     → (kept_rows kept rows).listed ≡ listed_of (front ++ map text_of_row rows)
 listed-more kept front [] same = same ∙ ap (λ (rows : List RowText). listed_of rows) (sym (append-nil front))
 listed-more kept front (row ∷ rows) same = grind (arith, kept_behind, text_of_row, listed_behind, map-append, filter_map-append, listed_of, append_assoc, (listed-more (kept_behind kept row) (front ++ text_of_row row ∷ []) rows))

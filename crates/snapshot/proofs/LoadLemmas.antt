@@ -18,9 +18,10 @@ use Rattle.rf2_rows.specs.Files.{file_kind_of}
 use Rattle.snapshot.specs.Files.{Place, RowAt, is_concept_file, is_concept_kind, has_kind, places_from}
 use Rattle.hierarchy.specs.Members.{has}
 use Rattle.snapshot.specs.InForce.{attributes_in_force, concept_in, concept_rows, concepts_in_force, description_in, is_in_force, is_member_in_force, is_name, isa_in_force, member_in, members_in_force, name_on, names_in_force, relationship_in, release_of, rows_among}
-use Rattle.snapshot.specs.Kept.{IsReadFrom, attributes_among, contents_from, finished, is_value_among, names_among, release_from}
+use Rattle.snapshot.specs.inside.RowStore.{IsReadFrom, attributes_among, contents_from, finished, names_among, release_from}
+use Rattle.snapshot.specs.ValuesInForce.{is_value_among}
 use Rattle.snapshot.specs.Limits.{limits_in_force}
-use Rattle.snapshot.specs.Listed.{Listed, attribute_listed, concept_listed, is_isa, isa_listed, listed_of, member_listed, name_listed}
+use Rattle.snapshot.specs.inside.ReleaseLists.{ReleaseLists, attribute_listed, concept_listed, is_isa, isa_listed, listed_of, member_listed, name_listed}
 use Rattle.snapshot.specs.Metadata.{is_a}
 use Rattle.snapshot.specs.Pieces.{cut_file, listed, text_named}
 use Rattle.snapshot.proofs.LimitLemmas.{cut_first_fault, cut_places}
@@ -106,12 +107,12 @@ listed-named known name_of [] = refl
 listed-named known name_of (item ∷ items) = ap (λ rest. text_named known (name_of item) ∷ rest) (listed-named known name_of items)
 
 -- what places without a fault contain is made of what was listed of them
-contents_of-read : (limits : Limits) (language : List ℕ) (kinds : ℕ) (places : List Place) (count : ℕ) (listed : Listed)
+contents_of-read : (limits : Limits) (language : List ℕ) (kinds : ℕ) (places : List Place) (count : ℕ) (listed : ReleaseLists)
     → IsReadFrom limits places count listed → contents_of language kinds places ≡ contents_from language kinds count listed
 contents_of-read limits language kinds places count listed read = grind (arith, common_steps, nat_tests, release_of-listed)
 
 -- what is made of places without a fault by file and line
-pub loaded_from-read : (limits : Limits) (language : List ℕ) (kinds : ℕ) (places : List Place) (count : ℕ) (listed : Listed)
+pub loaded_from-read : (limits : Limits) (language : List ℕ) (kinds : ℕ) (places : List Place) (count : ℕ) (listed : ReleaseLists)
     → IsReadFrom limits places count listed → loaded_from limits language kinds places ≡ finished language kinds count listed
 loaded_from-read limits language kinds places count listed read = grind (arith, read.clean, (contents_of-read limits language kinds places count listed read))
 

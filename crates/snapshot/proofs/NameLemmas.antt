@@ -3,15 +3,15 @@ use Rattle.std.proofs.Common.{rules, arith, ℕ, ◌≡◌, ◌<◌, length, get
 use Rattle.std.proofs.lemmas.Bool.Decides.{nat_tests}
 use Rattle.std.proofs.lemmas.Grind.{common_steps}
 use Rattle.std.proofs.lemmas.Bool.{cases_Bool, cases_eq}
-use Rattle.snapshot.specs.NamesInside.{IsPlaced, name_in}
+use Rattle.snapshot.specs.inside.NamesInside.{IsPlaced, name_in}
 use Rattle.std.proofs.lemmas.List.{get_or-map, get_or_read, length-map, get_or_append_left, take_more}
 use Rattle.rf2_rows.specs.Release.{Name}
-use Rattle.snapshot.specs.Spans.{Extends, no_span, AreSpansOf, StandsAt, text_at}
+use Rattle.snapshot.specs.inside.Spans.{Extends, no_span, AreSpansOf, StandsAt, text_at}
 use Rattle.snapshot.specs.declared.names.NameRow.{NameRow}
 use Rattle.snapshot.proofs.ChosenItemLemmas.{map-marked}
 use Rattle.snapshot.proofs.SpanLemmas.{text-extends, text_span-extends, all-push, rows-push, span-extends, stands-extends}
 use Rattle.std.proofs.lemmas.Option.{IfSome_then, slice_get_within}
-use Rattle.snapshot.specs.KeptNames.{AreNoted, IsKept, name_kept, term_span}
+use Rattle.snapshot.specs.inside.NamesInLines.{AreNoted, IsKept, name_kept, term_span}
 use Rattle.snapshot.specs.declared.kept_names.KeptName.{KeptName}
 use Rattle.snapshot.specs.declared.spans.Span.{Span}
 

@@ -12,7 +12,7 @@ use Rattle.std.proofs.lemmas.List.Sums.{sum_by-append, sum_by-cons, sum_by_more,
 use Rattle.std.proofs.lemmas.Map.Keys.{IsStrictlyIncreasing-dedup, non_decreasing_from_sorted, sorted_from_strictly_increasing}
 use Rattle.hierarchy.specs.Members.{has}
 use Rattle.hierarchy.proofs.ReleaseLemmas.{contains_had, had_contained, had_not, times}
-use Rattle.snapshot.specs.Repeated.{equal_neighbours}
+use Rattle.snapshot.specs.inside.Repeated.{equal_neighbours}
 use Rattle.snapshot.proofs.RisingLemmas.{earlier_below}
 use Rattle.std.proofs.lemmas.List.Filters.{sum_by-filter_both}
 

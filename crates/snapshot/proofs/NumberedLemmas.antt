@@ -7,12 +7,13 @@ use Rattle.std.proofs.lemmas.Simd.{map-map}
 use Rattle.rf2_rows.specs.Release.{Attribute, concept_value}
 use Rattle.hierarchy.specs.Members.{has}
 use Rattle.snapshot.specs.AttributesBySource.{HasNumbersBelow, IsNumberBelow, by_identifiers, value_by_identifier}
-use Rattle.snapshot.specs.ConcreteValues.{Concrete, a_number, a_text, concrete_value, no_text}
-use Rattle.snapshot.specs.Kept.{attributes_among, is_value_among}
-use Rattle.snapshot.specs.NumberedInside.{IsNumbered, IsOwnNumber, IsOwnRow, IsWithinNumbered, row_numbered, value_numbered}
+use Rattle.snapshot.specs.inside.ConcreteValues.{Concrete, a_number, a_text, concrete_value, no_text}
+use Rattle.snapshot.specs.inside.RowStore.{attributes_among}
+use Rattle.snapshot.specs.ValuesInForce.{is_value_among}
+use Rattle.snapshot.specs.inside.NumberedInside.{IsNumbered, IsOwnNumber, IsOwnRow, IsWithinNumbered, row_numbered, value_numbered}
 use Rattle.snapshot.specs.Numbering.{concept_number}
-use Rattle.snapshot.specs.SortedInside.{IsRowPlaced, row_in, sorted_row_in}
-use Rattle.snapshot.specs.Spans.{Extends}
+use Rattle.snapshot.specs.inside.SortedInside.{IsRowPlaced, row_in, sorted_row_in}
+use Rattle.snapshot.specs.inside.Spans.{Extends}
 use Rattle.snapshot.specs.declared.numbered_attributes.NumberedRow.{NumberedRow}
 use Rattle.snapshot.specs.declared.sorted_attributes.SortedRow.{SortedRow}
 use Rattle.snapshot.specs.declared.value_number.ValueNumber.{ValueNumber}

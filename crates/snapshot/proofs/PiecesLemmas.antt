@@ -22,7 +22,8 @@ use Rattle.release_files.specs.Held.{TakesWithin, reachable}
 use Rattle.release_files.proofs.HeldLemmas.{reachable_told}
 use Rattle.std.specs.Prelude.{is_some, true, zero, suc}
 use Rattle.snapshot.specs.Pieces.{has_kind_at, AreInOrder, cut_file, FailsAt, FailsAtFile, GoesOver, listed, text_named}
-use Rattle.snapshot.specs.Taking.{FailsAtRead, is_device, StopsAt, TakesAll, taken}
+use Rattle.snapshot.specs.inside.Traversal.{StopsAt, TakesAll, taken}
+use Rattle.snapshot.specs.DeviceFaults.{FailsAtRead, is_device}
 use Rattle.snapshot.specs.declared.fault.LoadFault.{LoadFault}
 use Rattle.snapshot.specs.declared.fault.LoadFault.TheVariants.{Memory}
 use Rattle.snapshot.proofs.TakingLemmas.{Leads, Leads-end, Leads-next, Leads-on, Leads-stop, stops_lines, stops_none, takes_lines, takes_none}

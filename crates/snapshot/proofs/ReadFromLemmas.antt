@@ -6,11 +6,11 @@ use Rattle.snapshot.specs.Chosen.{choices, chosen, marked}
 use Rattle.snapshot.specs.Contents.{text_of_row}
 use Rattle.snapshot.specs.Faults.{first_fault, first_of}
 use Rattle.snapshot.specs.Files.{Place, RowAt}
-use Rattle.snapshot.specs.Kept.{IsReadFrom, Kept, nothing_kept, unmarked}
-use Rattle.snapshot.specs.Keys.{uuids_behind}
-use Rattle.snapshot.specs.Listed.{Listed, attribute_listed, in_list, isa_listed, items_chosen, listed_chosen, listed_of, listing_of, member_listed, name_listed, same_listing}
+use Rattle.snapshot.specs.inside.RowStore.{IsReadFrom, RowStore, nothing_kept, unmarked}
+use Rattle.snapshot.specs.inside.Keys.{uuids_behind}
+use Rattle.snapshot.specs.inside.ReleaseLists.{ReleaseLists, attribute_listed, in_list, isa_listed, items_chosen, listed_chosen, listed_of, listing_of, member_listed, name_listed, same_listing}
 use Rattle.snapshot.specs.Limits.{row_total}
-use Rattle.snapshot.specs.Seen.{AreSeen, IsSeen, first_conflict, kept_rows, keys_behind}
+use Rattle.snapshot.specs.inside.FirstPass.{AreSeen, IsSeen, first_conflict, kept_rows, keys_behind}
 use Rattle.snapshot.specs.declared.fault.LoadFault.{LoadFault}
 use Rattle.snapshot.specs.declared.limits.Limits.{Limits}
 use Rattle.snapshot.specs.declared.row_lists.Listing.{Listing}
@@ -46,17 +46,17 @@ lists-chosen : (rows : List RowText) (choices : List Bool) → unmarked (listed_
 lists-chosen rows choices = grind (arith, attribute-here, isa-here, list-chosen, member-here, name-here)
 
 -- ---- what was seen
-keyed-seen : (limits : Limits) (kept : Kept) (rows : List RowAt) → kept ≡ kept_rows (nothing_kept limits) rows → kept.keyed.keys ≡ keys_behind [] rows
-keyed-seen limits kept rows same = ap (λ (k : Kept). k.keyed.keys) same ∙ kept_rows-keys (nothing_kept limits) rows
+keyed-seen : (limits : Limits) (kept : RowStore) (rows : List RowAt) → kept ≡ kept_rows (nothing_kept limits) rows → kept.keyed.keys ≡ keys_behind [] rows
+keyed-seen limits kept rows same = ap (λ (k : RowStore). k.keyed.keys) same ∙ kept_rows-keys (nothing_kept limits) rows
 
-pub are-seen : (limits : Limits) (places : List Place) (kept : Kept) (fault : Option LoadFault) → (all : IsSeen limits places kept fault) → AreSeen kept.keyed places all.seen all.beyond
+pub are-seen : (limits : Limits) (places : List Place) (kept : RowStore) (fault : Option LoadFault) → (all : IsSeen limits places kept fault) → AreSeen kept.keyed places all.seen all.beyond
 are-seen limits places kept fault all = search (rules, kept_rows-uuids, keyed-seen)
 
 length-keys : (uuids : List ℕ) (rows : List RowAt) → length (keys_behind uuids rows) ≡ length rows
 length-keys uuids [] = refl
 length-keys uuids (row ∷ rows) = ap suc (length-keys (uuids_behind uuids (text_of_row row)) rows)
 
-pub count-seen : (limits : Limits) (places : List Place) (kept : Kept) (fault : Option LoadFault) → (all : IsSeen limits places kept fault) → length kept.keyed.keys ≡ length all.seen
+pub count-seen : (limits : Limits) (places : List Place) (kept : RowStore) (fault : Option LoadFault) → (all : IsSeen limits places kept fault) → length kept.keyed.keys ≡ length all.seen
 count-seen limits places kept fault all = ap length (keyed-seen limits kept all.seen all.kept_is) ∙ length-keys [] all.seen
 
 -- where no key stands twice no row conflicts
@@ -65,7 +65,7 @@ no_conflict-seen keyed seen same few =
     no_conflict [] seen (single-keys [] seen (subst (λ (keys : List ℕ). (key : ℕ) → times key keys ≤ 1) same few))
 
 -- all rows are chosen
-pub read-single : (limits : Limits) (places : List Place) (kept : Kept) (count : ℕ) → IsSeen limits places kept None → count ≡ length kept.keyed.keys
+pub read-single : (limits : Limits) (places : List Place) (kept : RowStore) (count : ℕ) → IsSeen limits places kept None → count ≡ length kept.keyed.keys
     → ((key : ℕ) → times key kept.keyed.keys ≤ 1) → IsReadFrom limits places count kept.listed
 read-single limits places kept count all counted few =
     let single = single-keys [] all.seen (subst (λ (keys : List ℕ). (key : ℕ) → times key keys ≤ 1) (keyed-seen limits kept all.seen all.kept_is) few) in
@@ -77,17 +77,17 @@ read-single limits places kept count all counted few =
     }
 
 -- some rows are chosen
-pub read-chosen : (limits : Limits) (places : List Place) (kept : Kept) (count : ℕ) (all : IsSeen limits places kept None) → count ≡ length kept.keyed.keys
-    → first_conflict [] all.seen ≡ None → (marks : List Bool) → marks ≡ choices all.seen [] all.seen → (listed : Listed) → listed ≡ listed_chosen kept.listed marks
+pub read-chosen : (limits : Limits) (places : List Place) (kept : RowStore) (count : ℕ) (all : IsSeen limits places kept None) → count ≡ length kept.keyed.keys
+    → first_conflict [] all.seen ≡ None → (marks : List Bool) → marks ≡ choices all.seen [] all.seen → (listed : ReleaseLists) → listed ≡ listed_chosen kept.listed marks
     → IsReadFrom limits places count listed
 read-chosen limits places kept count all counted none marks told listed same = grind (arith, all.first, first_of-none, (count-seen limits places kept None all), (all.whole refl), (all.room refl), listed-rows, lists-chosen, map-marked)
 
 -- the fault at which the first pass ended is the first, where no row conflicts
-pub fault-seen : (limits : Limits) (places : List Place) (kept : Kept) (fault : LoadFault) (all : IsSeen limits places kept (Some fault))
+pub fault-seen : (limits : Limits) (places : List Place) (kept : RowStore) (fault : LoadFault) (all : IsSeen limits places kept (Some fault))
     → first_conflict [] all.seen ≡ None → first_fault limits [] places ≡ Some fault
 fault-seen limits places kept fault all none = all.first ∙ ap (λ (first : Option LoadFault). first_of first (Some fault)) none
 
 -- a conflict is the first fault
-pub conflict-seen : (limits : Limits) (places : List Place) (kept : Kept) (end : Option LoadFault) (fault : LoadFault) (all : IsSeen limits places kept end)
+pub conflict-seen : (limits : Limits) (places : List Place) (kept : RowStore) (end : Option LoadFault) (fault : LoadFault) (all : IsSeen limits places kept end)
     → first_conflict [] all.seen ≡ Some fault → first_fault limits [] places ≡ Some fault
 conflict-seen limits places kept end fault all there = all.first ∙ ap (λ (first : Option LoadFault). first_of first end) there

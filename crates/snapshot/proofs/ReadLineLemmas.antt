@@ -10,7 +10,7 @@ use Rattle.rf2_rows.specs.declared.row.Row.{Row}
 use Rattle.rf2_rows.proofs.RowTextLemmas.{text_in-row}
 use Rattle.release_files.specs.Lines.{LineText}
 use Rattle.snapshot.specs.Files.{later_line}
-use Rattle.snapshot.specs.Kept.{IsAdded, IsCrowded, IsRead, IsStopped, Kept}
+use Rattle.snapshot.specs.inside.RowStore.{IsAdded, IsCrowded, IsRead, IsStopped, RowStore}
 use Rattle.snapshot.specs.declared.fault.LoadFault.{LoadFault}
 
 -- a result that is a row has what is told of it
@@ -20,13 +20,13 @@ pub read-row : (kind : FileKind) (bytes : List ℕ) (result : Result Row RowFaul
 read-row kind bytes result row is stands accepted = grind (arith, common_steps, nat_tests)
 
 -- a row was added
-pub read-added : (old new : Kept) (file : ℕ) (kind : FileKind) (line : LineText) (row : Row)
+pub read-added : (old new : RowStore) (file : ℕ) (kind : FileKind) (line : LineText) (row : Row)
     → nat_lt old.left.bytes line.end ≡ false → 0 < length line.bytes → row_fault kind line.bytes ≡ None → IsRow kind line.bytes row
     → IsAdded old kind (text_in row) new → IsRead old (later_line file kind line) new
 read-added old new file kind line row fits some accepted is added = grind (arith, common_steps, nat_tests, text_in-row)
 
 -- no more rows of its kind may come
-pub stopped-crowded : (old new : Kept) (file : ℕ) (kind : FileKind) (line : LineText) (row : Row) (fault : LoadFault)
+pub stopped-crowded : (old new : RowStore) (file : ℕ) (kind : FileKind) (line : LineText) (row : Row) (fault : LoadFault)
     → nat_lt old.left.bytes line.end ≡ false → 0 < length line.bytes → row_fault kind line.bytes ≡ None → IsRow kind line.bytes row
     → IsCrowded file line.number old kind (text_in row) new fault → IsStopped old (later_line file kind line) new fault
 stopped-crowded old new file kind line row fault fits some accepted is crowded = grind (arith, common_steps, nat_tests, text_in-row)

@@ -13,8 +13,8 @@ use Rattle.snapshot.specs.Chosen.{choices, is_later, marked, same_component}
 use Rattle.snapshot.specs.Contents.{text_of_row}
 use Rattle.snapshot.specs.Files.{RowAt}
 use Rattle.hierarchy.specs.Members.{has}
-use Rattle.snapshot.specs.Keys.{IsMet, key_in, uuids_behind}
-use Rattle.snapshot.specs.Seen.{first_conflict, keys_behind, uuids_after}
+use Rattle.snapshot.specs.inside.Keys.{IsMet, key_in, uuids_behind}
+use Rattle.snapshot.specs.inside.FirstPass.{first_conflict, keys_behind, uuids_after}
 use Rattle.snapshot.proofs.KindLemmas.{kind_same}
 use Rattle.hierarchy.proofs.ReleaseLemmas.{times, times-append, times-own}
 

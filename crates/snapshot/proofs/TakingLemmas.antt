@@ -9,7 +9,8 @@ use Rattle.release_files.specs.Lines.{LineText}
 use Rattle.rf2_rows.specs.declared.kind.FileKind.{FileKind}
 use Rattle.snapshot.specs.Files.{Place, first_line, later_line, no_line, places_from, places_of_file, places_of_lines}
 use Rattle.std.proofs.lemmas.Bool.{cases_Bool}
-use Rattle.snapshot.specs.Taking.{FailsBelow, is_device, StopsAt, TakesAll, next, taken}
+use Rattle.snapshot.specs.inside.Traversal.{StopsAt, TakesAll, next, taken}
+use Rattle.snapshot.specs.DeviceFaults.{FailsBelow, is_device}
 use Rattle.snapshot.specs.declared.fault.LoadFault.{LoadFault}
 
 -- places are taken behind others

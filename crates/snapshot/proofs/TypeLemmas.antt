@@ -6,8 +6,8 @@ use Rattle.std.proofs.lemmas.List.Sums.{prefix_len-le-length}
 use Rattle.std.proofs.lemmas.Option.{slice_get-get_or}
 use Rattle.first_met.specs.FirstMet.{keys_behind}
 use Rattle.first_met.proofs.PlaceLemmas.{behind_all}
-use Rattle.snapshot.specs.SortedInside.{row_in}
-use Rattle.snapshot.specs.Spans.{Extends}
+use Rattle.snapshot.specs.inside.SortedInside.{row_in}
+use Rattle.snapshot.specs.inside.Spans.{Extends}
 use Rattle.snapshot.specs.declared.sorted_attributes.SortedRow.{SortedRow}
 use Rattle.snapshot.proofs.NumberingLemmas.{get_or-place_of, place_below}
 

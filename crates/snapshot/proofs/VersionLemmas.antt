@@ -6,11 +6,11 @@ use Rattle.std.proofs.lemmas.Bool.Decides.{nat_tests}
 use Rattle.std.proofs.lemmas.List.Folds.{list_any_at, Any-from_list_any, list_any_more, list_any-append}
 use Rattle.hierarchy.specs.Members.{has}
 use Rattle.snapshot.specs.Chosen.{is_later}
-use Rattle.snapshot.specs.Noted.{Noted, same_version, AreOfItsKind, conflicts, is_repeated, Covers, choices, is_superseded}
-use Rattle.snapshot.specs.Taken.{IsCodeOf, time_code, AgreesWith, HasTaken, IsOfVersion, IsVersionAmong, Taken, Version, firsts, is_outdated, without, is_older}
+use Rattle.snapshot.specs.inside.KeyedRows.{KeyedRow, same_version, AreOfItsKind, conflicts, is_repeated, Covers, choices, is_superseded}
+use Rattle.snapshot.specs.inside.VersionTable.{IsCodeOf, time_code, AgreesWith, HasTaken, IsOfVersion, IsVersionAmong, VersionTable, Version, firsts, is_outdated, without, is_older}
 use Rattle.snapshot.proofs.NumberingLemmas.{place_of-get_or, contains_map}
-use Rattle.snapshot.specs.Spans.{Extends}
-use Rattle.snapshot.specs.VersionsInside.{IsLineOf, version_in}
+use Rattle.snapshot.specs.inside.Spans.{Extends}
+use Rattle.snapshot.specs.inside.VersionsInside.{IsLineOf, version_in}
 use Rattle.snapshot.specs.declared.versions.VersionRow.{VersionRow}
 use Rattle.snapshot.proofs.SpanLemmas.{rows-same, span-extends, text-extends}
 use Rattle.std.specs.List.{list_any}
@@ -41,26 +41,26 @@ time_code-small x0 is = grind (arith, lit≤)
 
 -- two times are one where their codes are
 -- the place of a row's key is read from its code
-pub key_place-code : (repeated : List ℕ) (row : Noted) (code : ℕ) (is : IsCodeOf repeated row code) → code / 2 ^ 32 ≡ is.place
+pub key_place-code : (repeated : List ℕ) (row : KeyedRow) (code : ℕ) (is : IsCodeOf repeated row code) → code / 2 ^ 32 ≡ is.place
 key_place-code repeated row code is = omega (arith, is.is, time_code-small row.time is.eight_digits)
 
 -- the key of a row that has a code is repeated
-pub has-code : (repeated : List ℕ) (row : Noted) (code : ℕ) → IsCodeOf repeated row code → has repeated row.key ≡ true
+pub has-code : (repeated : List ℕ) (row : KeyedRow) (code : ℕ) → IsCodeOf repeated row code → has repeated row.key ≡ true
 has-code repeated row code is = grind (arith, common_steps, nat_tests, eq-eqb, get_or, list_any_at)
 
 -- two keys are one where their places are
-same_key-place : (repeated : List ℕ) → IsStrictlyIncreasing repeated → (row other : Noted) (code code' : ℕ)
+same_key-place : (repeated : List ℕ) → IsStrictlyIncreasing repeated → (row other : KeyedRow) (code code' : ℕ)
     → (is : IsCodeOf repeated row code) (is' : IsCodeOf repeated other code') → (row.key == other.key) ≡ (is.place == is'.place)
 same_key-place repeated rising row other code code' is is' = grind (arith, nat_tests, (place_of-get_or repeated rising is.place is.within), (place_of-get_or repeated rising is'.place is'.within), is.key, is'.key)
 
 -- two rows are of one component and time where their codes are one
-pub same_version-code : (repeated : List ℕ) → IsStrictlyIncreasing repeated → (row other : Noted) (code code' : ℕ)
+pub same_version-code : (repeated : List ℕ) → IsStrictlyIncreasing repeated → (row other : KeyedRow) (code code' : ℕ)
     → IsCodeOf repeated row code → IsCodeOf repeated other code' → same_version row other ≡ (code == code')
 same_version-code repeated rising row other code code' is is' = rw (same_key-place repeated rising row other code code' is is', is.is, is'.is)
     (grind (arith, nat_tests, is.eight_digits, is'.eight_digits, time_code-small row.time is.eight_digits, time_code-small other.time is'.eight_digits))
 
 -- of one component and with a greater code is a row of the same component with a later time
-pub is_later-version : (repeated : List ℕ) → IsStrictlyIncreasing repeated → (row other : Noted) (code code' : ℕ) → IsCodeOf repeated row code → IsCodeOf repeated other code'
+pub is_later-version : (repeated : List ℕ) → IsStrictlyIncreasing repeated → (row other : KeyedRow) (code code' : ℕ) → IsCodeOf repeated row code → IsCodeOf repeated other code'
     → ((code' / 2 ^ 32 == code / 2 ^ 32) && nat_lt code code') ≡ ((other.key == row.key) && is_later other.time row.time)
 is_later-version repeated rising row other code code' is is' =
     rw (key_place-code repeated row code is, key_place-code repeated other code' is', same_key-place repeated rising other row code' code is' is, is.is, is'.is) (grind (arith, nat_tests, is.eight_digits, is'.eight_digits))
@@ -84,34 +84,34 @@ pub some_of : {X : Type 0} (p : X → Bool) (xs : List X) → list_any p xs ≡ 
 some_of p xs some = let place = Any-from_list_any p xs some in (place.1, (place.0, place.2, place.3), place.4)
 
 -- of one row more, which is the first of its version
-firsts-push : (repeated : List ℕ) (earlier later : List Noted) (row : Noted)
+firsts-push : (repeated : List ℕ) (earlier later : List KeyedRow) (row : KeyedRow)
     → firsts repeated earlier (later ++ row ∷ []) ≡ firsts repeated earlier later ++ not (has repeated row.key && is_repeated (earlier ++ later) row) ∷ []
-firsts-push repeated earlier [] row = ap (λ (rows : List Noted). not (has repeated row.key && is_repeated rows row) ∷ []) (sym (append-nil earlier))
+firsts-push repeated earlier [] row = ap (λ (rows : List KeyedRow). not (has repeated row.key && is_repeated rows row) ∷ []) (sym (append-nil earlier))
 firsts-push repeated earlier (first ∷ later) row = grind (arith, common_steps, nat_tests, append_assoc, (firsts-push repeated (earlier ++ first ∷ []) later row))
 
-length-firsts : (repeated : List ℕ) (earlier later : List Noted) → length (firsts repeated earlier later) ≡ length later
+length-firsts : (repeated : List ℕ) (earlier later : List KeyedRow) → length (firsts repeated earlier later) ≡ length later
 length-firsts repeated earlier [] = refl
 length-firsts repeated earlier (row ∷ later) = omega (arith, length-firsts repeated (earlier ++ row ∷ []) later)
 
 -- versions stay those of their rows
-versions-push : (repeated : List ℕ) (rows : List Noted) (row : Noted) (versions : List Version)
+versions-push : (repeated : List ℕ) (rows : List KeyedRow) (row : KeyedRow) (versions : List Version)
     → All (IsVersionAmong repeated rows) versions → All (IsVersionAmong repeated (rows ++ row ∷ [])) versions
 versions-push repeated rows row versions = search (rules, All-weaker, append_assoc)
 
 -- a row is taken that is no first row of a version
-taken_pushed : (taken : Taken) (chosen : List Bool) (rows : List Noted) (row : Noted) (mark : Bool) → chosen ≡ taken.chosen ++ mark ∷ []
+taken_pushed : (taken : VersionTable) (chosen : List Bool) (rows : List KeyedRow) (row : KeyedRow) (mark : Bool) → chosen ≡ taken.chosen ++ mark ∷ []
     → mark ≡ not (has taken.repeated row.key && is_repeated rows row) → IsOfVersion taken.repeated taken.versions row → HasTaken taken rows
     → HasTaken (record taken { chosen = chosen }) (rows ++ row ∷ [])
 taken_pushed taken chosen rows row mark are is of before = grind (arith, common_steps, nat_tests, versions-push, All-push, firsts-push)
 
 -- a row whose key is not repeated is taken
-pub taken_skip : (taken : Taken) (chosen : List Bool) (rows : List Noted) (row : Noted) → chosen ≡ taken.chosen ++ true ∷ [] → has taken.repeated row.key ≡ false → HasTaken taken rows
+pub taken_skip : (taken : VersionTable) (chosen : List Bool) (rows : List KeyedRow) (row : KeyedRow) → chosen ≡ taken.chosen ++ true ∷ [] → has taken.repeated row.key ≡ false → HasTaken taken rows
     → HasTaken (record taken { chosen = chosen }) (rows ++ row ∷ [])
 taken_skip taken chosen rows row are alone before = taken_pushed taken chosen rows row true are (grind (arith, nat_tests, alone)) (λ repeated. absurd (cc (alone, repeated))) before
 
-module _ (repeated : List ℕ) (rising : IsStrictlyIncreasing repeated) (rows : List Noted) where
+module _ (repeated : List ℕ) (rising : IsStrictlyIncreasing repeated) (rows : List KeyedRow) where
   -- a row of a version's code is of one component and time with its first row
-  pub first_is_same : (version : Version) (is : IsVersionAmong repeated rows version) (row : Noted) → IsCodeOf repeated row version.code
+  pub first_is_same : (version : Version) (is : IsVersionAmong repeated rows version) (row : KeyedRow) → IsCodeOf repeated row version.code
       → (same_version is.row row ≡ true) × (same_version row is.row ≡ true)
   first_is_same version is row code = grind (arith, common_steps, nat_tests, eq-eqb, same_version-code)
 
@@ -124,12 +124,12 @@ module _ (repeated : List ℕ) (rising : IsStrictlyIncreasing repeated) (rows : 
   Contains-first version is = rw is.stands (Contains-cut is.before is.row is.behind)
 
   -- a row of one of the versions is of one component and time with an earlier one
-  pub repeats : (version : Version) → IsVersionAmong repeated rows version → (row : Noted) → IsCodeOf repeated row version.code → is_repeated rows row ≡ true
+  pub repeats : (version : Version) → IsVersionAmong repeated rows version → (row : KeyedRow) → IsCodeOf repeated row version.code → is_repeated rows row ≡ true
   repeats version is row code = grind (arith, common_steps, nat_tests, Contains-first, any_of, first_is_same)
 
-module _ (taken : Taken) (rising : IsStrictlyIncreasing taken.repeated) (rows : List Noted) (before : HasTaken taken rows) (row : Noted) where
+module _ (taken : VersionTable) (rising : IsStrictlyIncreasing taken.repeated) (rows : List KeyedRow) (before : HasTaken taken rows) (row : KeyedRow) where
   -- the version of an earlier row of its component and time
-  version_before : (other : Noted) → Contains rows other → (code : ℕ) → IsCodeOf taken.repeated row code → same_version other row ≡ true
+  version_before : (other : KeyedRow) → Contains rows other → (code : ℕ) → IsCodeOf taken.repeated row code → same_version other row ≡ true
       → (version : Version) × Contains taken.versions version × AgreesWith taken.repeated other version × (version.code ≡ code)
   version_before other there code is same =
       let key : other.key ≡ row.key = eqb-true other.key row.key (and_parts (other.key == row.key) _ same).0 in
@@ -256,16 +256,16 @@ without_from leaves place (mark ∷ new) (was ∷ old) long are = λ i. are 0 pl
 -- Which rows are chosen: the first rows of versions without those of versions that are not the latest of their component.
 
 -- how often a key stands in the rows
-abbrev pub count_of : ℕ → List Noted → ℕ
-count_of key rows = times key (map (λ (row : Noted). row.key) rows)
+abbrev pub count_of : ℕ → List KeyedRow → ℕ
+count_of key rows = times key (map (λ (row : KeyedRow). row.key) rows)
 
 -- it stands at least once where a row with it passes a test
-with_key : (rows : List Noted) (row : Noted) (test : Noted → Bool) → list_any (λ other. (other.key == row.key) && test other) rows ≡ true → 1 ≤ count_of row.key rows
+with_key : (rows : List KeyedRow) (row : KeyedRow) (test : KeyedRow → Bool) → list_any (λ other. (other.key == row.key) && test other) rows ≡ true → 1 ≤ count_of row.key rows
 with_key [] row test there = absurd (cc)
 with_key (first ∷ rows) row test there = grind (arith, common_steps, nat_tests, sum_by-cons, (with_key rows row test))
 
 -- a row with a key that no other row has is repeated by none and superseded by none
-module _ (earlier : List Noted) (row : Noted) (later : List Noted) (alone : 2 ≤ count_of row.key (earlier ++ row ∷ later) → ⊥) where
+module _ (earlier : List KeyedRow) (row : KeyedRow) (later : List KeyedRow) (alone : 2 ≤ count_of row.key (earlier ++ row ∷ later) → ⊥) where
   count : count_of row.key (earlier ++ row ∷ later) ≡ count_of row.key earlier + (1 + count_of row.key later)
   count = grind (arith, common_steps, nat_tests, map-append, times-append, sum_by-cons)
 
@@ -275,7 +275,7 @@ module _ (earlier : List Noted) (row : Noted) (later : List Noted) (alone : 2 �
   alone_superseded : is_superseded (earlier ++ row ∷ later) row ≡ false
   alone_superseded = grind (arith, nat_tests, count, alone, list_any-append, is_later-itself row.time, (with_key earlier row (λ other. is_later other.time row.time)), (with_key later row (λ other. is_later other.time row.time)))
 
-module _ (taken : Taken) (rising : IsStrictlyIncreasing taken.repeated) (rows : List Noted) (before : HasTaken taken rows) (covers : Covers taken.repeated (map (λ (row : Noted). row.key) rows)) where
+module _ (taken : VersionTable) (rising : IsStrictlyIncreasing taken.repeated) (rows : List KeyedRow) (before : HasTaken taken rows) (covers : Covers taken.repeated (map (λ (row : KeyedRow). row.key) rows)) where
   among : (version : Version) → Contains taken.versions version → IsVersionAmong taken.repeated rows version
   among version there = All-contains (IsVersionAmong taken.repeated rows) taken.versions version before.versions there
 
@@ -283,13 +283,13 @@ module _ (taken : Taken) (rising : IsStrictlyIncreasing taken.repeated) (rows : 
   outdated_superseded : (version : Version) (is : IsVersionAmong taken.repeated rows version) → is_outdated taken.versions version.code ≡ true → is_superseded rows is.row ≡ true
   outdated_superseded version is outdated = grind (arith, common_steps, nat_tests, some_of, among, any_of, Contains-first, is_later-version)
 
-  superseded_outdated : (row : Noted) (code : ℕ) → IsCodeOf taken.repeated row code → is_superseded rows row ≡ true → is_outdated taken.versions code ≡ true
+  superseded_outdated : (row : KeyedRow) (code : ℕ) → IsCodeOf taken.repeated row code → is_superseded rows row ≡ true → is_outdated taken.versions code ≡ true
   superseded_outdated row code is superseded =
       let later = some_of _ rows superseded in
       let of = All-contains (IsOfVersion taken.repeated taken.versions) rows later.0 before.agree later.1 (grind (arith, nat_tests, later.2, has-code taken.repeated row code is)) in
       any_of _ taken.versions of.0 of.1 (is_later-version taken.repeated rising row later.0 code of.0.code is of.2.code ∙ later.2)
 
-  module _ (earlier : List Noted) (row : Noted) (later : List Noted) (stands : rows ≡ earlier ++ row ∷ later) where
+  module _ (earlier : List KeyedRow) (row : KeyedRow) (later : List KeyedRow) (stands : rows ≡ earlier ++ row ∷ later) where
     -- at the place of a row stands the first row of a version that is not the latest: then it is superseded
     older_superseded : is_older taken.versions (length earlier) ≡ true → (has taken.repeated row.key ≡ true) × (is_superseded rows row ≡ true)
     older_superseded older = grind (arith, common_steps, nat_tests, some_of, among, and_parts, eqb-true, one_at, has-code, outdated_superseded)
@@ -307,7 +307,7 @@ module _ (taken : Taken) (rising : IsStrictlyIncreasing taken.repeated) (rows : 
     mark : (not (has taken.repeated row.key && is_repeated earlier row) && not (is_older taken.versions (length earlier))) ≡ not (is_superseded rows row || is_repeated earlier row)
     mark = grind (arith, common_steps, nat_tests, cases_Bool, older_superseded, superseded_older, not_contained, alone_superseded, alone_repeated)
 
-  marks : (earlier later : List Noted) → rows ≡ earlier ++ later → without (is_older taken.versions) (length earlier) (firsts taken.repeated earlier later) ≡ choices rows earlier later
+  marks : (earlier later : List KeyedRow) → rows ≡ earlier ++ later → without (is_older taken.versions) (length earlier) (firsts taken.repeated earlier later) ≡ choices rows earlier later
   marks earlier [] stands = refl
   marks earlier (row ∷ later) stands = rw (mark earlier row later stands, ← length_push earlier row, marks (earlier ++ row ∷ []) later (stands ∙ sym (append_assoc earlier (row ∷ []) later))) refl
 

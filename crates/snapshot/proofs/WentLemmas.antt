@@ -8,30 +8,30 @@ use Rattle.rf2_rows.specs.declared.kind.FileKind.{FileKind}
 use Rattle.rf2_rows.specs.declared.kind.FileKind.TheVariants.{Concept, Concrete, Description, Member, Relationship}
 use Rattle.snapshot.specs.Faults.{conflict_behind, count_of_kind, crowd_behind, fault_at, fault_here, first_fault, first_of}
 use Rattle.snapshot.specs.Files.{Place, RowAt, row_at, rows_of}
-use Rattle.snapshot.specs.Kept.{IsRead, IsShortAt, IsStopped, Kept, kept_after, kept_behind, nothing_kept, plain_fault}
+use Rattle.snapshot.specs.inside.RowStore.{IsRead, IsShortAt, IsStopped, RowStore, kept_after, kept_behind, nothing_kept, plain_fault}
 use Rattle.snapshot.specs.Limits.{row_limit, row_total}
-use Rattle.snapshot.specs.RowsKept.{kept_in}
-use Rattle.snapshot.specs.Taking.{StopsAt, TakesAll, next, taken}
+use Rattle.snapshot.specs.inside.RowsInside.{kept_in}
+use Rattle.snapshot.specs.inside.Traversal.{StopsAt, TakesAll, next, taken}
 use Rattle.snapshot.specs.declared.fault.LoadFault.{LoadFault}
 use Rattle.snapshot.specs.declared.limits.Limits.{Limits}
 use Rattle.snapshot.specs.declared.rows.Rows.{Rows}
-use Rattle.snapshot.specs.Seen.{AreShort, IsSeen, first_conflict, kept_rows, keys_behind, uuids_after}
+use Rattle.snapshot.specs.inside.FirstPass.{AreShort, IsSeen, first_conflict, kept_rows, keys_behind, uuids_after}
 use Rattle.snapshot.proofs.KindLemmas.{count_of_kind-push, kind_same, length-kinds}
 use Rattle.snapshot.proofs.PassLemmas.{IsPlain, first_fault-plain, plain_at, plain_end, plain_next}
 
 -- ---- what is kept behind rows
-kept_rows-option : (kept : Kept) (row : Option RowAt) (rows : List RowAt) → kept_rows (kept_after kept row) rows ≡ kept_rows kept (cons_option row rows)
+kept_rows-option : (kept : RowStore) (row : Option RowAt) (rows : List RowAt) → kept_rows (kept_after kept row) rows ≡ kept_rows kept (cons_option row rows)
 kept_rows-option kept x1 rows = grind arith
 
-kept_rows-append : (kept : Kept) (rows others : List RowAt) → kept_rows kept (rows ++ others) ≡ kept_rows (kept_rows kept rows) others
+kept_rows-append : (kept : RowStore) (rows others : List RowAt) → kept_rows kept (rows ++ others) ≡ kept_rows (kept_rows kept rows) others
 kept_rows-append kept [] others = refl
 kept_rows-append kept (row ∷ rows) others = kept_rows-append (kept_behind kept row) rows others
 
-pub kept_rows-keys : (kept : Kept) (rows : List RowAt) → (kept_rows kept rows).keyed.keys ≡ kept.keyed.keys ++ keys_behind kept.keyed.uuids rows
+pub kept_rows-keys : (kept : RowStore) (rows : List RowAt) → (kept_rows kept rows).keyed.keys ≡ kept.keyed.keys ++ keys_behind kept.keyed.uuids rows
 kept_rows-keys kept [] = sym (append-nil kept.keyed.keys)
 kept_rows-keys kept (row ∷ rows) = grind (arith, common_steps, nat_tests, append_assoc, (kept_rows-keys (kept_behind kept row) rows))
 
-pub kept_rows-uuids : (kept : Kept) (rows : List RowAt) → (kept_rows kept rows).keyed.uuids ≡ uuids_after kept.keyed.uuids rows
+pub kept_rows-uuids : (kept : RowStore) (rows : List RowAt) → (kept_rows kept rows).keyed.uuids ≡ uuids_after kept.keyed.uuids rows
 kept_rows-uuids kept [] = refl
 kept_rows-uuids kept (row ∷ rows) = kept_rows-uuids (kept_behind kept row) rows
 
@@ -43,7 +43,7 @@ pub record HasRoom (left limits : Limits) (earlier : List RowAt) : Type 0 where
 pub room-start : (limits : Limits) → HasRoom limits limits []
 room-start limits = record { bytes = refl; rows = λ kind. omega arith }
 
-room-option : (kept : Kept) (limits : Limits) (earlier : List RowAt) (row : Option RowAt) → HasRoom kept.left limits earlier → HasRoom (kept_after kept row).left limits (earlier ++ option_to_list row)
+room-option : (kept : RowStore) (limits : Limits) (earlier : List RowAt) (row : Option RowAt) → HasRoom kept.left limits earlier → HasRoom (kept_after kept row).left limits (earlier ++ option_to_list row)
 room-option kept limits earlier x3 room = grind (arith, common_steps, nat_tests, append-nil)
 
 -- the fault at a place by the rows that may still come is that by the rows before it
@@ -82,7 +82,7 @@ short-append : (rows others : List RowAt) → AreShort rows → AreShort others 
 short-append [] others one more = more
 short-append (row ∷ rows) others one more = (one.0, short-append rows others one.1 more)
 
-pub record Went (limits : Limits) (earlier : List RowAt) (old new : Kept) (places : List Place) : Type 0 where
+pub record Went (limits : Limits) (earlier : List RowAt) (old new : RowStore) (places : List Place) : Type 0 where
   pub plain : IsPlain limits earlier places
   pub kept : new ≡ kept_rows old (rows_of places)
   pub room : HasRoom new.left limits (earlier ++ rows_of places)
@@ -101,7 +101,7 @@ went limits earlier old new places (next from to end place others step rest) roo
     let grown : HasRoom (kept_in to).left limits (earlier ++ option_to_list (row_at place)) = grind (arith, common_steps, nat_tests, option_to_list, row_at, room-option, kept_in) in
     let follows = went limits (earlier ++ option_to_list (row_at place)) to end others rest grown in record {
       plain = plain_next earlier place others (sym (plain_fault-is (kept_in from).left limits earlier place room) ∙ step.clean) follows.plain;
-      kept = follows.kept ∙ ap (λ (kept : Kept). kept_rows kept (rows_of others)) step.kept ∙ kept_rows-option (kept_in from) (row_at place) (rows_of others);
+      kept = follows.kept ∙ ap (λ (kept : RowStore). kept_rows kept (rows_of others)) step.kept ∙ kept_rows-option (kept_in from) (row_at place) (rows_of others);
       room = subst (HasRoom (kept_in end).left limits) (rows-option earlier (row_at place) (rows_of others)) follows.room;
       short = short-option (row_at place) (rows_of others) step.short follows.short;
     }
@@ -121,7 +121,7 @@ first_conflict-push earlier (first ∷ rows) row = grind (arith, append_assoc, (
 
 pub seen-whole : (limits : Limits) (old new : Rows) (places : List Place) → kept_in old ≡ nothing_kept limits → TakesAll reads old places new → IsSeen limits places (kept_in new) None
 seen-whole limits old new places start all_taken =
-    let all = went limits [] old new places all_taken (subst (λ (kept : Kept). HasRoom kept.left limits []) (sym start) (room-start limits)) in
+    let all = went limits [] old new places all_taken (subst (λ (kept : RowStore). HasRoom kept.left limits []) (sym start) (room-start limits)) in
     let few = plain-total limits places all.plain in record {
       seen = rows_of places;
       kept_is = cc (all.kept, start);
@@ -135,7 +135,7 @@ seen-whole limits old new places start all_taken =
     }
 
 -- what is seen up to a fault
-seen-until : (limits : Limits) (places : List Place) (kept : Kept) (fault : LoadFault) (seen beyond : List RowAt) → kept ≡ kept_rows (nothing_kept limits) seen → AreShort seen
+seen-until : (limits : Limits) (places : List Place) (kept : RowStore) (fault : LoadFault) (seen beyond : List RowAt) → kept ≡ kept_rows (nothing_kept limits) seen → AreShort seen
     → first_fault limits [] places ≡ first_of (first_conflict [] seen) (Some fault) → rows_of places ≡ seen ++ beyond → length seen ≤ row_total limits + 1 → IsSeen limits places kept (Some fault)
 seen-until limits places kept fault seen beyond kept_is short first front few =
     record { seen = seen; kept_is = kept_is; short = short; first = first; beyond = beyond; front = front; whole = λ none. absurd (cc (none)); few = few; room = λ none. absurd (cc (none)) }
@@ -146,7 +146,7 @@ pub seen-stopped : (limits : Limits) (old new : Rows) (places : List Place) (fau
 seen-stopped limits old new places fault start stop = by (fault_here limits stop.place) refl (row_at stop.place) refl
   where
     gone : Went limits [] (kept_in old) (kept_in stop.middle) stop.before
-    gone = went limits [] old stop.middle stop.before stop.taken_before (subst (λ (kept : Kept). HasRoom kept.left limits []) (sym start) (room-start limits))
+    gone = went limits [] old stop.middle stop.before stop.taken_before (subst (λ (kept : RowStore). HasRoom kept.left limits []) (sym start) (room-start limits))
 
     kept_before : kept_in stop.middle ≡ kept_rows (nothing_kept limits) (rows_of stop.before)
     kept_before = cc (gone.kept, start)

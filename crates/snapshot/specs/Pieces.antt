@@ -10,7 +10,8 @@ use Rattle.release_files.specs.Source.{FileText, IsRaised, bytes_of}
 use Rattle.release_files.specs.declared.source.SourceFault.{SourceFault}
 use Rattle.release_files.specs.declared.source.SourceFault.TheVariants as source
 use Rattle.snapshot.specs.Files.{Place}
-use Rattle.snapshot.specs.Taking.{FailsBelow, OfFiles, StopsAt, TakesAll, is_device}
+use Rattle.snapshot.specs.inside.Traversal.{OfFiles, StopsAt, TakesAll}
+use Rattle.snapshot.specs.DeviceFaults.{FailsBelow, is_device}
 use Rattle.snapshot.specs.declared.fault.LoadFault.{LoadFault}
 use Rattle.snapshot.specs.declared.fault.LoadFault.TheVariants.{Device, Memory}
 

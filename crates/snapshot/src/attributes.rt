@@ -2,10 +2,10 @@
 ghost use Rattle.std.specs.Prelude.{◌≡◌, ◌<◌, ◌++◌, ◌∷◌, [], IfOk, OnOk, length, slice_index_or};
 ghost use Rattle.rf2_rows.specs.Release.{Attribute};
 ghost use Rattle.rf2_rows.specs.Rows.{value_lent};
-ghost use Rattle.snapshot.specs.AttributesInside.{IsWithinValues, attribute_read, value_in};
-ghost use Rattle.snapshot.specs.Listed.{in_list, items_chosen};
-ghost use Rattle.snapshot.specs.ConcreteValues.{concrete_lent, concrete_value};
-ghost use Rattle.snapshot.specs.Spans.{Extends};
+ghost use Rattle.snapshot.specs.inside.AttributesInside.{IsWithinValues, attribute_read, value_in};
+ghost use Rattle.snapshot.specs.inside.ReleaseLists.{in_list, items_chosen};
+ghost use Rattle.snapshot.specs.inside.ConcreteValues.{concrete_lent, concrete_value};
+ghost use Rattle.snapshot.specs.inside.Spans.{Extends};
 
 use crate::concrete_values::{ConcreteValues, LentConcrete};
 use crate::row_lists::{Listing, chosen_items};
@@ -53,7 +53,7 @@ impl Model for Attributes {
 
     ghost Value = { List Attribute };
 
-    ghost use Rattle.snapshot.specs.AttributesInside.{AreAttributesPlaced, attributes_in};
+    ghost use Rattle.snapshot.specs.inside.AttributesInside.{AreAttributesPlaced, attributes_in};
 
     ghost view = { attributes_in };
 

@@ -1,13 +1,14 @@
 //! Reading the rows of a release, and choosing among those of components that have several.
 ghost use Rattle.std.specs.Prelude.{◌≡◌, ◌≢◌, ◌≤◌, ◌<◌, ◌+◌, ◌-◌, ◌^◌, IfErr, IfOk, IfSome, OnOk, false, true, length, min};
 ghost use Rattle.std.specs.List.Sorted.{IsStrictlyIncreasing};
-ghost use Rattle.snapshot.specs.Kept.{AreFew, IsReadFrom};
+ghost use Rattle.snapshot.specs.inside.RowStore.{AreFew, IsReadFrom};
 ghost use Rattle.snapshot.specs.Limits.{row_total};
-ghost use Rattle.snapshot.specs.ListsInside.{listed_in};
-ghost use Rattle.snapshot.specs.Noted.{Covers};
-ghost use Rattle.snapshot.specs.RowsKept.{kept_in};
-ghost use Rattle.snapshot.specs.Seen.{AreChoicesAmong, AreChosenOfKept, HaveNoConflict, IsFirstBehind, IsFirstConflict, IsFirstFault, IsFirstOfKept};
-ghost use Rattle.snapshot.specs.Taking.{FailsAtRead, FailsBelow, FailsOnlyBelow, FaultOf, FileIs, OfFiles, RaisesOnlyAtDevice, is_device as is_device_of};
+ghost use Rattle.snapshot.specs.inside.ListsInside.{listed_in};
+ghost use Rattle.snapshot.specs.inside.KeyedRows.{Covers};
+ghost use Rattle.snapshot.specs.inside.RowsInside.{kept_in};
+ghost use Rattle.snapshot.specs.inside.FirstPass.{AreChoicesAmong, AreChosenOfKept, HaveNoConflict, IsFirstBehind, IsFirstConflict, IsFirstFault, IsFirstOfKept};
+ghost use Rattle.snapshot.specs.inside.Traversal.{FaultOf, OfFiles};
+ghost use Rattle.snapshot.specs.DeviceFaults.{FailsAtRead, FailsBelow, FailsOnlyBelow, FileIs, RaisesOnlyAtDevice, is_device as is_device_of};
 
 use crate::comparing::Comparing;
 use crate::fault::LoadFault;

@@ -2,9 +2,9 @@
 ghost use Rattle.std.specs.Prelude.{◌≡◌, ◌≢◌, ◌<◌, ◌^◌, IfErr, OnOk, false, length};
 ghost use Rattle.release_files.specs.Lines.{line_text};
 ghost use Rattle.rf2_rows.specs.Rows.{IsRow, row_fault};
-ghost use Rattle.snapshot.specs.Compared.{IsCompared, IsDenied, IsRefused, IsTaken, compared_in};
+ghost use Rattle.snapshot.specs.inside.Comparison.{IsCompared, IsDenied, IsRefused, IsTaken, compared_in};
 ghost use Rattle.snapshot.specs.Files.{later_line};
-ghost use Rattle.snapshot.specs.Taking.{FileIs, is_device};
+ghost use Rattle.snapshot.specs.DeviceFaults.{FileIs, is_device};
 
 use crate::fault::LoadFault;
 use crate::keys::RowKeys;
@@ -120,7 +120,7 @@ impl<'a> Comparing<'a> {
 }
 
 impl<'a> PlaceTaker for Comparing<'a> {
-    ghost use Rattle.snapshot.specs.Compared.{IsCompared, IsDenied, compared_in};
+    ghost use Rattle.snapshot.specs.inside.Comparison.{IsCompared, IsDenied, compared_in};
 
     ghost takes = { λ old place new. IsCompared (compared_in old) place (compared_in new) };
 

@@ -1,7 +1,7 @@
 //! The concepts in force, each found at its number by its identifier.
 ghost use Rattle.std.specs.Prelude.{ℕ, ◌≡◌, ◌≤◌, ◌<◌, ◌^◌, IfOk, length, slice_index};
 ghost use Rattle.std.specs.List.Sorted.{IsStrictlyIncreasing};
-ghost use Rattle.snapshot.specs.Buckets.{AreBucketStarts, IsBucketStart, bucket_count, bucket_of};
+ghost use Rattle.snapshot.specs.inside.Buckets.{AreBucketStarts, IsBucketStart, bucket_count, bucket_of};
 ghost use Rattle.hierarchy.specs.Members.{has};
 ghost use Rattle.snapshot.specs.Numbering.{concept_number};
 
@@ -33,7 +33,7 @@ impl Model for Concepts {
 
     ghost Value = { List ℕ };
 
-    ghost use Rattle.snapshot.specs.ConceptsInside.{AreInBuckets, ids_in};
+    ghost use Rattle.snapshot.specs.inside.ConceptsInside.{AreInBuckets, ids_in};
 
     ghost view = { ids_in };
 
@@ -95,7 +95,7 @@ impl Concepts {
 
 // The bucket of an identifier.
 #[inline]
-#[tactic(auto, unfolding(crate::specs::Buckets::bucket_of))]
+#[tactic(auto, unfolding(crate::specs::inside::Buckets::bucket_of))]
 fn bucket_of(id: u64) -> usize
     ensures is { result ≡ bucket_of id }
     ensures below { result < bucket_count }

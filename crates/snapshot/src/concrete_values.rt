@@ -1,8 +1,8 @@
 //! The values of attributes that are no concepts, with their texts in one buffer.
 ghost use Rattle.std.specs.Prelude.{◌≡◌, ◌≤◌, ◌<◌, ◌+◌, [], IfOk, length, slice_index_or};
-ghost use Rattle.snapshot.specs.ConcreteValues.{a_number, a_text, concrete_lent, no_text};
-ghost use Rattle.snapshot.specs.ConcreteInside.{IsPlaced, concrete_in};
-ghost use Rattle.snapshot.specs.Spans.{Extends};
+ghost use Rattle.snapshot.specs.inside.ConcreteValues.{a_number, a_text, concrete_lent, no_text};
+ghost use Rattle.snapshot.specs.inside.ConcreteInside.{IsPlaced, concrete_in};
+ghost use Rattle.snapshot.specs.inside.Spans.{Extends};
 
 use crate::spans::{Span, push_bytes};
 use rf2_rows::Decimal;
@@ -34,11 +34,11 @@ pub struct ConcreteValues {
 
 impl Model for ConcreteValues {
     ghost use Rattle.std.specs.Prelude.{List};
-    ghost use Rattle.snapshot.specs.ConcreteValues.{Concrete};
+    ghost use Rattle.snapshot.specs.inside.ConcreteValues.{Concrete};
 
     ghost Value = { List Concrete };
 
-    ghost use Rattle.snapshot.specs.ConcreteInside.{AreConcretePlaced, concrete_in_all};
+    ghost use Rattle.snapshot.specs.inside.ConcreteInside.{AreConcretePlaced, concrete_in_all};
 
     ghost view = { concrete_in_all };
 

@@ -4,7 +4,7 @@ ghost use Rattle.std.specs.List.{slice_get};
 ghost use Rattle.std.specs.List.Sorted.{IsStrictlyIncreasing};
 ghost use Rattle.snapshot.specs.AttributesBySource.{IsNumberBelow, attribute_numbered, attribute_of, attributes_by_source};
 ghost use Rattle.snapshot.specs.AttributesBySource.{by_identifiers, numbered_lent, value_by_identifier, with_source};
-ghost use Rattle.snapshot.specs.Kept.{AreValuesInForce, is_value_among};
+ghost use Rattle.snapshot.specs.ValuesInForce.{AreValuesInForce, is_value_among};
 ghost use Rattle.snapshot.specs.Line.{concept_line};
 ghost use Rattle.snapshot.specs.Name.{name_of, text_lent};
 ghost use Rattle.hierarchy.specs.Hierarchy.{IsWithin};
@@ -50,7 +50,7 @@ impl Model for Snapshot {
 
     ghost Value = { Contents };
 
-    ghost use Rattle.snapshot.specs.SnapshotInside.{contents_in, IsNumbered};
+    ghost use Rattle.snapshot.specs.inside.SnapshotInside.{contents_in, IsNumbered};
 
     ghost view = { contents_in };
 

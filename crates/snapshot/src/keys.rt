@@ -1,7 +1,7 @@
 //! A number for each row by which rows of one component are found.
 ghost use Rattle.std.specs.Prelude.{◌≡◌, ◌<◌, ◌^◌, IfOk, IfSome, IsNone, OnOk, length};
 ghost use Rattle.rf2_rows.specs.RowTexts.{text_in};
-ghost use Rattle.snapshot.specs.Keys.{IsMet, IsShort, key_in, keyed_behind, no_keys, uuids_behind};
+ghost use Rattle.snapshot.specs.inside.Keys.{IsMet, IsShort, key_in, keyed_behind, no_keys, uuids_behind};
 
 use first_met::FirstMet;
 use rf2_rows::Row;
@@ -29,7 +29,7 @@ pub struct RowKeys {
 }
 
 impl Model for RowKeys {
-    ghost use Rattle.snapshot.specs.Keys.{Keyed};
+    ghost use Rattle.snapshot.specs.inside.Keys.{Keyed};
 
     ghost Value = { Keyed };
 

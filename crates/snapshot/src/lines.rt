@@ -3,15 +3,15 @@
 ghost use Rattle.std.specs.Prelude.{◌≡◌, ◌≤◌, ◌<◌, ◌+◌, ◌^◌, ◌++◌, ℕ, [], List, Option, None, Some, All, IfOk, IfSome, OnOk, length, map, option_and_then, option_map, slice_index, slice_range, string_bytes};
 ghost use Rattle.std.specs.List.{slice_get};
 ghost use Rattle.rf2_rows.specs.Release.{Name};
-ghost use Rattle.snapshot.specs.FirstRows.{AreFirstPlaces};
-ghost use Rattle.snapshot.specs.Kept.{names_among};
-ghost use Rattle.snapshot.specs.KeptNames.{AreNoted};
+ghost use Rattle.snapshot.specs.inside.FirstRows.{AreFirstPlaces};
+ghost use Rattle.snapshot.specs.inside.RowStore.{names_among};
+ghost use Rattle.snapshot.specs.inside.NamesInLines.{AreNoted};
 ghost use Rattle.hierarchy.specs.KeyedLists.{list_of};
-ghost use Rattle.hierarchy.specs.KeyedListsInside.{AreStarts};
+ghost use Rattle.hierarchy.specs.inside.KeyedListsInside.{AreStarts};
 ghost use Rattle.snapshot.specs.Line.{concept_line};
-ghost use Rattle.snapshot.specs.LinesInside.{lines_between};
+ghost use Rattle.snapshot.specs.inside.LinesInside.{lines_between};
 ghost use Rattle.snapshot.specs.Name.{name_among, text_lent};
-ghost use Rattle.snapshot.specs.Spans.{StandsAt};
+ghost use Rattle.snapshot.specs.inside.Spans.{StandsAt};
 
 use crate::concepts::Concepts;
 use crate::kept_names::{KeptName, keep_names};
@@ -39,11 +39,11 @@ pub struct ConceptLines {
 }
 
 impl Model for ConceptLines {
-    ghost use Rattle.snapshot.specs.Lined.{Lined};
+    ghost use Rattle.snapshot.specs.inside.Lined.{Lined};
 
     ghost Value = { Lined };
 
-    ghost use Rattle.snapshot.specs.LinesInside.{AreStarted, lined_in};
+    ghost use Rattle.snapshot.specs.inside.LinesInside.{AreStarted, lined_in};
 
     ghost view = { lined_in };
 

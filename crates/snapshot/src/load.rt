@@ -8,19 +8,19 @@ ghost use Rattle.snapshot.specs.Contents.{IsFaultOf, first_cyclic, load_of, load
 ghost use Rattle.release_files.specs.Source.{file_text};
 ghost use Rattle.snapshot.specs.Files.{has_kind as has_kind_of, is_concept_file as is_concept_file_of, is_concept_kind, name_concepts};
 ghost use Rattle.snapshot.specs.Pieces.{AreInOrder, FailsAtFiles, IsUnlisted, ListsNames, has_kind_at, listed, listing_fault};
-ghost use Rattle.snapshot.specs.Taking.{FailsAtRead, FailsOnlyBelow, FileIs, RaisesOnlyAtDevice, is_device};
+ghost use Rattle.snapshot.specs.DeviceFaults.{FailsAtRead, FailsOnlyBelow, FileIs, RaisesOnlyAtDevice, is_device};
 ghost use Rattle.rf2_rows.specs.Files.{file_kind_of};
 ghost use Rattle.snapshot.specs.InForce.{rising as rising_of, rows_among};
-ghost use Rattle.snapshot.specs.Kept.{AreFew, attributes_among, names_among, IsCycle, finished};
+ghost use Rattle.snapshot.specs.inside.RowStore.{AreFew, attributes_among, names_among, IsCycle, finished};
 ghost use Rattle.snapshot.specs.Limits.{row_total};
-ghost use Rattle.snapshot.specs.ListsInside.{listed_in};
+ghost use Rattle.snapshot.specs.inside.ListsInside.{listed_in};
 ghost use Rattle.snapshot.specs.Line.{concept_line};
 ghost use Rattle.snapshot.specs.Name.{name_among};
 ghost use Rattle.hierarchy.specs.Hierarchy.{IsWithin, Reaches};
 ghost use Rattle.snapshot.specs.Numbering.{numbered_row};
 ghost use Rattle.hierarchy.specs.ParentsFirst.{IsParentsFirst};
-ghost use Rattle.snapshot.specs.LeastCycle.{IsLeastCycle};
-ghost use Rattle.snapshot.specs.Sorted.{IsSortedBySource, in_file_order};
+ghost use Rattle.snapshot.specs.inside.LeastCycle.{IsLeastCycle};
+ghost use Rattle.snapshot.specs.inside.Sorted.{IsSortedBySource, in_file_order};
 
 use crate::attributes::Attributes;
 use crate::choosing::{ReadRows, TOO_MANY_ROWS, read_rows};

@@ -1,12 +1,12 @@
 //! Name rows in the order in which they were read, with their texts in one buffer.
 ghost use Rattle.std.specs.Prelude.{◌≡◌, ◌<◌, ◌^◌, ◌++◌, ◌∷◌, [], All, IfOk, IfSome, OnOk, length, map, slice_index_or};
 ghost use Rattle.rf2_rows.specs.Release.{Name};
-ghost use Rattle.snapshot.specs.FirstRows.{AreFirstPlaces, IsFirstOfTwo};
+ghost use Rattle.snapshot.specs.inside.FirstRows.{AreFirstPlaces, IsFirstOfTwo};
 ghost use Rattle.hierarchy.specs.Members.{has};
-ghost use Rattle.snapshot.specs.Kept.{names_among};
-ghost use Rattle.snapshot.specs.Listed.{in_list, items_chosen};
+ghost use Rattle.snapshot.specs.inside.RowStore.{names_among};
+ghost use Rattle.snapshot.specs.inside.ReleaseLists.{in_list, items_chosen};
 ghost use Rattle.snapshot.specs.Name.{comes_before as comes_before_of};
-ghost use Rattle.snapshot.specs.NamesInside.{IsPlaced, name_in, name_read};
+ghost use Rattle.snapshot.specs.inside.NamesInside.{IsPlaced, name_in, name_read};
 
 use crate::concepts::Concepts;
 use crate::row_lists::{Listing, chosen_items};
@@ -47,7 +47,7 @@ impl Model for Names {
 
     ghost Value = { List Name };
 
-    ghost use Rattle.snapshot.specs.NamesInside.{ArePlaced, names_in};
+    ghost use Rattle.snapshot.specs.inside.NamesInside.{ArePlaced, names_in};
 
     ghost view = { names_in };
 

@@ -3,10 +3,10 @@ ghost use Rattle.std.specs.Prelude.{◌≡◌, ◌≤◌, ◌<◌, ◌+◌, ◌^
 ghost use Rattle.rf2_rows.specs.Release.{Attribute, concept_value};
 ghost use Rattle.rf2_rows.specs.Rows.{value_lent};
 ghost use Rattle.snapshot.specs.AttributesBySource.{by_identifiers};
-ghost use Rattle.snapshot.specs.ConcreteValues.{Concrete};
-ghost use Rattle.snapshot.specs.Kept.{attributes_among};
-ghost use Rattle.snapshot.specs.NumberedInside.{AreNumbered, IsNumberOf, numbered_in};
-ghost use Rattle.snapshot.specs.Spans.{Extends};
+ghost use Rattle.snapshot.specs.inside.ConcreteValues.{Concrete};
+ghost use Rattle.snapshot.specs.inside.RowStore.{attributes_among};
+ghost use Rattle.snapshot.specs.inside.NumberedInside.{AreNumbered, IsNumberOf, numbered_in};
+ghost use Rattle.snapshot.specs.inside.Spans.{Extends};
 
 use crate::attributes::Attributes;
 use crate::concepts::Concepts;

@@ -7,7 +7,8 @@ ghost use Rattle.release_files.specs.PieceLines.{lines_to_come};
 ghost use Rattle.release_files.specs.Source.{FileText};
 ghost use Rattle.snapshot.specs.Files.{later_line, places_from, places_of_file, places_of_lines};
 ghost use Rattle.snapshot.specs.Pieces.{cut_file, has_kind_at, FailsAt, FailsAtFile, GoesOver, TakesAtMost, fault_of, listed, text_named};
-ghost use Rattle.snapshot.specs.Taking.{FailsAtRead, FailsOnlyBelow, FileIs, RaisesOnlyAtDevice, StopsAt, TakesAll, is_device};
+ghost use Rattle.snapshot.specs.inside.Traversal.{StopsAt, TakesAll};
+ghost use Rattle.snapshot.specs.DeviceFaults.{FailsAtRead, FailsOnlyBelow, FileIs, RaisesOnlyAtDevice, is_device};
 
 use crate::fault::LoadFault;
 use crate::places::{Met, PlaceSource, PlaceTaker};

@@ -3,7 +3,8 @@ ghost use Rattle.std.specs.Prelude.{◌≡◌, ◌≢◌, ◌<◌, false, IfErr,
 ghost use Rattle.release_files.specs.Lines.{lines_of};
 ghost use Rattle.release_files.specs.Source.{file_text};
 ghost use Rattle.snapshot.specs.Files.{later_line, places_from, places_of_file, places_of_lines};
-ghost use Rattle.snapshot.specs.Taking.{FileIs, StopsAt, TakesAll, is_device, place_of};
+ghost use Rattle.snapshot.specs.inside.Traversal.{StopsAt, TakesAll, place_of};
+ghost use Rattle.snapshot.specs.DeviceFaults.{FileIs, is_device};
 
 use crate::fault::LoadFault;
 use release_files::{Line, Lines, NamedBytes};
@@ -24,7 +25,8 @@ pub enum Met<'a> {
 pub trait PlaceTaker {
     ghost use Rattle.std.specs.Prelude.{◌≡◌, ◌≢◌, false, IfErr, OnOk};
     ghost use Rattle.snapshot.specs.Files.{Place};
-    ghost use Rattle.snapshot.specs.Taking.{FileIs, is_device, place_of};
+    ghost use Rattle.snapshot.specs.inside.Traversal.{place_of};
+    ghost use Rattle.snapshot.specs.DeviceFaults.{FileIs, is_device};
     ghost use Rattle.snapshot.specs.declared.fault.LoadFault.{LoadFault};
 
     /// A place was taken: what is held before and behind it.
@@ -47,7 +49,8 @@ pub trait PlaceSource {
     ghost use Rattle.std.specs.Prelude.{◌≡◌, ◌≢◌, ◌<◌, ◌≤◌, ◌-◌, ℕ, Bool, List, Option, IfErr, IfSome, OnOk};
     ghost use Rattle.release_files.specs.Source.{FileText};
     ghost use Rattle.snapshot.specs.Files.{Place};
-    ghost use Rattle.snapshot.specs.Taking.{FailsAtRead, FailsOnlyBelow, FaultOf, FileIs, RaisesOnlyAtDevice, StopsAt, TakesAll};
+    ghost use Rattle.snapshot.specs.inside.Traversal.{FaultOf, StopsAt, TakesAll};
+    ghost use Rattle.snapshot.specs.DeviceFaults.{FailsAtRead, FailsOnlyBelow, FileIs, RaisesOnlyAtDevice};
     ghost use Rattle.snapshot.specs.declared.fault.LoadFault.{LoadFault};
 
     /// The places in turn; `None` where nothing is claimed of them.

@@ -3,7 +3,7 @@ ghost use Rattle.std.specs.Prelude.{◌≡◌, ◌==◌, ◌≤◌, ◌+◌, ◌
 ghost use Rattle.std.specs.Bool.{OnTrue};
 ghost use Rattle.std.specs.List.Sorted.{IsStrictlyIncreasing};
 ghost use Rattle.hierarchy.specs.Members.{has};
-ghost use Rattle.snapshot.specs.Repeated.{equal_neighbours};
+ghost use Rattle.snapshot.specs.inside.Repeated.{equal_neighbours};
 
 use crate::keys::RELATIONSHIPS;
 use crate::rising_keys::RisingKeys;

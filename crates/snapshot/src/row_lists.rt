@@ -3,8 +3,8 @@ ghost use Rattle.std.specs.Prelude.{◌≡◌, ◌&&◌, ◌==◌, [], IfOk, OnO
 ghost use Rattle.rf2_rows.specs.RowTexts.{of_concept, of_concrete, of_description, of_member, of_relationship, text_in};
 ghost use Rattle.rf2_rows.specs.Rows.{concrete_text, description_text};
 ghost use Rattle.snapshot.specs.InForce.{is_name as is_name_row};
-ghost use Rattle.snapshot.specs.Listed.{filled, in_list, items_chosen, listed_behind, listed_chosen, listed_of, listing_of, same_listing};
-ghost use Rattle.snapshot.specs.ListsInside.{listed_in};
+ghost use Rattle.snapshot.specs.inside.ReleaseLists.{filled, in_list, items_chosen, listed_behind, listed_chosen, listed_of, listing_of, same_listing};
+ghost use Rattle.snapshot.specs.inside.ListsInside.{listed_in};
 ghost use Rattle.snapshot.specs.Metadata.{inferred_relationship};
 
 use crate::attributes::Attributes;

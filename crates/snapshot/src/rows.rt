@@ -4,9 +4,9 @@ ghost use Rattle.release_files.specs.Lines.{line_text};
 ghost use Rattle.rf2_rows.specs.RowTexts.{text_in};
 ghost use Rattle.snapshot.specs.Faults.{fault_of_first};
 ghost use Rattle.snapshot.specs.Files.{later_line};
-ghost use Rattle.snapshot.specs.Kept.{IsAdded, IsCrowded, IsRead, IsStopped, nothing_kept};
-ghost use Rattle.snapshot.specs.RowsKept.{kept_in};
-ghost use Rattle.snapshot.specs.Taking.{FileIs, is_device};
+ghost use Rattle.snapshot.specs.inside.RowStore.{IsAdded, IsCrowded, IsRead, IsStopped, nothing_kept};
+ghost use Rattle.snapshot.specs.inside.RowsInside.{kept_in};
+ghost use Rattle.snapshot.specs.DeviceFaults.{FileIs, is_device};
 
 use crate::fault::LoadFault;
 use crate::keys::RowKeys;
@@ -93,8 +93,8 @@ impl Rows {
 }
 
 impl PlaceTaker for Rows {
-    ghost use Rattle.snapshot.specs.Kept.{IsRead, IsStopped};
-    ghost use Rattle.snapshot.specs.RowsKept.{kept_in};
+    ghost use Rattle.snapshot.specs.inside.RowStore.{IsRead, IsStopped};
+    ghost use Rattle.snapshot.specs.inside.RowsInside.{kept_in};
 
     ghost takes = { λ old place new. IsRead (kept_in old) place (kept_in new) };
 

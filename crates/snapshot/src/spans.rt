@@ -1,6 +1,6 @@
 //! Texts in a buffer, and the spans where they stand.
 ghost use Rattle.std.specs.Prelude.{◌≡◌, ◌≤◌, ◌+◌, ◌++◌, IfOk, OnErr, OnOk, string_bytes};
-ghost use Rattle.snapshot.specs.Spans.{IsSpanOf, IsTextSpanOf, StandsAt, text_at};
+ghost use Rattle.snapshot.specs.inside.Spans.{IsSpanOf, IsTextSpanOf, StandsAt, text_at};
 
 use std::alloc::AllocError;
 

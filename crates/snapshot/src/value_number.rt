@@ -22,7 +22,7 @@ pub struct PackedNumber {
 }
 
 impl Model for PackedNumber {
-    ghost use Rattle.snapshot.specs.ValueNumbers.{number_in, packed_again, packed_of};
+    ghost use Rattle.snapshot.specs.inside.ValueNumbers.{number_in, packed_again, packed_of};
     ghost use Rattle.snapshot.specs.declared.value_number.ValueNumber.{ValueNumber as Number};
 
     ghost Value = { Number };

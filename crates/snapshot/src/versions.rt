@@ -6,8 +6,8 @@ ghost use Rattle.std.specs.List.Sorted.{IsStrictlyIncreasing};
 ghost use Rattle.rf2_rows.specs.Rows.{row_fault};
 ghost use Rattle.rf2_rows.specs.Versions.{same_row as same_row_of};
 ghost use Rattle.hierarchy.specs.Members.{has};
-ghost use Rattle.snapshot.specs.Noted.{Noted, choices, conflicts, AreOfItsKind, Covers};
-ghost use Rattle.snapshot.specs.Taken.{IsCodeOf, Version, is_older, is_outdated, time_code, without};
+ghost use Rattle.snapshot.specs.inside.KeyedRows.{KeyedRow, choices, conflicts, AreOfItsKind, Covers};
+ghost use Rattle.snapshot.specs.inside.VersionTable.{IsCodeOf, Version, is_older, is_outdated, time_code, without};
 
 use crate::rising_keys::RisingKeys;
 use crate::spans::{Span, push_bytes};
@@ -51,11 +51,11 @@ struct VersionRows {
 
 impl Model for VersionRows {
     ghost use Rattle.std.specs.Prelude.{List};
-    ghost use Rattle.snapshot.specs.Taken.{Version};
+    ghost use Rattle.snapshot.specs.inside.VersionTable.{Version};
 
     ghost Value = { List Version };
 
-    ghost use Rattle.snapshot.specs.VersionsInside.{AreLines, versions_in};
+    ghost use Rattle.snapshot.specs.inside.VersionsInside.{AreLines, versions_in};
 
     ghost view = { versions_in };
 
@@ -138,11 +138,11 @@ pub struct Versions {
 }
 
 impl Model for Versions {
-    ghost use Rattle.snapshot.specs.Taken.{Taken};
+    ghost use Rattle.snapshot.specs.inside.VersionTable.{VersionTable};
 
-    ghost Value = { Taken };
+    ghost Value = { VersionTable };
 
-    ghost use Rattle.snapshot.specs.VersionsInside.{AreKeptIn, taken_in};
+    ghost use Rattle.snapshot.specs.inside.VersionsInside.{AreKeptIn, taken_in};
 
     ghost view = { taken_in };
 
@@ -150,8 +150,8 @@ impl Model for Versions {
 }
 
 impl Versions {
-    ghost use Rattle.snapshot.specs.Taken.{HasTaken};
-    ghost use Rattle.snapshot.specs.VersionsInside.{noted};
+    ghost use Rattle.snapshot.specs.inside.VersionTable.{HasTaken};
+    ghost use Rattle.snapshot.specs.inside.VersionsInside.{noted};
 
     /// No row. The keys of the components that have several rows are given.
     pub fn new(alloc: Global, repeated: Vec<u64>) -> Versions
@@ -179,7 +179,7 @@ impl Versions {
     /// Takes a row whose key is not repeated.
     pub fn skip(&mut self) -> Result<(), AllocError>
         ensures repeated { self.new.repeated ≡ self.old.repeated }
-        ensures taken { OnOk result ((rows : List Noted) (row : Noted) → has self.old.repeated row.key ≡ false
+        ensures taken { OnOk result ((rows : List KeyedRow) (row : KeyedRow) → has self.old.repeated row.key ≡ false
             → HasTaken self.old rows → HasTaken self.new (rows ++ row ∷ [])) }
     {
         self.chosen.push(true)?;
@@ -192,9 +192,9 @@ impl Versions {
         requires accepted { row_fault row.now.kind row.now.text.now ≡ None }
         requires time { ForSome row.now.time (λ time. time < 10 ^ 8) }
         ensures repeated { self.new.repeated ≡ self.old.repeated }
-        ensures conflict { IfOk result (λ fits. (rows : List Noted) → HasTaken self.old rows → AreOfItsKind rows (noted row.now)
+        ensures conflict { IfOk result (λ fits. (rows : List KeyedRow) → HasTaken self.old rows → AreOfItsKind rows (noted row.now)
             → fits ≡ not (has self.old.repeated row.now.key && list_any (λ earlier. conflicts earlier (noted row.now)) rows)) }
-        ensures taken { IfOk result (λ fits. (rows : List Noted) → HasTaken self.old rows → AreOfItsKind rows (noted row.now)
+        ensures taken { IfOk result (λ fits. (rows : List KeyedRow) → HasTaken self.old rows → AreOfItsKind rows (noted row.now)
             → fits ≡ true → HasTaken self.new (rows ++ noted row.now ∷ [])) }
     {
         match code_of(self.repeated.as_slice(), row.key, row.time) {
@@ -214,9 +214,9 @@ impl Versions {
         requires accepted { row_fault row.now.kind row.now.text.now ≡ None }
         requires code { IsCodeOf self.old.repeated (noted row.now) code }
         ensures repeated { self.new.repeated ≡ self.old.repeated }
-        ensures conflict { IfOk result (λ fits. (rows : List Noted) → HasTaken self.old rows → AreOfItsKind rows (noted row.now)
+        ensures conflict { IfOk result (λ fits. (rows : List KeyedRow) → HasTaken self.old rows → AreOfItsKind rows (noted row.now)
             → fits ≡ not (list_any (λ earlier. conflicts earlier (noted row.now)) rows)) }
-        ensures taken { IfOk result (λ fits. (rows : List Noted) → HasTaken self.old rows → AreOfItsKind rows (noted row.now)
+        ensures taken { IfOk result (λ fits. (rows : List KeyedRow) → HasTaken self.old rows → AreOfItsKind rows (noted row.now)
             → fits ≡ true → HasTaken self.new (rows ++ noted row.now ∷ [])) }
     {
         match self.seen.place_of(code as u128) {
@@ -240,7 +240,7 @@ impl Versions {
         requires code { IsCodeOf self.old.repeated (noted row.now) code }
         requires new { has self.old.codes code ≡ false }
         ensures repeated { self.new.repeated ≡ self.old.repeated }
-        ensures taken { OnOk result ((rows : List Noted) → HasTaken self.old rows → HasTaken self.new (rows ++ noted row.now ∷ [])) }
+        ensures taken { OnOk result ((rows : List KeyedRow) → HasTaken self.old rows → HasTaken self.new (rows ++ noted row.now ∷ [])) }
     {
         let place = self.chosen.len();
         self.chosen.push(true)?;
@@ -252,7 +252,7 @@ impl Versions {
     /// Of each row taken whether it is chosen: it has the latest time of its component, and of equal rows it
     /// is the first.
     pub fn chosen(self) -> Vec<bool>
-        ensures { (rows : List Noted) → HasTaken self rows → Covers self.repeated (map (λ (row : Noted). row.key) rows)
+        ensures { (rows : List KeyedRow) → HasTaken self rows → Covers self.repeated (map (λ (row : KeyedRow). row.key) rows)
             → result.items ≡ choices rows [] rows }
     {
         let Versions {
@@ -274,7 +274,7 @@ fn code_of(repeated: &[u64], key: u64, time: Option<u32>) -> Option<u64>
     requires rising { IsStrictlyIncreasing repeated.now }
     requires few { length repeated.now < 2 ^ 32 }
     requires time { ForSome time (λ time. time < 10 ^ 8) }
-    ensures { (row : Noted) → row.key ≡ key → row.time ≡ time → MatchOption result (has repeated.now key ≡ false) (IsCodeOf repeated.now row) }
+    ensures { (row : KeyedRow) → row.key ≡ key → row.time ≡ time → MatchOption result (has repeated.now key ≡ false) (IsCodeOf repeated.now row) }
 {
     match repeated.binary_search(&key) {
         Ok(place) => Some(place as u64 * CODES + u64::from(time.unwrap_or(NO_TIME))),

@@ -5,20 +5,20 @@ use Rattle.std.proofs.lemmas.List.{nil_from_length, take_all}
 use Rattle.std.proofs.lemmas.Option.{slice_get_read}
 use Rattle.set_algebra.specs.declared.plan.ConceptPlan.{ConceptPlan}
 use Rattle.set_algebra.specs.declared.plan.UnitPlan.{UnitPlan}
-use Rattle.set_algebra.specs.Meaning.{group_means, has_groups, has_pairs, leads, means, pairs_of, value_passes}
+use Rattle.set_algebra.specs.Meaning.{unit_means, has_groups, has_pairs, leads, means, pairs_of, value_passes}
 use Rattle.pair_sets.specs.Tested.{is_one_of}
 use Rattle.pair_sets.specs.declared.candidates.Candidates.{Candidates}
 use Rattle.pair_sets.proofs.UnitLemmas.{units_found, units_within as units_of_candidates}
-use Rattle.set_algebra.specs.Plan.{GroupPlan, Plan, and_group, and_plan, group_plan_of, group_plans_of, members_plan, minus_group, minus_plan, or_group, or_plan, outside_plan, pairs_group, pairs_plan, plan_of, plans_of, test_plan_of, units_plan, values_plan, walk_plan, within_plan}
-use Rattle.set_algebra.proofs.PlanLemmas.{group_plan_of-And, group_plan_of-Or, plan_of-And, plan_of-Or, plan_of-Values}
+use Rattle.set_algebra.specs.Plan.{PlanOfUnits, Plan, and_units, and_plan, unit_plan_of, unit_plans_of, members_plan, minus_units, minus_plan, or_units, or_plan, outside_plan, pairs_units, pairs_plan, plan_of, plans_of, test_plan_of, units_plan, values_plan, walk_plan, within_plan}
+use Rattle.set_algebra.proofs.PlanLemmas.{unit_plan_of-And, unit_plan_of-Or, plan_of-And, plan_of-Or, plan_of-Values}
 use Rattle.idset.specs.Sets.{has_item, numbers_where}
 use Rattle.postings.specs.Groups.{all_groups}
 use Rattle.pair_sets.specs.Groups.{groups_where, some_group_in}
 use Rattle.pair_sets.specs.Numbers.{numbers_in}
 use Rattle.constraint_tree.specs.Walks.{has_concept}
-use Rattle.executor.specs.Members.{components_of}
-use Rattle.executor.specs.WithUnits.{with_units}
-use Rattle.executor.specs.Lead.{leads_off, leads_off_groups}
+use Rattle.executor.specs.inside.Components.{components_of}
+use Rattle.executor.specs.inside.WithUnits.{with_units}
+use Rattle.executor.specs.inside.Lead.{leads_off, leads_off_groups}
 use Rattle.pair_sets.specs.Within.{groups_within, may_be, numbers_within}
 use Rattle.rf2_rows.specs.Pairs.{Pair}
 use Rattle.set_algebra.specs.declared.choice.Choice.{Choice}
@@ -78,7 +78,7 @@ pub unit_plans::execute_groups-returns-clause-size : goal.unit_plans::execute_gr
 unit_plans::execute_groups-returns-clause-size g t c =
     few_groups c.args.snapshot.now.release c.args.indexes.now c.requires.index c.concept_count.ensures.rising
     (sources_known c.args.snapshot.now.release c.concept_count.ensures.rising c.attribute_count.ensures.by_source)
-    c.args.choices.now (group_plan_of c.args.plan.now) (may_be g.S.ConceptSet.items_of c.args.candidates.now)
+    c.args.choices.now (unit_plan_of c.args.plan.now) (may_be g.S.ConceptSet.items_of c.args.candidates.now)
     (g.S.ConceptSet.items_of c.in_ok-found-2.found) c.in_ok-found-2.ensures.items
 
 pub unit_plans::execute_groups-returns-then-none_left-clause-within : goal.unit_plans::execute_groups-returns-then-none_left-clause-within
@@ -87,7 +87,7 @@ unit_plans::execute_groups-returns-then-none_left-clause-within g t c =
       arith,
       c.unit_floor.ensures.floor,
       c.add.ensures.count,
-      group_floor-le-bound c.args.indexes.now c.args.choices.now (group_plan_of c.args.plan.now),
+      group_floor-le-bound c.args.indexes.now c.args.choices.now (unit_plan_of c.args.plan.now),
     )
 
 pub unit_plans::execute_groups-returns-in_err-found-clause-within : goal.unit_plans::execute_groups-returns-in_err-found-clause-within
@@ -96,7 +96,7 @@ unit_plans::execute_groups-returns-in_err-found-clause-within g t c =
       arith,
       c.unit_floor.ensures.floor,
       c.add.ensures.count,
-      group_floor-le-bound c.args.indexes.now c.args.choices.now (group_plan_of c.args.plan.now),
+      group_floor-le-bound c.args.indexes.now c.args.choices.now (unit_plan_of c.args.plan.now),
     )
 
 pub walk_plans::walk_among-returns-clause-items : goal.walk_plans::walk_among-returns-clause-items
@@ -112,21 +112,21 @@ pub plans::units_within-returns-then-has_few_groups-clause-items : goal.plans::u
 plans::units_within-returns-then-has_few_groups-clause-items g t c =
     let release = c.args.snapshot.now.release in
     let some : List ℕ = with_units release c.args.count (g.S.ConceptSet.items_of c.in_ok-groups.groups) in
-    units_of_candidates release c.concept_count-most.ensures.rising c.args.count (group_means release (group_plan_of c.args.units.now))
+    units_of_candidates release c.concept_count-most.ensures.rising c.args.count (unit_means release (unit_plan_of c.args.units.now))
     (g.S.ConceptSet.items_of c.in-Within.wanted.now) (g.S.ConceptSet.items_of c.in_ok-own.own) (g.S.ConceptSet.items_of c.in_ok-groups.groups)
     some (g.S.ConceptSet.items_of c.in_ok-found.found) c.in_ok-own.ensures.groups c.in_ok-groups.ensures.items refl
     (c.in_ok-found.ensures.items ∙ ap (λ (candidates : Candidates _). filter (may_be g.S.ConceptSet.items_of candidates) some) c.in-Within.is)
     ∙ ap (λ (candidates : Candidates _). numbers_within release (may_be g.S.ConceptSet.items_of candidates)
-    (has_groups release c.args.count (group_means release (group_plan_of c.args.units.now)))) (sym c.in-Within.is)
+    (has_groups release c.args.count (unit_means release (unit_plan_of c.args.units.now)))) (sym c.in-Within.is)
 
 pub plans::units_within-returns-clause-items : goal.plans::units_within-returns-clause-items
 plans::units_within-returns-clause-items g t c =
     let release = c.args.snapshot.now.release in
     let may : ℕ → Bool = may_be g.S.ConceptSet.items_of c.args.candidates.now in
     let some : List ℕ = with_units release c.args.count (g.S.ConceptSet.items_of c.in_ok-groups-2.groups) in
-    kept_set release may (has_groups release c.args.count (group_means release (group_plan_of c.args.units.now)))
+    kept_set release may (has_groups release c.args.count (unit_means release (unit_plan_of c.args.units.now)))
     some (g.S.ConceptSet.items_of c.in_ok-found-2.found)
-    (units_found release c.concept_count-most.ensures.rising c.args.count (group_means release (group_plan_of c.args.units.now))
+    (units_found release c.concept_count-most.ensures.rising c.args.count (unit_means release (unit_plan_of c.args.units.now))
     (g.S.ConceptSet.items_of c.in_ok-groups-2.groups) some c.in_ok-groups-2.ensures.items refl)
     c.in_ok-found-2.ensures.items
 
@@ -467,7 +467,7 @@ pub unit_plans::execute_groups-returns-then-none_left-clause-items : goal.unit_p
 unit_plans::execute_groups-returns-then-none_left-clause-items g t c =
     let release = c.args.snapshot.now.release in
     let may : ℕ → Bool = may_be g.S.ConceptSet.items_of c.args.candidates.now in
-    none_within (length (all_groups release)) may (λ n. some_group_in release (group_means release (group_plan_of c.args.plan.now))
+    none_within (length (all_groups release)) may (λ n. some_group_in release (unit_means release (unit_plan_of c.args.plan.now))
     (slice_get (all_groups release) n)) (g.S.ConceptSet.items_of c.in_ok-found.found)
     (c.none_left.ensures c.if-none_left.true) c.in_ok-found.ensures.items
 
@@ -508,7 +508,7 @@ unit_plans::groups_in_all-returns-then-is_empty-clause-items g t c =
     let may : ℕ → Bool = may_be g.S.ConceptSet.items_of c.args.candidates.now in
     kept_groups release may (λ pairs. true) (range_with_len 0 (length (all_groups release))) (g.S.ConceptSet.items_of c.in_ok-every.every)
     (groups.each_where release) c.in_ok-every.ensures.items
-    ∙ ap (λ (parts : List UnitPlan). groups_within release may (λ pairs. list_all (λ part. group_means release (group_plan_of part) pairs) parts))
+    ∙ ap (λ (parts : List UnitPlan). groups_within release may (λ pairs. list_all (λ part. unit_means release (unit_plan_of part) pairs) parts))
     (sym (nil_from_length c.args.parts.now (no_parts c.is_empty.ensures c.if-is_empty.true)))
 
 pub unit_plans::groups_in_all-loop-place-init : goal.unit_plans::groups_in_all-loop-place-init
@@ -531,7 +531,7 @@ unit_plans::groups_in_all-loop-place-preserved g t c =
       | unit_plans::groups_in_all-then-place-lead+in_ok-extent+in_ok-next w ↦
           record {
             items = ap (λ (found : _). g.S.ConceptSet.items_of found) w.groups-is
-                ∙ all_within (length (all_groups release)) (λ (p : UnitPlan) (n : ℕ). some_group_in release (group_means release (group_plan_of p))
+                ∙ all_within (length (all_groups release)) (λ (p : UnitPlan) (n : ℕ). some_group_in release (unit_means release (unit_plan_of p))
                 (slice_get (all_groups release) n)) c.args.parts.now c.loop-place.place c.index-parts-place.result c.loop-place-test.true
                 (λ n. may n && some_group_in release (leads_off_groups release (slice_get c.args.parts.now c.min-lead.result))
                 (slice_get (all_groups release) n))
@@ -539,7 +539,7 @@ unit_plans::groups_in_all-loop-place-preserved g t c =
                 c.loop-place.invariant.items
                 (w.in_ok-next.ensures.items
                 ∙ ap (λ (p : UnitPlan). groups_within release (has_item (g.S.ConceptSet.items_of c.loop-place.groups))
-                (group_means release (group_plan_of p))) c.index-parts-place.is);
+                (unit_means release (unit_plan_of p))) c.index-parts-place.is);
             bound = ap (λ (found : _). g.S.ConceptSet.bound_of found) w.groups-is ∙ w.in_ok-next.ensures.bound;
             work = all_turn c.loop-place.invariant.work c.index-parts-place.result c.loop-place-test.true c.index-parts-place.is
                 w.if-place-lead.true c.unit_floor.ensures.rest
@@ -566,7 +566,7 @@ unit_plans::groups_in_all-returns-clause-items g t c =
     (c.loop-place.invariant.items
     ∙ ap (λ (parts : List UnitPlan). numbers_where (length (all_groups release))
     (λ n. (may n && some_group_in release (leads_off_groups release (slice_get c.args.parts.now c.min-lead.result))
-    (slice_get (all_groups release) n)) && list_all (λ part. some_group_in release (group_means release (group_plan_of part))
+    (slice_get (all_groups release) n)) && list_all (λ part. some_group_in release (unit_means release (unit_plan_of part))
     (slice_get (all_groups release) n)) parts))
     (take_all c.loop-place.place c.args.parts.now (omega arith)))
 
@@ -620,12 +620,12 @@ unit_plans::groups_in_some-loop-part-preserved g t c =
     let indexed = c.args.indexes.now in
     let may : ℕ → Bool = may_be g.S.ConceptSet.items_of c.args.candidates.now in
     record {
-      items = some_within (length (all_groups release)) (λ (p : UnitPlan) (n : ℕ). some_group_in release (group_means release (group_plan_of p))
+      items = some_within (length (all_groups release)) (λ (p : UnitPlan) (n : ℕ). some_group_in release (unit_means release (unit_plan_of p))
           (slice_get (all_groups release) n)) c.args.parts.now c.loop-part.part-index c.part-item.result c.loop-part-test.true
           may (g.S.ConceptSet.bound_of c.loop-part.groups) c.loop-part.invariant.bound
           (g.S.ConceptSet.items_of c.loop-part.groups) (g.S.ConceptSet.items_of c.in_ok-next.next) (g.S.ConceptSet.items_of c.in_ok-groups-2.groups)
           c.loop-part.invariant.items
-          (c.in_ok-next.ensures.items ∙ ap (λ (p : UnitPlan). groups_within release may (group_means release (group_plan_of p))) c.part-item.is)
+          (c.in_ok-next.ensures.items ∙ ap (λ (p : UnitPlan). groups_within release may (unit_means release (unit_plan_of p))) c.part-item.is)
           c.in_ok-groups-2.ensures.items;
       bound = c.in_ok-groups-2.ensures.bound ∙ c.loop-part.invariant.bound;
       work = some_turn c.loop-part.invariant.work c.part-item.result c.loop-part-test.true c.part-item.is c.unit_floor.ensures.rest
@@ -648,7 +648,7 @@ unit_plans::groups_in_some-returns-in_err-groups-2-clause-within g t c =
     let release = c.args.snapshot.now.release in
     let indexed = c.args.indexes.now in
     let may : ℕ → Bool = may_be g.S.ConceptSet.items_of c.args.candidates.now in
-    let all : ℕ = total (group_sizes indexed c.args.choices.now (group_plans_of c.args.parts.now)) in
+    let all : ℕ = total (group_sizes indexed c.args.choices.now (unit_plans_of c.args.parts.now)) in
     let reads =
     joined_reads of_groups (groups_found indexed) c.args.choices.now c.args.parts.now c.loop-part.part-index c.part-item.result
     c.loop-part-test.true c.part-item.is c.loop-part.invariant.work.rest
@@ -671,7 +671,7 @@ unit_plans::groups_in_some-returns-in_err-groups-2-clause-within g t c =
 pub unit_plans::groups_in_some-returns-in_err-next-clause-within : goal.unit_plans::groups_in_some-returns-in_err-next-clause-within
 unit_plans::groups_in_some-returns-in_err-next-clause-within g t c =
     let indexed = c.args.indexes.now in
-    let all : ℕ = total (group_sizes indexed c.args.choices.now (group_plans_of c.args.parts.now)) in
+    let all : ℕ = total (group_sizes indexed c.args.choices.now (unit_plans_of c.args.parts.now)) in
     omega (
       arith,
       some_next {next = c.execute_groups.new.visits.count} c.loop-part.invariant.work c.part-item.result c.loop-part-test.true c.part-item.is 0
@@ -682,7 +682,7 @@ unit_plans::groups_in_some-returns-in_err-next-clause-within g t c =
 pub unit_plans::groups_in_some-returns-clause-within : goal.unit_plans::groups_in_some-returns-clause-within
 unit_plans::groups_in_some-returns-clause-within g t c =
     let indexed = c.args.indexes.now in
-    let all : ℕ = total (group_sizes indexed c.args.choices.now (group_plans_of c.args.parts.now)) in
+    let all : ℕ = total (group_sizes indexed c.args.choices.now (unit_plans_of c.args.parts.now)) in
     omega (
       arith,
       (some_end c.loop-part.invariant.work (omega arith)).within,
@@ -699,7 +699,7 @@ unit_plans::groups_in_some-returns-clause-items g t c =
     any_done release may c.args.parts.now (g.S.ConceptSet.items_of c.loop-part.groups)
     (c.loop-part.invariant.items
     ∙ ap (λ (parts : List UnitPlan). numbers_where (length (all_groups release))
-    (λ n. may n && list_any (λ part. some_group_in release (group_means release (group_plan_of part)) (slice_get (all_groups release) n)) parts))
+    (λ n. may n && list_any (λ part. some_group_in release (unit_means release (unit_plan_of part)) (slice_get (all_groups release) n)) parts))
     (take_all c.loop-part.part-index c.args.parts.now (omega arith)))
 
 pub plans::members_of-returns-clause-items : goal.plans::members_of-returns-clause-items
@@ -788,11 +788,11 @@ plans::execute_node-returns-in-Units-clause-items g t c =
     let may : ℕ → Bool = may_be g.S.ConceptSet.items_of c.args.candidates.now in
     let plan : Plan = plan_of c.args.plan.now in
     let units = c.deref-in-Units.result.now in
-    let some : ℕ → Bool = has_groups release c.in-Units.count (group_means release (group_plan_of units)) in
-    let is = ap plan_of c.in-Units.is ∙ ap (λ (units : UnitPlan). units_plan c.in-Units.count (group_plan_of units)) (sym c.deref-in-Units.ensures) in
+    let some : ℕ → Bool = has_groups release c.in-Units.count (unit_means release (unit_plan_of units)) in
+    let is = ap plan_of c.in-Units.is ∙ ap (λ (units : UnitPlan). units_plan c.in-Units.count (unit_plan_of units)) (sym c.deref-in-Units.ensures) in
     found_as g.S.ConceptSet.items_of c.units_within.result
     (within_same release may some (means release plan)
-    (units_node release plan (numbers_in release some) c.in-Units.count (group_plan_of units) is refl))
+    (units_node release plan (numbers_in release some) c.in-Units.count (unit_plan_of units) is refl))
     c.units_within.ensures.items
 
 pub unit_plans::execute_group_node-returns-in-Nothing-clause-items : goal.unit_plans::execute_group_node-returns-in-Nothing-clause-items
@@ -800,7 +800,7 @@ unit_plans::execute_group_node-returns-in-Nothing-clause-items g t c =
     let release = c.args.snapshot.now.release in
     let may : ℕ → Bool = may_be g.S.ConceptSet.items_of c.args.candidates.now in
     found_for g.S.ConceptSet.items_of c.no_group.result
-    (λ found is. nothing_within release may (group_plan_of c.args.plan.now) found (ap group_plan_of c.in-Nothing.is) is) c.no_group.ensures.items
+    (λ found is. nothing_within release may (unit_plan_of c.args.plan.now) found (ap unit_plan_of c.in-Nothing.is) is) c.no_group.ensures.items
 
 pub unit_plans::execute_group_node-returns-in-Every-clause-items : goal.unit_plans::execute_group_node-returns-in-Every-clause-items
 unit_plans::execute_group_node-returns-in-Every-clause-items g t c =
@@ -808,34 +808,34 @@ unit_plans::execute_group_node-returns-in-Every-clause-items g t c =
     let may : ℕ → Bool = may_be g.S.ConceptSet.items_of c.args.candidates.now in
     let every : List ℕ = range_with_len 0 (length (all_groups release)) in
     found_for g.S.ConceptSet.items_of c.every_candidate_group.result
-    (λ found is. kept_groups release may (group_means release (group_plan_of c.args.plan.now)) every found
-    (groups.every_node release (group_plan_of c.args.plan.now) every (ap group_plan_of c.in-Every.is) refl) is)
+    (λ found is. kept_groups release may (unit_means release (unit_plan_of c.args.plan.now)) every found
+    (groups.every_node release (unit_plan_of c.args.plan.now) every (ap unit_plan_of c.in-Every.is) refl) is)
     c.every_candidate_group.ensures.items
 
 pub unit_plans::execute_group_node-returns-in-And-clause-items : goal.unit_plans::execute_group_node-returns-in-And-clause-items
 unit_plans::execute_group_node-returns-in-And-clause-items g t c =
     let release = c.args.snapshot.now.release in
     let may : ℕ → Bool = may_be g.S.ConceptSet.items_of c.args.candidates.now in
-    let plan : GroupPlan = group_plan_of c.args.plan.now in
+    let plan : PlanOfUnits = unit_plan_of c.args.plan.now in
     let parts = c.deref.result.now in
-    let some : List Pair → Bool = λ pairs. list_all (λ part. group_means release (group_plan_of part) pairs) parts in
-    let is = ap group_plan_of c.in-And.is ∙ group_plan_of-And c.in-And.parts
-    ∙ ap (λ (parts : List UnitPlan). and_group (group_plans_of parts)) (sym c.deref.ensures.value) in
+    let some : List Pair → Bool = λ pairs. list_all (λ part. unit_means release (unit_plan_of part) pairs) parts in
+    let is = ap unit_plan_of c.in-And.is ∙ unit_plan_of-And c.in-And.parts
+    ∙ ap (λ (parts : List UnitPlan). and_units (unit_plans_of parts)) (sym c.deref.ensures.value) in
     found_as g.S.ConceptSet.items_of c.groups_in_all.result
-    (groups_same release may some (group_means release plan) (groups.and_node release plan (groups_where release some) parts is refl))
+    (groups_same release may some (unit_means release plan) (groups.and_node release plan (groups_where release some) parts is refl))
     c.groups_in_all.ensures.items
 
 pub unit_plans::execute_group_node-returns-in-Or-clause-items : goal.unit_plans::execute_group_node-returns-in-Or-clause-items
 unit_plans::execute_group_node-returns-in-Or-clause-items g t c =
     let release = c.args.snapshot.now.release in
     let may : ℕ → Bool = may_be g.S.ConceptSet.items_of c.args.candidates.now in
-    let plan : GroupPlan = group_plan_of c.args.plan.now in
+    let plan : PlanOfUnits = unit_plan_of c.args.plan.now in
     let parts = c.deref-in-Or.result.now in
-    let some : List Pair → Bool = λ pairs. list_any (λ part. group_means release (group_plan_of part) pairs) parts in
-    let is = ap group_plan_of c.in-Or.is ∙ group_plan_of-Or c.in-Or.parts
-    ∙ ap (λ (parts : List UnitPlan). or_group (group_plans_of parts)) (sym c.deref-in-Or.ensures.value) in
+    let some : List Pair → Bool = λ pairs. list_any (λ part. unit_means release (unit_plan_of part) pairs) parts in
+    let is = ap unit_plan_of c.in-Or.is ∙ unit_plan_of-Or c.in-Or.parts
+    ∙ ap (λ (parts : List UnitPlan). or_units (unit_plans_of parts)) (sym c.deref-in-Or.ensures.value) in
     found_as g.S.ConceptSet.items_of c.groups_in_some.result
-    (groups_same release may some (group_means release plan) (groups.or_node release plan (groups_where release some) parts is refl))
+    (groups_same release may some (unit_means release plan) (groups.or_node release plan (groups_where release some) parts is refl))
     c.groups_in_some.ensures.items
 
 pub plans::in_first_alone-returns-in_ok-found-in-Minus-clause-items : goal.plans::in_first_alone-returns-in_ok-found-in-Minus-clause-items
@@ -928,10 +928,10 @@ pub unit_plans::groups_in_first_alone-returns-in_ok-groups-in-Minus-clause-items
 unit_plans::groups_in_first_alone-returns-in_ok-groups-in-Minus-clause-items g t c =
     let release = c.args.snapshot.now.release in
     let may : ℕ → Bool = may_be g.S.ConceptSet.items_of c.args.candidates.now in
-    minus_groups release may (group_plan_of c.args.plan.now) (group_plan_of c.deref.result.now) (group_plan_of c.deref-in-Minus-4.result.now)
+    minus_groups release may (unit_plan_of c.args.plan.now) (unit_plan_of c.deref.result.now) (unit_plan_of c.deref-in-Minus-4.result.now)
     (g.S.ConceptSet.items_of c.in_ok-left-in-Minus.left) (g.S.ConceptSet.items_of c.in_ok-right-in-Minus.right)
     (g.S.ConceptSet.items_of c.in_ok-groups-in-Minus.groups)
-    (ap group_plan_of c.in-Minus.is ∙ (λ i. minus_group (group_plan_of (sym c.deref.ensures i)) (group_plan_of (sym c.deref-in-Minus-4.ensures i))))
+    (ap unit_plan_of c.in-Minus.is ∙ (λ i. minus_units (unit_plan_of (sym c.deref.ensures i)) (unit_plan_of (sym c.deref-in-Minus-4.ensures i))))
     c.in_ok-left-in-Minus.ensures.items c.in_ok-right-in-Minus.ensures.items c.in_ok-groups-in-Minus.ensures.items
 
 pub unit_plans::groups_with_pairs-returns-in_ok-found-in-Pairs-clause-items : goal.unit_plans::groups_with_pairs-returns-in_ok-found-in-Pairs-clause-items
@@ -942,10 +942,10 @@ unit_plans::groups_with_pairs-returns-in_ok-found-in-Pairs-clause-items g t c =
     let some : List Pair → Bool = has_pairs c.in-Pairs.count one (value_passes release (test_plan_of c.in-Pairs.test)) in
     c.in_ok-found-in-Pairs.ensures.items
     ∙ (λ i. groups_within release may (has_pairs c.in-Pairs.count one (λ value. c.in_ok-tested-in-Pairs.ensures.passes value i)))
-    ∙ groups_same release may some (group_means release (group_plan_of c.args.plan.now))
-    (groups.pairs_node release (group_plan_of c.args.plan.now) (groups_where release some)
+    ∙ groups_same release may some (unit_means release (unit_plan_of c.args.plan.now))
+    (groups.pairs_node release (unit_plan_of c.args.plan.now) (groups_where release some)
     c.in-Pairs.count (plan_of c.deref-in-Pairs.result.now) (test_plan_of c.in-Pairs.test)
     c.args.indexes.now.concepts (g.S.ConceptSet.items_of c.in_ok-typed-in-Pairs.typed)
-    (ap group_plan_of c.in-Pairs.is
-    ∙ ap (λ (types : ConceptPlan). pairs_group c.in-Pairs.count (plan_of types) (test_plan_of c.in-Pairs.test)) (sym c.deref-in-Pairs.ensures))
+    (ap unit_plan_of c.in-Pairs.is
+    ∙ ap (λ (types : ConceptPlan). pairs_units c.in-Pairs.count (plan_of types) (test_plan_of c.in-Pairs.test)) (sym c.deref-in-Pairs.ensures))
     c.requires.index.concepts c.in_ok-typed-in-Pairs.ensures.items refl)

@@ -3,18 +3,18 @@ use Rattle.std.specs.Prelude.{IfSome, slice_get}
 use Rattle.std.specs.List.{list_all, list_any}
 use Rattle.idset.specs.Sets.{numbers_where}
 use Rattle.postings.specs.Groups.{all_groups}
-use Rattle.set_algebra.specs.Meaning.{group_means, leads, means}
+use Rattle.set_algebra.specs.Meaning.{unit_means, leads, means}
 use Rattle.set_algebra.specs.declared.plan.ConceptPlan.{ConceptPlan}
 use Rattle.set_algebra.specs.declared.plan.UnitPlan.{UnitPlan}
-use Rattle.set_algebra.specs.Plan.{Plan, group_plan_of, group_plans_of, plan_of, plans_of}
+use Rattle.set_algebra.specs.Plan.{Plan, unit_plan_of, unit_plans_of, plan_of, plans_of}
 use Rattle.planner.specs.Bounds.{own_number, values_bound}
 use Rattle.planner.specs.Floors.{floor_number}
 use Rattle.planner.specs.Sizes.{group_sizes, sizes, total}
 use Rattle.planner.proofs.LoopLemmas.{concept_sum, of_concepts, of_groups, unit_sum}
 use Rattle.pair_sets.specs.Groups.{some_group_in}
 use Rattle.pair_sets.specs.Numbers.{numbers_in}
-use Rattle.executor.specs.Lead.{leads_off, leads_off_groups}
-use Rattle.executor.specs.Named.{HasNamed}
+use Rattle.executor.specs.inside.Lead.{leads_off, leads_off_groups}
+use Rattle.executor.specs.inside.Named.{HasNamed}
 use Rattle.pair_sets.specs.Within.{may_be}
 use Rattle.executor.proofs.PartWork.{concepts_read, groups_read}
 use Rattle.executor.proofs.WorkLemmas.{AllSoFar, SomeSoFar}
@@ -52,7 +52,7 @@ invariant-unit_plans::groups_in_all-loop-place g l = record {
       ≡ numbers_where (length (all_groups l.snapshot.release))
       (λ n. (may_be g.S.ConceptSet.items_of l.candidates n && some_group_in l.snapshot.release
       (leads_off_groups l.snapshot.release (slice_get l.parts l.lead)) (slice_get (all_groups l.snapshot.release) n))
-      && list_all (λ part. some_group_in l.snapshot.release (group_means l.snapshot.release (group_plan_of part))
+      && list_all (λ part. some_group_in l.snapshot.release (unit_means l.snapshot.release (unit_plan_of part))
       (slice_get (all_groups l.snapshot.release) n)) (take l.place l.parts));
   bound : g.S.ConceptSet.bound_of l.groups ≡ length (all_groups l.snapshot.release);
   work : AllSoFar UnitPlan of_groups (unit_sum (floor_number l.indexes)) (groups_read l.indexes) l.choices l.parts l.lead l.place
@@ -64,11 +64,11 @@ invariant-unit_plans::groups_in_some-loop-part g l = record {
   items : g.S.ConceptSet.items_of l.groups
       ≡ numbers_where (length (all_groups l.snapshot.release))
       (λ n. may_be g.S.ConceptSet.items_of l.candidates n
-      && list_any (λ part. some_group_in l.snapshot.release (group_means l.snapshot.release (group_plan_of part))
+      && list_any (λ part. some_group_in l.snapshot.release (unit_means l.snapshot.release (unit_plan_of part))
       (slice_get (all_groups l.snapshot.release) n)) (take l.part-index l.parts));
   bound : g.S.ConceptSet.bound_of l.groups ≡ length (all_groups l.snapshot.release);
   work : SomeSoFar UnitPlan of_groups (unit_sum (floor_number l.indexes)) (unit_sum (own_number l.indexes))
-      (λ place. place * total (group_sizes l.indexes l.choices (group_plans_of l.parts))) l.choices l.parts l.part-index
+      (λ place. place * total (group_sizes l.indexes l.choices (unit_plans_of l.parts))) l.choices l.parts l.part-index
       l.fn.visits.count l.visits.count l.rest;
 }
 

@@ -1,5 +1,5 @@
 use Rattle.std.proofs.Common.{◌≡◌, ◌^◌, length}
-use Rattle.first_met.specs.FirstMetInside.{AreFirst}
+use Rattle.first_met.specs.inside.FirstMetInside.{AreFirst}
 use Rattle.first_met.proofs.fill.Given as goal
 
 abbrev pub invariant-loop-place : goal.invariant-loop-place

@@ -2,7 +2,7 @@ use Rattle.std.proofs.Common.{arith, sym, subst, ℕ, ◌++◌, ◌∷◌, [], I
 use Rattle.std.specs.BTreeMap.{get, is_at}
 use Rattle.std.proofs.lemmas.Grind.{common_steps}
 use Rattle.std.proofs.lemmas.Option.{gets}
-use Rattle.first_met.specs.FirstMetInside.{Finds, IsFree, slot}
+use Rattle.first_met.specs.inside.FirstMetInside.{Finds, IsFree, slot}
 use Rattle.first_met.proofs.SlotLemmas.{in_free_slot, in_tree, is_taken}
 use Rattle.first_met.proofs.note.Goals.{else-slot-len-via-then-slot-len+else-index, else-slot-len-via-else-slot-len}
 use Rattle.first_met.proofs.note.Goals as goal

@@ -8,7 +8,7 @@ use Rattle.idset.proofs.Rising.{numbers_where-rising}
 use Rattle.hierarchy.specs.Hierarchy.{reaches}
 use Rattle.ancestor_index.specs.HierarchyLists.{is_child}
 use Rattle.ancestor_index.proofs.ClosureLemmas.{Turn, gathered_listed, length-where, order_below, own_parents, parent_placed}
-use Rattle.ancestor_index.specs.Gathered.{AreRisingBelow, gathered_by}
+use Rattle.ancestor_index.specs.inside.Gathered.{AreRisingBelow, gathered_by}
 use Rattle.ancestor_index.specs.Wide.{AreWide}
 use Rattle.ancestor_index.proofs.GatherLemmas.{items_more, rising_more, where_below}
 use Rattle.ancestor_index.proofs.ListLemmas.{map_more}

@@ -2,8 +2,8 @@ use Rattle.std.proofs.Common.{ℕ, ◌≡◌, List, length, map, take}
 use Rattle.hierarchy.specs.Hierarchy.{reaches}
 use Rattle.hierarchy.specs.KeyedLists.{AreItemsBelow}
 use Rattle.idset.specs.Sets.{numbers_where}
-use Rattle.ancestor_index.specs.Gathered.{AreRisingBelow}
-use Rattle.ancestor_index.specs.Parents.{AreParentsBy}
+use Rattle.ancestor_index.specs.inside.Gathered.{AreRisingBelow}
+use Rattle.ancestor_index.specs.inside.Parents.{AreParentsBy}
 use Rattle.ancestor_index.specs.Wide.{AreWide}
 use Rattle.ancestor_index.proofs.closure.ancestors_in_order.Given as goal
 

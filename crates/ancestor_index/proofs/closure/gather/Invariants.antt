@@ -1,6 +1,6 @@
 use Rattle.std.proofs.Common.{◌≡◌, ◌<◌, take}
 use Rattle.std.specs.Prelude.{All, IfSome}
-use Rattle.ancestor_index.specs.Gathered.{AreGathered, gathered_by}
+use Rattle.ancestor_index.specs.inside.Gathered.{AreGathered, gathered_by}
 use Rattle.ancestor_index.proofs.closure.gather.Given as goal
 
 abbrev pub invariant-loop-concept : goal.invariant-loop-concept

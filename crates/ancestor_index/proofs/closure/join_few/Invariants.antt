@@ -1,6 +1,6 @@
 use Rattle.std.proofs.Common.{◌≡◌, ◌++◌, take}
 use Rattle.idset.specs.Sets.{listed_numbers}
-use Rattle.ancestor_index.specs.Gathered.{joined_by}
+use Rattle.ancestor_index.specs.inside.Gathered.{joined_by}
 use Rattle.ancestor_index.proofs.closure.join_few.Given as goal
 
 abbrev pub invariant-loop-concept : goal.invariant-loop-concept

@@ -3,7 +3,7 @@ use Rattle.std.specs.Prelude.{slice_index}
 use Rattle.std.specs.List.{flat_map}
 use Rattle.snapshot.specs.Name.{name_of}
 use Rattle.snapshot.specs.Line.{concept_line}
-use Rattle.answer_printer.specs.Prefix.{IsPrefixOf}
+use Rattle.answer_printer.specs.inside.Prefix.{IsPrefixOf}
 use Rattle.answer_printer.proofs.answer.append_lines.Given as goal
 
 -- the lines so far and those that are left are all lines

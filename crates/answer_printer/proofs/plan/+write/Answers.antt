@@ -1,11 +1,11 @@
 use Rattle.std.proofs.Common.{ℕ, ◌≡◌, ◌∙◌, ◌++◌, ◌∷◌, List, ap, drop, length, sym}
 use Rattle.set_algebra.specs.declared.plan.ConceptPlan.{ConceptPlan}
-use Rattle.set_algebra.specs.Plan.{GroupPlan, Plan, group_plan_of, pairs_group, plan_of, plans_of, test_plan_of, values_plan}
+use Rattle.set_algebra.specs.Plan.{PlanOfUnits, Plan, unit_plan_of, pairs_units, plan_of, plans_of, test_plan_of, values_plan}
 use Rattle.set_algebra.specs.declared.choice.Choice.{Choice}
 use Rattle.planner.specs.Leaves.{leaves}
 use Rattle.planner.proofs.LoopLemmas.{rest_end, rest_turn}
 use Rattle.planner.proofs.PartLemmas.{values_are, values_behind}
-use Rattle.answer_printer.specs.PlanLines.{before_bound, first_bound, with_bounds}
+use Rattle.answer_printer.specs.inside.PlanLines.{before_bound, first_bound, with_bounds}
 use Rattle.answer_printer.specs.PlanText.{bound_line, group_outline, group_words, node_words, outline, plans_outline, test_outline}
 use Rattle.answer_printer.proofs.LineLemmas.{lines_end, lines_turn, two_written}
 use Rattle.answer_printer.proofs.plan.+write.Goals as goal
@@ -84,20 +84,20 @@ write_units-returns-clause-text t c =
     let given = c.args.text.now.items in
     let types = plan_of c.deref-in-Pairs.result.now in
     let test = test_plan_of c.in-Pairs.test in
-    let is : group_plan_of c.args.plan.now ≡ pairs_group c.in-Pairs.count types test =
-    ap group_plan_of c.in-Pairs.is ∙ ap (λ (plan : ConceptPlan). pairs_group c.in-Pairs.count (plan_of plan) test) (sym c.deref-in-Pairs.ensures) in
+    let is : unit_plan_of c.args.plan.now ≡ pairs_units c.in-Pairs.count types test =
+    ap unit_plan_of c.in-Pairs.is ∙ ap (λ (plan : ConceptPlan). pairs_units c.in-Pairs.count (plan_of plan) test) (sym c.deref-in-Pairs.ensures) in
     let deeper = c.as_slice-inner.ensures.value ∙ c.in_ok-deeper.ensures in
     let left = c.in_ok-left-in-Pairs.ensures in
     let last = c.in_ok-last-in-Pairs.ensures in
     let choices_left = left.choices ∙ ap (drop (leaves types)) c.after_first.ensures in
     let first = λ (spaces : List ℕ) (choices : List Choice). outline before_bound spaces choices types in
     let second = λ (spaces : List ℕ) (choices : List Choice). test_outline before_bound spaces choices test in
-    let written = two_written given (spaces ++ group_words choices (pairs_group c.in-Pairs.count types test)) (first (32 ∷ spaces) (drop 1 choices))
+    let written = two_written given (spaces ++ group_words choices (pairs_units c.in-Pairs.count types test)) (first (32 ∷ spaces) (drop 1 choices))
     (second (32 ∷ spaces) (drop (leaves types) (drop 1 choices))) bounds
-    (c.in_ok-behind.ensures.text ∙ ap (λ (plan : GroupPlan). given ++ bound_line (spaces ++ group_words choices plan) (first_bound bounds)) is)
+    (c.in_ok-behind.ensures.text ∙ ap (λ (plan : PlanOfUnits). given ++ bound_line (spaces ++ group_words choices plan) (first_bound bounds)) is)
     c.in_ok-behind.ensures.behind
     (left.text ∙ (λ i. c.write_unit_line.new.text.items ++ with_bounds (first (deeper i) (c.after_first.ensures i)) c.in_ok-behind.behind.now))
     (left.bounds ∙ (λ i. drop (length (first (deeper i) (c.after_first.ensures i))) c.in_ok-behind.behind.now))
     (last.text ∙ (λ i. c.write_plan.new.text.items ++ with_bounds (second (deeper i) (choices_left i)) c.in_ok-left-in-Pairs.left.bounds.now))
     (last.bounds ∙ (λ i. drop (length (second (deeper i) (choices_left i))) c.in_ok-left-in-Pairs.left.bounds.now)) in
-    written.lines ∙ sym (ap (λ (plan : GroupPlan). given ++ with_bounds (group_outline before_bound spaces choices plan) bounds) is)
+    written.lines ∙ sym (ap (λ (plan : PlanOfUnits). given ++ with_bounds (group_outline before_bound spaces choices plan) bounds) is)

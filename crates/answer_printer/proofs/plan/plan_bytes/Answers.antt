@@ -2,7 +2,7 @@ use Rattle.std.proofs.Common.{List, ℕ, [], ◌≡◌, ◌∙◌, ◌++◌, ap,
 use Rattle.set_algebra.specs.Plan.{plan_of}
 use Rattle.planner.specs.Bounds.{bound, capped}
 use Rattle.answer_printer.specs.AnswerText.{number_line}
-use Rattle.answer_printer.specs.PlanLines.{before_bound, with_bounds}
+use Rattle.answer_printer.specs.inside.PlanLines.{before_bound, with_bounds}
 use Rattle.answer_printer.specs.PlanText.{outline}
 use Rattle.answer_printer.proofs.LinedLemmas.{lines_are}
 use Rattle.answer_printer.proofs.plan.plan_bytes.Goals as goal

@@ -1,8 +1,8 @@
 use Rattle.std.proofs.Common.{rules, ◌≡◌, ◌-◌, ◌+◌, suc, List, [], ◌∷◌, ◌++◌, length, map, Some, ap, sym, ◌∙◌, arith}
 use Rattle.std.proofs.lemmas.List.{map_push}
 use Rattle.constraint_tree.specs.Tree.{AttributeSetTree, RefinementTree, Tree, refinement_tree_of, set_tree_of, tree_of}
-use Rattle.ecl_parser.specs.Gives.{symbols_from}
-use Rattle.ecl_parser.specs.Reading.{behind, item_in, many, part_in, readers, sub_in, with_front}
+use Rattle.ecl_parser.specs.inside.Gives.{symbols_from}
+use Rattle.ecl_parser.specs.inside.Reading.{behind, item_in, many, part_in, readers, sub_in, with_front}
 use Rattle.ecl_parser.proofs.ReadLemmas.{many_done, many_end, many_fails, many_more, part_in_brackets, group_in_braces}
 use Rattle.ecl_parser.proofs.parser.+parser.Goals.{subs-else-loop-turn-test, subs-then-loop-turn-test+then-not-take, items-else-loop-turn-test, items-then-loop-turn-test+then-not-take, parts-else-loop-turn-test, parts-then-loop-turn-test+then-not-take}
 use Rattle.ecl_parser.proofs.parser.+parser.Goals as goal

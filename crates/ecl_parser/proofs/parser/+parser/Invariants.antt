@@ -1,8 +1,8 @@
 -- Each bracket lets the depth fall; within one depth the forms stand in this order.
 use Rattle.std.proofs.Common.{◌≡◌, ◌+◌, ◌-◌, ◌*◌, map}
 use Rattle.constraint_tree.specs.Tree.{refinement_tree_of, set_tree_of, tree_of}
-use Rattle.ecl_parser.specs.Gives.{symbols_from}
-use Rattle.ecl_parser.specs.Reading.{all_behind, item_in, many, part_in, readers, sub_in, with_front}
+use Rattle.ecl_parser.specs.inside.Gives.{symbols_from}
+use Rattle.ecl_parser.specs.inside.Reading.{all_behind, item_in, many, part_in, readers, sub_in, with_front}
 use Rattle.ecl_parser.proofs.parser.+parser.Given as goal
 
 abbrev pub decreases-constraint : goal.decreases-constraint

@@ -2,8 +2,8 @@ use Rattle.std.proofs.Common.{◌≡◌, ◌∙◌, [], sym, ap, length, arith}
 use Rattle.std.proofs.lemmas.Bool.Decides.{nat_tests}
 use Rattle.constraint_tree.specs.Tree.{tree_of}
 use Rattle.ecl_lexer.specs.declared.fault.QueryFault.TheVariants.{Syntax}
-use Rattle.ecl_parser.specs.Gives.{symbols_from}
-use Rattle.ecl_parser.specs.Reading.{constraint_in, readers}
+use Rattle.ecl_parser.specs.inside.Gives.{symbols_from}
+use Rattle.ecl_parser.specs.inside.Reading.{constraint_in, readers}
 use Rattle.ecl_parser.proofs.ParseLemmas.{left_over, none_of_none, none_read, nothing_read, tree_found}
 use Rattle.ecl_parser.proofs.text.tree.Goals as goal
 

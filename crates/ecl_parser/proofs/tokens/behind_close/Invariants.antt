@@ -1,6 +1,6 @@
 use Rattle.std.proofs.Common.{◌≡◌, ◌+◌, ◌≤◌}
-use Rattle.ecl_parser.specs.Gives.{symbols_from}
-use Rattle.ecl_parser.specs.Reading.{behind_close as behind_close_of}
+use Rattle.ecl_parser.specs.inside.Gives.{symbols_from}
+use Rattle.ecl_parser.specs.inside.Reading.{behind_close as behind_close_of}
 use Rattle.ecl_parser.proofs.tokens.behind_close.Given as goal
 
 abbrev pub invariant-loop-place : goal.invariant-loop-place

@@ -4,8 +4,8 @@ use Rattle.std.specs.List.{flat_map}
 use Rattle.std.proofs.lemmas.Result.{IfOk-weaker}
 use Rattle.hierarchy.specs.KeyedLists.{list_of}
 use Rattle.idset.specs.Sets.{has_item, listed_numbers}
-use Rattle.executor.specs.Asked.{AreEnough}
-use Rattle.executor.specs.Steps.{lists_of}
+use Rattle.executor.specs.inside.Asked.{AreEnough}
+use Rattle.executor.specs.inside.Steps.{lists_of}
 use Rattle.pair_sets.proofs.ListLemmas.{all_below}
 use Rattle.executor.proofs.AskedLemmas.{with_lists_below, with_lists_enough}
 use Rattle.executor.proofs.led.enough_for.Goals as goal

@@ -3,7 +3,7 @@ use Rattle.std.specs.Prelude.{All, filter}
 use Rattle.std.proofs.lemmas.Result.{IfOk-weaker}
 use Rattle.idset.specs.Sets.{IsRisingBelow, has_item}
 use Rattle.idset.proofs.Rising.{rises_within-filter}
-use Rattle.executor.specs.Steps.{lists_of, stepped}
+use Rattle.executor.specs.inside.Steps.{lists_of, stepped}
 use Rattle.pair_sets.proofs.ListLemmas.{all_below}
 use Rattle.executor.proofs.LedLemmas.{led_asked}
 use Rattle.executor.proofs.led.led_among.Goals as goal

@@ -1,7 +1,7 @@
 use Rattle.std.proofs.Common.{ℕ, Vec, Bool, true, false, ◌∙◌, sym, ap, append-nil}
 use Rattle.idset.specs.Sets.{has_item}
 use Rattle.idset.proofs.Places.{filter_step}
-use Rattle.executor.specs.Steps.{lists_of, stepped}
+use Rattle.executor.specs.inside.Steps.{lists_of, stepped}
 use Rattle.executor.proofs.led.those_led_to.Goals as goal
 use Rattle.executor.proofs.led.those_led_to.Goals.{then-is_led_to+in_ok-push, else-is_led_to}
 

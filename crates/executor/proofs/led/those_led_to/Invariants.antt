@@ -1,7 +1,7 @@
 use Rattle.std.proofs.Common.{◌≡◌, take}
 use Rattle.std.specs.Prelude.{filter}
 use Rattle.idset.specs.Sets.{has_item}
-use Rattle.executor.specs.Steps.{lists_of, stepped}
+use Rattle.executor.specs.inside.Steps.{lists_of, stepped}
 use Rattle.executor.proofs.led.those_led_to.Given as goal
 
 abbrev pub invariant-loop-concept : goal.invariant-loop-concept

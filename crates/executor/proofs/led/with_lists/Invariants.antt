@@ -1,7 +1,7 @@
 use Rattle.std.proofs.Common.{◌≡◌, ◌∷◌, take}
 use Rattle.std.specs.List.{flat_map}
 use Rattle.hierarchy.specs.KeyedLists.{list_of}
-use Rattle.executor.specs.Steps.{lists_of}
+use Rattle.executor.specs.inside.Steps.{lists_of}
 use Rattle.executor.proofs.led.with_lists.Given as goal
 
 -- the concepts so far, each with its list behind it

@@ -2,8 +2,8 @@ use Rattle.std.proofs.Common.{ℕ, List, ◌<◌, ◌∙◌, get_or, take, sym, 
 use Rattle.std.proofs.lemmas.List.{take_all, take_more}
 use Rattle.idset.specs.Sets.{IsRisingBelow, all_items, has_item, numbers_where}
 use Rattle.idset.specs.Words.{is_set}
-use Rattle.executor.specs.Joined.{AreJoined}
-use Rattle.executor.specs.Steps.{lists_of}
+use Rattle.executor.specs.inside.Joined.{AreJoined}
+use Rattle.executor.specs.inside.Steps.{lists_of}
 use Rattle.executor.proofs.JoinedLemmas.{join_list, over_length, over_rising}
 use Rattle.executor.proofs.reached.near_of_all.Goals as goal
 

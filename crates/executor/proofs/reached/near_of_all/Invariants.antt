@@ -1,8 +1,8 @@
 use Rattle.std.proofs.Common.{◌≡◌, take}
 use Rattle.idset.specs.Sets.{numbers_where}
 use Rattle.idset.specs.Words.{is_set}
-use Rattle.executor.specs.Joined.{AreJoined}
-use Rattle.executor.specs.Steps.{lists_of}
+use Rattle.executor.specs.inside.Joined.{AreJoined}
+use Rattle.executor.specs.inside.Steps.{lists_of}
 use Rattle.executor.proofs.reached.near_of_all.Given as goal
 
 -- the lists of the concepts so far are there

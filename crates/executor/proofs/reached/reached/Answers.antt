@@ -3,8 +3,8 @@ use Rattle.std.specs.Prelude.{All}
 use Rattle.hierarchy.specs.KeyedLists.{list_of}
 use Rattle.idset.specs.Sets.{IsRisingBelow, all_items, has_item, numbers_where}
 use Rattle.idset.specs.Words.{is_set}
-use Rattle.executor.specs.Joined.{AreJoined, near_of, turn_of}
-use Rattle.executor.specs.Steps.{lists_of}
+use Rattle.executor.specs.inside.Joined.{AreJoined, near_of, turn_of}
+use Rattle.executor.specs.inside.Steps.{lists_of}
 use Rattle.executor.specs.declared.family.Family.{Family}
 use Rattle.pair_sets.proofs.ListLemmas.{all_below}
 use Rattle.executor.proofs.ReachedLemmas.{IsPassed, all_among, near_rises, near_there, passed_all, passed_first, passed_on, passed_over}

@@ -1,8 +1,8 @@
 use Rattle.std.proofs.Common.{◌≡◌, length, get_or}
 use Rattle.idset.specs.Sets.{numbers_where}
 use Rattle.idset.specs.Words.{is_set}
-use Rattle.executor.specs.Joined.{near_of, turn_of}
-use Rattle.executor.specs.Steps.{lists_of}
+use Rattle.executor.specs.inside.Joined.{near_of, turn_of}
+use Rattle.executor.specs.inside.Steps.{lists_of}
 use Rattle.executor.proofs.ReachedLemmas.{IsPassed}
 use Rattle.executor.proofs.reached.reached.Given as goal
 

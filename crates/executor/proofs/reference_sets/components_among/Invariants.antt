@@ -1,6 +1,6 @@
 use Rattle.std.proofs.Common.{◌≡◌, take}
 use Rattle.std.specs.Prelude.{filter}
-use Rattle.executor.specs.Members.{is_in_one_of}
+use Rattle.executor.specs.inside.Components.{is_in_one_of}
 use Rattle.executor.proofs.reference_sets.components_among.Given as goal
 
 -- the components among the concepts so far

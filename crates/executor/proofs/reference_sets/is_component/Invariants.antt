@@ -1,5 +1,5 @@
 use Rattle.std.proofs.Common.{◌≡◌, take}
-use Rattle.executor.specs.Members.{is_in_one_of}
+use Rattle.executor.specs.inside.Components.{is_in_one_of}
 use Rattle.executor.proofs.reference_sets.is_component.Given as goal
 
 -- whether it is a component of one of the reference sets so far

@@ -3,7 +3,7 @@ use Rattle.std.specs.Prelude.{All, filter}
 use Rattle.std.proofs.lemmas.Result.{IfOk-weaker}
 use Rattle.idset.specs.Sets.{IsRisingBelow}
 use Rattle.idset.proofs.Rising.{rises_within-filter}
-use Rattle.executor.specs.Members.{is_in_one_of}
+use Rattle.executor.specs.inside.Components.{is_in_one_of}
 use Rattle.executor.proofs.MemberLemmas.{members_asked}
 use Rattle.executor.proofs.reference_sets.members_among.Goals as goal
 

@@ -2,8 +2,8 @@ use Rattle.std.proofs.Common.{ℕ, List, ◌≡◌, ◌<◌, ◌++◌, ◌∷◌
 use Rattle.std.specs.Bool.{beq}
 use Rattle.std.proofs.lemmas.List.{take_all}
 use Rattle.hierarchy.specs.KeyedLists.{list_of}
-use Rattle.executor.specs.Joined.{AreJoined, is_long, with_length}
-use Rattle.executor.specs.Steps.{IsOver, lists_of}
+use Rattle.executor.specs.inside.Joined.{AreJoined, is_long, with_length}
+use Rattle.executor.specs.inside.Steps.{IsOver, lists_of}
 use Rattle.executor.proofs.JoinedLemmas.{over_length, with_length_more, with_length_same}
 use Rattle.executor.proofs.walks.add_lists.Goals as goal
 use Rattle.executor.proofs.walks.add_lists.Goals.{then-is_long-long+else-not-may_be_read+in_ok-add_list, else-is_long-long}

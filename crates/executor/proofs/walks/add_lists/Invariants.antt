@@ -1,6 +1,6 @@
 use Rattle.std.proofs.Common.{ℕ, List, ◌≡◌, ◌++◌, take}
-use Rattle.executor.specs.Joined.{AreJoined, with_length}
-use Rattle.executor.specs.Steps.{lists_of}
+use Rattle.executor.specs.inside.Joined.{AreJoined, with_length}
+use Rattle.executor.specs.inside.Steps.{lists_of}
 use Rattle.executor.proofs.walks.add_lists.Given as goal
 
 -- the lists of the concepts so far are there

@@ -4,7 +4,7 @@ use Rattle.std.specs.List.{list_any}
 use Rattle.idset.specs.Sets.{has_item, IsRisingBelow}
 use Rattle.idset.proofs.Rising.{rises_within-filter}
 use Rattle.hierarchy.specs.KeyedLists.{list_of}
-use Rattle.executor.specs.Steps.{lists_of}
+use Rattle.executor.specs.inside.Steps.{lists_of}
 use Rattle.pair_sets.proofs.ListLemmas.{all_below}
 use Rattle.executor.proofs.walks.apart.Goals as goal
 

@@ -6,8 +6,8 @@ use Rattle.std.proofs.lemmas.List.Elements.{All-filter}
 use Rattle.hierarchy.specs.KeyedLists.{list_of}
 use Rattle.idset.specs.Sets.{has_item}
 use Rattle.postings.proofs.BlockLemmas.{filter-twice, filter-within}
-use Rattle.executor.specs.Joined.{near_of}
-use Rattle.executor.specs.Steps.{IsOver, lists_of}
+use Rattle.executor.specs.inside.Joined.{near_of}
+use Rattle.executor.specs.inside.Steps.{IsOver, lists_of}
 use Rattle.executor.specs.declared.family.Family.{Family}
 use Rattle.executor.proofs.LedLemmas.{apart_near}
 use Rattle.executor.proofs.walks.kept_apart.Goals as goal

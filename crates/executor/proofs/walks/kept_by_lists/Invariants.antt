@@ -3,7 +3,7 @@ use Rattle.std.specs.Prelude.{filter}
 use Rattle.std.specs.List.{list_any}
 use Rattle.idset.specs.Sets.{has_item}
 use Rattle.hierarchy.specs.KeyedLists.{list_of}
-use Rattle.executor.specs.Steps.{lists_of}
+use Rattle.executor.specs.inside.Steps.{lists_of}
 use Rattle.executor.proofs.walks.kept_by_lists.Given as goal
 
 abbrev pub invariant-loop-concept : goal.invariant-loop-concept

@@ -6,8 +6,8 @@ use Rattle.hierarchy.specs.KeyedLists.{list_of}
 use Rattle.idset.specs.Sets.{has_item, numbers_where}
 use Rattle.idset.specs.Words.{is_set}
 use Rattle.postings.proofs.BlockLemmas.{filter-within}
-use Rattle.executor.specs.Joined.{AreJoined, back_of, is_whole}
-use Rattle.executor.specs.Steps.{IsOver, lists_of}
+use Rattle.executor.specs.inside.Joined.{AreJoined, back_of, is_whole}
+use Rattle.executor.specs.inside.Steps.{IsOver, lists_of}
 use Rattle.executor.specs.declared.family.Family.{Family}
 use Rattle.executor.proofs.LedLemmas.{asked_outside, back_is_whole}
 use Rattle.executor.proofs.walks.kept_in_room.Goals as goal

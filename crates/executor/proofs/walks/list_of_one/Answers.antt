@@ -2,7 +2,7 @@ use Rattle.std.proofs.Common.{ℕ, List, ◌∙◌, sym, subst, arith}
 use Rattle.std.proofs.lemmas.Result.{IfOk-weaker}
 use Rattle.idset.specs.Sets.{IsRisingBelow}
 use Rattle.idset.specs.Words.{AreWordsBelow}
-use Rattle.executor.specs.Steps.{lists_of}
+use Rattle.executor.specs.inside.Steps.{lists_of}
 use Rattle.executor.proofs.JoinedLemmas.{list_joined, over_length, over_rising, words_joined}
 use Rattle.executor.proofs.walks.list_of_one.Goals as goal
 

@@ -1,7 +1,7 @@
 use Rattle.std.proofs.Common.{ℕ, List, ◌∙◌, refl, sym, subst}
 use Rattle.idset.specs.Sets.{IsRisingBelow, all_items}
 use Rattle.idset.proofs.Normal.{all_items-swap}
-use Rattle.executor.specs.Steps.{joined, lists_of}
+use Rattle.executor.specs.inside.Steps.{joined, lists_of}
 use Rattle.executor.proofs.walks.listed_or_self.Goals as goal
 
 pub add_all-requires : goal.add_all-requires

@@ -2,7 +2,7 @@ use Rattle.std.proofs.Common.{ℕ, List, ◌∙◌, sym, subst}
 use Rattle.std.proofs.lemmas.Result.{IfOk-weaker}
 use Rattle.idset.specs.Sets.{IsRisingBelow, numbers_where}
 use Rattle.idset.specs.Words.{AreWordsBelow, is_set}
-use Rattle.executor.specs.Steps.{lists_of}
+use Rattle.executor.specs.inside.Steps.{lists_of}
 use Rattle.executor.proofs.JoinedLemmas.{all_joined}
 use Rattle.executor.proofs.walks.union.Goals as goal
 

@@ -1,7 +1,7 @@
 use Rattle.std.proofs.Common.{arith, sym, subst, ◌∙◌, ◌≡◌, length, nat_cmp}
 use Rattle.std.specs.BTreeMap.{get}
 use Rattle.std.proofs.lemmas.Grind.{common_steps}
-use Rattle.first_met.specs.FirstMetInside.{Finds}
+use Rattle.first_met.specs.inside.FirstMetInside.{Finds}
 use Rattle.first_met.proofs.PlaceLemmas.{behind_all, not_met}
 use Rattle.first_met.proofs.FirstMet.meet.Goals as goal
 

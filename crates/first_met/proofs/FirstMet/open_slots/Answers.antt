@@ -1,7 +1,7 @@
 use Rattle.std.proofs.Common.{arith, subst, ◌++◌, ◌≡◌, [], take, drop, length, nat_cmp}
 use Rattle.std.specs.BTreeMap.{get}
 use Rattle.std.proofs.lemmas.Grind.{common_steps}
-use Rattle.first_met.specs.FirstMetInside.{AreFirst, Finds}
+use Rattle.first_met.specs.inside.FirstMetInside.{AreFirst, Finds}
 use Rattle.first_met.proofs.SlotLemmas.{all_in_tree, each_free, opened}
 use Rattle.first_met.proofs.FirstMet.open_slots.Goals as goal
 

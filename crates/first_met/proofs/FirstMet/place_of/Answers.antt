@@ -2,7 +2,7 @@ use Rattle.std.proofs.Common.{arith, ap, ◌∙◌, ◌≡◌, nat_eq, position,
 use Rattle.std.specs.BTreeMap.{get}
 use Rattle.std.proofs.lemmas.Grind.{common_steps}
 use Rattle.std.proofs.lemmas.Option.{gets}
-use Rattle.first_met.specs.FirstMetInside.{slot}
+use Rattle.first_met.specs.inside.FirstMetInside.{slot}
 use Rattle.first_met.proofs.PlaceLemmas.{is_met}
 use Rattle.first_met.proofs.SlotLemmas.{absent, by_tree, with_no_slot}
 use Rattle.first_met.proofs.FirstMet.place_of.Goals as goal

@@ -1,7 +1,7 @@
 use Rattle.std.proofs.Common.{ℕ, get_or, arith}
 use Rattle.std.proofs.lemmas.List.{get_or_default}
 use Rattle.std.proofs.lemmas.List.Elements.{Contains-get_or}
-use Rattle.hierarchy.specs.Search.{IsFollowed, MarksReached}
+use Rattle.hierarchy.specs.inside.Search.{IsFollowed, MarksReached}
 use Rattle.hierarchy.proofs.SearchLemmas.{pass_same}
 use Rattle.hierarchy.proofs.cycle.climb_all.Goals as goal
 use Rattle.hierarchy.proofs.cycle.climb_all.Goals.{then-climb, else-climb}

@@ -1,6 +1,6 @@
 use Rattle.std.proofs.Common.{◌≤◌, ◌<◌, ℕ, slice_index_or}
 use Rattle.std.specs.Bool.{OnFalse, OnTrue}
-use Rattle.hierarchy.specs.Search.{IsFollowed, MarksReached, unmarked_count}
+use Rattle.hierarchy.specs.inside.Search.{IsFollowed, MarksReached, unmarked_count}
 use Rattle.hierarchy.proofs.cycle.climb_all.Given as goal
 
 abbrev pub invariant-loop-row : goal.invariant-loop-row

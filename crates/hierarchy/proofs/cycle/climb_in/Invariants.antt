@@ -1,4 +1,4 @@
-use Rattle.hierarchy.specs.Search.{MarksReached}
+use Rattle.hierarchy.specs.inside.Search.{MarksReached}
 use Rattle.hierarchy.proofs.cycle.climb_in.Given as goal
 
 abbrev pub invariant-loop-place : goal.invariant-loop-place

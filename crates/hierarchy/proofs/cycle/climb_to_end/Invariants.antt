@@ -1,4 +1,4 @@
-use Rattle.hierarchy.specs.Search.{MarksReached, unmarked_count}
+use Rattle.hierarchy.specs.inside.Search.{MarksReached, unmarked_count}
 use Rattle.hierarchy.proofs.cycle.climb_to_end.Given as goal
 
 abbrev pub invariant-loop : goal.invariant-loop

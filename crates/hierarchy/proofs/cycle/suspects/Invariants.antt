@@ -1,5 +1,5 @@
 use Rattle.std.proofs.Common.{◌≡◌, ◌<◌, ◌⊎◌, ℕ, false, slice_index_or, vec_len}
-use Rattle.hierarchy.specs.Search.{IsMarked, rank_in}
+use Rattle.hierarchy.specs.inside.Search.{IsMarked, rank_in}
 use Rattle.hierarchy.proofs.cycle.suspects.Given as goal
 
 abbrev pub invariant-loop-row : goal.invariant-loop-row

@@ -1,5 +1,5 @@
 use Rattle.std.proofs.Common.{ℕ, ◌≡◌, ◌++◌, List, take}
-use Rattle.hierarchy.specs.Released.{IsReleased}
+use Rattle.hierarchy.specs.inside.Released.{IsReleased}
 use Rattle.hierarchy.proofs.order.release.Given as goal
 
 abbrev pub invariant-loop-child : goal.invariant-loop-child

@@ -1,5 +1,5 @@
 use Rattle.std.proofs.Common.{ℕ, subst, arith}
-use Rattle.hierarchy.specs.Released.{AreRoots}
+use Rattle.hierarchy.specs.inside.Released.{AreRoots}
 use Rattle.hierarchy.proofs.OrderLemmas.{roots_none, roots_one, roots_other}
 use Rattle.hierarchy.proofs.order.roots.Goals as goal
 use Rattle.hierarchy.proofs.order.roots.Goals.{then-left-eq0+in_ok-push, else-left-eq0}

@@ -1,4 +1,4 @@
-use Rattle.hierarchy.specs.Released.{AreRoots}
+use Rattle.hierarchy.specs.inside.Released.{AreRoots}
 use Rattle.hierarchy.proofs.order.roots.Given as goal
 
 abbrev pub invariant-loop-concept : goal.invariant-loop-concept

@@ -1,5 +1,5 @@
 use Rattle.std.proofs.Common.{◌∙◌, ◌^◌, ap, sym}
-use Rattle.idset.specs.MixedForm.{form_items}
+use Rattle.idset.specs.inside.MixedForm.{form_items}
 use Rattle.idset.specs.Sets.{common_items, numbers_where}
 use Rattle.idset.specs.Words.{is_set}
 use Rattle.idset.proofs.Rising.{common_items-swap, rising_fits}

@@ -1,5 +1,5 @@
 use Rattle.std.proofs.Common.{◌∙◌, ap, sym}
-use Rattle.idset.specs.MixedForm.{form_bound, form_items}
+use Rattle.idset.specs.inside.MixedForm.{form_bound, form_items}
 use Rattle.idset.specs.Sets.{all_items}
 use Rattle.idset.proofs.Normal.{all_items-swap}
 use Rattle.idset.proofs.mixed_set.or_few.Goals as goal

@@ -3,10 +3,10 @@ use Rattle.std.specs.Prelude.{count_by}
 use Rattle.std.proofs.lemmas.List.{get_or_default, take_all}
 use Rattle.std.proofs.lemmas.List.Sums.{count_by_more_no, count_by_more_yes}
 use Rattle.rf2_rows.specs.Release.{Value}
-use Rattle.postings.specs.Columns.{AreSources, AreTypes, Mark}
+use Rattle.postings.specs.Columns.{AreSources, AreTypes, Flagged}
 use Rattle.postings.specs.Entries.{Entry}
 use Rattle.postings.specs.Indexed.{types_of}
-use Rattle.pair_sets.specs.Hits.{has_source_in, is_type_in, value_of}
+use Rattle.pair_sets.specs.inside.Hits.{has_source_in, is_type_in, value_of}
 use Rattle.pair_sets.specs.Tested.{is_one_of, passes_of}
 use Rattle.pair_sets.proofs.HitLemmas.{a_mark, an_entry, back_told, sources_long}
 use Rattle.pair_sets.proofs.TypeLemmas.{type_tells}
@@ -23,7 +23,7 @@ loop-place-preserved g c =
     let k = c.loop-place.place in
     let here : c.index-sources-place.result ≡ get_or marks k a_mark =
     c.index-sources-place.is ∙ get_or_default marks k c.index-sources-place.result a_mark c.loop-place-test.true in
-    let told : Mark → Bool =
+    let told : Flagged → Bool =
     λ mark. mark.is_first && (is_type_in indexed items (get_or c.args.cells.now k 0) && passes (value_of indexed mark.number)) in
     let counted : told (get_or marks k a_mark) ≡ c.counts_back.result = ap told (sym here) ∙ sym c.counts_back.ensures in
     let test : Entry → Bool = λ entry. entry.is_first && has_source_in one passes entry.row in

@@ -5,7 +5,7 @@ use Rattle.std.proofs.lemmas.List.Elements.{All-append}
 use Rattle.std.proofs.lemmas.List.Elements.{filter_more}
 use Rattle.rf2_rows.specs.Release.{Value}
 use Rattle.constraint_tree.specs.Passing.{lies_in}
-use Rattle.pair_sets.specs.Among.{pairs_of_concept}
+use Rattle.pair_sets.specs.inside.Among.{pairs_of_concept}
 use Rattle.pair_sets.proofs.TimesLemmas.{one_below}
 use Rattle.pair_sets.specs.Tested.{is_one_of, passes_of}
 use Rattle.pair_sets.proofs.among.concepts_among.Goals as goal

@@ -6,7 +6,7 @@ use Rattle.std.proofs.lemmas.List.Elements.{filter_more}
 use Rattle.rf2_rows.specs.Release.{Value}
 use Rattle.constraint_tree.specs.Passing.{lies_in}
 use Rattle.postings.specs.Groups.{groups_in}
-use Rattle.pair_sets.specs.Among.{pairs_among, rows_of_unit}
+use Rattle.pair_sets.specs.inside.Among.{pairs_among, rows_of_unit}
 use Rattle.pair_sets.proofs.AmongLemmas.{unit_below, unit_told}
 use Rattle.pair_sets.proofs.TimesLemmas.{one_below}
 use Rattle.pair_sets.specs.Tested.{is_one_of, passes_of}

@@ -2,7 +2,7 @@ use Rattle.std.proofs.Common.{true, ◌≡◌, ◌<◌, All, length, take}
 use Rattle.std.specs.Prelude.{filter, slice_get}
 use Rattle.constraint_tree.specs.Passing.{lies_in}
 use Rattle.postings.specs.Groups.{groups_in}
-use Rattle.pair_sets.specs.Among.{pairs_among, rows_of_unit}
+use Rattle.pair_sets.specs.inside.Among.{pairs_among, rows_of_unit}
 use Rattle.pair_sets.specs.Tested.{is_one_of, passes_of}
 use Rattle.pair_sets.proofs.among.groups_among.Given as goal
 

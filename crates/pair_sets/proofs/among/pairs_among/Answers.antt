@@ -4,8 +4,8 @@ use Rattle.std.proofs.lemmas.List.{take_all}
 use Rattle.std.proofs.lemmas.List.Sums.{count_by_more_no, count_by_more_yes}
 use Rattle.rf2_rows.specs.Release.{Value}
 use Rattle.postings.specs.Entries.{entries_of}
-use Rattle.pair_sets.specs.Among.{at_entry, pair_counts, pairs_among}
-use Rattle.pair_sets.specs.Hits.{is_type_in}
+use Rattle.pair_sets.specs.inside.Among.{at_entry, pair_counts, pairs_among}
+use Rattle.pair_sets.specs.inside.Hits.{is_type_in}
 use Rattle.pair_sets.specs.Tested.{is_one_of, passes_of}
 use Rattle.pair_sets.proofs.AmongLemmas.{row_counts}
 use Rattle.pair_sets.proofs.TypeLemmas.{type_tells}

@@ -1,5 +1,5 @@
 use Rattle.std.proofs.Common.{◌≡◌, ◌≤◌, take}
-use Rattle.pair_sets.specs.Among.{pairs_among}
+use Rattle.pair_sets.specs.inside.Among.{pairs_among}
 use Rattle.pair_sets.specs.Tested.{is_one_of, passes_of}
 use Rattle.pair_sets.proofs.among.pairs_among.Given as goal
 

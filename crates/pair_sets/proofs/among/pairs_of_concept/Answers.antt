@@ -3,7 +3,7 @@ use Rattle.std.specs.Prelude.{false}
 use Rattle.rf2_rows.specs.Release.{Attribute, Value}
 use Rattle.postings.specs.Entries.{entries_with_value}
 use Rattle.postings.proofs.PlaceLemmas.{places_where-within}
-use Rattle.pair_sets.specs.Among.{pairs_among, pairs_of_concept}
+use Rattle.pair_sets.specs.inside.Among.{pairs_among, pairs_of_concept}
 use Rattle.pair_sets.specs.Tested.{is_one_of, passes_of}
 use Rattle.pair_sets.proofs.among.pairs_of_concept.Goals as goal
 

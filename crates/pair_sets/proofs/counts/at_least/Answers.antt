@@ -4,7 +4,7 @@ use Rattle.std.proofs.lemmas.Bool.{le-leb}
 use Rattle.std.proofs.lemmas.Result.{IfOk-weaker}
 use Rattle.idset.proofs.Normal.{numbers_where-agree, numbers_where-all}
 use Rattle.idset.specs.Sets.{has_item, numbers_where}
-use Rattle.pair_sets.specs.Counted.{times}
+use Rattle.pair_sets.specs.inside.Counted.{times}
 use Rattle.pair_sets.proofs.TimesLemmas.{beyond, has_times}
 use Rattle.pair_sets.proofs.counts.at_least.Goals as goal
 

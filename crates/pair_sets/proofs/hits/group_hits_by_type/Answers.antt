@@ -4,7 +4,7 @@ use Rattle.std.proofs.lemmas.Result.{IfOk-weaker}
 use Rattle.postings.specs.Entries.{Entry}
 use Rattle.postings.specs.Groups.{groups_in}
 use Rattle.rf2_rows.specs.Release.{Value}
-use Rattle.pair_sets.specs.Hits.{is_in_some}
+use Rattle.pair_sets.specs.inside.Hits.{is_in_some}
 use Rattle.pair_sets.specs.Tested.{passes_of}
 use Rattle.pair_sets.proofs.ChoiceLemmas.{of_types}
 use Rattle.pair_sets.proofs.hits.group_hits_by_type.Goals as goal

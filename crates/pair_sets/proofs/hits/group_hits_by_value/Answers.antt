@@ -3,7 +3,7 @@ use Rattle.std.specs.Prelude.{slice_get}
 use Rattle.std.proofs.lemmas.Result.{IfOk-weaker}
 use Rattle.postings.specs.Entries.{Entry}
 use Rattle.postings.specs.Groups.{groups_in}
-use Rattle.pair_sets.specs.Hits.{is_in_some}
+use Rattle.pair_sets.specs.inside.Hits.{is_in_some}
 use Rattle.pair_sets.specs.Tested.{is_one_of}
 use Rattle.pair_sets.proofs.ChoiceLemmas.{of_values}
 use Rattle.pair_sets.proofs.ListLemmas.{all_below}

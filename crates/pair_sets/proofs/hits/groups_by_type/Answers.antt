@@ -3,7 +3,7 @@ use Rattle.std.proofs.lemmas.List.{take_all}
 use Rattle.postings.specs.Groups.{groups_in}
 use Rattle.postings.specs.Entries.{entries_with_type}
 use Rattle.rf2_rows.specs.Release.{Value}
-use Rattle.pair_sets.specs.Hits.{AreHits, value_of, counts_for_group, entries_with_types}
+use Rattle.pair_sets.specs.inside.Hits.{AreHits, value_of, counts_for_group, entries_with_types}
 use Rattle.pair_sets.specs.Tested.{passes_of}
 use Rattle.pair_sets.proofs.HitLemmas.{group_marks_below, marks_below, pushed_below, grouped_hits, hits_pushed, no_hits, values_long, values_told}
 use Rattle.pair_sets.proofs.hits.groups_by_type.Goals as goal

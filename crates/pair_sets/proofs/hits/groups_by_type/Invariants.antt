@@ -1,6 +1,6 @@
 use Rattle.std.proofs.Common.{◌<◌, All, length, take}
 use Rattle.postings.specs.Groups.{groups_in}
-use Rattle.pair_sets.specs.Hits.{AreHits, counts_for_group, entries_with_types}
+use Rattle.pair_sets.specs.inside.Hits.{AreHits, counts_for_group, entries_with_types}
 use Rattle.pair_sets.specs.Tested.{passes_of}
 use Rattle.pair_sets.proofs.hits.groups_by_type.Given as goal
 

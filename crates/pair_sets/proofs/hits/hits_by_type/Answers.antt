@@ -3,7 +3,7 @@ use Rattle.std.proofs.lemmas.Result.{IfOk-weaker}
 use Rattle.rf2_rows.specs.Pairs.{value_eq}
 use Rattle.rf2_rows.specs.Release.{Value, concept_value}
 use Rattle.postings.specs.Entries.{Entry, entries_of}
-use Rattle.pair_sets.specs.Hits.{AreHits, counts_for_concept}
+use Rattle.pair_sets.specs.inside.Hits.{AreHits, counts_for_concept}
 use Rattle.pair_sets.specs.Tested.{passes_of}
 use Rattle.pair_sets.proofs.ChoiceLemmas.{of_types}
 use Rattle.pair_sets.proofs.hits.hits_by_type.Goals as goal

@@ -4,7 +4,7 @@ use Rattle.rf2_rows.specs.Pairs.{value_eq}
 use Rattle.rf2_rows.specs.Release.{concept_value}
 use Rattle.constraint_tree.specs.Passing.{is_within}
 use Rattle.postings.specs.Entries.{Entry, entries_of}
-use Rattle.pair_sets.specs.Hits.{AreHits, counts_for_concept}
+use Rattle.pair_sets.specs.inside.Hits.{AreHits, counts_for_concept}
 use Rattle.pair_sets.specs.Tested.{is_one_of}
 use Rattle.pair_sets.proofs.ChoiceLemmas.{of_sources, of_values}
 use Rattle.pair_sets.proofs.ListLemmas.{all_below}

@@ -1,7 +1,7 @@
 use Rattle.std.proofs.Common.{ℕ, Vec, Bool, List, ◌≡◌, ◌∙◌, ◌++◌, ◌∷◌, ◌+◌, [], ◌&&◌, cond, get_or, true, false, take, sym, ap, append-nil, arith, length, ltb}
 use Rattle.std.proofs.lemmas.List.{take_all}
-use Rattle.postings.specs.Columns.{Mark}
-use Rattle.pair_sets.specs.Hits.{value_of, picked}
+use Rattle.postings.specs.Columns.{Flagged}
+use Rattle.pair_sets.specs.inside.Hits.{value_of, picked}
 use Rattle.pair_sets.specs.Tested.{passes_of}
 use Rattle.pair_sets.proofs.HitLemmas.{picked_next}
 use Rattle.pair_sets.proofs.hits.push_cells.Goals as goal
@@ -16,11 +16,11 @@ loop-place-preserved g c =
     let marks = c.args.marks.now in
     let cells = c.args.cells.now in
     let k = c.loop-place.place in
-    let mark : Mark = c.index-marks-place.result in
-    let kept : Mark → ℕ → Bool = λ mark cell. ltb cell (length indexed.concepts) && (mark.is_first && passes_of g.S.ConceptSet.items_of indexed.concepts c.args.tested.now (value_of indexed mark.number)) in
-    let number : Mark → ℕ → ℕ = λ mark cell. cell in
+    let mark : Flagged = c.index-marks-place.result in
+    let kept : Flagged → ℕ → Bool = λ mark cell. ltb cell (length indexed.concepts) && (mark.is_first && passes_of g.S.ConceptSet.items_of indexed.concepts c.args.tested.now (value_of indexed mark.number)) in
+    let number : Flagged → ℕ → ℕ = λ mark cell. cell in
     let here : kept (get_or marks k mark) (get_or cells k 0) ≡ c.has_passing_source.result =
-    ap (λ (m : Mark). kept m (get_or cells k 0)) (sym c.index-marks-place.is) ∙ sym c.has_passing_source.ensures in
+    ap (λ (m : Flagged). kept m (get_or cells k 0)) (sym c.index-marks-place.is) ∙ sym c.has_passing_source.ensures in
     let next : (keep : Bool) → c.has_passing_source.result ≡ keep → (pushed : List ℕ)
     → pushed ≡ c.loop-place.hits.items ++ cond keep (number (get_or marks k mark) (get_or cells k 0) ∷ []) []
     → pushed ≡ c.args.hits.now.items ++ picked kept number (take (k + 1) marks) (take (k + 1) cells) =

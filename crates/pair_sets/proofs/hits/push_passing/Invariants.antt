@@ -1,5 +1,5 @@
 use Rattle.std.proofs.Common.{◌≡◌, ◌++◌, ◌&&◌, take}
-use Rattle.pair_sets.specs.Hits.{value_of, picked}
+use Rattle.pair_sets.specs.inside.Hits.{value_of, picked}
 use Rattle.pair_sets.specs.Tested.{passes_of}
 use Rattle.pair_sets.proofs.hits.push_passing.Given as goal
 

@@ -1,7 +1,7 @@
 use Rattle.std.proofs.Common.{ℕ, Vec, Bool, List, ◌≡◌, ◌∙◌, ◌++◌, ◌∷◌, ◌+◌, [], ◌&&◌, cond, get_or, true, false, take, sym, ap, append-nil, arith}
 use Rattle.std.proofs.lemmas.List.{take_all}
-use Rattle.postings.specs.Columns.{Mark}
-use Rattle.pair_sets.specs.Hits.{is_type_in, picked}
+use Rattle.postings.specs.Columns.{Flagged}
+use Rattle.pair_sets.specs.inside.Hits.{is_type_in, picked}
 use Rattle.pair_sets.proofs.HitLemmas.{picked_next}
 use Rattle.pair_sets.proofs.hits.push_typed.Goals as goal
 use Rattle.pair_sets.proofs.hits.push_typed.Goals.{then-has_type+in_ok-push, else-has_type}
@@ -15,11 +15,11 @@ loop-place-preserved g c =
     let marks = c.args.marks.now in
     let cells = c.args.cells.now in
     let k = c.loop-place.place in
-    let mark : Mark = c.index-marks-place.result in
-    let kept : Mark → ℕ → Bool = λ mark cell. mark.is_first && is_type_in indexed (g.S.ConceptSet.items_of c.args.types.now) cell in
-    let number : Mark → ℕ → ℕ = λ mark cell. mark.number in
+    let mark : Flagged = c.index-marks-place.result in
+    let kept : Flagged → ℕ → Bool = λ mark cell. mark.is_first && is_type_in indexed (g.S.ConceptSet.items_of c.args.types.now) cell in
+    let number : Flagged → ℕ → ℕ = λ mark cell. mark.number in
     let here : kept (get_or marks k mark) (get_or cells k 0) ≡ c.has_type.result =
-    ap (λ (m : Mark). kept m (get_or cells k 0)) (sym c.index-marks-place.is) ∙ sym c.has_type.ensures in
+    ap (λ (m : Flagged). kept m (get_or cells k 0)) (sym c.index-marks-place.is) ∙ sym c.has_type.ensures in
     let next : (keep : Bool) → c.has_type.result ≡ keep → (pushed : List ℕ)
     → pushed ≡ c.loop-place.hits.items ++ cond keep (number (get_or marks k mark) (get_or cells k 0) ∷ []) []
     → pushed ≡ c.args.hits.now.items ++ picked kept number (take (k + 1) marks) (take (k + 1) cells) =
@@ -31,7 +31,7 @@ loop-place-preserved g c =
           ap (λ (hits : Vec ℕ _). hits.items) w.hits-is
           ∙ next true w.if-has_type.true _
           (w.in_ok-push.ensures.items ∙ (λ i. c.loop-place.hits.items
-          ++ (w.number.ensures.number ∙ ap (λ (m : Mark). m.number) c.index-marks-place.is) i ∷ []))
+          ++ (w.number.ensures.number ∙ ap (λ (m : Flagged). m.number) c.index-marks-place.is) i ∷ []))
       | else-has_type w ↦
           ap (λ (hits : Vec ℕ _). hits.items) w.hits-is
           ∙ next false w.if-has_type.false c.loop-place.hits.items (sym (append-nil c.loop-place.hits.items))

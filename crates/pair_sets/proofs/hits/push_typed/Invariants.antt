@@ -1,5 +1,5 @@
 use Rattle.std.proofs.Common.{◌≡◌, ◌++◌, ◌&&◌, take}
-use Rattle.pair_sets.specs.Hits.{is_type_in, picked}
+use Rattle.pair_sets.specs.inside.Hits.{is_type_in, picked}
 use Rattle.pair_sets.proofs.hits.push_typed.Given as goal
 
 -- those of the places so far

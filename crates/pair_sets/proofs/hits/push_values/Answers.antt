@@ -3,8 +3,8 @@ use Rattle.std.specs.Prelude.{count_by}
 use Rattle.std.proofs.lemmas.Bool.{and_parts, ltb-true}
 use Rattle.std.proofs.lemmas.List.{take_all}
 use Rattle.std.proofs.lemmas.List.Elements.{All-append}
-use Rattle.pair_sets.specs.Counted.{times}
-use Rattle.pair_sets.specs.Hits.{is_type_in}
+use Rattle.pair_sets.specs.inside.Counted.{times}
+use Rattle.pair_sets.specs.inside.Hits.{is_type_in}
 use Rattle.pair_sets.specs.Tested.{is_one_of}
 use Rattle.pair_sets.proofs.BackLemmas.{cells_tell, counts_at, none_pushed, pushed_more}
 use Rattle.pair_sets.proofs.TimesLemmas.{one_below}

@@ -1,9 +1,9 @@
 use Rattle.std.proofs.Common.{ℕ, ◌≡◌, ◌<◌, ◌+◌, All, length, take}
 use Rattle.std.specs.Prelude.{count_by, slice_get}
 use Rattle.postings.specs.Entries.{entries_of}
-use Rattle.pair_sets.specs.Among.{at_entry}
-use Rattle.pair_sets.specs.Counted.{times}
-use Rattle.pair_sets.specs.Hits.{counts_for_value}
+use Rattle.pair_sets.specs.inside.Among.{at_entry}
+use Rattle.pair_sets.specs.inside.Counted.{times}
+use Rattle.pair_sets.specs.inside.Hits.{counts_for_value}
 use Rattle.pair_sets.specs.Tested.{is_one_of}
 use Rattle.pair_sets.proofs.hits.push_values.Given as goal
 

@@ -2,7 +2,7 @@ use Rattle.std.proofs.Common.{ℕ, Bool, ◌<◌, All, List, [], length, sym, su
 use Rattle.std.proofs.lemmas.List.{take_all}
 use Rattle.postings.specs.Entries.{entries_with_type}
 use Rattle.rf2_rows.specs.Release.{Value}
-use Rattle.pair_sets.specs.Hits.{AreHits, value_of, counts_for_source, entries_with_types}
+use Rattle.pair_sets.specs.inside.Hits.{AreHits, value_of, counts_for_source, entries_with_types}
 use Rattle.pair_sets.specs.Tested.{passes_of}
 use Rattle.pair_sets.proofs.HitLemmas.{marks_below, pushed_below, hits_pushed, no_hits, source_hits, values_long, values_told}
 use Rattle.pair_sets.proofs.hits.sources_by_type.Goals as goal

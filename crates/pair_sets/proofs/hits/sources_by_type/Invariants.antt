@@ -1,5 +1,5 @@
 use Rattle.std.proofs.Common.{◌<◌, All, length, take}
-use Rattle.pair_sets.specs.Hits.{AreHits, counts_for_source, entries_with_types}
+use Rattle.pair_sets.specs.inside.Hits.{AreHits, counts_for_source, entries_with_types}
 use Rattle.pair_sets.specs.Tested.{passes_of}
 use Rattle.pair_sets.proofs.hits.sources_by_type.Given as goal
 

@@ -2,7 +2,7 @@ use Rattle.std.proofs.Common.{ℕ, Bool, ◌<◌, All, List, [], length, sym, su
 use Rattle.std.specs.Prelude.{slice_index}
 use Rattle.std.proofs.lemmas.List.{take_all}
 use Rattle.postings.specs.Entries.{entries_with_value}
-use Rattle.pair_sets.specs.Hits.{AreHits, is_type_in, counts_for_source, entries_with_values}
+use Rattle.pair_sets.specs.inside.Hits.{AreHits, is_type_in, counts_for_source, entries_with_values}
 use Rattle.pair_sets.specs.Tested.{is_one_of}
 use Rattle.pair_sets.proofs.HitLemmas.{marks_below, pushed_below, hits_pushed, no_hits, source_hits, types_long, types_told}
 use Rattle.pair_sets.proofs.TypeLemmas.{type_tells}

@@ -4,9 +4,9 @@ use Rattle.std.proofs.lemmas.List.{take_all}
 use Rattle.rf2_rows.specs.Release.{Attribute}
 use Rattle.postings.specs.Entries.{entries_of, entries_where}
 use Rattle.postings.proofs.PlaceLemmas.{places_where-within}
-use Rattle.pair_sets.specs.Among.{at_entry}
-use Rattle.pair_sets.specs.Counted.{times}
-use Rattle.pair_sets.specs.Hits.{AreHits, counts_for_value, entries_with_sources}
+use Rattle.pair_sets.specs.inside.Among.{at_entry}
+use Rattle.pair_sets.specs.inside.Counted.{times}
+use Rattle.pair_sets.specs.inside.Hits.{AreHits, counts_for_value, entries_with_sources}
 use Rattle.pair_sets.proofs.BackLemmas.{source_counted}
 use Rattle.pair_sets.specs.Tested.{is_one_of}
 use Rattle.pair_sets.proofs.HitLemmas.{hits_counted, no_hits}

@@ -1,6 +1,6 @@
 use Rattle.std.proofs.Common.{◌<◌, All, length, take}
 use Rattle.rf2_rows.specs.Release.{concept_value}
-use Rattle.pair_sets.specs.Hits.{AreHits, counts_for_value, entries_with_types}
+use Rattle.pair_sets.specs.inside.Hits.{AreHits, counts_for_value, entries_with_types}
 use Rattle.pair_sets.specs.Tested.{passes_of}
 use Rattle.pair_sets.proofs.hits.values_by_type.Given as goal
 

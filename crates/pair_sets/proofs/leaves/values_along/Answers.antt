@@ -5,7 +5,7 @@ use Rattle.postings.specs.Indexed.{types_of}
 use Rattle.pair_sets.specs.declared.choice.ValuesWay.{ValuesWay}
 use Rattle.pair_sets.specs.Numbers.{numbers_in}
 use Rattle.pair_sets.specs.Tested.{is_one_of}
-use Rattle.pair_sets.specs.Ways.{IsValuesWay}
+use Rattle.pair_sets.specs.inside.Ways.{IsValuesWay}
 use Rattle.pair_sets.proofs.leaves.values_along.Goals as goal
 
 -- the sources that are read are all of the set

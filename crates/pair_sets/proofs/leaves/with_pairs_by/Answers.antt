@@ -5,7 +5,7 @@ use Rattle.set_algebra.specs.Meaning.{has_pairs, pairs_of}
 use Rattle.pair_sets.specs.Numbers.{numbers_in}
 use Rattle.pair_sets.specs.Tested.{is_one_of, passes_of}
 use Rattle.postings.specs.Indexed.{types_of}
-use Rattle.pair_sets.specs.Ways.{HasTypes, passes_by}
+use Rattle.pair_sets.specs.inside.Ways.{HasTypes, passes_by}
 use Rattle.pair_sets.specs.Within.{may_be, numbers_within}
 use Rattle.pair_sets.specs.declared.ways.Way.{Way}
 use Rattle.pair_sets.proofs.WithinLemmas.{kept_set}

@@ -1,6 +1,6 @@
 use Rattle.std.proofs.Common.{ℕ, ℤ, List, ◌≡◌, ◌<◌, ◌+◌, ◌-◌, ◌∙◌, get_or, length, pos, ap, subst, arith}
 use Rattle.constraint_tree.specs.Passing.{is_number_that}
-use Rattle.pair_sets.specs.Hits.{value_of}
+use Rattle.pair_sets.specs.inside.Hits.{value_of}
 use Rattle.pair_sets.specs.Tested.{meets}
 use Rattle.pair_sets.proofs.PassingLemmas.{concept_fails, decimal_told, past_decimals}
 use Rattle.pair_sets.proofs.passing.is_number.Goals as goal

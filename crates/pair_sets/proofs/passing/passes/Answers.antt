@@ -3,7 +3,7 @@ use Rattle.std.specs.Prelude.{All}
 use Rattle.std.proofs.lemmas.Bool.{le-ltb, lt-ltb}
 use Rattle.pair_sets.specs.declared.tested.Tested.{Tested}
 use Rattle.idset.specs.Sets.{has_item}
-use Rattle.pair_sets.specs.Hits.{value_of}
+use Rattle.pair_sets.specs.inside.Hits.{value_of}
 use Rattle.pair_sets.specs.Tested.{IsTestBelow, passes_of}
 use Rattle.pair_sets.proofs.ListLemmas.{all_below}
 use Rattle.pair_sets.proofs.PassingLemmas.{outside_told, within_told}

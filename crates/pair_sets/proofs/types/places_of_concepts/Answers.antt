@@ -4,7 +4,7 @@ use Rattle.std.proofs.lemmas.List.{take_all}
 use Rattle.std.proofs.lemmas.List.Elements.{All-append, All-nil}
 use Rattle.idset.specs.Sets.{has_item}
 use Rattle.postings.specs.Indexed.{types_of}
-use Rattle.pair_sets.specs.Hits.{ArePlacesOf}
+use Rattle.pair_sets.specs.inside.Hits.{ArePlacesOf}
 use Rattle.pair_sets.proofs.TimesLemmas.{one_below}
 use Rattle.pair_sets.proofs.TypeLemmas.{place_below, places_more_of}
 use Rattle.pair_sets.proofs.types.places_of_concepts.Goals as goal

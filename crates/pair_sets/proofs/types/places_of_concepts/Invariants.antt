@@ -1,5 +1,5 @@
 use Rattle.std.proofs.Common.{take}
-use Rattle.pair_sets.specs.Hits.{ArePlacesOf}
+use Rattle.pair_sets.specs.inside.Hits.{ArePlacesOf}
 use Rattle.pair_sets.proofs.types.places_of_concepts.Given as goal
 
 -- those of the concepts so far

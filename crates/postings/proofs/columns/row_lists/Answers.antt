@@ -1,6 +1,6 @@
 use Rattle.std.proofs.Common.{ℕ, ◌≡◌, ◌<◌, ◌∙◌, List, All, length, map, slice_index_or, sym, ap, subst}
 use Rattle.std.specs.List.{concat}
-use Rattle.postings.specs.Cells.{IsColumn}
+use Rattle.postings.specs.inside.Cells.{IsColumn}
 use Rattle.postings.specs.Places.{places_by}
 use Rattle.postings.proofs.ColumnLemmas.{places_by-within}
 use Rattle.postings.proofs.columns.row_lists.Goals as goal

@@ -4,7 +4,7 @@ use Rattle.std.specs.Prelude.{All}
 use Rattle.std.proofs.lemmas.List.{length-map}
 use Rattle.hierarchy.specs.KeyedLists.{list_of}
 use Rattle.snapshot.proofs.SortedLemmas.{flat_map-more}
-use Rattle.postings.specs.Coded.{group_codes, group_marks, groups_ahead, of_source, source_marks}
+use Rattle.postings.specs.inside.Coded.{group_codes, group_marks, groups_ahead, of_source, source_marks}
 use Rattle.postings.specs.declared.rows.CodedRow.{CodedRow}
 use Rattle.postings.proofs.PlaceLemmas.{list_of-places_by-within, rows_of_source}
 use Rattle.postings.proofs.SourceLemmas.{groups_ahead-more, of_source-own, rows_left, starts_more}

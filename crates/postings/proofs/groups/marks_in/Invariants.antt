@@ -1,5 +1,5 @@
 use Rattle.std.proofs.Common.{◌≡◌}
-use Rattle.postings.specs.Coded.{AreRowMarks, groups_ahead}
+use Rattle.postings.specs.inside.Coded.{AreRowMarks, groups_ahead}
 use Rattle.postings.proofs.groups.marks_in.Given as goal
 
 abbrev pub invariant-loop-source : goal.invariant-loop-source

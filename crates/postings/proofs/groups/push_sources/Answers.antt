@@ -4,9 +4,9 @@ use Rattle.std.proofs.lemmas.Cmp.{nat_eq_equiv}
 use Rattle.std.proofs.lemmas.List.{take_all}
 use Rattle.std.proofs.lemmas.List.Elements.{All-more}
 use Rattle.first_met.specs.FirstMet.{keys_behind}
-use Rattle.postings.specs.Coded.{has_same_pair, pair_code, source_marks}
-use Rattle.postings.specs.Columns.{Mark}
-use Rattle.postings.specs.PairKeys.{IsShort, pair_key}
+use Rattle.postings.specs.inside.Coded.{has_same_pair, pair_code, source_marks}
+use Rattle.postings.specs.Columns.{Flagged}
+use Rattle.postings.specs.inside.PairKeys.{IsShort, pair_key}
 use Rattle.postings.specs.declared.rows.CodedRow.{CodedRow}
 use Rattle.postings.proofs.DistinctLemmas.{distinct-map_more}
 use Rattle.postings.proofs.MarkLemmas.{marks_more}
@@ -20,8 +20,8 @@ loop-row-preserved c =
     let within = c.loop-row-test.true in
     let none : CodedRow = record { source = 0; type_place = 0; group = 0; value = 0 } in
     let row : CodedRow = get_or rows at none in
-    let before : List Mark = c.args.sources.now.items in
-    let mark : Mark = c.new.result in
+    let before : List Flagged = c.args.sources.now.items in
+    let mark : Flagged = c.new.result in
     let pushed : c.push.new.self.items ≡ c.loop-row.sources.items ++ mark ∷ [] = c.in_ok-push.ensures.items in
     record {
       short = All-more (λ (row : CodedRow). IsShort (pair_code row)) rows at none within c.loop-row.invariant.short

@@ -1,6 +1,6 @@
 use Rattle.std.proofs.Common.{◌≡◌, ◌++◌, take}
-use Rattle.postings.specs.Coded.{source_marks}
-use Rattle.postings.specs.PairKeys.{pair_keys}
+use Rattle.postings.specs.inside.Coded.{source_marks}
+use Rattle.postings.specs.inside.PairKeys.{pair_keys}
 use Rattle.postings.proofs.PairKeyLemmas.{HaveShort}
 use Rattle.postings.proofs.groups.push_sources.Given as goal
 

@@ -1,7 +1,7 @@
 use Rattle.std.proofs.Common.{ℕ, Vec, ◌∙◌, ◌++◌, ◌∷◌, [], cond, get_or, sym, ap, append-nil, arith}
 use Rattle.std.proofs.lemmas.Bool.{le-ltb, lt-ltb}
 use Rattle.std.proofs.lemmas.List.{take_all}
-use Rattle.postings.specs.KeyedPlaces.{keyed_places}
+use Rattle.postings.specs.inside.KeyedPlaces.{keyed_places}
 use Rattle.postings.proofs.KeyedPlacesLemmas.{keyed_places-more}
 use Rattle.postings.proofs.lists.key_places.Goals as goal
 use Rattle.postings.proofs.lists.key_places.Goals.{then-key-count+in_ok-push, else-key-count}

@@ -1,6 +1,6 @@
 -- The pairs of the keys so far.
 use Rattle.std.proofs.Common.{◌≡◌, take}
-use Rattle.postings.specs.KeyedPlaces.{keyed_places}
+use Rattle.postings.specs.inside.KeyedPlaces.{keyed_places}
 use Rattle.postings.proofs.lists.key_places.Given as goal
 
 abbrev pub invariant-loop-place : goal.invariant-loop-place

@@ -1,5 +1,5 @@
 use Rattle.std.proofs.Common.{ℕ, ◌≡◌, ◌∙◌, List, length, map, sym, ap, subst, arith}
-use Rattle.postings.specs.Coded.{AreRowMarks, IsBySource}
+use Rattle.postings.specs.inside.Coded.{AreRowMarks, IsBySource}
 use Rattle.postings.specs.Places.{places_by}
 use Rattle.postings.specs.declared.rows.CodedRow.{CodedRow}
 use Rattle.postings.proofs.PlaceLemmas.{length-places_by}

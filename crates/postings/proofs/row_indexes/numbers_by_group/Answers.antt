@@ -1,5 +1,5 @@
 use Rattle.std.proofs.Common.{ℕ, ◌+◌, ◌≡◌, ◌∙◌, get_or, set, sym, ap, subst, arith}
-use Rattle.postings.specs.Columns.{Mark}
+use Rattle.postings.specs.Columns.{Flagged}
 use Rattle.postings.specs.declared.rows.CodedRow.{CodedRow}
 use Rattle.postings.proofs.KeptLemmas.{AreNumbered, numbered_more}
 use Rattle.postings.proofs.row_indexes.numbers_by_group.Goals as goal
@@ -12,10 +12,10 @@ loop-place-preserved c =
     let marks = c.args.marks.now in
     let rows = c.args.rows.now in
     let at = c.loop-place.place in
-    let some : Mark = c.index-marks-place.result in
+    let some : Flagged = c.index-marks-place.result in
     let none : CodedRow = record { source = 0; type_place = 0; group = 0; value = 0 } in
     let unit : (get_or marks at some).number ≡ c.number.result =
-    sym (c.number.ensures.number ∙ ap (λ (mark : Mark). mark.number) c.index-marks-place.is) in
+    sym (c.number.ensures.number ∙ ap (λ (mark : Flagged). mark.number) c.index-marks-place.is) in
     record {
       len = c.loop-place.invariant.len;
       numbers = subst (λ (unit : ℕ). AreNumbered marks rows (at + 1) (set c.loop-place.numbers.items unit (get_or rows at none).group)) unit

@@ -3,13 +3,13 @@ use Rattle.std.specs.Prelude.{All, slice_get, slice_index}
 use Rattle.std.specs.List.{concat}
 use Rattle.std.proofs.lemmas.List.{length-map}
 use Rattle.snapshot.specs.AttributesBySource.{attributes_by_source}
-use Rattle.postings.specs.Cells.{AreRowLists}
-use Rattle.postings.specs.Coded.{AreRowMarks, IsBySource}
-use Rattle.postings.specs.Columns.{Mark as Marked}
-use Rattle.postings.specs.KeptRows.{AreNumbersOf, HaveOneNumber}
+use Rattle.postings.specs.inside.Cells.{AreRowLists}
+use Rattle.postings.specs.inside.Coded.{AreRowMarks, IsBySource}
+use Rattle.postings.specs.Columns.{Flagged}
+use Rattle.postings.specs.inside.KeptRows.{AreNumbersOf, HaveOneNumber}
 use Rattle.postings.specs.Places.{places_by}
-use Rattle.postings.specs.RowIndexes.{AreByType}
-use Rattle.postings.specs.ValueTables.{values_in}
+use Rattle.postings.specs.inside.RowIndexes.{AreByType}
+use Rattle.postings.specs.inside.ValueTables.{values_in}
 use Rattle.postings.specs.declared.row_indexes.RowIndexes.{RowIndexes}
 use Rattle.postings.specs.declared.rows.CodedRow.{CodedRow}
 use Rattle.snapshot.specs.declared.attribute_types.Types.{Types}
@@ -57,7 +57,7 @@ pub group_lists-requires-clause-within : goal.group_lists-requires-clause-within
 group_lists-requires-clause-within c =
     let starts = c.in_ok-marks.marks.starts.items in
     let last : length starts - 1 ≡ vec_len c.in_ok-marks.marks.starts - 1 = omega arith in
-    subst (λ (n : ℕ). All (λ (mark : Marked). mark.number < get_or starts n 0) c.in_ok-marks.marks.groups.items) last
+    subst (λ (n : ℕ). All (λ (mark : Flagged). mark.number < get_or starts n 0) c.in_ok-marks.marks.groups.items) last
     (units_below c.args.snapshot.now.release c.concept_count-count.ensures.rising c.in_ok-coded.coded c.in_ok-coded.ensures
     c.in_ok-marks.marks (marked (goal.at.group_lists-requires-clause-within c).In_ok-marks))
 
@@ -173,5 +173,5 @@ returns c =
           keys.values.items keys.type_places.items listed.by_value c.concept_count-count.ensures.count cells_are keys_are;
       groups = group_lists_told release rises coded are marks marks_are c.in_ok-groups.groups kept_len c.in_ok-groups.ensures.starts
           (c.in_ok-groups.ensures.rows
-          ∙ ap (λ (n : ℕ). places_by (get_or starts n 0) (map (λ (mark : Marked). mark.number) marks.groups.items)) last);
+          ∙ ap (λ (n : ℕ). places_by (get_or starts n 0) (map (λ (mark : Flagged). mark.number) marks.groups.items)) last);
     }

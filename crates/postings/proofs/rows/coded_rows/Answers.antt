@@ -7,9 +7,9 @@ use Rattle.std.proofs.lemmas.Option.{get_or_from_slice_get, slice_get_within}
 use Rattle.postings.proofs.DistinctLemmas.{insert_key}
 use Rattle.rf2_rows.specs.Release.{Attribute, text_value}
 use Rattle.snapshot.specs.AttributesBySource.{attribute_numbered, attributes_by_source, by_identifiers, numbered_lent, value_by_identifier}
-use Rattle.postings.specs.Coded.{IsCoded, row_coded}
+use Rattle.postings.specs.inside.Coded.{IsCoded, row_coded}
 use Rattle.postings.specs.Indexed.{types_of, value_at}
-use Rattle.postings.specs.ValueTables.{values_in}
+use Rattle.postings.specs.inside.ValueTables.{values_in}
 use Rattle.postings.specs.declared.rows.CodedRow.{CodedRow}
 use Rattle.postings.proofs.RowLemmas.{coded_push, length-more, rows_push, types_more}
 use Rattle.postings.proofs.rows.coded_rows.Goals as goal

@@ -1,9 +1,9 @@
 use Rattle.std.proofs.Common.{◌≡◌, ◌≤◌, length, map, take}
 use Rattle.std.specs.Prelude.{All}
 use Rattle.snapshot.specs.AttributesBySource.{attributes_by_source}
-use Rattle.postings.specs.Coded.{IsCoded, row_coded}
+use Rattle.postings.specs.inside.Coded.{IsCoded, row_coded}
 use Rattle.postings.specs.Indexed.{types_of}
-use Rattle.postings.specs.ValueTables.{values_in}
+use Rattle.postings.specs.inside.ValueTables.{values_in}
 use Rattle.postings.proofs.rows.coded_rows.Given as goal
 
 abbrev pub invariant-loop-n : goal.invariant-loop-n

@@ -1,7 +1,7 @@
 use Rattle.std.proofs.Common.{◌≡◌, ◌+◌, ◌<◌, ◌≤◌, ap, arith, drop, length, length-drop, take}
 use Rattle.std.specs.Int.Count.{count_trailing_zeros}
 use Rattle.std.proofs.lemmas.List.{take_rest}
-use Rattle.release_files.specs.Feeds.{feed_bits}
+use Rattle.release_files.specs.inside.Feeds.{feed_bits}
 use Rattle.release_files.proofs.FeedLemmas.{block_clear, block_feed, rest_clear, rest_feed}
 use Rattle.release_files.proofs.feeds.first_feed.Goals as goal
 

@@ -1,6 +1,6 @@
 use Rattle.std.proofs.Common.{◌≡◌, ◌+◌, ◌-◌, ◌≤◌, ◌++◌, length}
 use Rattle.rf2_rows.specs.Parts.{texts_of}
-use Rattle.rf2_rows.specs.Tabs.{NoTab, parts_from, tabs_in}
+use Rattle.rf2_rows.specs.inside.Tabs.{NoTab, parts_from, tabs_in}
 use Rattle.rf2_rows.proofs.tabs.push_ended.Given as goal
 
 -- the bits left are the tabs from `place` on, and the fields so far and the parts left stay the same

@@ -1,7 +1,7 @@
 use Rattle.std.proofs.Common.{None, ap, arith, length}
 use Rattle.std.proofs.lemmas.Bool.Decides.{nat_tests}
-use Rattle.snapshot.specs.ListsInside.{listed_in}
-use Rattle.snapshot.specs.RowsKept.{kept_in}
+use Rattle.snapshot.specs.inside.ListsInside.{listed_in}
+use Rattle.snapshot.specs.inside.RowsInside.{kept_in}
 use Rattle.snapshot.proofs.NeighbourLemmas.{none_twice}
 use Rattle.snapshot.proofs.ReadFromLemmas.{are-seen, conflict-seen, count-seen, read-chosen, read-single}
 use Rattle.snapshot.proofs.TakingLemmas.{at_told, if_told}

@@ -1,6 +1,6 @@
 use Rattle.std.proofs.Common.{◌∙◌, Some, ap, arith, length, subst, sym}
-use Rattle.snapshot.specs.Keys.{Keyed}
-use Rattle.snapshot.specs.Seen.{AreSeen}
+use Rattle.snapshot.specs.inside.Keys.{Keyed}
+use Rattle.snapshot.specs.inside.FirstPass.{AreSeen}
 use Rattle.snapshot.proofs.ReadFromLemmas.{are-seen, conflict-seen, count-seen, fault-seen}
 use Rattle.snapshot.proofs.TakingLemmas.{at_told, if_told}
 use Rattle.snapshot.proofs.choosing.first_of_faults.Goals as goal

@@ -1,7 +1,7 @@
 use Rattle.std.proofs.Common.{◌∙◌, arith, inl, inr, refl}
 use Rattle.std.proofs.lemmas.Bool.{cases_Bool}
-use Rattle.snapshot.specs.RowsKept.{kept_in}
-use Rattle.snapshot.specs.Taking.{is_device}
+use Rattle.snapshot.specs.inside.RowsInside.{kept_in}
+use Rattle.snapshot.specs.DeviceFaults.{is_device}
 use Rattle.snapshot.proofs.TakingLemmas.{at_told, fails_since, if_err, if_ok, if_told}
 use Rattle.snapshot.proofs.WentLemmas.{seen-stopped, seen-whole}
 use Rattle.snapshot.proofs.choosing.read_rows.Goals as goal

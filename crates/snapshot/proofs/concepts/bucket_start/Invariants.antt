@@ -1,5 +1,5 @@
 use Rattle.std.proofs.Common.{ℕ, ◌-◌, ◌≤◌, ◌<◌, length, get_or}
-use Rattle.snapshot.specs.Buckets.{bucket_of}
+use Rattle.snapshot.specs.inside.Buckets.{bucket_of}
 use Rattle.snapshot.proofs.concepts.bucket_start.Given as goal
 
 abbrev pub invariant-loop-start : goal.invariant-loop-start

@@ -1,5 +1,5 @@
 use Rattle.std.proofs.Common.{ℕ, ◌≡◌, ◌≤◌, ◌<◌, length, get_or}
-use Rattle.snapshot.specs.Buckets.{IsBucketStart, bucket_of}
+use Rattle.snapshot.specs.inside.Buckets.{IsBucketStart, bucket_of}
 use Rattle.snapshot.proofs.concepts.bucket_starts.Given as goal
 
 abbrev pub invariant-loop-bucket : goal.invariant-loop-bucket

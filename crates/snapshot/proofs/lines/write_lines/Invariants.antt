@@ -1,10 +1,10 @@
 -- The lines of the concepts so far, and where in them the terms of rows stand.
 use Rattle.std.proofs.Common.{ℕ, ◌≡◌, List, map, take, string_bytes}
-use Rattle.snapshot.specs.FirstRows.{AreFirstPlaces}
-use Rattle.snapshot.specs.KeptNames.{AreNoted}
-use Rattle.hierarchy.specs.KeyedListsInside.{AreStarts}
+use Rattle.snapshot.specs.inside.FirstRows.{AreFirstPlaces}
+use Rattle.snapshot.specs.inside.NamesInLines.{AreNoted}
+use Rattle.hierarchy.specs.inside.KeyedListsInside.{AreStarts}
 use Rattle.snapshot.specs.Line.{concept_line}
-use Rattle.snapshot.specs.LinesInside.{lines_between}
+use Rattle.snapshot.specs.inside.LinesInside.{lines_between}
 use Rattle.snapshot.specs.Name.{name_among}
 use Rattle.snapshot.proofs.lines.write_lines.Given as goal
 

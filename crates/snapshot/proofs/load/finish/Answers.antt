@@ -1,8 +1,8 @@
 use Rattle.std.proofs.lemmas.Bool.Decides.{nat_tests}
 use Rattle.std.proofs.lemmas.Grind.{common_steps}
 use Rattle.std.proofs.Common.{ℕ, ◌<◌, ◌^◌, List, ap, arith, length, string_bytes}
-use Rattle.snapshot.specs.ListsInside.{listed_in}
-use Rattle.snapshot.specs.Sorted.{in_file_order}
+use Rattle.snapshot.specs.inside.ListsInside.{listed_in}
+use Rattle.snapshot.specs.inside.Sorted.{in_file_order}
 use Rattle.snapshot.proofs.FinishLemmas.{attributes_among-values, finished-Ok, finished-Err, length-attributes_among, length-rising}
 use Rattle.snapshot.proofs.NumberingLemmas.{IsWithin-numbered, length-numbered}
 use Rattle.snapshot.proofs.load.finish.Goals as goal

@@ -1,4 +1,4 @@
-use Rattle.snapshot.specs.ListsInside.{listed_in}
+use Rattle.snapshot.specs.inside.ListsInside.{listed_in}
 use Rattle.snapshot.proofs.ApartLemmas.{AreFew-read}
 use Rattle.snapshot.proofs.LoadLemmas.{loaded_from-read}
 use Rattle.snapshot.proofs.FinishLemmas.{finished-own, raised_by_none}

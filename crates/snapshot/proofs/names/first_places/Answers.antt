@@ -1,7 +1,7 @@
 -- The row at the place and those behind it.
 use Rattle.std.proofs.Common.{◌≡◌, ◌-◌, List, Some, get_or, set, map, drop, sym, ◌∙◌, subst, arith}
-use Rattle.snapshot.specs.FirstRows.{AreFirstPlaces}
-use Rattle.snapshot.specs.NamesInside.{name_in}
+use Rattle.snapshot.specs.inside.FirstRows.{AreFirstPlaces}
+use Rattle.snapshot.specs.inside.NamesInside.{name_in}
 use Rattle.snapshot.specs.Numbering.{concept_number}
 use Rattle.rf2_rows.specs.Release.{Name}
 use Rattle.snapshot.proofs.FirstRowLemmas.{first_places-other, first_places-own, first_within, name_at, names_from, place_read}

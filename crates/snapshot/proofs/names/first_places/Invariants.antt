@@ -1,7 +1,7 @@
 -- Each concept's place is that of the row that comes first among the rows behind.
 use Rattle.std.proofs.Common.{map, drop}
-use Rattle.snapshot.specs.FirstRows.{AreFirstPlaces}
-use Rattle.snapshot.specs.NamesInside.{name_in}
+use Rattle.snapshot.specs.inside.FirstRows.{AreFirstPlaces}
+use Rattle.snapshot.specs.inside.NamesInside.{name_in}
 use Rattle.snapshot.proofs.names.first_places.Given as goal
 
 abbrev pub invariant-loop-place : goal.invariant-loop-place

@@ -1,7 +1,7 @@
 use Rattle.std.proofs.Common.{◌≡◌, ◌∙◌, None, Some, ap, arith, subst, sym}
 use Rattle.std.proofs.lemmas.List.Quantifiers.{position-Some}
 use Rattle.rf2_rows.specs.Release.{concept_value}
-use Rattle.snapshot.specs.NumberedInside.{IsNumberOf}
+use Rattle.snapshot.specs.inside.NumberedInside.{IsNumberOf}
 use Rattle.snapshot.specs.Numbering.{concept_number}
 use Rattle.snapshot.specs.declared.value_number.ValueNumber.{ValueNumber}
 use Rattle.snapshot.proofs.NumberedLemmas.{concept_none, concept_own}

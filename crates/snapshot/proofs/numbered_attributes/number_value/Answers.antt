@@ -1,7 +1,7 @@
 use Rattle.std.proofs.Common.{subst, sym}
 use Rattle.rf2_rows.specs.Rows.{value_lent}
 use Rattle.rf2_rows.specs.declared.value.Value.{Value as LentValue}
-use Rattle.snapshot.specs.NumberedInside.{IsNumberOf}
+use Rattle.snapshot.specs.inside.NumberedInside.{IsNumberOf}
 use Rattle.snapshot.proofs.numbered_attributes.number_value.Goals as goal
 
 pub returns-in-Concept-clause-value : goal.returns-in-Concept-clause-value

@@ -1,4 +1,4 @@
-use Rattle.snapshot.specs.Taking.{taken}
+use Rattle.snapshot.specs.inside.Traversal.{taken}
 use Rattle.snapshot.proofs.places.take_named.Goals as goal
 use Rattle.std.proofs.Common.{arith}
 

@@ -1,5 +1,5 @@
 use Rattle.std.proofs.Common.{◌≡◌, take}
-use Rattle.snapshot.specs.Repeated.{equal_neighbours}
+use Rattle.snapshot.specs.inside.Repeated.{equal_neighbours}
 use Rattle.snapshot.proofs.repeated.equal_neighbours.Given as goal
 
 abbrev pub invariant-loop-place : goal.invariant-loop-place

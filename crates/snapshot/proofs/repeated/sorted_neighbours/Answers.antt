@@ -1,5 +1,5 @@
 use Rattle.std.proofs.Common.{ℕ, ◌∙◌, List, ap, arith, length}
-use Rattle.snapshot.specs.Repeated.{equal_neighbours}
+use Rattle.snapshot.specs.inside.Repeated.{equal_neighbours}
 use Rattle.hierarchy.proofs.ReleaseLemmas.{times}
 use Rattle.snapshot.proofs.NeighbourLemmas.{neighbours_few, times_again}
 use Rattle.snapshot.proofs.repeated.sorted_neighbours.Goals as goal

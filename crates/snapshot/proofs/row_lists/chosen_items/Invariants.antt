@@ -1,5 +1,5 @@
 use Rattle.std.proofs.Common.{◌≡◌, ◌++◌}
-use Rattle.snapshot.specs.Listed.{in_list, items_chosen}
+use Rattle.snapshot.specs.inside.ReleaseLists.{in_list, items_chosen}
 use Rattle.snapshot.proofs.ChosenItemLemmas.{to_come}
 use Rattle.snapshot.proofs.row_lists.chosen_items.Given as goal
 

@@ -1,7 +1,7 @@
 use Rattle.std.proofs.Common.{zero-add, ◌<◌, length, arith, length-set, take_all}
 use Rattle.std.proofs.lemmas.Bool.Decides.{nat_tests}
 use Rattle.std.proofs.lemmas.Grind.{common_steps}
-use Rattle.snapshot.specs.Taken.{is_older}
+use Rattle.snapshot.specs.inside.VersionTable.{is_older}
 use Rattle.snapshot.proofs.VersionLemmas.{without_from, no_version, without_keeps, without_more}
 use Rattle.snapshot.proofs.versions.leave_latest.Goals as goal
 use Rattle.snapshot.proofs.versions.leave_latest.Goals.{then-code-latest, else-code-latest}

@@ -1,10 +1,10 @@
 use Rattle.std.proofs.Common.{ℕ, ◌≡◌, ◌<◌, ◌∙◌, List, Some, length, ap, subst, sym, arith}
 use Rattle.std.specs.List.{slice_get}
 use Rattle.snapshot.specs.AttributesBySource.{attribute_of, with_source}
-use Rattle.postings.specs.Coded.{IsCoded}
+use Rattle.postings.specs.inside.Coded.{IsCoded}
 use Rattle.postings.specs.Indexed.{Indexed, value_at, values_of}
-use Rattle.postings.specs.KeptRows.{rows_kept}
-use Rattle.postings.specs.ValueTables.{values_in}
+use Rattle.postings.specs.inside.KeptRows.{rows_kept}
+use Rattle.postings.specs.inside.ValueTables.{values_in}
 use Rattle.postings.proofs.BuildLemmas.{row_told}
 use Rattle.postings.proofs.KeptLemmas.{kept_at, length-kept}
 use Rattle.postings.proofs.UnitLemmas.{length-rows, near, row_coded_within, row_there}

@@ -1,8 +1,8 @@
 use Rattle.std.proofs.Common.{ℕ, ◌≡◌, ◌∙◌, true, List, length, get_or, slice_index, ap, arith}
 use Rattle.std.proofs.lemmas.List.{get_or_default}
-use Rattle.postings.specs.Columns.{Mark as Marked}
+use Rattle.postings.specs.Columns.{Flagged}
 use Rattle.postings.specs.Indexed.{Indexed}
-use Rattle.postings.specs.KeptRows.{IsKept, mark_at, row_kept}
+use Rattle.postings.specs.inside.KeptRows.{IsKept, mark_at, row_kept}
 use Rattle.postings.proofs.UnitLemmas.{concept_told, first_kept, has_first, source_within}
 use Rattle.postings.proofs.index.Indexes.unit_concept.Goals as goal
 use Rattle.postings.proofs.index.Indexes.unit_concept.Goals.{After-index-at, After-number, After-of}
@@ -24,10 +24,10 @@ placed c =
 read : (c : After-number) → c.number.result ≡ (row_kept c.self.inside.rows (get_or c.of.result.now 0 0)).source
 read c =
     let marks = c.self.inside.rows.by_type.sources.items in
-    let some : Marked = record { number = 0; is_first = true } in
+    let some : Flagged = record { number = 0; is_first = true } in
     let place = placed (goal.at-After-number c).After-index-at in
     c.number.ensures.number
-    ∙ ap (λ (mark : Marked). mark.number) (c.index.ensures
+    ∙ ap (λ (mark : Flagged). mark.number) (c.index.ensures
     ∙ get_or_default marks c.index-at.result.now c.index.result.now some
     (omega (arith, place, (there (goal.at-After-number c).After-of).source))
     ∙ ap (mark_at marks) place)

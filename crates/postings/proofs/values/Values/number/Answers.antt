@@ -6,7 +6,7 @@ use Rattle.std.specs.Ordering.{int_cmp}
 use Rattle.std.proofs.lemmas.Option.{slice_get_within}
 use Rattle.snapshot.specs.AttributesBySource.{IsNumberBelow, numbered_lent, value_by_identifier}
 use Rattle.snapshot.specs.declared.sorted_attributes.NumberedValue.{NumberedValue}
-use Rattle.postings.specs.ValueTables.{values_in}
+use Rattle.postings.specs.inside.ValueTables.{values_in}
 use Rattle.postings.proofs.ValueLemmas.{concept_placed, decimal_placed, had_decimal, had_text, length-values, text_placed}
 use Rattle.postings.proofs.values.Values.number.Goals as goal
 use Rattle.postings.proofs.values.Values.number.Goals.{After-place_of, After-place_of-place}

@@ -1,6 +1,6 @@
-use Rattle.snapshot.specs.AttributesInside.{IsPlacedIn}
+use Rattle.snapshot.specs.inside.AttributesInside.{IsPlacedIn}
 use Rattle.snapshot.specs.Chosen.{marked}
-use Rattle.snapshot.specs.Listed.{in_list}
+use Rattle.snapshot.specs.inside.ReleaseLists.{in_list}
 use Rattle.snapshot.specs.declared.row_lists.Listing.TheVariants.{Attribute as ListedAttribute}
 use Rattle.snapshot.proofs.ChosenItemLemmas.{All-marked, map-marked}
 use Rattle.snapshot.proofs.attributes.Attributes.choose.Goals as goal

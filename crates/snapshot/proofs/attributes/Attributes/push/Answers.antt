@@ -1,7 +1,7 @@
 use Rattle.std.proofs.Common.{arith}
 use Rattle.std.proofs.lemmas.Grind.{common_steps}
 use Rattle.std.proofs.lemmas.List.Elements.{All-weaker}
-use Rattle.snapshot.specs.AttributesInside.{IsPlacedIn, attribute_in}
+use Rattle.snapshot.specs.inside.AttributesInside.{IsPlacedIn, attribute_in}
 use Rattle.snapshot.proofs.AttributeLemmas.{attribute-extends, within-extends}
 use Rattle.snapshot.proofs.SpanLemmas.{all-push, rows-same}
 use Rattle.snapshot.proofs.attributes.Attributes.push.Goals as goal

@@ -3,7 +3,7 @@ use Rattle.std.proofs.lemmas.Grind.{common_steps}
 use Rattle.std.proofs.Common.{◌≡◌, ◌∙◌, ap, arith, refl, sym}
 use Rattle.rf2_rows.specs.RowTexts.{row_text}
 use Rattle.rf2_rows.specs.Versions.{time_on}
-use Rattle.snapshot.specs.Keys.{key_in}
+use Rattle.snapshot.specs.inside.Keys.{key_in}
 use Rattle.rf2_rows.proofs.Accepted.{short_time_on}
 use Rattle.rf2_rows.proofs.RowTextLemmas.{text_in-row}
 use Rattle.rf2_rows.proofs.VersionLemmas.{time_in-on}

@@ -1,7 +1,7 @@
 use Rattle.std.proofs.Common.{arith}
 use Rattle.std.proofs.lemmas.Bool.Decides.{nat_tests}
 use Rattle.release_files.specs.Lines.{line_text}
-use Rattle.snapshot.specs.Compared.{compared_in}
+use Rattle.snapshot.specs.inside.Comparison.{compared_in}
 use Rattle.snapshot.proofs.CompareLemmas.{denied-line}
 use Rattle.snapshot.proofs.TakingLemmas.{if_err}
 use Rattle.snapshot.proofs.comparing.Comparing.compare_line.Goals as goal

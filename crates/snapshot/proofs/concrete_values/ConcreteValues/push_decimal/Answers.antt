@@ -1,7 +1,7 @@
 use Rattle.std.proofs.Common.{◌++◌, ◌∷◌, ◌∙◌, [], List, ap, map}
 use Rattle.std.proofs.lemmas.List.{map_push}
-use Rattle.snapshot.specs.ConcreteInside.{concrete_in}
-use Rattle.snapshot.specs.ConcreteValues.{Concrete, a_number}
+use Rattle.snapshot.specs.inside.ConcreteInside.{concrete_in}
+use Rattle.snapshot.specs.inside.ConcreteValues.{Concrete, a_number}
 use Rattle.snapshot.specs.declared.concrete_values.KeptConcrete.TheVariants.{Decimal}
 use Rattle.snapshot.proofs.concrete_values.ConcreteValues.push_decimal.Goals as goal
 

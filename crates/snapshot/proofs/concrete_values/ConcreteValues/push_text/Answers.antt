@@ -1,7 +1,7 @@
 use Rattle.std.proofs.Common.{◌++◌, ◌∷◌, ◌∙◌, [], List, ap, append-nil, map, sym}
-use Rattle.snapshot.specs.ConcreteInside.{IsPlaced, concrete_in}
-use Rattle.snapshot.specs.ConcreteValues.{Concrete, a_text}
-use Rattle.snapshot.specs.Spans.{Extends}
+use Rattle.snapshot.specs.inside.ConcreteInside.{IsPlaced, concrete_in}
+use Rattle.snapshot.specs.inside.ConcreteValues.{Concrete, a_text}
+use Rattle.snapshot.specs.inside.Spans.{Extends}
 use Rattle.snapshot.specs.declared.concrete_values.KeptConcrete.TheVariants.{Other}
 use Rattle.snapshot.proofs.ConcreteLemmas.{concrete-extends, placed-extends}
 use Rattle.snapshot.proofs.SpanLemmas.{all-push, rows-push, rows-same}

@@ -1,6 +1,6 @@
 use Rattle.std.proofs.Common.{ℕ, ◌≡◌, ◌≤◌, ◌<◌, ◌+◌, ◌++◌, List, [], length, get_or, arith, string_bytes, slice_range}
 use Rattle.std.proofs.lemmas.List.{get_or_read}
-use Rattle.hierarchy.specs.KeyedListsInside.{AreStarts}
+use Rattle.hierarchy.specs.inside.KeyedListsInside.{AreStarts}
 use Rattle.hierarchy.proofs.CutLemmas.{cut}
 use Rattle.snapshot.proofs.LineLemmas.{line_places}
 use Rattle.snapshot.proofs.lines.ConceptLines.name.Goals as goal

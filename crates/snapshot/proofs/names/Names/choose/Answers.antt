@@ -1,6 +1,6 @@
-use Rattle.snapshot.specs.NamesInside.{IsPlaced}
+use Rattle.snapshot.specs.inside.NamesInside.{IsPlaced}
 use Rattle.snapshot.specs.Chosen.{marked}
-use Rattle.snapshot.specs.Listed.{in_list}
+use Rattle.snapshot.specs.inside.ReleaseLists.{in_list}
 use Rattle.snapshot.specs.declared.row_lists.Listing.TheVariants.{Name as ListedName}
 use Rattle.snapshot.proofs.ChosenItemLemmas.{All-marked}
 use Rattle.snapshot.proofs.names.Names.choose.Goals as goal

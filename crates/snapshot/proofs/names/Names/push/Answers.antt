@@ -1,8 +1,8 @@
 use Rattle.std.proofs.Common.{◌++◌, ◌∷◌, [], ◌∙◌, ap, string_bytes, arith}
 use Rattle.std.proofs.lemmas.List.Elements.{All-weaker}
 use Rattle.std.proofs.lemmas.Str.{IsUtf8-string_bytes}
-use Rattle.snapshot.specs.NamesInside.{IsPlaced, name_in}
-use Rattle.snapshot.specs.Spans.{Extends}
+use Rattle.snapshot.specs.inside.NamesInside.{IsPlaced, name_in}
+use Rattle.snapshot.specs.inside.Spans.{Extends}
 use Rattle.snapshot.proofs.NameLemmas.{name-extends, placed-extends}
 use Rattle.snapshot.proofs.SpanLemmas.{all-push, extends-both, rows-push, text-extends, text_span-extends}
 use Rattle.snapshot.proofs.names.Names.push.Goals as goal

@@ -3,7 +3,7 @@ use Rattle.std.proofs.lemmas.Fn.{filter_same}
 use Rattle.std.proofs.lemmas.List.Elements.{All-filter}
 use Rattle.rf2_rows.specs.Release.{Name}
 use Rattle.hierarchy.specs.Members.{has}
-use Rattle.snapshot.specs.NamesInside.{IsPlaced, name_in}
+use Rattle.snapshot.specs.inside.NamesInside.{IsPlaced, name_in}
 use Rattle.snapshot.specs.declared.names.NameRow.{NameRow}
 use Rattle.snapshot.proofs.NameLemmas.{map-filter}
 use Rattle.snapshot.proofs.names.Names.retain_among.Goals as goal

@@ -1,7 +1,7 @@
 use Rattle.std.proofs.Common.{arith}
 use Rattle.std.proofs.lemmas.Bool.Decides.{nat_tests}
 use Rattle.release_files.specs.Lines.{line_text}
-use Rattle.snapshot.specs.RowsKept.{kept_in}
+use Rattle.snapshot.specs.inside.RowsInside.{kept_in}
 use Rattle.snapshot.proofs.ReadLineLemmas.{read-added, read-row, stopped-crowded}
 use Rattle.snapshot.proofs.rows.Rows.read_line.Goals as goal
 

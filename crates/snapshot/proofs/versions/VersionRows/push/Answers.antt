@@ -1,7 +1,7 @@
 use Rattle.std.proofs.Common.{arith}
 use Rattle.std.proofs.lemmas.Grind.{common_steps}
 use Rattle.std.proofs.lemmas.List.Elements.{All-weaker}
-use Rattle.snapshot.specs.VersionsInside.{IsLineOf}
+use Rattle.snapshot.specs.inside.VersionsInside.{IsLineOf}
 use Rattle.snapshot.proofs.SpanLemmas.{all-push}
 use Rattle.snapshot.proofs.VersionLemmas.{line-extends, rows_kept}
 use Rattle.snapshot.proofs.versions.VersionRows.push.Goals as goal

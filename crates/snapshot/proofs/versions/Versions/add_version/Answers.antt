@@ -1,4 +1,4 @@
-use Rattle.snapshot.specs.VersionsInside.{noted, taken_in}
+use Rattle.snapshot.specs.inside.VersionsInside.{noted, taken_in}
 use Rattle.snapshot.proofs.VersionLemmas.{taken_first}
 use Rattle.snapshot.proofs.versions.Versions.add_version.Goals as goal
 

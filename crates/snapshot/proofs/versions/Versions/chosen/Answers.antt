@@ -1,4 +1,4 @@
-use Rattle.snapshot.specs.VersionsInside.{taken_in}
+use Rattle.snapshot.specs.inside.VersionsInside.{taken_in}
 use Rattle.snapshot.proofs.VersionLemmas.{chosen_are}
 use Rattle.snapshot.proofs.versions.Versions.chosen.Goals as goal
 

@@ -1,4 +1,4 @@
-use Rattle.snapshot.specs.VersionsInside.{taken_in}
+use Rattle.snapshot.specs.inside.VersionsInside.{taken_in}
 use Rattle.snapshot.proofs.VersionLemmas.{taken_skip}
 use Rattle.snapshot.proofs.versions.Versions.skip.Goals as goal
 

@@ -1,7 +1,7 @@
 use Rattle.std.proofs.Common.{arith, refl}
 use Rattle.std.proofs.lemmas.Grind.{common_steps}
 use Rattle.snapshot.proofs.VersionLemmas.{has-code, taken_skip}
-use Rattle.snapshot.specs.VersionsInside.{noted, taken_in}
+use Rattle.snapshot.specs.inside.VersionsInside.{noted, taken_in}
 use Rattle.snapshot.proofs.versions.Versions.take.Goals as goal
 
 pub returns-in_ok-push-in-None-clause-conflict : goal.returns-in_ok-push-in-None-clause-conflict

@@ -1,7 +1,7 @@
 use Rattle.std.proofs.Common.{List, ap, not, rules, sym}
-use Rattle.snapshot.specs.Noted.{AreOfItsKind, Noted}
-use Rattle.snapshot.specs.Taken.{HasTaken}
-use Rattle.snapshot.specs.VersionsInside.{noted, taken_in}
+use Rattle.snapshot.specs.inside.KeyedRows.{AreOfItsKind, KeyedRow}
+use Rattle.snapshot.specs.inside.VersionTable.{HasTaken}
+use Rattle.snapshot.specs.inside.VersionsInside.{noted, taken_in}
 use Rattle.snapshot.proofs.VersionLemmas.{no_version, new_conflicts, other_conflicts, same_conflicts, taken_again, version_kind}
 use Rattle.snapshot.proofs.versions.Versions.take_version.Goals as goal
 
@@ -19,7 +19,7 @@ returns-in_ok-push-in-Some c =
     let rising = c.self.invariant.rising in
     let is = rw (← c.self.view_is) at c.requires.code in
     let found = sym c.in-Some.ensures.index in
-    let agrees = λ (rows : List Noted) (before : HasTaken taken rows) (kinds : AreOfItsKind rows row).
+    let agrees = λ (rows : List KeyedRow) (before : HasTaken taken rows) (kinds : AreOfItsKind rows row).
     sym (c.if-not-agrees.ensures no_version (version_kind taken rising rows before row c.args.code is c.in-Some.number found no_version kinds)) in record {
       repeated = search rules;
       conflict = rw (← c.self.view_is) (λ rows before kinds. sym (ap not (same_conflicts taken rising rows before row c.args.code is c.in-Some.number found no_version kinds (agrees rows before kinds))));

@@ -1,0 +1,22 @@
+-- The part of a plan that is executed first, where there is one: what it means, and what is counted of it.
+use Rattle.std.specs.Prelude.{ℕ, Bool, true, List, Option, None, Some}
+use Rattle.rf2_rows.specs.Pairs.{Pair}
+use Rattle.rf2_rows.specs.Release.{Release}
+use Rattle.set_algebra.specs.Meaning.{unit_means, means}
+use Rattle.set_algebra.specs.Plan.{unit_plan_of, plan_of}
+use Rattle.set_algebra.specs.declared.plan.ConceptPlan.{ConceptPlan}
+use Rattle.set_algebra.specs.declared.plan.UnitPlan.{UnitPlan}
+
+-- what the part means that is executed first, where there is one
+abbrev pub leads_off : Release → Option ConceptPlan → ℕ → Bool
+leads_off release None concept = true
+leads_off release (Some part) concept = means release (plan_of part) concept
+
+abbrev pub leads_off_groups : Release → Option UnitPlan → List Pair → Bool
+leads_off_groups release None pairs = true
+leads_off_groups release (Some part) pairs = unit_means release (unit_plan_of part) pairs
+
+-- what is counted of the part that is executed first, where there is one
+abbrev pub of_lead : {Part : Type 0} → (Part → ℕ) → Option Part → ℕ
+of_lead number None = 0
+of_lead number (Some part) = number part

@@ -1,0 +1,120 @@
+-- Attribute rows by numbers: of the source, of the place of the type among all types, of the group, and of the value.
+use Rattle.std.specs.Prelude.{ℕ, ◌+◌, ◌==◌, ◌≡◌, ◌≤◌, ◌<◌, ◌^◌, ◌&&◌, ◌++◌, Bool, not}
+use Rattle.std.specs.Prelude.{if◌then◌else◌, List, [], ◌∷◌}
+use Rattle.std.specs.Prelude.{All, filter, length, map, slice_index, vec_len}
+use Rattle.std.specs.List.{flat_map, list_any, position_or_len, range_with_len}
+use Rattle.rf2_rows.specs.Pairs.{distinct}
+use Rattle.rf2_rows.specs.Release.{Attribute, Value}
+use Rattle.snapshot.specs.InForce.{rising}
+use Rattle.postings.specs.Columns.{Flagged}
+use Rattle.postings.specs.Indexed.{types_of, value_at}
+use Rattle.postings.specs.RowValues.{AreTablesOf}
+use Rattle.postings.specs.inside.ValueTables.{values_in}
+use Rattle.postings.specs.declared.groups.RowMarks.{RowMarks}
+use Rattle.postings.specs.declared.rows.CodedRow.{CodedRow}
+use Rattle.postings.specs.declared.rows.CodedRows.{CodedRows}
+use Rattle.snapshot.specs.declared.attribute_types.Types.{Types}
+use Rattle.postings.specs.declared.values.Values.{Values}
+
+-- the row that numbers stand for
+abbrev pub row_coded : List ℕ → List ℕ → List Value → CodedRow → Attribute
+row_coded concepts types values row = record {
+  source = slice_index concepts row.source;
+  type_id = slice_index types row.type_place;
+  group = row.group;
+  value = value_at values row.value;
+}
+
+-- the numbers are within their tables
+pub record IsCoded (concepts types : List ℕ) (values : List Value) (row : CodedRow) : Type 0 where
+  pub source : row.source < length concepts
+  pub type_place : row.type_place < length types
+  pub value : row.value < length values
+
+-- the rows that numbers stand for by their tables
+abbrev pub rows_coded : List ℕ → Types → Values → List CodedRow → List Attribute
+rows_coded concepts types values rows = map (row_coded concepts types.numbers (values_in concepts values)) rows
+
+-- the numbers and their tables are those of some attribute rows of some concepts
+pub record AreCoded (concepts : List ℕ) (rows : List Attribute) (type_table : Types) (value_table : Values) (coded : List CodedRow) :
+    Type 0 where
+  pub stand_for : rows_coded concepts type_table value_table coded ≡ rows
+  pub within : All (IsCoded concepts type_table.numbers (values_in concepts value_table)) coded
+  pub types : type_table.numbers ≡ types_of rows
+  pub ids : type_table.ids.items ≡ type_table.numbers
+  pub tables : AreTablesOf rows value_table.decimals.items value_table.texts
+  pub few : length rows < 2 ^ 31
+  pub few_values : length (values_in concepts value_table) < 2 ^ 32
+
+abbrev pub AreCodedRows : List ℕ → List Attribute → CodedRows → Type 0
+AreCodedRows concepts rows coded = AreCoded concepts rows coded.types coded.values coded.rows.items
+
+-- the rows of a source
+abbrev pub of_source : List CodedRow → ℕ → List CodedRow
+of_source rows source = filter (λ (row : CodedRow). row.source == source) rows
+
+-- rows stand source by source
+abbrev pub IsBySource : ℕ → List CodedRow → Type 0
+IsBySource count rows = rows ≡ flat_map (of_source rows) (range_with_len 0 count)
+
+-- the pair of a row, and whether two rows have one pair, and one group besides
+abbrev pub pair_code : CodedRow → ℕ × ℕ
+pair_code row = (row.type_place, row.value)
+
+abbrev pub code_eq : ℕ × ℕ → ℕ × ℕ → Bool
+code_eq one other = (one.0 == other.0) && (one.1 == other.1)
+
+abbrev pub has_same_pair : CodedRow → CodedRow → Bool
+has_same_pair one other = code_eq (pair_code one) (pair_code other)
+
+abbrev pub has_same_in_group : CodedRow → CodedRow → Bool
+has_same_in_group one other = (one.group == other.group) && has_same_pair one other
+
+-- of the rows behind some others each with a number, and whether it is the first of those that are the same
+abbrev pub marks_after : (CodedRow → CodedRow → Bool) → (CodedRow → ℕ) → List CodedRow → List CodedRow → List Flagged
+marks_after same number before [] = []
+marks_after same number before (row ∷ rows) =
+    record { number = number row; is_first = not (list_any (same row) before) } ∷ marks_after same number (before ++ row ∷ []) rows
+
+-- of the rows of one source: the numbers of its groups, rising, and the pairs without a group, each where it is first
+abbrev pub numbers_of_groups : List CodedRow → List ℕ
+numbers_of_groups rows = rising (filter (λ group. not (group == 0)) (map (λ (row : CodedRow). row.group) rows))
+
+abbrev pub ungrouped_pairs : List CodedRow → List (ℕ × ℕ)
+ungrouped_pairs rows = distinct code_eq (map pair_code (filter (λ (row : CodedRow). row.group == 0) rows))
+
+-- the groups of one source, those with a number and those of a pair, and the place among them of the group of a row
+abbrev pub group_codes : List CodedRow → List (ℕ × (ℕ × ℕ))
+group_codes rows = map (λ group. (group, (0, 0))) (numbers_of_groups rows)
+    ++ map (λ (pair : ℕ × ℕ). (0, pair)) (ungrouped_pairs rows)
+
+abbrev pub place_in_source : List CodedRow → CodedRow → ℕ
+place_in_source rows row =
+    if row.group == 0 then length (numbers_of_groups rows) + position_or_len (code_eq (pair_code row)) (ungrouped_pairs rows)
+    else position_or_len (λ group. row.group == group) (numbers_of_groups rows)
+
+-- how many groups the sources before one have
+abbrev pub groups_ahead : List CodedRow → ℕ → ℕ
+groups_ahead rows source = length (flat_map (λ other. group_codes (of_source rows other)) (range_with_len 0 source))
+
+-- the marks of the rows of a source: with the source, whether they are the first with their pair; and with the group, whether they
+-- are the first with their pair in it
+abbrev pub source_marks : List CodedRow → List Flagged
+source_marks rows = marks_after has_same_pair (λ (row : CodedRow). row.source) [] rows
+
+abbrev pub group_marks : ℕ → List CodedRow → List Flagged
+group_marks ahead rows = marks_after has_same_in_group (λ (row : CodedRow). ahead + place_in_source rows row) [] rows
+
+-- the marks of the rows of the sources before one
+abbrev pub all_source_marks : List CodedRow → ℕ → List Flagged
+all_source_marks rows count = flat_map (λ source. source_marks (of_source rows source)) (range_with_len 0 count)
+
+abbrev pub all_group_marks : List CodedRow → ℕ → List Flagged
+all_group_marks rows count = flat_map (λ source. group_marks (groups_ahead rows source) (of_source rows source)) (range_with_len 0 count)
+
+-- the marks are those of the rows of so many sources, with how many groups the sources before each have
+pub record AreRowMarks (count : ℕ) (rows : List CodedRow) (marks : RowMarks) : Type 0 where
+  pub sources : marks.sources.items ≡ all_source_marks rows count
+  pub groups : marks.groups.items ≡ all_group_marks rows count
+  pub starts_len : vec_len marks.starts ≡ count + 1
+  pub starts : (source : ℕ) → source ≤ count → slice_index marks.starts.items source ≡ groups_ahead rows source

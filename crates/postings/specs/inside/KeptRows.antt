@@ -1,0 +1,68 @@
+-- How the indexes keep the attribute rows. Of a row they keep the place of its type, and its place among the rows of all types, at
+-- which the columns by type have its source, its value and its group. Of the rows of a source they keep none but the numbers of
+-- all rows, of which they are a part.
+use Rattle.std.specs.Prelude.{ℕ, ◌+◌, ◌≡◌, ◌<◌, true, List, length, map, slice_index, slice_index_or, slice_range, take}
+use Rattle.std.specs.List.{concat, range_with_len}
+use Rattle.postings.specs.Columns.{Flagged}
+use Rattle.postings.specs.declared.row_indexes.RowIndexes.{RowIndexes}
+use Rattle.postings.specs.declared.rows.CodedRow.{CodedRow}
+
+-- the mark at a place of a column
+abbrev pub mark_at : List Flagged → ℕ → Flagged
+mark_at marks place = slice_index_or marks place (record { number = 0; is_first = true })
+
+-- the number of a row's group
+abbrev pub unit_kept : RowIndexes → ℕ → ℕ
+unit_kept indexes n = (mark_at indexes.by_type.groups.items (slice_index indexes.places.items n)).number
+
+-- the row with a number; its group has the number that its group has
+abbrev pub row_kept : RowIndexes → ℕ → CodedRow
+row_kept indexes n = record {
+  source = (mark_at indexes.by_type.sources.items (slice_index indexes.places.items n)).number;
+  type_place = slice_index indexes.type_places.items n;
+  group = slice_index indexes.groups.numbers.items (unit_kept indexes n);
+  value = slice_index indexes.by_type.others.items (slice_index indexes.places.items n);
+}
+
+abbrev pub rows_kept : RowIndexes → List CodedRow
+rows_kept indexes = map (row_kept indexes) (range_with_len 0 (length indexes.type_places.items))
+
+-- the marks of the groups of all rows
+abbrev pub groups_kept : RowIndexes → List Flagged
+groups_kept indexes = map (mark_at indexes.by_type.groups.items) indexes.places.items
+
+-- the marks of the sources of all rows
+abbrev pub sources_kept : RowIndexes → List Flagged
+sources_kept indexes = map (mark_at indexes.by_type.sources.items) indexes.places.items
+
+-- how many rows the groups before that with a number have, and the rows between those of the groups before a concept and before
+-- the next
+abbrev pub rows_ahead : RowIndexes → ℕ → ℕ
+rows_ahead indexes unit = length (concat (take unit indexes.groups.rows))
+
+abbrev pub rows_between : RowIndexes → ℕ → List ℕ
+rows_between indexes concept =
+    let starts = indexes.groups.starts.items in
+    slice_range indexes.row_numbers.items (rows_ahead indexes (slice_index starts concept))
+    (rows_ahead indexes (slice_index starts (concept + 1)))
+
+-- there is a row with a number
+pub record IsKept (indexes : RowIndexes) (n : ℕ) : Type 0 where
+  pub type_place : n < length indexes.type_places.items
+  pub place : n < length indexes.places.items
+  pub source : slice_index indexes.places.items n < length indexes.by_type.sources.items
+  pub value : slice_index indexes.places.items n < length indexes.by_type.others.items
+  pub unit : slice_index indexes.places.items n < length indexes.by_type.groups.items
+  pub group : unit_kept indexes n < length indexes.groups.numbers.items
+
+-- of rows and the marks of their groups: rows of one group have one number, and some numbers are those of the groups
+abbrev pub HaveOneNumber : List Flagged → List CodedRow → Type 0
+HaveOneNumber marks rows =
+    (m n : ℕ) (mark : Flagged) (row : CodedRow) → m < length rows → n < length rows
+    → (slice_index_or marks m mark).number ≡ (slice_index_or marks n mark).number
+    → (slice_index_or rows m row).group ≡ (slice_index_or rows n row).group
+
+abbrev pub AreNumbersOf : List Flagged → List CodedRow → List ℕ → Type 0
+AreNumbersOf marks rows numbers =
+    (n : ℕ) (mark : Flagged) (row : CodedRow) → n < length rows
+    → slice_index numbers (slice_index_or marks n mark).number ≡ (slice_index_or rows n row).group
