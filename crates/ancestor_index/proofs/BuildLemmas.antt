@@ -25,7 +25,8 @@ use Rattle.ancestor_index.specs.inside.Parents.{AreParentsBy}
 use Rattle.ancestor_index.proofs.ClosureLemmas.{both_ways, item_there, length-where, list_of-where, row_there, there_item, there_row, there_where}
 
 -- lists by tests that agree are the same
-pub lists_where-agree : (count : ℕ) (test other : ℕ → ℕ → Bool) → ((a b : ℕ) → a < count → b < count → test a b ≡ other a b) → lists_where count test ≡ lists_where count other
+pub lists_where-agree : (count : ℕ) (test other : ℕ → ℕ → Bool)
+    → ((a b : ℕ) → a < count → b < count → test a b ≡ other a b) → lists_where count test ≡ lists_where count other
 lists_where-agree count test other agree =
     same_maps (λ concept. numbers_where count (test concept)) (λ concept. numbers_where count (other concept)) 0 count
     (λ a from below. numbers_where-agree count (test a) (other a) (λ b near. agree a b (omega arith) near))
@@ -34,7 +35,8 @@ lists_where-agree count test other agree =
 pub where_below : (count : ℕ) (test : ℕ → ℕ → Bool) (lists : List (List ℕ)) → lists ≡ lists_where count test → AreItemsBelow count lists
 where_below count test lists is k d within j e inside =
     let near : k < count = omega (arith, within, ap (λ (all : List (List ℕ)). length all) is, length-where count test) in
-    let list : get_or lists k d ≡ numbers_where count (test k) = get_or_default lists k d [] within ∙ ap (λ (all : List (List ℕ)). list_of all k) is ∙ list_of-where count test k near in
+    let list : get_or lists k d ≡ numbers_where count (test k) = get_or_default lists k d [] within
+    ∙ ap (λ (all : List (List ℕ)). list_of all k) is ∙ list_of-where count test k near in
     (there_where count (test k) (get_or (get_or lists k d) j e)
     (subst (λ (xs : List ℕ). Contains xs (get_or (get_or lists k d) j e)) list (Contains-get_or (get_or lists k d) j e inside))).0
 
@@ -63,27 +65,41 @@ with_key-out key x low zero test below = refl
 with_key-out key x low (suc count) test below =
     let rest = with_key-out key x (low + 1) count test (omega arith) in
     let apart : (low == x) ≡ false = ne_eqb low x (λ same. absurd (omega arith)) in
-    elim (test low) as (λ b. items_of (with_key key (cond b (low ∷ filter test (range_with_len (low + 1) count)) (filter test (range_with_len (low + 1) count)))) x ≡ []) [
-      | true ↦ (λ i. map (λ (pair : ℕ × ℕ). pair.1) (cond (apart i) ((low, key) ∷ filter (λ (pair : ℕ × ℕ). pair.0 == x) (with_key key (filter test (range_with_len (low + 1) count)))) (filter (λ (pair : ℕ × ℕ). pair.0 == x) (with_key key (filter test (range_with_len (low + 1) count)))))) ∙ rest
+    elim (test low) as (λ b. items_of (with_key key (cond b (low ∷ filter test (range_with_len (low + 1) count))
+    (filter test (range_with_len (low + 1) count)))) x ≡ []) [
+      | true ↦ (λ i. map (λ (pair : ℕ × ℕ). pair.1)
+          (cond (apart i) ((low, key)
+          ∷ filter (λ (pair : ℕ × ℕ). pair.0 == x) (with_key key (filter test (range_with_len (low + 1) count))))
+          (filter (λ (pair : ℕ × ℕ). pair.0 == x) (with_key key (filter test (range_with_len (low + 1) count)))))) ∙ rest
       | false ↦ rest
     ]
 
-with_key-in : (key x low count : ℕ) (test : ℕ → Bool) → low ≤ x → x < low + count → items_of (with_key key (filter test (range_with_len low count))) x ≡ cond (test x) (key ∷ []) []
+with_key-in : (key x low count : ℕ) (test : ℕ → Bool) → low ≤ x → x < low + count
+    → items_of (with_key key (filter test (range_with_len low count))) x ≡ cond (test x) (key ∷ []) []
 with_key-in key x low zero test above below = absurd (omega arith)
 with_key-in key x low (suc count) test above below = ⊎_elim
     (λ (same : low ≡ x).
     let rest = with_key-out key x (low + 1) count test (omega arith) in
     let here : (low == x) ≡ true = eq-eqb low x same in
-    (elim (test low) as (λ b. items_of (with_key key (cond b (low ∷ filter test (range_with_len (low + 1) count)) (filter test (range_with_len (low + 1) count)))) x ≡ cond b (key ∷ []) []) [
-      | true ↦ (λ i. map (λ (pair : ℕ × ℕ). pair.1) (cond (here i) ((low, key) ∷ filter (λ (pair : ℕ × ℕ). pair.0 == x) (with_key key (filter test (range_with_len (low + 1) count)))) (filter (λ (pair : ℕ × ℕ). pair.0 == x) (with_key key (filter test (range_with_len (low + 1) count)))))) ∙ ap (λ (xs : List ℕ). key ∷ xs) rest
+    (elim (test low) as (λ b. items_of (with_key key (cond b (low ∷ filter test (range_with_len (low + 1) count))
+    (filter test (range_with_len (low + 1) count)))) x ≡ cond b (key ∷ []) []) [
+      | true ↦ (λ i. map (λ (pair : ℕ × ℕ). pair.1)
+          (cond (here i) ((low, key)
+          ∷ filter (λ (pair : ℕ × ℕ). pair.0 == x) (with_key key (filter test (range_with_len (low + 1) count))))
+          (filter (λ (pair : ℕ × ℕ). pair.0 == x) (with_key key (filter test (range_with_len (low + 1) count))))))
+          ∙ ap (λ (xs : List ℕ). key ∷ xs) rest
       | false ↦ rest
     ])
     ∙ (λ i. cond (test (same i)) (key ∷ []) []))
     (λ (other : low ≢ x).
     let rest = with_key-in key x (low + 1) count test (further other) (omega arith) in
     let apart : (low == x) ≡ false = ne_eqb low x other in
-    elim (test low) as (λ b. items_of (with_key key (cond b (low ∷ filter test (range_with_len (low + 1) count)) (filter test (range_with_len (low + 1) count)))) x ≡ cond (test x) (key ∷ []) []) [
-      | true ↦ (λ i. map (λ (pair : ℕ × ℕ). pair.1) (cond (apart i) ((low, key) ∷ filter (λ (pair : ℕ × ℕ). pair.0 == x) (with_key key (filter test (range_with_len (low + 1) count)))) (filter (λ (pair : ℕ × ℕ). pair.0 == x) (with_key key (filter test (range_with_len (low + 1) count)))))) ∙ rest
+    elim (test low) as (λ b. items_of (with_key key (cond b (low ∷ filter test (range_with_len (low + 1) count))
+    (filter test (range_with_len (low + 1) count)))) x ≡ cond (test x) (key ∷ []) []) [
+      | true ↦ (λ i. map (λ (pair : ℕ × ℕ). pair.1)
+          (cond (apart i) ((low, key)
+          ∷ filter (λ (pair : ℕ × ℕ). pair.0 == x) (with_key key (filter test (range_with_len (low + 1) count))))
+          (filter (λ (pair : ℕ × ℕ). pair.0 == x) (with_key key (filter test (range_with_len (low + 1) count)))))) ∙ rest
       | false ↦ rest
     ])
     (cases_eq low x)
@@ -92,12 +108,14 @@ with_key-in key x low (suc count) test above below = ⊎_elim
     further other = ⊎_elim (λ (less : low < x). omega arith) (λ (le : x ≤ low). absurd (other (omega arith))) (cases_lt low x)
 
 turned_tested : (count : ℕ) (test : ℕ → ℕ → Bool) (x : ℕ) → x < count → (key many : ℕ)
-    → items_of (turned_from key (map (λ concept. numbers_where count (test concept)) (range_with_len key many))) x ≡ filter (λ concept. test concept x) (range_with_len key many)
+    → items_of (turned_from key (map (λ concept. numbers_where count (test concept)) (range_with_len key many))) x
+    ≡ filter (λ concept. test concept x) (range_with_len key many)
 turned_tested count test x below key zero = refl
 turned_tested count test x below key (suc many) =
     let rest = turned_tested count test x below (key + 1) many in
     let own = with_key-in key x 0 count (test key) (omega arith) (omega arith) in
-    items_of-append (with_key key (numbers_where count (test key))) (turned_from (key + 1) (map (λ concept. numbers_where count (test concept)) (range_with_len (key + 1) many))) x
+    items_of-append (with_key key (numbers_where count (test key)))
+    (turned_from (key + 1) (map (λ concept. numbers_where count (test concept)) (range_with_len (key + 1) many))) x
     ∙ (λ i. own i ++ rest i)
     ∙ joined (test key x) key (filter (λ concept. test concept x) (range_with_len (key + 1) many))
   where
@@ -111,34 +129,44 @@ turned_where count test =
     (λ x from below. turned_tested count test x (omega arith) 0 count)
 
 -- ---- from numbers to identifiers
-pub same_reach : (concepts : List ℕ) (rows isa : List (ℕ × ℕ)) → IsStrictlyIncreasing concepts → IsWithin (length concepts) rows → map (row_of_numbers concepts) rows ≡ isa
+pub same_reach : (concepts : List ℕ) (rows isa : List (ℕ × ℕ)) → IsStrictlyIncreasing concepts
+    → IsWithin (length concepts) rows → map (row_of_numbers concepts) rows ≡ isa
     → (a b : ℕ) → a < length concepts → b < length concepts → reaches rows a b ≡ reaches isa (get_or concepts a 0) (get_or concepts b 0)
 same_reach concepts rows isa rises within are a b near far =
     both_ways (reaches rows a b) (reaches isa (get_or concepts a 0) (get_or concepts b 0))
-    (λ told. test_from_chain isa (subst (λ (found : List (ℕ × ℕ)). Reaches found (get_or concepts a 0) (get_or concepts b 0)) are (Reaches-map (λ n. get_or concepts n 0) (chain_from_test rows a b told))))
+    (λ told. test_from_chain isa (subst (λ (found : List (ℕ × ℕ)). Reaches found (get_or concepts a 0)
+    (get_or concepts b 0)) are (Reaches-map (λ n. get_or concepts n 0) (chain_from_test rows a b told))))
     (λ told. test_from_chain rows (back (Reaches-map (place_of concepts) (chain_from_test isa (get_or concepts a 0) (get_or concepts b 0) told))))
   where
     back : Reaches (map (row_by (place_of concepts)) isa) (place_of concepts (get_or concepts a 0)) (place_of concepts (get_or concepts b 0)) → Reaches rows a b
     back chain =
-        let again : map (row_by (place_of concepts)) isa ≡ rows = (λ i. map (row_by (place_of concepts)) (sym are i)) ∙ numbers_again concepts rises rows within in
+        let again : map (row_by (place_of concepts)) isa ≡ rows = (λ i. map (row_by (place_of concepts)) (sym are i))
+        ∙ numbers_again concepts rises rows within in
         subst (λ (found : List (ℕ × ℕ)). Reaches found a b) again
         (subst (λ (n : ℕ). Reaches (map (row_by (place_of concepts)) isa) n b) (place_of-get_or concepts rises a near)
-        (subst (λ (n : ℕ). Reaches (map (row_by (place_of concepts)) isa) (place_of concepts (get_or concepts a 0)) n) (place_of-get_or concepts rises b far) chain))
+        (subst (λ (n : ℕ). Reaches (map (row_by (place_of concepts)) isa)
+        (place_of concepts (get_or concepts a 0)) n) (place_of-get_or concepts rises b far) chain))
 
-pub same_child : (concepts : List ℕ) (rows isa : List (ℕ × ℕ)) → IsStrictlyIncreasing concepts → IsWithin (length concepts) rows → map (row_of_numbers concepts) rows ≡ isa
+pub same_child : (concepts : List ℕ) (rows isa : List (ℕ × ℕ)) → IsStrictlyIncreasing concepts
+    → IsWithin (length concepts) rows → map (row_of_numbers concepts) rows ≡ isa
     → (a b : ℕ) → a < length concepts → b < length concepts → is_child rows a b ≡ is_child isa (get_or concepts a 0) (get_or concepts b 0)
 same_child concepts rows isa rises within are a b near far =
     both_ways (is_child rows a b) (is_child isa (get_or concepts a 0) (get_or concepts b 0))
     (λ told. there_row isa (get_or concepts a 0) (get_or concepts b 0)
-    (subst (λ (found : List (ℕ × ℕ)). Contains found (get_or concepts a 0, get_or concepts b 0)) are (contains_map (row_of_numbers concepts) rows (a, b) (row_there rows a b told))))
-    (λ told. there_row rows a b (back (contains_map (row_by (place_of concepts)) isa (get_or concepts a 0, get_or concepts b 0) (row_there isa (get_or concepts a 0) (get_or concepts b 0) told))))
+    (subst (λ (found : List (ℕ × ℕ)). Contains found (get_or concepts a 0, get_or concepts b 0)) are
+    (contains_map (row_of_numbers concepts) rows (a, b) (row_there rows a b told))))
+    (λ told. there_row rows a b (back (contains_map (row_by (place_of concepts)) isa
+    (get_or concepts a 0, get_or concepts b 0) (row_there isa (get_or concepts a 0) (get_or concepts b 0) told))))
   where
-    back : Contains (map (row_by (place_of concepts)) isa) (place_of concepts (get_or concepts a 0), place_of concepts (get_or concepts b 0)) → Contains rows (a, b)
+    back : Contains (map (row_by (place_of concepts)) isa)
+        (place_of concepts (get_or concepts a 0), place_of concepts (get_or concepts b 0)) → Contains rows (a, b)
     back there =
-        let again : map (row_by (place_of concepts)) isa ≡ rows = (λ i. map (row_by (place_of concepts)) (sym are i)) ∙ numbers_again concepts rises rows within in
+        let again : map (row_by (place_of concepts)) isa ≡ rows = (λ i. map (row_by (place_of concepts)) (sym are i))
+        ∙ numbers_again concepts rises rows within in
         subst (λ (found : List (ℕ × ℕ)). Contains found (a, b)) again
         (subst (λ (n : ℕ). Contains (map (row_by (place_of concepts)) isa) (n, b)) (place_of-get_or concepts rises a near)
-        (subst (λ (n : ℕ). Contains (map (row_by (place_of concepts)) isa) (place_of concepts (get_or concepts a 0), n)) (place_of-get_or concepts rises b far) there))
+        (subst (λ (n : ℕ). Contains (map (row_by (place_of concepts)) isa)
+        (place_of concepts (get_or concepts a 0), n)) (place_of-get_or concepts rises b far) there))
 
 -- an order with parents first is as long as there are concepts
 pub order_count : (count : ℕ) (rows : List (ℕ × ℕ)) (order : List ℕ) → IsParentsFirst count rows order → length order ≡ count
@@ -148,7 +176,9 @@ order_count count rows order first =
     omega (arith, most, least)
 
 -- what the search for ancestors is given
-pub given_parents : (count : ℕ) (rows : List (ℕ × ℕ)) (parents : List (List ℕ)) (order : List ℕ) → IsWithin count rows → parents ≡ lists_where count (is_child rows) → IsParentsFirst count rows order → AreParentsBy rows parents order
+pub given_parents : (count : ℕ) (rows : List (ℕ × ℕ)) (parents : List (List ℕ)) (order : List ℕ)
+    → IsWithin count rows → parents ≡ lists_where count (is_child rows) → IsParentsFirst count rows order
+    → AreParentsBy rows parents order
 given_parents count rows parents order within are first =
     let long = order_count count rows order first in record {
       within = subst (λ (n : ℕ). IsWithin n rows) (sym long) within;
@@ -157,17 +187,26 @@ given_parents count rows parents order within are first =
     }
 
 -- the lists by the rows of numbers are the hierarchy of the release
-pub hierarchy_told : (release : Release) (rows : List (ℕ × ℕ)) (count : ℕ) → count ≡ length release.concepts → IsStrictlyIncreasing release.concepts → IsWithin (length release.concepts) rows → map (row_of_numbers release.concepts) rows ≡ release.isa
-    → (ancestors descendants parents children : List (List ℕ)) → ancestors ≡ lists_where count (reaches rows) → descendants ≡ lists_where count (λ concept other. reaches rows other concept)
+pub hierarchy_told : (release : Release) (rows : List (ℕ × ℕ)) (count : ℕ) → count ≡ length release.concepts
+    → IsStrictlyIncreasing release.concepts → IsWithin (length release.concepts) rows
+    → map (row_of_numbers release.concepts) rows ≡ release.isa
+    → (ancestors descendants parents children : List (List ℕ)) → ancestors ≡ lists_where count (reaches rows)
+    → descendants ≡ lists_where count (λ concept other. reaches rows other concept)
     → parents ≡ lists_where count (is_child rows) → children ≡ lists_where count (λ concept other. is_child rows other concept)
     → record { ancestors = ancestors; descendants = descendants; parents = parents; children = children } ≡ hierarchy_of release
 hierarchy_told release rows count all rises within are ancestors descendants parents children above below before behind = λ i. record {
-  ancestors = (above ∙ (λ j. lists_where (all j) (reaches rows)) ∙ lists_where-agree (length release.concepts) (reaches rows) (λ concept other. reaches release.isa (id concept) (id other)) reach) i;
+  ancestors = (above ∙ (λ j. lists_where (all j) (reaches rows))
+      ∙ lists_where-agree (length release.concepts) (reaches rows)
+      (λ concept other. reaches release.isa (id concept) (id other)) reach) i;
   descendants = (below ∙ (λ j. lists_where (all j) (λ concept other. reaches rows other concept))
-      ∙ lists_where-agree (length release.concepts) (λ concept other. reaches rows other concept) (λ concept other. reaches release.isa (id other) (id concept)) (λ a b near far. reach b a far near)) i;
-  parents = (before ∙ (λ j. lists_where (all j) (is_child rows)) ∙ lists_where-agree (length release.concepts) (is_child rows) (λ concept other. is_child release.isa (id concept) (id other)) child) i;
+      ∙ lists_where-agree (length release.concepts) (λ concept other. reaches rows other concept)
+      (λ concept other. reaches release.isa (id other) (id concept)) (λ a b near far. reach b a far near)) i;
+  parents = (before ∙ (λ j. lists_where (all j) (is_child rows))
+      ∙ lists_where-agree (length release.concepts) (is_child rows)
+      (λ concept other. is_child release.isa (id concept) (id other)) child) i;
   children = (behind ∙ (λ j. lists_where (all j) (λ concept other. is_child rows other concept))
-      ∙ lists_where-agree (length release.concepts) (λ concept other. is_child rows other concept) (λ concept other. is_child release.isa (id other) (id concept)) (λ a b near far. child b a far near)) i;
+      ∙ lists_where-agree (length release.concepts) (λ concept other. is_child rows other concept)
+      (λ concept other. is_child release.isa (id other) (id concept)) (λ a b near far. child b a far near)) i;
 }
   where
     id : ℕ → ℕ
@@ -180,8 +219,10 @@ hierarchy_told release rows count all rises within are ancestors descendants par
     child = same_child release.concepts rows release.isa rises within are
 
 -- what the lists by an order are by the count of concepts
-pub ancestors_told : (all count : ℕ) (rows : List (ℕ × ℕ)) (parents ancestors : List (List ℕ)) (order : List ℕ) → count ≡ all → IsWithin all rows → parents ≡ lists_where count (is_child rows) → IsParentsFirst all rows order
-    → ((rows : List (ℕ × ℕ)) → AreParentsBy rows parents order → ancestors ≡ lists_where (length order) (reaches rows)) → ancestors ≡ lists_where count (reaches rows)
+pub ancestors_told : (all count : ℕ) (rows : List (ℕ × ℕ)) (parents ancestors : List (List ℕ)) (order : List ℕ)
+    → count ≡ all → IsWithin all rows → parents ≡ lists_where count (is_child rows) → IsParentsFirst all rows order
+    → ((rows : List (ℕ × ℕ)) → AreParentsBy rows parents order
+    → ancestors ≡ lists_where (length order) (reaches rows)) → ancestors ≡ lists_where count (reaches rows)
 ancestors_told all count rows parents ancestors order same within are first found =
     found rows (given_parents all rows parents order within (are ∙ (λ i. lists_where (same i) (is_child rows))) first)
     ∙ (λ i. lists_where ((order_count all rows order first ∙ sym same) i) (reaches rows))

@@ -58,7 +58,8 @@ joined_there : (f : ℕ → List ℕ) (xs : List ℕ) (x : ℕ) → has_item (fl
 joined_there f [] x told = absurd (cc)
 joined_there f (y ∷ xs) x told = ⊎_elim
     (λ (here : has_item (f y) x ≡ true). (y, (0, omega arith, refl), here))
-    (λ (rest : has_item (flat_map f xs) x ≡ true). let found = joined_there f xs x rest in (found.0, Contains-append_right (y ∷ []) xs found.0 found.1, found.2))
+    (λ (rest : has_item (flat_map f xs) x ≡ true). let found = joined_there f xs x rest in
+    (found.0, Contains-append_right (y ∷ []) xs found.0 found.1, found.2))
     (or_told (has_item (f y) x) (has_item (flat_map f xs) x) (sym (has_item-append (f y) (flat_map f xs) x) ∙ told))
 
 there_joined : (f : ℕ → List ℕ) (xs : List ℕ) (x y : ℕ) → Contains xs y → has_item (f y) x ≡ true → has_item (flat_map f xs) x ≡ true
@@ -87,11 +88,15 @@ there_row [] child parent there = absurd (omega (arith, there.1))
 there_row (row ∷ rows) child parent (zero, within, is) =
     or_left ((row.0 == child) && (row.1 == parent)) (is_child rows child parent)
     ((λ i. eq-eqb row.0 child (λ j. (is j).0) i && (row.1 == parent)) ∙ eq-eqb row.1 parent (λ j. (is j).1))
-there_row (row ∷ rows) child parent (suc k, within, is) = or_right ((row.0 == child) && (row.1 == parent)) (is_child rows child parent) (there_row rows child parent (k, omega arith, is))
+there_row (row ∷ rows) child parent (suc k, within, is) =
+    or_right ((row.0 == child) && (row.1 == parent)) (is_child rows child parent)
+    (there_row rows child parent (k, omega arith, is))
 
 -- ---- lists for each concept
-pub list_of-where : (count : ℕ) (test : ℕ → ℕ → Bool) (concept : ℕ) → concept < count → list_of (lists_where count test) concept ≡ numbers_where count (test concept)
-list_of-where count test concept below = get_or-map-range_with_len (λ concept. numbers_where count (test concept)) 0 count concept concept [] below (omega arith)
+pub list_of-where : (count : ℕ) (test : ℕ → ℕ → Bool) (concept : ℕ) → concept < count
+    → list_of (lists_where count test) concept ≡ numbers_where count (test concept)
+list_of-where count test concept below =
+    get_or-map-range_with_len (λ concept. numbers_where count (test concept)) 0 count concept concept [] below (omega arith)
 
 pub length-where : (count : ℕ) (test : ℕ → ℕ → Bool) → length (lists_where count test) ≡ count
 length-where count test = length-map-range_with_len (λ concept. numbers_where count (test concept)) 0 count
@@ -118,11 +123,13 @@ pub record Turn (rows : List (ℕ × ℕ)) (parents : List (List ℕ)) (order pl
   pub within : k < length order
   pub known : lists ≡ map (λ concept. numbers_where (length order) (reaches rows concept)) (take k order)
 
-pub order_below : (rows : List (ℕ × ℕ)) (parents : List (List ℕ)) (order : List ℕ) → AreParentsBy rows parents order → (k : ℕ) (d : ℕ) → k < length order → get_or order k d < length order
+pub order_below : (rows : List (ℕ × ℕ)) (parents : List (List ℕ)) (order : List ℕ) → AreParentsBy rows parents order
+    → (k : ℕ) (d : ℕ) → k < length order → get_or order k d < length order
 order_below rows parents order given k d within = (given.first.members (get_or order k d)).0 (Contains-get_or order k d within)
 
 -- its parents are those of the rows
-pub own_parents : {rows : List (ℕ × ℕ)} {parents : List (List ℕ)} {order places : List ℕ} {lists : List (List ℕ)} {k : ℕ} → Turn rows parents order places lists k
+pub own_parents : {rows : List (ℕ × ℕ)} {parents : List (List ℕ)} {order places : List ℕ} {lists : List (List ℕ)}
+    {k : ℕ} → Turn rows parents order places lists k
     → list_of parents (get_or order k 0) ≡ numbers_where (length order) (is_child rows (get_or order k 0))
 own_parents {rows} {parents} {order} {places} {lists} {k} turn =
     ap (λ (all : List (List ℕ)). list_of all (get_or order k 0)) turn.given.lists
@@ -134,7 +141,8 @@ pub record Placed (rows : List (ℕ × ℕ)) (order places : List ℕ) (lists : 
   pub early : get_or places parent 0 < length lists
   pub list : list_of lists (get_or places parent 0) ≡ numbers_where (length order) (reaches rows parent)
 
-pub parent_placed : {rows : List (ℕ × ℕ)} {parents : List (List ℕ)} {order places : List ℕ} {lists : List (List ℕ)} {k : ℕ} → Turn rows parents order places lists k
+pub parent_placed : {rows : List (ℕ × ℕ)} {parents : List (List ℕ)} {order places : List ℕ} {lists : List (List ℕ)}
+    {k : ℕ} → Turn rows parents order places lists k
     → (parent : ℕ) → Contains (numbers_where (length order) (is_child rows (get_or order k 0))) parent → Placed rows order places lists parent
 parent_placed {rows} {parents} {order} {places} {lists} {k} turn parent there =
     let told = there_where (length order) (is_child rows (get_or order k 0)) parent there in
@@ -143,18 +151,22 @@ parent_placed {rows} {parents} {order} {places} {lists} {k} turn parent there =
     let less : j < k = omega (arith, before.1, length-take k order) in
     let is : get_or order j 0 ≡ parent = sym (get_or-take k order j 0 less) ∙ get_or_default (take k order) j 0 parent before.1 ∙ before.2 in
     let place : get_or places parent 0 ≡ j = (λ i. get_or places (sym is i) 0) ∙ turn.placed j (omega (arith, less, turn.within)) in
-    let count : length lists ≡ k = ap (λ (all : List (List ℕ)). length all) turn.known ∙ length-map (take k order) (λ concept. numbers_where (length order) (reaches rows concept)) ∙ omega (arith, length-take k order, turn.within) in record {
+    let count : length lists ≡ k = ap (λ (all : List (List ℕ)). length all) turn.known
+    ∙ length-map (take k order) (λ concept. numbers_where (length order) (reaches rows concept))
+    ∙ omega (arith, length-take k order, turn.within) in record {
       near = omega (arith, told.0, turn.len);
       early = omega (arith, place, less, count);
       list = (λ i. list_of lists (place i))
           ∙ ap (λ (all : List (List ℕ)). list_of all j) turn.known
-          ∙ get_or-map (λ concept. numbers_where (length order) (reaches rows concept)) (take k order) j 0 [] (omega (arith, less, length-take k order, turn.within))
+          ∙ get_or-map (λ concept. numbers_where (length order) (reaches rows concept)) (take k order) j 0 []
+          (omega (arith, less, length-take k order, turn.within))
           ∙ (λ i. numbers_where (length order) (reaches rows ((get_or-take k order j 0 less ∙ is) i)));
     }
 
 -- ---- what is gathered for it: its parents, each with its list
 gathered_told : {rows : List (ℕ × ℕ)} {parents : List (List ℕ)} {order places : List ℕ} {lists : List (List ℕ)} {k : ℕ} → Turn rows parents order places lists k
-    → (d : ℕ) → has_item (gathered_by places lists (numbers_where (length order) (is_child rows (get_or order k 0)))) d ≡ true → (d < length order) × Reaches rows (get_or order k 0) d
+    → (d : ℕ) → has_item (gathered_by places lists (numbers_where (length order) (is_child rows (get_or order k 0))))
+    d ≡ true → (d < length order) × Reaches rows (get_or order k 0) d
 gathered_told {rows} {parents} {order} {places} {lists} {k} turn d told =
     let count = length order in
     let concept = get_or order k 0 in
@@ -164,17 +176,22 @@ gathered_told {rows} {parents} {order} {places} {lists} {k} turn d told =
     let row = row_there rows concept parent child.1 in
     let placed = parent_placed turn parent found.1 in
     ⊎_elim
-    (λ (same : (parent == d) ≡ true). let is = eqb-true parent d same in (omega (arith, child.0, is), subst (λ (n : ℕ). Reaches rows concept n) is (one_row row)))
+    (λ (same : (parent == d) ≡ true). let is = eqb-true parent d same in
+    (omega (arith, child.0, is), subst (λ (n : ℕ). Reaches rows concept n) is (one_row row)))
     (λ (above : has_item (list_of lists (get_or places parent 0)) d ≡ true).
-    let there = there_where count (reaches rows parent) d (item_there (numbers_where count (reaches rows parent)) d (ap (λ (xs : List ℕ). has_item xs d) (sym placed.list) ∙ above)) in
+    let there = there_where count (reaches rows parent) d
+    (item_there (numbers_where count (reaches rows parent)) d
+    (ap (λ (xs : List ℕ). has_item xs d) (sym placed.list) ∙ above)) in
     (there.0, more_rows row (chain_from_test rows parent d there.1)))
     (or_told (parent == d) (has_item (list_of lists (get_or places parent 0)) d) found.2)
 
 told_gathered : {rows : List (ℕ × ℕ)} {parents : List (List ℕ)} {order places : List ℕ} {lists : List (List ℕ)} {k : ℕ} → Turn rows parents order places lists k
-    → (concept d : ℕ) → concept ≡ get_or order k 0 → d < length order → Reaches rows concept d → has_item (gathered_by places lists (numbers_where (length order) (is_child rows (get_or order k 0)))) d ≡ true
+    → (concept d : ℕ) → concept ≡ get_or order k 0 → d < length order → Reaches rows concept d
+    → has_item (gathered_by places lists (numbers_where (length order) (is_child rows (get_or order k 0)))) d ≡ true
 told_gathered {rows} {parents} {order} {places} {lists} {k} turn concept d is below (one_row row) =
     let count = length order in
-    let there = where_there count (is_child rows (get_or order k 0)) d below (there_row rows (get_or order k 0) d (subst (λ (c : ℕ). Contains rows (c, d)) is row)) in
+    let there = where_there count (is_child rows (get_or order k 0)) d below
+    (there_row rows (get_or order k 0) d (subst (λ (c : ℕ). Contains rows (c, d)) is row)) in
     there_joined (λ c. c ∷ list_of lists (get_or places c 0)) (numbers_where count (is_child rows (get_or order k 0))) d d there
     (or_left (d == d) (has_item (list_of lists (get_or places d 0)) d) (eq-eqb d d refl))
 told_gathered {rows} {parents} {order} {places} {lists} {k} turn concept d is below (more_rows {parent = parent} row rest) =
@@ -188,15 +205,20 @@ told_gathered {rows} {parents} {order} {places} {lists} {k} turn concept d is be
     (ap (λ (xs : List ℕ). has_item xs d) placed.list ∙ has_item-numbers_where count (reaches rows parent) d below ∙ test_from_chain rows rest))
 
 -- brought in order, that is its ancestors
-pub gathered_listed : {rows : List (ℕ × ℕ)} {parents : List (List ℕ)} {order places : List ℕ} {lists : List (List ℕ)} {k : ℕ} → Turn rows parents order places lists k
-    → listed_numbers (length order) (gathered_by places lists (numbers_where (length order) (is_child rows (get_or order k 0)))) ≡ numbers_where (length order) (reaches rows (get_or order k 0))
+pub gathered_listed : {rows : List (ℕ × ℕ)} {parents : List (List ℕ)} {order places : List ℕ} {lists : List (List ℕ)}
+    {k : ℕ} → Turn rows parents order places lists k
+    → listed_numbers (length order) (gathered_by places lists (numbers_where (length order)
+    (is_child rows (get_or order k 0)))) ≡ numbers_where (length order) (reaches rows (get_or order k 0))
 gathered_listed {rows} {parents} {order} {places} {lists} {k} turn =
-    numbers_where-agree (length order) (has_item (gathered_by places lists (numbers_where (length order) (is_child rows (get_or order k 0))))) (reaches rows (get_or order k 0))
-    (λ d below. both_ways (has_item (gathered_by places lists (numbers_where (length order) (is_child rows (get_or order k 0)))) d) (reaches rows (get_or order k 0) d)
+    numbers_where-agree (length order) (has_item (gathered_by places lists
+    (numbers_where (length order) (is_child rows (get_or order k 0))))) (reaches rows (get_or order k 0))
+    (λ d below. both_ways (has_item (gathered_by places lists (numbers_where (length order)
+    (is_child rows (get_or order k 0)))) d) (reaches rows (get_or order k 0) d)
     (λ told. test_from_chain rows (gathered_told turn d told).1)
     (λ told. told_gathered turn (get_or order k 0) d refl below (chain_from_test rows (get_or order k 0) d told)))
 
-pub gathered_below : {rows : List (ℕ × ℕ)} {parents : List (List ℕ)} {order places : List ℕ} {lists : List (List ℕ)} {k : ℕ} → Turn rows parents order places lists k
+pub gathered_below : {rows : List (ℕ × ℕ)} {parents : List (List ℕ)} {order places : List ℕ} {lists : List (List ℕ)}
+    {k : ℕ} → Turn rows parents order places lists k
     → All (λ number. number < length order) (gathered_by places lists (numbers_where (length order) (is_child rows (get_or order k 0))))
 gathered_below {rows} {parents} {order} {places} {lists} {k} turn i d within =
     let all = gathered_by places lists (numbers_where (length order) (is_child rows (get_or order k 0))) in
@@ -222,7 +244,8 @@ place_at rows parents order places given placed concept below =
       told = (λ i. get_or places (sym is i) 0) ∙ placed there.0 there.1;
     }
 
-pub lists_reordered : (rows : List (ℕ × ℕ)) (parents : List (List ℕ)) (order places : List ℕ) (lists : List (List ℕ)) → AreParentsBy rows parents order → length places ≡ length order
+pub lists_reordered : (rows : List (ℕ × ℕ)) (parents : List (List ℕ)) (order places : List ℕ) (lists : List (List ℕ))
+    → AreParentsBy rows parents order → length places ≡ length order
     → ((place : ℕ) → place < length order → get_or places (get_or order place 0) 0 ≡ place)
     → lists ≡ map (λ concept. numbers_where (length order) (reaches rows concept)) order
     → map (λ place. list_of lists place) places ≡ lists_where (length order) (reaches rows)

@@ -14,7 +14,8 @@ use Rattle.ancestor_index.specs.HierarchyLists.{is_child, lists_where}
 use Rattle.ancestor_index.proofs.ClosureLemmas.{length-where, list_of-where, row_there, there_row, there_where, where_there}
 
 -- a list has another number exactly where the test says so
-tested : (count : ℕ) (test : ℕ → ℕ → Bool) (concept other : ℕ) → concept < count → other < count → Contains (list_of (lists_where count test) concept) other ↔ (test concept other ≡ true)
+tested : (count : ℕ) (test : ℕ → ℕ → Bool) (concept other : ℕ) → concept < count → other < count
+    → Contains (list_of (lists_where count test) concept) other ↔ (test concept other ≡ true)
 tested count test concept other below near = (
   (λ there. (there_where count (test concept) other (subst (λ (xs : List ℕ). Contains xs other) (list_of-where count test concept below) there)).1),
   (λ told. subst (λ (xs : List ℕ). Contains xs other) (sym (list_of-where count test concept below)) (where_there count (test concept) other near told)),

@@ -90,24 +90,29 @@ joined_more places lists concepts i within =
     ∙ ap (λ (last : List ℕ). joined_by places lists (take i concepts) ++ last) (append-nil (own concept))
 
 -- numbers in order and once each, with those of one list more
-pub listed_more : (count : ℕ) (concepts joined own : List ℕ) → all_items count (listed_numbers count (concepts ++ joined)) own ≡ listed_numbers count (concepts ++ (joined ++ own))
+pub listed_more : (count : ℕ) (concepts joined own : List ℕ)
+    → all_items count (listed_numbers count (concepts ++ joined)) own ≡ listed_numbers count (concepts ++ (joined ++ own))
 listed_more count concepts joined own =
     numbers_where-agree count (λ n. has_item (listed_numbers count (concepts ++ joined)) n || has_item own n) (has_item ((concepts ++ joined) ++ own))
-    (λ n below. (λ i. has_item-numbers_where count (has_item (concepts ++ joined)) n below i || has_item own n) ∙ sym (has_item-append (concepts ++ joined) own n))
+    (λ n below. (λ i. has_item-numbers_where count (has_item (concepts ++ joined)) n below i || has_item own n)
+    ∙ sym (has_item-append (concepts ++ joined) own n))
     ∙ ap (listed_numbers count) (append_assoc concepts joined own)
 
 -- the list at a place rises
-pub own_rises : (count place : ℕ) (lists : List (List ℕ)) (own : List ℕ) → AreRisingBelow count lists → place < length lists → own ≡ list_of lists place → IsRisingBelow count own
+pub own_rises : (count place : ℕ) (lists : List (List ℕ)) (own : List ℕ) → AreRisingBelow count lists
+    → place < length lists → own ≡ list_of lists place → IsRisingBelow count own
 own_rises count place lists own rise within is = subst (IsRisingBelow count) (sym is) (rise place [] within)
 
 -- what is joined of numbers in order with such a list
 pub joined_with : (count : ℕ) (all list own union : List ℕ) → list ≡ listed_numbers count all → IsRisingBelow count own
-    → ((bound : ℕ) → IsRisingBelow bound list → IsRisingBelow bound own → union ≡ all_items bound list own) → union ≡ all_items count (listed_numbers count all) own
+    → ((bound : ℕ) → IsRisingBelow bound list → IsRisingBelow bound own → union ≡ all_items bound list own)
+    → union ≡ all_items count (listed_numbers count all) own
 joined_with count all list own union is rises joined =
     joined count (subst (IsRisingBelow count) (sym is) (numbers_where-rising count (has_item all))) rises ∙ (λ i. all_items count (is i) own)
 
 -- one list more that rises
-pub rising_more : (count : ℕ) (lists : List (List ℕ)) (list : List ℕ) → AreRisingBelow count lists → IsRisingBelow count list → AreRisingBelow count (lists ++ list ∷ [])
+pub rising_more : (count : ℕ) (lists : List (List ℕ)) (list : List ℕ) → AreRisingBelow count lists
+    → IsRisingBelow count list → AreRisingBelow count (lists ++ list ∷ [])
 rising_more count lists list rise own =
     let rises = λ (xs : List ℕ). IsRisingBelow count xs in
     All-append rises lists (list ∷ []) rise (All-cons rises list [] own (All-nil rises))
@@ -128,11 +133,13 @@ joined_gathered places lists (concept ∷ concepts) n =
     let joined = joined_by places lists concepts in
     let rest : (has_item concepts n || has_item joined n) ≡ has_item (gathered_by places lists concepts) n =
     sym (has_item-append concepts joined n) ∙ joined_gathered places lists concepts n in
-    ap (λ (b : Bool). (concept == n) || b) (has_item-append concepts (own ++ joined) n ∙ ap (λ (b : Bool). has_item concepts n || b) (has_item-append own joined n))
+    ap (λ (b : Bool). (concept == n) || b) (has_item-append concepts (own ++ joined) n
+    ∙ ap (λ (b : Bool). has_item concepts n || b) (has_item-append own joined n))
     ∙ swapped (concept == n) (has_item concepts n) (has_item own n) (has_item joined n) (has_item (gathered_by places lists concepts) n) rest
     ∙ ap (λ (b : Bool). (concept == n) || b) (sym (has_item-append own (gathered_by places lists concepts) n))
 
 pub joined_listed : (count : ℕ) (places : List ℕ) (lists : List (List ℕ)) (concepts : List ℕ)
     → listed_numbers count (concepts ++ joined_by places lists concepts) ≡ listed_numbers count (gathered_by places lists concepts)
 joined_listed count places lists concepts =
-    numbers_where-agree count (has_item (concepts ++ joined_by places lists concepts)) (has_item (gathered_by places lists concepts)) (λ n below. joined_gathered places lists concepts n)
+    numbers_where-agree count (has_item (concepts ++ joined_by places lists concepts))
+    (has_item (gathered_by places lists concepts)) (λ n below. joined_gathered places lists concepts n)

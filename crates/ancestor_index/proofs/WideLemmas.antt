@@ -14,10 +14,19 @@ use Rattle.ancestor_index.specs.Wide.{AreWide, IsKept, IsWide}
 pub kept_more : (count : ℕ) (list words added : List ℕ) (end : ℕ) → IsKept count list words end → IsKept count list (words ++ added) end
 kept_more count list words added end (inl none) = inl none
 kept_more count list words added end (inr (some, wide, enough, within, marked)) =
-    inr (some, wide, enough, omega (arith, within, length-append words added), subst (λ (part : List ℕ). MarkedBelow count part (has_item list)) (sym (slice_range-append words added (end - words_for count) end (omega arith) within)) marked)
+    inr (
+      some,
+      wide,
+      enough,
+      omega (arith, within, length-append words added),
+      subst (λ (part : List ℕ). MarkedBelow count part (has_item list))
+          (sym (slice_range-append words added (end - words_for count) end (omega arith) within)) marked,
+    )
 
 -- the words that were put behind others
-pub kept_new : (count : ℕ) (list words marks : List ℕ) (end : ℕ) → IsWide count list → All (λ item. item < count) list → MarkedBelow count marks (has_item list) → end ≡ length words + length marks → IsKept count list (words ++ marks) end
+pub kept_new : (count : ℕ) (list words marks : List ℕ) (end : ℕ) → IsWide count list
+    → All (λ item. item < count) list → MarkedBelow count marks (has_item list) → end ≡ length words + length marks
+    → IsKept count list (words ++ marks) end
 kept_new count list words marks end wide below marked is =
     let enough : length marks ≡ words_for count = marked.below.enough in
     let some : 0 < count = omega (arith, below 0 0 (omega arith)) in
@@ -43,7 +52,8 @@ kept_new count list words marks end wide below marked is =
 
 -- one list more
 pub kept_step : (count place : ℕ) (lists : List (List ℕ)) (words added ends : List ℕ) (end : ℕ) → length ends ≡ place
-    → ((concept : ℕ) → concept < place → IsKept count (list_of lists concept) words (get_or ends concept 0)) → IsKept count (list_of lists place) (words ++ added) end
+    → ((concept : ℕ) → concept < place → IsKept count (list_of lists concept) words (get_or ends concept 0))
+    → IsKept count (list_of lists place) (words ++ added) end
     → (concept : ℕ) → concept < place + 1 → IsKept count (list_of lists concept) (words ++ added) (get_or (ends ++ end ∷ []) concept 0)
 kept_step count place lists words added ends end len known here concept below = ⊎_elim
     (λ (same : concept ≡ place).
@@ -59,13 +69,15 @@ kept_step count place lists words added ends end len known here concept below = 
     earlier other = ⊎_elim (λ (less : concept < place). less) (λ (past : place ≤ concept). absurd (other (omega arith))) (cases_lt concept place)
 
 -- the words of one list more
-pub wide_step : (count : ℕ) (lists : List (List ℕ)) (list words added ends : List ℕ) (end : ℕ) → AreWide count lists ends words → IsKept count list (words ++ added) end
+pub wide_step : (count : ℕ) (lists : List (List ℕ)) (list words added ends : List ℕ) (end : ℕ)
+    → AreWide count lists ends words → IsKept count list (words ++ added) end
     → AreWide count (lists ++ list ∷ []) (ends ++ end ∷ []) (words ++ added)
 wide_step count lists list words added ends end wide here = record {
   len = omega (arith, wide.len, length-append ends (end ∷ []), length-append lists (list ∷ []));
   kept = λ concept below.
       kept_step count (length lists) (lists ++ list ∷ []) words added ends end wide.len
-      (λ concept less. subst (λ (own : List ℕ). IsKept count own words (get_or ends concept 0)) (sym (get_or_append_left lists (list ∷ []) [] concept less)) (wide.kept concept less))
+      (λ concept less. subst (λ (own : List ℕ). IsKept count own words (get_or ends concept 0))
+      (sym (get_or_append_left lists (list ∷ []) [] concept less)) (wide.kept concept less))
       (subst (λ (own : List ℕ). IsKept count own (words ++ added) end) (sym (get_or_push lists list [] (length lists) refl)) here)
       concept (omega (arith, below, length-append lists (list ∷ [])));
 }

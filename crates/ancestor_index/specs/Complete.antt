@@ -18,12 +18,16 @@ AreRisingLists =
 abbrev pub AreComplete : Type 0
 AreComplete =
     (release : Release) (concept other : ℕ) → concept < length release.concepts → other < length release.concepts
-    → (Contains (list_of (hierarchy_of release).ancestors concept) other ↔ Reaches release.isa (slice_index release.concepts concept) (slice_index release.concepts other))
-    × (Contains (list_of (hierarchy_of release).descendants concept) other ↔ Reaches release.isa (slice_index release.concepts other) (slice_index release.concepts concept))
+    → (Contains (list_of (hierarchy_of release).ancestors concept) other
+    ↔ Reaches release.isa (slice_index release.concepts concept) (slice_index release.concepts other))
+    × (Contains (list_of (hierarchy_of release).descendants concept) other
+    ↔ Reaches release.isa (slice_index release.concepts other) (slice_index release.concepts concept))
 
 -- a list of parents exactly where a row leads to it, and a list of children exactly where a row leads from it
 abbrev pub AreSingleSteps : Type 0
 AreSingleSteps =
     (release : Release) (concept other : ℕ) → concept < length release.concepts → other < length release.concepts
-    → (Contains (list_of (hierarchy_of release).parents concept) other ↔ Contains release.isa (slice_index release.concepts concept, slice_index release.concepts other))
-    × (Contains (list_of (hierarchy_of release).children concept) other ↔ Contains release.isa (slice_index release.concepts other, slice_index release.concepts concept))
+    → (Contains (list_of (hierarchy_of release).parents concept) other
+    ↔ Contains release.isa (slice_index release.concepts concept, slice_index release.concepts other))
+    × (Contains (list_of (hierarchy_of release).children concept) other
+    ↔ Contains release.isa (slice_index release.concepts other, slice_index release.concepts concept))

@@ -5,5 +5,18 @@ use Rattle.planner.proofs.ListLemmas.{drop_further, drop_leaf}
 use Rattle.answer_printer.proofs.LineLemmas.{drop_behind, drop_both, drop_both_behind, with_bounds-append}
 
 -- for the functions that write the lines of a plan
-pub ruleset writing =
-    (plan_of-And, plan_of-Or, plan_of-Values, unit_plan_of-And, unit_plan_of-Or, append_assoc, append-nil, drop_further, drop_leaf, drop_behind, drop_both, drop_both_behind, with_bounds-append)
+pub ruleset writing = (
+  plan_of-And,
+  plan_of-Or,
+  plan_of-Values,
+  unit_plan_of-And,
+  unit_plan_of-Or,
+  append_assoc,
+  append-nil,
+  drop_further,
+  drop_leaf,
+  drop_behind,
+  drop_both,
+  drop_both_behind,
+  with_bounds-append,
+)

@@ -46,7 +46,8 @@ asks_folders command name rows folders request named folders_are in_order few la
     (rows, named, (in_order ∙ folders_are, subst AreOneToNine folders_are few), lang)
 
 -- where clap finds no fault, what a command asks for the words ask for
-words_ask : (mode : Mode) (words : List Text) (request : Request) → fault_of program words ≡ [] → CommandAsks mode (subcommand_of program words) request → Asks mode words request
+words_ask : (mode : Mode) (words : List Text) (request : Request) → fault_of program words ≡ []
+    → CommandAsks mode (subcommand_of program words) request → Asks mode words request
 words_ask Sample words request clean asked = absurd asked
 words_ask Query words request clean asked = (clean, asked)
 words_ask Explain words request clean asked = (clean, asked)
@@ -85,7 +86,8 @@ names_no_folder command name rows is no_query no_explain no_check =
     ∙ (λ i. if query_not i || explain_not i || check_not i then folders_of rows else [])
 
 -- where a command names no folder, it is no request, and no call for help
-pub is_no_request : (command : Option (Text × List Row)) (fault : WordFault) → IsFaultBy MissingSubcommand fault → folders_named command ≡ [] → IsNoRequest command fault
+pub is_no_request : (command : Option (Text × List Row)) (fault : WordFault) → IsFaultBy MissingSubcommand fault
+    → folders_named command ≡ [] → IsNoRequest command fault
 is_no_request command (Usage text) by none = inl none
 is_no_request command (Help text) by none = absurd (no_call by)
   where

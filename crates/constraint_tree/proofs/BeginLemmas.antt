@@ -15,12 +15,14 @@ use Rattle.constraint_tree.proofs.SymbolLemmas.{other_byte}
 use Rattle.constraint_tree.proofs.Symbols.{ArePrintableParts, HasDigits, HasTwoParts, IsPrintable, IsPrintableAttribute, IsPrintableSet}
 
 -- a digit begins the text of a concept
-first_digit : (test : ℕ → Bool) → ((byte : ℕ) → is_ascii_digit byte ≡ true → test byte ≡ true) → (run rest : List ℕ) → 0 < length run → list_all is_ascii_digit run ≡ true → begins test (run ++ [] ++ rest) ≡ true
+first_digit : (test : ℕ → Bool) → ((byte : ℕ) → is_ascii_digit byte ≡ true → test byte ≡ true) → (run rest : List ℕ)
+    → 0 < length run → list_all is_ascii_digit run ≡ true → begins test (run ++ [] ++ rest) ≡ true
 first_digit test passes [] rest some each = absurd (omega arith)
 first_digit test passes (byte ∷ run) rest some each = passes byte (and_parts (is_ascii_digit byte) (list_all is_ascii_digit run) each).0
 
 -- and so does what passes each digit
-concept_begins : (test : ℕ → Bool) → ((byte : ℕ) → is_ascii_digit byte ≡ true → test byte ≡ true) → (id : ℕ) → HasDigits 6 18 id → (rest : List ℕ) → begins test (decimal id ++ [] ++ rest) ≡ true
+concept_begins : (test : ℕ → Bool) → ((byte : ℕ) → is_ascii_digit byte ≡ true → test byte ≡ true) → (id : ℕ)
+    → HasDigits 6 18 id → (rest : List ℕ) → begins test (decimal id ++ [] ++ rest) ≡ true
 concept_begins test passes id printable rest =
     let written = digits_written 6 id (omega arith) printable in
     first_digit test passes (decimal id) rest written.some written.each
@@ -47,7 +49,8 @@ behind_caret (minus_tree first second) printable rest = refl
 behind_caret (dotted_tree start names) printable rest = refl
 behind_caret (refined_tree focus refinement) printable rest = refl
 
-pub behind_operator : (tree : Tree) → IsPrintable tree → (rest : List ℕ) → begins member_byte (placed_text (is_member_or_focus tree) (constraint_text tree) ++ rest) ≡ true
+pub behind_operator : (tree : Tree) → IsPrintable tree → (rest : List ℕ)
+    → begins member_byte (placed_text (is_member_or_focus tree) (constraint_text tree) ++ rest) ≡ true
 behind_operator (concept_tree id) printable rest = concept_begins member_byte digit_is_member id printable rest
 behind_operator any_tree printable rest = refl
 behind_operator (walk_tree operator operand) printable rest = refl
@@ -59,7 +62,8 @@ behind_operator (dotted_tree start names) printable rest = refl
 behind_operator (refined_tree focus refinement) printable rest = refl
 
 -- a sign begins the text of a walk
-walk_begins : (operator : Operator) (operand : Tree) (rest : List ℕ) → begins operand_byte (placed_text true (constraint_text (walk_tree operator operand)) ++ rest) ≡ true
+walk_begins : (operator : Operator) (operand : Tree) (rest : List ℕ)
+    → begins operand_byte (placed_text true (constraint_text (walk_tree operator operand)) ++ rest) ≡ true
 walk_begins Descendants operand rest = refl
 walk_begins DescendantsOrSelf operand rest = refl
 walk_begins Children operand rest = refl
@@ -111,14 +115,18 @@ attribute_unbraced : (what : AttributeTree) → IsPrintableAttribute what → (r
 attribute_unbraced (attribute_tree count reverse name test) printable rest =
     let operand : List ℕ = placed_text (is_sub name) (constraint_text name) in
     let starts = other_begins operand_byte 123 (operand ++ (test_text test ++ rest)) refl (operand_begins name printable.1 (test_text test ++ rest)) in
-    let counted = count_unbraced count.min count.max (reverse_text reverse ++ (operand ++ (test_text test ++ rest))) (reverse_unbraced reverse (operand ++ (test_text test ++ rest)) starts) in
+    let counted = count_unbraced count.min count.max (reverse_text reverse ++ (operand ++ (test_text test ++ rest)))
+    (reverse_unbraced reverse (operand ++ (test_text test ++ rest)) starts) in
     subst (λ (text : List ℕ). begins_with 123 text ≡ false) (four_parts (cardinality_text count) (reverse_text reverse) operand (test_text test) rest) counted
 
 -- nor the parts of a set
-joined_unbraced : (before : List ℕ) (parts : AttributeSetTrees) → HasTwoParts parts → ArePrintableParts parts → (rest : List ℕ) → begins_with 123 (joined_parts before parts ++ rest) ≡ false
+joined_unbraced : (before : List ℕ) (parts : AttributeSetTrees) → HasTwoParts parts → ArePrintableParts parts
+    → (rest : List ℕ) → begins_with 123 (joined_parts before parts ++ rest) ≡ false
 joined_unbraced before no_sets two printable rest = absurd two
 joined_unbraced before (set_then (one_set what) more) two printable rest =
-    subst (λ (text : List ℕ). begins_with 123 text ≡ false) (regroup (attribute_text what) (listed_parts before more)) (attribute_unbraced what printable.0.1 (listed_parts before more ++ rest))
+    subst (λ (text : List ℕ). begins_with 123 text ≡ false)
+    (regroup (attribute_text what) (listed_parts before more))
+    (attribute_unbraced what printable.0.1 (listed_parts before more ++ rest))
   where
     regroup : (one two : List ℕ) → one ++ (two ++ rest) ≡ one ++ [] ++ two ++ rest
     regroup one two = simp (append-nil, append_assoc)

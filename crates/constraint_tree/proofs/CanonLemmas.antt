@@ -27,7 +27,8 @@ pub record Canonical (tree : Tree) : Type 0 where
   pub shallow : symbols_deep 0 (constraint_symbols tree []) ≡ false
   pub few : levels tree ≤ 64
 
-pub canonical : NumbersRead → (form : ConstraintForm) → ArePlain (constraint_tokens form []) → symbols_deep 0 (constraint_tokens form []) ≡ false → Canonical (constraint_tree form)
+pub canonical : NumbersRead → (form : ConstraintForm) → ArePlain (constraint_tokens form [])
+    → symbols_deep 0 (constraint_tokens form []) ≡ false → Canonical (constraint_tree form)
 canonical numbers form bare flat =
     let fit = constraint_fits numbers form 0 [] (omega arith) bare flat in
     let whole = (forms_of (constraint_tree form) fit.printable).whole in
@@ -50,26 +51,30 @@ pub deep_symbols : (count : ℕ) (tokens : List Spelled) → is_deep count token
 deep_symbols count [] = refl
 deep_symbols count (token ∷ tokens) =
     ap (λ (rest : Bool). (opens token.kind && (count == most_open)) || rest) (deep_symbols (open_behind count token.kind) tokens)
-    ∙ ap (λ (kind : TokenKind). (opens kind && (count == most_open)) || symbols_deep (open_behind count kind) (map symbol_of tokens)) (sym (kind_of_symbol_of token.kind token.bytes))
+    ∙ ap (λ (kind : TokenKind). (opens kind && (count == most_open))
+    || symbols_deep (open_behind count kind) (map symbol_of tokens)) (sym (kind_of_symbol_of token.kind token.bytes))
 
 -- no symbol and no word is a token of digits, and digits that are read have no leading zero
 is_mark : TokenKind → Bool
 is_mark Digits = false
 is_mark other = true
 
-kind_in-mark : (table : List (List ℕ × TokenKind)) (bytes : List ℕ) (kind : TokenKind) → list_all (λ entry. is_mark entry.1) table ≡ true → kind_in table bytes ≡ Some kind → is_mark kind ≡ true
+kind_in-mark : (table : List (List ℕ × TokenKind)) (bytes : List ℕ) (kind : TokenKind)
+    → list_all (λ entry. is_mark entry.1) table ≡ true → kind_in table bytes ≡ Some kind → is_mark kind ≡ true
 kind_in-mark [] bytes kind marks is = absurd (cc)
 kind_in-mark (entry ∷ table) bytes kind marks is =
     let parts = and_parts (is_mark entry.1) (list_all (λ other. is_mark other.1) table) marks in
     by (bytes_eq entry.0 bytes) parts.0 (λ found. kind_in-mark table bytes kind parts.1 found) is
   where
-    by : (test : Bool) → is_mark entry.1 ≡ true → (kind_in table bytes ≡ Some kind → is_mark kind ≡ true) → (if test then Some entry.1 else kind_in table bytes) ≡ Some kind → is_mark kind ≡ true
+    by : (test : Bool) → is_mark entry.1 ≡ true → (kind_in table bytes ≡ Some kind → is_mark kind ≡ true)
+        → (if test then Some entry.1 else kind_in table bytes) ≡ Some kind → is_mark kind ≡ true
     by true first others found =
         let same : entry.1 ≡ kind = cc in
         sym (ap is_mark same) ∙ first
     by false first others found = others found
 
-mark_plain : (kind : TokenKind) (bytes : List ℕ) (rest : List Symbol) → is_mark kind ≡ true → ArePlain rest → ArePlain (symbol_of (record { kind = kind; bytes = bytes }) ∷ rest)
+mark_plain : (kind : TokenKind) (bytes : List ℕ) (rest : List Symbol) → is_mark kind ≡ true → ArePlain rest
+    → ArePlain (symbol_of (record { kind = kind; bytes = bytes }) ∷ rest)
 unfolding is_mark
 mark_plain Digits bytes rest is bare = absurd (cc)
 mark_plain Number bytes rest is bare = bare
@@ -81,9 +86,11 @@ read_plain [] rest read = tt
 read_plain (space byte ∷ pieces) rest read = read_plain pieces rest read.1
 read_plain (comment inside ∷ pieces) rest read = read_plain pieces rest read.1
 read_plain (symbol bytes kind ∷ pieces) rest read =
-    mark_plain kind (bytes_of (symbol bytes kind)) (map symbol_of (spelled_tokens pieces)) (kind_in-mark symbols bytes kind refl read.0.stands.0) (read_plain pieces rest read.1)
+    mark_plain kind (bytes_of (symbol bytes kind)) (map symbol_of (spelled_tokens pieces))
+    (kind_in-mark symbols bytes kind refl read.0.stands.0) (read_plain pieces rest read.1)
 read_plain (word letters kind ∷ pieces) rest read =
-    mark_plain kind (bytes_of (word letters kind)) (map symbol_of (spelled_tokens pieces)) (kind_in-mark words (map to_ascii_lowercase letters) kind refl read.0.stands.1) (read_plain pieces rest read.1)
+    mark_plain kind (bytes_of (word letters kind)) (map symbol_of (spelled_tokens pieces))
+    (kind_in-mark words (map to_ascii_lowercase letters) kind refl read.0.stands.1) (read_plain pieces rest read.1)
 read_plain (digits_piece run ∷ pieces) rest read =
     let bare : is_plain (run ++ []) ≡ true = ap is_plain (sym (no_more run [] refl)) ∙ read.0.stands.1 in
     (bare, read_plain pieces rest read.1)
@@ -97,7 +104,9 @@ constraint_canonical text tree constraint =
     let tokens = constraint.tokens in
     let form = constraint.is_tree.0 in
     let spelled : map symbol_of tokens ≡ constraint_tokens form [] = constraint.is_tree.1 in
-    let from_pieces : map symbol_of (spelled_tokens pieces) ≡ constraint_tokens form [] = ap (λ (found : List Spelled). map symbol_of found) (sym constraint.are_tokens.2) ∙ spelled in
-    let bare : ArePlain (constraint_tokens form []) = subst (λ (found : List Symbol). ArePlain found) from_pieces (read_plain pieces [] constraint.are_tokens.1.each) in
+    let from_pieces : map symbol_of (spelled_tokens pieces) ≡ constraint_tokens form [] =
+    ap (λ (found : List Spelled). map symbol_of found) (sym constraint.are_tokens.2) ∙ spelled in
+    let bare : ArePlain (constraint_tokens form []) =
+    subst (λ (found : List Symbol). ArePlain found) from_pieces (read_plain pieces [] constraint.are_tokens.1.each) in
     let flat : symbols_deep 0 (constraint_tokens form []) ≡ false = ap (symbols_deep 0) (sym spelled) ∙ sym (deep_symbols 0 tokens) ∙ constraint.shallow in
     subst (λ (found : Tree). Canonical found) (sym constraint.is_tree.2) (canonical numbers_read form bare flat)

@@ -8,10 +8,13 @@ use Rattle.constraint_tree.specs.Denotation.{denotes, some_denotes, follows, is_
 use Rattle.constraint_tree.specs.Tree.{Tree, concept_tree, any_tree, walk_tree, member_tree, and_tree, or_tree, minus_tree, dotted_tree, refined_tree, Trees, no_trees, tree_then}
 
 -- the values along names are in force where those of the set are
-follows_in_force : (names : Trees) (release : Release) (set : ℕ → Bool) → ((value : ℕ) → set value ≡ true → has_concept release value ≡ true) → (concept : ℕ) → follows release set names concept ≡ true → has_concept release concept ≡ true
+follows_in_force : (names : Trees) (release : Release) (set : ℕ → Bool)
+    → ((value : ℕ) → set value ≡ true → has_concept release value ≡ true) → (concept : ℕ)
+    → follows release set names concept ≡ true → has_concept release concept ≡ true
 follows_in_force no_trees release set each concept holds = each concept holds
 follows_in_force (tree_then name names) release set each concept holds =
-    follows_in_force names release (is_value release set (denotes release name)) (λ value found. (and_parts (has_concept release value) _ found).0) concept holds
+    follows_in_force names release (is_value release set (denotes release name))
+    (λ value found. (and_parts (has_concept release value) _ found).0) concept holds
 
 -- what a constraint denotes is in force
 mutual

@@ -82,7 +82,8 @@ pub record WritesDigits (number : ℕ) : Type 0 where
 -- the digits of a number are as many as they may be, and plain
 pub digits_written : (least number : ℕ) → 0 < least → HasDigits least 18 number → WritesDigits number
 digits_written least number some written =
-    let tests = and_parts (nat_le least (length (decimal number)) && nat_le (length (decimal number)) 18) (list_all is_ascii_digit (decimal number)) written.is in
+    let tests = and_parts (nat_le least (length (decimal number)) && nat_le (length (decimal number)) 18)
+    (list_all is_ascii_digit (decimal number)) written.is in
     let lengths = and_parts (nat_le least (length (decimal number))) (nat_le (length (decimal number)) 18) tests.0 in
     let few : length (decimal number) ≤ 18 = leb-true (length (decimal number)) 18 lengths.1 in
     let long : least ≤ length (decimal number) = leb-true least (length (decimal number)) lengths.0 in
@@ -91,7 +92,8 @@ digits_written least number some written =
     record { some = omega arith; few = few; each = tests.1; plain = decimal_plain number below }
 
 -- the digits of a number are read in front of what is no digit
-pub digits_read : (number : ℕ) (rest : List ℕ) (symbols : List Symbol) → WritesDigits number → begins is_ascii_digit rest ≡ false → Reads rest symbols → Reads (decimal number ++ rest) (digits (decimal number) ∷ symbols)
+pub digits_read : (number : ℕ) (rest : List ℕ) (symbols : List Symbol) → WritesDigits number
+    → begins is_ascii_digit rest ≡ false → Reads rest symbols → Reads (decimal number ++ rest) (digits (decimal number) ∷ symbols)
 digits_read number rest symbols written ends more =
     let read : IsRead (digits_piece (decimal number)) rest = record {
       stands = (record { some = written.some; each = written.each; ended = ends }, written.plain);
@@ -152,7 +154,9 @@ after_whole [] rest ends = ends_digits rest ends
 after_whole (digit ∷ more) rest ends = refl
 
 -- a number stands in front of what may stand behind it
-number_stands : (sign : Sign) (whole fraction rest : List ℕ) → 0 < length whole → list_all is_ascii_digit whole ≡ true → is_plain whole ≡ true → list_all is_ascii_digit fraction ≡ true → EndsNumber rest → Stands (number_piece sign whole fraction) rest
+number_stands : (sign : Sign) (whole fraction rest : List ℕ) → 0 < length whole
+    → list_all is_ascii_digit whole ≡ true → is_plain whole ≡ true → list_all is_ascii_digit fraction ≡ true
+    → EndsNumber rest → Stands (number_piece sign whole fraction) rest
 number_stands sign whole [] rest some each plain behind ends =
     let no_point = ends_point rest ends in
     (record { some = some; each = each; ended = ends_digits rest ends }, plain, rw no_point refl)
@@ -173,14 +177,19 @@ sign_utf8 plus text utf8 = IsUtf8-append (43 ∷ []) text (low_bytes (43 ∷ [])
 sign_utf8 minus text utf8 = IsUtf8-append (45 ∷ []) text (low_bytes (45 ∷ []) refl) utf8
 
 -- and those of a number
-number_utf8 : (sign : Sign) (whole fraction : List ℕ) → list_all is_ascii_digit whole ≡ true → list_all is_ascii_digit fraction ≡ true → IsUtf8 (bytes_of (number_piece sign whole fraction))
+number_utf8 : (sign : Sign) (whole fraction : List ℕ) → list_all is_ascii_digit whole ≡ true
+    → list_all is_ascii_digit fraction ≡ true → IsUtf8 (bytes_of (number_piece sign whole fraction))
 number_utf8 sign whole fraction each behind =
     let unsigned_utf8 : IsUtf8 (whole ++ point_text fraction []) =
     IsUtf8-append whole (point_text fraction []) (low_bytes whole (low_digits whole each)) (point_utf8 fraction behind) in
-    IsUtf8-append (35 ∷ []) (sign_text sign (whole ++ point_text fraction [])) (low_bytes (35 ∷ []) refl) (sign_utf8 sign (whole ++ point_text fraction []) unsigned_utf8)
+    IsUtf8-append (35 ∷ []) (sign_text sign (whole ++ point_text fraction [])) (low_bytes (35 ∷ []) refl)
+    (sign_utf8 sign (whole ++ point_text fraction []) unsigned_utf8)
 
 -- a number with a sign is read in front of what may stand behind it
-signed_reads : (sign : Sign) (number : ℕ) (rest : List ℕ) (symbols : List Symbol) → number < 10 ^ 36 → EndsNumber rest → Reads rest symbols → Reads (35 ∷ sign_text sign (unsigned_text number) ++ rest) (decimal_symbol (35 ∷ sign_text sign (unsigned_text number)) ∷ symbols)
+signed_reads : (sign : Sign) (number : ℕ) (rest : List ℕ) (symbols : List Symbol) → number < 10 ^ 36
+    → EndsNumber rest → Reads rest symbols
+    → Reads (35 ∷ sign_text sign (unsigned_text number) ++ rest)
+    (decimal_symbol (35 ∷ sign_text sign (unsigned_text number)) ∷ symbols)
 signed_reads sign number rest symbols small ends more =
     let whole : List ℕ = decimal (number / 10 ^ 18) in
     let part : List ℕ = fraction_text (number % 10 ^ 18) in
@@ -194,7 +203,8 @@ signed_reads sign number rest symbols small ends more =
     let read : IsRead (number_piece sign whole point.fraction) rest = record {
       stands = number_stands sign whole point.fraction rest written.some written.each plain point.each ends;
       supported = refl;
-      within = and_from (nat_le (length whole) 18) (nat_le (length point.fraction) 18) (le-leb (length whole) 18 few) (le-leb (length point.fraction) 18 point.few);
+      within = and_from (nat_le (length whole) 18) (nat_le (length point.fraction) 18) (le-leb (length whole) 18 few)
+          (le-leb (length point.fraction) 18 point.few);
     } in
     along (decimal_symbol text ∷ symbols) (piece_text-bytes (number_piece sign whole point.fraction) rest ∙ ap (λ (front : List ℕ). front ++ rest) same)
     (piece_then (number_piece sign whole point.fraction) rest (λ found. decimal_symbol text ∷ found) symbols
@@ -207,19 +217,23 @@ signed_reads sign number rest symbols small ends more =
         leb-true (length run) 18 (and_parts (nat_le 1 (length run)) (nat_le (length run) 18) tests.0).1
 
 -- the text of a value is read so
-pub value_reads : (value : ℤ) (rest : List ℕ) (symbols : List Symbol) → decimal_of (drop 1 (number_text value)) ≡ Some value → EndsNumber rest → Reads rest symbols → Reads (number_text value ++ rest) (decimal_symbol (number_text value) ∷ symbols)
+pub value_reads : (value : ℤ) (rest : List ℕ) (symbols : List Symbol)
+    → decimal_of (drop 1 (number_text value)) ≡ Some value → EndsNumber rest → Reads rest symbols
+    → Reads (number_text value ++ rest) (decimal_symbol (number_text value) ∷ symbols)
 value_reads (pos number) rest symbols written ends more =
     signed_reads unsigned number rest symbols (number_is_small (drop 1 (number_text (pos number))) (pos number) written) ends more
 value_reads (negsuc below) rest symbols written ends more =
     signed_reads minus (suc below) rest symbols (number_is_small (drop 1 (number_text (negsuc below))) (negsuc below) written) ends more
 
 -- a cardinality in front of what it counts
-most_reads : (most : Option ℕ) (rest : List ℕ) (symbols : List Symbol) → IsPrintableMost most → begins is_ascii_digit rest ≡ false → Reads rest symbols → Reads (most_text most ++ rest) (most_symbols most symbols)
+most_reads : (most : Option ℕ) (rest : List ℕ) (symbols : List Symbol) → IsPrintableMost most
+    → begins is_ascii_digit rest ≡ false → Reads rest symbols → Reads (most_text most ++ rest) (most_symbols most symbols)
 most_reads None rest symbols written ends more = wildcard rest symbols more
 most_reads (Some most) rest symbols written ends more = digits_read most rest symbols (digits_written 1 most (omega arith) written) ends more
 
 -- a cardinality that is written out
-range_reads : (least : ℕ) (most : Option ℕ) (rest : List ℕ) (symbols : List Symbol) → HasDigits 1 18 least → IsPrintableMost most → Reads rest symbols → Reads (range_text least most ++ rest) (range_symbols least most symbols)
+range_reads : (least : ℕ) (most : Option ℕ) (rest : List ℕ) (symbols : List Symbol) → HasDigits 1 18 least
+    → IsPrintableMost most → Reads rest symbols → Reads (range_text least most ++ rest) (range_symbols least most symbols)
 range_reads least most rest symbols written most_written more =
     let upper = most_reads most (93 ∷ rest) _ most_written refl (bracket_close rest symbols more) in
     let lower = digits_read least _ _ (digits_written 1 least (omega arith) written) refl (dots _ _ upper) in
@@ -229,7 +243,8 @@ range_reads least most rest symbols written most_written more =
     regroup one other = simp append_assoc
 
 -- any cardinality
-pub count_reads : (least : ℕ) (most : Option ℕ) (rest : List ℕ) (symbols : List Symbol) → HasDigits 1 18 least → IsPrintableMost most → Reads rest symbols → Reads (count_text least most ++ rest) (count_symbols least most symbols)
+pub count_reads : (least : ℕ) (most : Option ℕ) (rest : List ℕ) (symbols : List Symbol) → HasDigits 1 18 least
+    → IsPrintableMost most → Reads rest symbols → Reads (count_text least most ++ rest) (count_symbols least most symbols)
 count_reads least None rest symbols written most_written more = by (least == 1) refl
   where
     by : (test : Bool) → (least == 1) ≡ test → Reads (count_text least None ++ rest) (count_symbols least None symbols)

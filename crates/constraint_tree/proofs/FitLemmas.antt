@@ -55,7 +55,8 @@ leading (byte ∷ text) some test zero_first =
     let one : (length (byte ∷ text) == 1) ≡ true = first_of_or (length (byte ∷ text) == 1) (rw first at test) in
     eqb-true (length (byte ∷ text)) 1 one
 
-digits_fit : (least most : ℕ) (run : List ℕ) → is_number least most run ≡ true → is_plain run ≡ true → 0 < least → most ≤ 18 → HasDigits least most (number_of run)
+digits_fit : (least most : ℕ) (run : List ℕ) → is_number least most run ≡ true → is_plain run ≡ true → 0 < least
+    → most ≤ 18 → HasDigits least most (number_of run)
 digits_fit least most run is bare some few =
     let tests = and_parts (nat_le least (length run) && nat_le (length run) most) (list_all is_ascii_digit run) is in
     let lengths = and_parts (nat_le least (length run)) (nat_le (length run) most) tests.0 in
@@ -148,7 +149,15 @@ count_fits None count rest few bare flat =
 count_fits (Some (at_least least is)) count rest few bare flat =
     record { printable = (digits_fit 1 18 least is bare.0 (omega arith) (omega arith), tt); fits = omega arith; bare = bare.1; flat = flat }
 count_fits (Some (between least most is also)) count rest few bare flat =
-    record { printable = (digits_fit 1 18 least is bare.0 (omega arith) (omega arith), digits_fit 1 18 most also bare.1.0 (omega arith) (omega arith)); fits = omega arith; bare = bare.1.1; flat = flat }
+    record {
+      printable = (
+        digits_fit 1 18 least is bare.0 (omega arith) (omega arith),
+        digits_fit 1 18 most also bare.1.0 (omega arith) (omega arith),
+      );
+      fits = omega arith;
+      bare = bare.1.1;
+      flat = flat;
+    }
 
 reverse_fits : (reverse : Bool) → FitsIn (Unit {0}) 0 (reverse_tokens reverse)
 reverse_fits true count rest few bare flat = record { printable = tt; fits = omega arith; bare = bare; flat = flat }
@@ -160,10 +169,16 @@ pair_forward count (outside name value) = refl
 pair_forward count (number name compare text value is) = refl
 
 mutual
-  pub constraint_fits : NumbersRead → (form : ConstraintForm) → FitsIn (IsPrintable (constraint_tree form)) (levels (constraint_tree form)) (constraint_tokens form)
+  pub constraint_fits : NumbersRead → (form : ConstraintForm)
+      → FitsIn (IsPrintable (constraint_tree form)) (levels (constraint_tree form)) (constraint_tokens form)
   constraint_fits numbers (alone sub) count rest few bare flat =
       let one = sub_fits numbers sub count rest few bare flat in
-      record { printable = one.printable; fits = omega (arith, one.fits, placed_more (is_sub (sub_tree sub)) (levels (sub_tree sub))); bare = one.bare; flat = one.flat }
+      record {
+        printable = one.printable;
+        fits = omega (arith, one.fits, placed_more (is_sub (sub_tree sub)) (levels (sub_tree sub)));
+        bare = one.bare;
+        flat = one.flat;
+      }
   constraint_fits numbers (refined focus refinement) count rest few bare flat =
       let one = sub_fits numbers focus count (mark Colon ∷ refinement_tokens refinement rest) few bare flat in
       let other = refinement_fits numbers refinement count rest few one.bare one.flat in
@@ -172,12 +187,22 @@ mutual
       let one = sub_fits numbers first count (mark And ∷ sub_tokens second (subs_tokens And more rest)) few bare flat in
       let other = sub_fits numbers second count (subs_tokens And more rest) few one.bare one.flat in
       let others = subs_fits numbers And (λ count rest flat. flat) more count rest few other.bare other.flat in
-      record { printable = (tt, (one.printable, (other.printable, others.printable))); fits = omega (arith, one.fits, other.fits, others.fits); bare = others.bare; flat = others.flat }
+      record {
+        printable = (tt, (one.printable, (other.printable, others.printable)));
+        fits = omega (arith, one.fits, other.fits, others.fits);
+        bare = others.bare;
+        flat = others.flat;
+      }
   constraint_fits numbers (disjunction first second more) count rest few bare flat =
       let one = sub_fits numbers first count (mark Or ∷ sub_tokens second (subs_tokens Or more rest)) few bare flat in
       let other = sub_fits numbers second count (subs_tokens Or more rest) few one.bare one.flat in
       let others = subs_fits numbers Or (λ count rest flat. flat) more count rest few other.bare other.flat in
-      record { printable = (tt, (one.printable, (other.printable, others.printable))); fits = omega (arith, one.fits, other.fits, others.fits); bare = others.bare; flat = others.flat }
+      record {
+        printable = (tt, (one.printable, (other.printable, others.printable)));
+        fits = omega (arith, one.fits, other.fits, others.fits);
+        bare = others.bare;
+        flat = others.flat;
+      }
   constraint_fits numbers (exclusion first second) count rest few bare flat =
       let one = sub_fits numbers first count (mark Minus ∷ sub_tokens second rest) few bare flat in
       let other = sub_fits numbers second count rest few one.bare one.flat in
@@ -186,30 +211,49 @@ mutual
       let one = sub_fits numbers start count (mark Dot ∷ sub_tokens name (subs_tokens Dot more rest)) few bare flat in
       let other = sub_fits numbers name count (subs_tokens Dot more rest) few one.bare one.flat in
       let others = subs_fits numbers Dot (λ count rest flat. flat) more count rest few other.bare other.flat in
-      record { printable = (one.printable, tt, (other.printable, others.printable)); fits = omega (arith, one.fits, other.fits, others.fits); bare = others.bare; flat = others.flat }
+      record {
+        printable = (one.printable, tt, (other.printable, others.printable));
+        fits = omega (arith, one.fits, other.fits, others.fits);
+        bare = others.bare;
+        flat = others.flat;
+      }
 
-  subs_fits : NumbersRead → (kind : TokenKind) → IsFlat kind → (forms : SubForms) → FitsIn (ArePrintable (sub_trees forms)) (list_levels (sub_trees forms)) (subs_tokens kind forms)
+  subs_fits : NumbersRead → (kind : TokenKind) → IsFlat kind → (forms : SubForms)
+      → FitsIn (ArePrintable (sub_trees forms)) (list_levels (sub_trees forms)) (subs_tokens kind forms)
   subs_fits numbers kind flat_kind no_subs count rest few bare flat = record { printable = tt; fits = omega arith; bare = bare; flat = flat }
   subs_fits numbers kind flat_kind (sub_then form more) count rest few bare flat =
       let one = sub_fits numbers form count (subs_tokens kind more rest) few bare (flat_kind count (sub_tokens form (subs_tokens kind more rest)) flat) in
       let others = subs_fits numbers kind flat_kind more count rest few one.bare one.flat in
       record { printable = (one.printable, others.printable); fits = omega (arith, one.fits, others.fits); bare = others.bare; flat = others.flat }
 
-  sub_fits : NumbersRead → (form : SubForm) → FitsIn (IsPrintable (sub_tree form)) (placed_levels (is_sub (sub_tree form)) (levels (sub_tree form))) (sub_tokens form)
+  sub_fits : NumbersRead → (form : SubForm)
+      → FitsIn (IsPrintable (sub_tree form)) (placed_levels (is_sub (sub_tree form)) (levels (sub_tree form))) (sub_tokens form)
   sub_fits numbers (plain focus) count rest few bare flat =
       let one = focus_fits numbers focus count rest few bare flat in
-      record { printable = one.printable; fits = omega (arith, one.fits, sub_less (focus_tree focus) (levels (focus_tree focus))); bare = one.bare; flat = one.flat }
+      record {
+        printable = one.printable;
+        fits = omega (arith, one.fits, sub_less (focus_tree focus) (levels (focus_tree focus)));
+        bare = one.bare;
+        flat = one.flat;
+      }
   sub_fits numbers (member focus) count rest few bare flat =
       let one = focus_fits numbers focus count rest few bare flat in
       record { printable = one.printable; fits = one.fits; bare = one.bare; flat = one.flat }
   sub_fits numbers (walk operator focus) count rest few bare flat =
       let one = focus_fits numbers focus count rest few bare (operator_out operator count (focus_tokens focus rest) flat) in
-      record { printable = one.printable; fits = omega (arith, one.fits, marked_less (focus_tree focus) (levels (focus_tree focus))); bare = one.bare; flat = one.flat }
+      record {
+        printable = one.printable;
+        fits = omega (arith, one.fits, marked_less (focus_tree focus) (levels (focus_tree focus)));
+        bare = one.bare;
+        flat = one.flat;
+      }
   sub_fits numbers (walk_member operator focus) count rest few bare flat =
       let one = focus_fits numbers focus count rest few bare (operator_out operator count (mark MemberOf ∷ focus_tokens focus rest) flat) in
       record { printable = one.printable; fits = one.fits; bare = one.bare; flat = one.flat }
 
-  focus_fits : NumbersRead → (form : FocusForm) → FitsIn (IsPrintable (focus_tree form)) (placed_levels (is_focus (focus_tree form)) (levels (focus_tree form))) (focus_tokens form)
+  focus_fits : NumbersRead → (form : FocusForm)
+      → FitsIn (IsPrintable (focus_tree form))
+      (placed_levels (is_focus (focus_tree form)) (levels (focus_tree form))) (focus_tokens form)
   focus_fits numbers (concept run is) count rest few bare flat =
       record { printable = digits_fit 6 18 run is bare.0 (omega arith) (omega arith); fits = omega arith; bare = bare.1; flat = flat }
   focus_fits numbers (concept_term run is) count rest few bare flat =
@@ -218,31 +262,59 @@ mutual
   focus_fits numbers (round inside) count rest few bare flat =
       let out = open_out count (symbols_deep (count + 1) (constraint_tokens inside (mark RoundClose ∷ rest))) few flat in
       let one = constraint_fits numbers inside (count + 1) (mark RoundClose ∷ rest) out.few bare out.flat in
-      record { printable = one.printable; fits = omega (arith, one.fits, placed_less (is_focus (constraint_tree inside)) (levels (constraint_tree inside))); bare = one.bare; flat = close_out count rest one.flat }
+      record {
+        printable = one.printable;
+        fits = omega (
+          arith,
+          one.fits,
+          placed_less (is_focus (constraint_tree inside)) (levels (constraint_tree inside)),
+        );
+        bare = one.bare;
+        flat = close_out count rest one.flat;
+      }
 
-  refinement_fits : NumbersRead → (form : RefinementForm) → FitsIn (IsPrintableRefinement (refinement_tree form)) (refinement_levels (refinement_tree form)) (refinement_tokens form)
+  refinement_fits : NumbersRead → (form : RefinementForm)
+      → FitsIn (IsPrintableRefinement (refinement_tree form)) (refinement_levels (refinement_tree form)) (refinement_tokens form)
   refinement_fits numbers (one_item item) count rest few bare flat =
       let one = item_fits numbers item count rest few bare flat in
-      record { printable = one.printable; fits = omega (arith, one.fits, placed_more (is_item (item_tree item)) (refinement_levels (item_tree item))); bare = one.bare; flat = one.flat }
+      record {
+        printable = one.printable;
+        fits = omega (arith, one.fits, placed_more (is_item (item_tree item)) (refinement_levels (item_tree item)));
+        bare = one.bare;
+        flat = one.flat;
+      }
   refinement_fits numbers (all_items first second more) count rest few bare flat =
       let one = item_fits numbers first count (mark And ∷ item_tokens second (items_tokens And more rest)) few bare flat in
       let other = item_fits numbers second count (items_tokens And more rest) few one.bare one.flat in
       let others = items_fits numbers And (λ count rest flat. flat) more count rest few other.bare other.flat in
-      record { printable = (tt, (one.printable, (other.printable, others.printable))); fits = omega (arith, one.fits, other.fits, others.fits); bare = others.bare; flat = others.flat }
+      record {
+        printable = (tt, (one.printable, (other.printable, others.printable)));
+        fits = omega (arith, one.fits, other.fits, others.fits);
+        bare = others.bare;
+        flat = others.flat;
+      }
   refinement_fits numbers (some_items first second more) count rest few bare flat =
       let one = item_fits numbers first count (mark Or ∷ item_tokens second (items_tokens Or more rest)) few bare flat in
       let other = item_fits numbers second count (items_tokens Or more rest) few one.bare one.flat in
       let others = items_fits numbers Or (λ count rest flat. flat) more count rest few other.bare other.flat in
-      record { printable = (tt, (one.printable, (other.printable, others.printable))); fits = omega (arith, one.fits, other.fits, others.fits); bare = others.bare; flat = others.flat }
+      record {
+        printable = (tt, (one.printable, (other.printable, others.printable)));
+        fits = omega (arith, one.fits, other.fits, others.fits);
+        bare = others.bare;
+        flat = others.flat;
+      }
 
-  items_fits : NumbersRead → (kind : TokenKind) → IsFlat kind → (forms : ItemForms) → FitsIn (ArePrintableItems (item_trees forms)) (item_levels (item_trees forms)) (items_tokens kind forms)
+  items_fits : NumbersRead → (kind : TokenKind) → IsFlat kind → (forms : ItemForms)
+      → FitsIn (ArePrintableItems (item_trees forms)) (item_levels (item_trees forms)) (items_tokens kind forms)
   items_fits numbers kind flat_kind no_items count rest few bare flat = record { printable = tt; fits = omega arith; bare = bare; flat = flat }
   items_fits numbers kind flat_kind (item_then form more) count rest few bare flat =
       let one = item_fits numbers form count (items_tokens kind more rest) few bare (flat_kind count (item_tokens form (items_tokens kind more rest)) flat) in
       let others = items_fits numbers kind flat_kind more count rest few one.bare one.flat in
       record { printable = (one.printable, others.printable); fits = omega (arith, one.fits, others.fits); bare = others.bare; flat = others.flat }
 
-  item_fits : NumbersRead → (form : ItemForm) → FitsIn (IsPrintableRefinement (item_tree form)) (placed_levels (is_item (item_tree form)) (refinement_levels (item_tree form))) (item_tokens form)
+  item_fits : NumbersRead → (form : ItemForm)
+      → FitsIn (IsPrintableRefinement (item_tree form))
+      (placed_levels (is_item (item_tree form)) (refinement_levels (item_tree form))) (item_tokens form)
   item_fits numbers (attribute times reverse pair) count rest few bare flat =
       let counted = count_fits times count (reverse_tokens reverse (pair_tokens pair rest)) few bare flat in
       let turned = reverse_fits reverse count (pair_tokens pair rest) few counted.bare counted.flat in
@@ -256,31 +328,58 @@ mutual
   item_fits numbers (round_refinement inside) count rest few bare flat =
       let out = open_out count (symbols_deep (count + 1) (refinement_tokens inside (mark RoundClose ∷ rest))) few flat in
       let one = refinement_fits numbers inside (count + 1) (mark RoundClose ∷ rest) out.few bare out.flat in
-      record { printable = one.printable; fits = omega (arith, one.fits, placed_less (is_item (refinement_tree inside)) (refinement_levels (refinement_tree inside))); bare = one.bare; flat = close_out count rest one.flat }
+      record {
+        printable = one.printable;
+        fits = omega (
+          arith,
+          one.fits,
+          placed_less (is_item (refinement_tree inside)) (refinement_levels (refinement_tree inside)),
+        );
+        bare = one.bare;
+        flat = close_out count rest one.flat;
+      }
 
   set_fits : NumbersRead → (form : SetForm) → FitsIn (IsPrintableSet (set_tree form)) (set_levels (set_tree form)) (set_tokens form)
   set_fits numbers (one_part part) count rest few bare flat =
       let one = part_fits numbers part count rest few bare flat in
-      record { printable = one.printable; fits = omega (arith, one.fits, placed_more (is_part (part_tree part)) (set_levels (part_tree part))); bare = one.bare; flat = one.flat }
+      record {
+        printable = one.printable;
+        fits = omega (arith, one.fits, placed_more (is_part (part_tree part)) (set_levels (part_tree part)));
+        bare = one.bare;
+        flat = one.flat;
+      }
   set_fits numbers (all_parts first second more) count rest few bare flat =
       let one = part_fits numbers first count (mark And ∷ part_tokens second (parts_tokens And more rest)) few bare flat in
       let other = part_fits numbers second count (parts_tokens And more rest) few one.bare one.flat in
       let others = parts_fits numbers And (λ count rest flat. flat) more count rest few other.bare other.flat in
-      record { printable = (tt, (one.printable, (other.printable, others.printable))); fits = omega (arith, one.fits, other.fits, others.fits); bare = others.bare; flat = others.flat }
+      record {
+        printable = (tt, (one.printable, (other.printable, others.printable)));
+        fits = omega (arith, one.fits, other.fits, others.fits);
+        bare = others.bare;
+        flat = others.flat;
+      }
   set_fits numbers (some_parts first second more) count rest few bare flat =
       let one = part_fits numbers first count (mark Or ∷ part_tokens second (parts_tokens Or more rest)) few bare flat in
       let other = part_fits numbers second count (parts_tokens Or more rest) few one.bare one.flat in
       let others = parts_fits numbers Or (λ count rest flat. flat) more count rest few other.bare other.flat in
-      record { printable = (tt, (one.printable, (other.printable, others.printable))); fits = omega (arith, one.fits, other.fits, others.fits); bare = others.bare; flat = others.flat }
+      record {
+        printable = (tt, (one.printable, (other.printable, others.printable)));
+        fits = omega (arith, one.fits, other.fits, others.fits);
+        bare = others.bare;
+        flat = others.flat;
+      }
 
-  parts_fits : NumbersRead → (kind : TokenKind) → IsFlat kind → (forms : PartForms) → FitsIn (ArePrintableParts (part_trees forms)) (part_levels (part_trees forms)) (parts_tokens kind forms)
+  parts_fits : NumbersRead → (kind : TokenKind) → IsFlat kind → (forms : PartForms)
+      → FitsIn (ArePrintableParts (part_trees forms)) (part_levels (part_trees forms)) (parts_tokens kind forms)
   parts_fits numbers kind flat_kind no_parts count rest few bare flat = record { printable = tt; fits = omega arith; bare = bare; flat = flat }
   parts_fits numbers kind flat_kind (part_then form more) count rest few bare flat =
       let one = part_fits numbers form count (parts_tokens kind more rest) few bare (flat_kind count (part_tokens form (parts_tokens kind more rest)) flat) in
       let others = parts_fits numbers kind flat_kind more count rest few one.bare one.flat in
       record { printable = (one.printable, others.printable); fits = omega (arith, one.fits, others.fits); bare = others.bare; flat = others.flat }
 
-  part_fits : NumbersRead → (form : PartForm) → FitsIn (IsPrintableSet (part_tree form)) (placed_levels (is_part (part_tree form)) (set_levels (part_tree form))) (part_tokens form)
+  part_fits : NumbersRead → (form : PartForm)
+      → FitsIn (IsPrintableSet (part_tree form))
+      (placed_levels (is_part (part_tree form)) (set_levels (part_tree form))) (part_tokens form)
   part_fits numbers (counted_part times pair) count rest few bare flat =
       let counted = count_fits times count (pair_tokens pair rest) few bare flat in
       let one = pair_fits numbers pair times false counted.printable count rest few counted.bare counted.flat in
@@ -288,9 +387,17 @@ mutual
   part_fits numbers (round_set inside) count rest few bare flat =
       let out = open_out count (symbols_deep (count + 1) (set_tokens inside (mark RoundClose ∷ rest))) few flat in
       let one = set_fits numbers inside (count + 1) (mark RoundClose ∷ rest) out.few bare out.flat in
-      record { printable = one.printable; fits = omega (arith, one.fits, placed_less (is_part (set_tree inside)) (set_levels (set_tree inside))); bare = one.bare; flat = close_out count rest one.flat }
+      record {
+        printable = one.printable;
+        fits = omega (arith, one.fits, placed_less (is_part (set_tree inside)) (set_levels (set_tree inside)));
+        bare = one.bare;
+        flat = close_out count rest one.flat;
+      }
 
-  pair_fits : NumbersRead → (form : PairForm) (times : Option CountForm) (reverse : Bool) → IsPrintableCount (cardinality_of times) → FitsIn (IsPrintableAttribute (pair_tree times reverse form)) (attribute_levels (pair_tree times reverse form)) (pair_tokens form)
+  pair_fits : NumbersRead → (form : PairForm) (times : Option CountForm) (reverse : Bool)
+      → IsPrintableCount (cardinality_of times)
+      → FitsIn (IsPrintableAttribute (pair_tree times reverse form))
+      (attribute_levels (pair_tree times reverse form)) (pair_tokens form)
   pair_fits numbers (within name value) times reverse counted count rest few bare flat =
       let one = sub_fits numbers name count (mark EqualSign ∷ sub_tokens value rest) few bare flat in
       let other = sub_fits numbers value count rest few one.bare one.flat in
@@ -301,4 +408,9 @@ mutual
       record { printable = (counted, one.printable, other.printable); fits = omega (arith, one.fits, other.fits); bare = other.bare; flat = other.flat }
   pair_fits numbers (number name compare text value is) times reverse counted count rest few bare flat =
       let one = sub_fits numbers name count (mark (compare_kind compare) ∷ decimal_symbol text ∷ rest) few bare flat in
-      record { printable = (counted, one.printable, numbers (drop 1 text) value is); fits = omega (arith, one.fits); bare = one.bare; flat = compare_out compare count (decimal_symbol text ∷ rest) one.flat }
+      record {
+        printable = (counted, one.printable, numbers (drop 1 text) value is);
+        fits = omega (arith, one.fits);
+        bare = one.bare;
+        flat = compare_out compare count (decimal_symbol text ∷ rest) one.flat;
+      }

@@ -24,7 +24,10 @@ pub record OperandForm (tree : Tree) : Type 0 where
 pub record WalkForm (tree : Tree) : Type 0 where
   pub form : Operator → SubForm
   pub is : (operator : Operator) → sub_tree (form operator) ≡ walk_tree operator tree
-  pub spells : (operator : Operator) (rest : List Symbol) → sub_tokens (form operator) rest ≡ mark (operator_kind operator) ∷ opened (is_member_or_focus tree) (constraint_symbols tree (closed (is_member_or_focus tree) rest))
+  pub spells : (operator : Operator) (rest : List Symbol)
+      → sub_tokens (form operator) rest
+      ≡ mark (operator_kind operator)
+      ∷ opened (is_member_or_focus tree) (constraint_symbols tree (closed (is_member_or_focus tree) rest))
 
 pub record CaretForm (tree : Tree) : Type 0 where
   pub form : FocusForm
@@ -74,7 +77,11 @@ concept_forms : (id : ℕ) → HasDigits 6 18 id → Forms (concept_tree id)
 concept_forms id written = record {
   whole = record { form = alone (plain (concept (decimal id) written.is)); is = ap concept_tree written.value; spells = λ rest. refl };
   operand = record { form = plain (concept (decimal id) written.is); is = ap concept_tree written.value; spells = λ rest. refl };
-  behind_operator = record { form = λ operator. walk operator (concept (decimal id) written.is); is = λ operator. ap (λ (found : ℕ). walk_tree operator (concept_tree found)) written.value; spells = λ operator rest. refl };
+  behind_operator = record {
+    form = λ operator. walk operator (concept (decimal id) written.is);
+    is = λ operator. ap (λ (found : ℕ). walk_tree operator (concept_tree found)) written.value;
+    spells = λ operator rest. refl;
+  };
   behind_caret = record { form = concept (decimal id) written.is; is = ap concept_tree written.value; spells = λ rest. refl };
 }
 
@@ -114,8 +121,10 @@ walk_forms operator operand behind =
       behind_caret = caret_round (walk_tree operator operand) refl whole;
     }
 
-operand_then : (tree : Tree) (form : OperandForm tree) (rest other : List Symbol) → rest ≡ other → sub_tokens form.form rest ≡ opened (is_sub tree) (constraint_symbols tree (closed (is_sub tree) other))
-operand_then tree form rest other same = form.spells rest ∙ ap (λ (symbols : List Symbol). opened (is_sub tree) (constraint_symbols tree (closed (is_sub tree) symbols))) same
+operand_then : (tree : Tree) (form : OperandForm tree) (rest other : List Symbol) → rest ≡ other
+    → sub_tokens form.form rest ≡ opened (is_sub tree) (constraint_symbols tree (closed (is_sub tree) other))
+operand_then tree form rest other same = form.spells rest
+    ∙ ap (λ (symbols : List Symbol). opened (is_sub tree) (constraint_symbols tree (closed (is_sub tree) symbols))) same
 
 -- the forms of the parts of a list
 abbrev pub OperandForms : Trees → Type 0
@@ -145,7 +154,8 @@ and_whole (tree_then first (tree_then second more)) two forms =
     record {
       form = conjunction forms.0.form forms.1.0.form others.form;
       is = λ i. and_tree (tree_then (forms.0.is i) (tree_then (forms.1.0.is i) (others.is i)));
-      spells = λ rest. operand_then first forms.0 _ _ (ap (λ (symbols : List Symbol). mark And ∷ symbols) (operand_then second forms.1.0 _ _ (others.spells And rest)));
+      spells = λ rest. operand_then first forms.0 _ _
+          (ap (λ (symbols : List Symbol). mark And ∷ symbols) (operand_then second forms.1.0 _ _ (others.spells And rest)));
     }
 
 or_whole : (parts : Trees) → HasTwo parts → OperandForms parts → WholeForm (or_tree parts)
@@ -156,7 +166,8 @@ or_whole (tree_then first (tree_then second more)) two forms =
     record {
       form = disjunction forms.0.form forms.1.0.form others.form;
       is = λ i. or_tree (tree_then (forms.0.is i) (tree_then (forms.1.0.is i) (others.is i)));
-      spells = λ rest. operand_then first forms.0 _ _ (ap (λ (symbols : List Symbol). mark Or ∷ symbols) (operand_then second forms.1.0 _ _ (others.spells Or rest)));
+      spells = λ rest. operand_then first forms.0 _ _
+          (ap (λ (symbols : List Symbol). mark Or ∷ symbols) (operand_then second forms.1.0 _ _ (others.spells Or rest)));
     }
 
 minus_whole : (first second : Tree) → OperandForm first → OperandForm second → WholeForm (minus_tree first second)
@@ -173,7 +184,8 @@ dotted_whole start (tree_then name more) one form forms =
     record {
       form = dotted form.form forms.0.form others.form;
       is = λ i. dotted_tree (form.is i) (tree_then (forms.0.is i) (others.is i));
-      spells = λ rest. operand_then start form _ _ (ap (λ (symbols : List Symbol). mark Dot ∷ symbols) (operand_then name forms.0 _ _ (others.spells Dot rest)));
+      spells = λ rest. operand_then start form _ _
+          (ap (λ (symbols : List Symbol). mark Dot ∷ symbols) (operand_then name forms.0 _ _ (others.spells Dot rest)));
     }
 
 -- the form of a cardinality
@@ -236,20 +248,23 @@ outside_pair name operand one other = record {
   spells = λ rest. operand_then name one _ _ (ap (λ (symbols : List Symbol). mark NotEqualSign ∷ symbols) (other.spells rest));
 }
 
-number_pair : (name : Tree) (compare : Compare) (value : ℤ) → OperandForm name → IsPrintableTest (number_test compare value) → PairOf name (number_test compare value)
+number_pair : (name : Tree) (compare : Compare) (value : ℤ) → OperandForm name
+    → IsPrintableTest (number_test compare value) → PairOf name (number_test compare value)
 number_pair name compare value one written = record {
   form = number one.form compare (number_text value) value written;
   is = λ count reverse. λ i. attribute_tree (cardinality_of count) reverse (one.is i) (number_test compare value);
   spells = λ rest. operand_then name one _ _ refl;
 }
 
-attribute_of : (count : Cardinality) (reverse : Bool) (name : Tree) (test : TestTree) → CountOf count.min count.max → PairOf name test → AttributeOf (attribute_tree count reverse name test)
+attribute_of : (count : Cardinality) (reverse : Bool) (name : Tree) (test : TestTree) → CountOf count.min count.max
+    → PairOf name test → AttributeOf (attribute_tree count reverse name test)
 attribute_of count reverse name test counted pair = record {
   count = counted.form;
   reverse = reverse;
   pair = pair.form;
   is = pair.is counted.form reverse ∙ ap (λ (found : Cardinality). attribute_tree found reverse name test) counted.is;
-  spells = λ rest. counted.spells (reverse_tokens reverse (pair_tokens pair.form rest)) ∙ ap (λ (symbols : List Symbol). count_symbols count.min count.max (reverse_tokens reverse symbols)) (pair.spells rest);
+  spells = λ rest. counted.spells (reverse_tokens reverse (pair_tokens pair.form rest))
+      ∙ ap (λ (symbols : List Symbol). count_symbols count.min count.max (reverse_tokens reverse symbols)) (pair.spells rest);
   forward = λ is. is;
 }
 
@@ -268,8 +283,10 @@ pub record RefinementForms (tree : RefinementTree) : Type 0 where
   pub whole : RefinementOf tree
   pub item : ItemOf tree
 
-item_then_rest : (tree : RefinementTree) (form : ItemOf tree) (rest other : List Symbol) → rest ≡ other → item_tokens form.form rest ≡ opened (is_item tree) (refinement_symbols tree (closed (is_item tree) other))
-item_then_rest tree form rest other same = form.spells rest ∙ ap (λ (symbols : List Symbol). opened (is_item tree) (refinement_symbols tree (closed (is_item tree) symbols))) same
+item_then_rest : (tree : RefinementTree) (form : ItemOf tree) (rest other : List Symbol) → rest ≡ other
+    → item_tokens form.form rest ≡ opened (is_item tree) (refinement_symbols tree (closed (is_item tree) other))
+item_then_rest tree form rest other same = form.spells rest
+    ∙ ap (λ (symbols : List Symbol). opened (is_item tree) (refinement_symbols tree (closed (is_item tree) symbols))) same
 
 -- the forms of the parts of a list
 abbrev pub ItemsOf : RefinementTrees → Type 0
@@ -299,7 +316,8 @@ and_items (refinement_then first (refinement_then second more)) two forms =
     record {
       form = all_items forms.0.form forms.1.0.form others.form;
       is = λ i. and_refinement (refinement_then (forms.0.is i) (refinement_then (forms.1.0.is i) (others.is i)));
-      spells = λ rest. item_then_rest first forms.0 _ _ (ap (λ (symbols : List Symbol). mark And ∷ symbols) (item_then_rest second forms.1.0 _ _ (others.spells And rest)));
+      spells = λ rest. item_then_rest first forms.0 _ _
+          (ap (λ (symbols : List Symbol). mark And ∷ symbols) (item_then_rest second forms.1.0 _ _ (others.spells And rest)));
     }
 
 or_items : (parts : RefinementTrees) → HasTwoItems parts → ItemsOf parts → RefinementOf (or_refinement parts)
@@ -310,7 +328,8 @@ or_items (refinement_then first (refinement_then second more)) two forms =
     record {
       form = some_items forms.0.form forms.1.0.form others.form;
       is = λ i. or_refinement (refinement_then (forms.0.is i) (refinement_then (forms.1.0.is i) (others.is i)));
-      spells = λ rest. item_then_rest first forms.0 _ _ (ap (λ (symbols : List Symbol). mark Or ∷ symbols) (item_then_rest second forms.1.0 _ _ (others.spells Or rest)));
+      spells = λ rest. item_then_rest first forms.0 _ _
+          (ap (λ (symbols : List Symbol). mark Or ∷ symbols) (item_then_rest second forms.1.0 _ _ (others.spells Or rest)));
     }
 
 -- the forms of an attribute set, alone and as a part
@@ -328,8 +347,10 @@ pub record SetForms (tree : AttributeSetTree) : Type 0 where
   pub whole : SetOf tree
   pub part : PartOf tree
 
-part_then_rest : (tree : AttributeSetTree) (form : PartOf tree) (rest other : List Symbol) → rest ≡ other → part_tokens form.form rest ≡ opened (is_part tree) (set_symbols tree (closed (is_part tree) other))
-part_then_rest tree form rest other same = form.spells rest ∙ ap (λ (symbols : List Symbol). opened (is_part tree) (set_symbols tree (closed (is_part tree) symbols))) same
+part_then_rest : (tree : AttributeSetTree) (form : PartOf tree) (rest other : List Symbol) → rest ≡ other
+    → part_tokens form.form rest ≡ opened (is_part tree) (set_symbols tree (closed (is_part tree) other))
+part_then_rest tree form rest other same = form.spells rest
+    ∙ ap (λ (symbols : List Symbol). opened (is_part tree) (set_symbols tree (closed (is_part tree) symbols))) same
 
 -- the forms of the parts of a list
 abbrev pub PartsOf : AttributeSetTrees → Type 0
@@ -359,7 +380,8 @@ and_parts (set_then first (set_then second more)) two forms =
     record {
       form = all_parts forms.0.form forms.1.0.form others.form;
       is = λ i. and_set (set_then (forms.0.is i) (set_then (forms.1.0.is i) (others.is i)));
-      spells = λ rest. part_then_rest first forms.0 _ _ (ap (λ (symbols : List Symbol). mark And ∷ symbols) (part_then_rest second forms.1.0 _ _ (others.spells And rest)));
+      spells = λ rest. part_then_rest first forms.0 _ _
+          (ap (λ (symbols : List Symbol). mark And ∷ symbols) (part_then_rest second forms.1.0 _ _ (others.spells And rest)));
     }
 
 or_parts : (parts : AttributeSetTrees) → HasTwoParts parts → PartsOf parts → SetOf (or_set parts)
@@ -370,7 +392,8 @@ or_parts (set_then first (set_then second more)) two forms =
     record {
       form = some_parts forms.0.form forms.1.0.form others.form;
       is = λ i. or_set (set_then (forms.0.is i) (set_then (forms.1.0.is i) (others.is i)));
-      spells = λ rest. part_then_rest first forms.0 _ _ (ap (λ (symbols : List Symbol). mark Or ∷ symbols) (part_then_rest second forms.1.0 _ _ (others.spells Or rest)));
+      spells = λ rest. part_then_rest first forms.0 _ _
+          (ap (λ (symbols : List Symbol). mark Or ∷ symbols) (part_then_rest second forms.1.0 _ _ (others.spells Or rest)));
     }
 
 one_item_forms : (what : AttributeTree) → AttributeOf what → RefinementForms (one_refinement what)
@@ -443,9 +466,11 @@ mutual
   forms_of (minus_tree first second) printable =
       forms_round (minus_tree first second) refl refl refl (minus_whole first second (forms_of first printable.0).operand (forms_of second printable.1).operand)
   forms_of (dotted_tree start names) printable =
-      forms_round (dotted_tree start names) refl refl refl (dotted_whole start names printable.1 (forms_of start printable.0).operand (operands_of names printable.2))
+      forms_round (dotted_tree start names) refl refl refl
+      (dotted_whole start names printable.1 (forms_of start printable.0).operand (operands_of names printable.2))
   forms_of (refined_tree focus refinement) printable =
-      forms_round (refined_tree focus refinement) refl refl refl (refined_whole focus refinement (forms_of focus printable.0).operand (refinement_of refinement printable.1).whole)
+      forms_round (refined_tree focus refinement) refl refl refl
+      (refined_whole focus refinement (forms_of focus printable.0).operand (refinement_of refinement printable.1).whole)
 
   operands_of : (trees : Trees) → ArePrintable trees → OperandForms trees
   operands_of no_trees printable = tt
@@ -473,7 +498,8 @@ mutual
 
   attribute_form : (what : AttributeTree) → IsPrintableAttribute what → AttributeOf what
   attribute_form (attribute_tree count reverse name test) printable =
-      attribute_of count reverse name test (count_of count.min count.max printable.0.0 printable.0.1) (pair_of name test (forms_of name printable.1).operand printable.2)
+      attribute_of count reverse name test (count_of count.min count.max printable.0.0 printable.0.1)
+      (pair_of name test (forms_of name printable.1).operand printable.2)
 
   pair_of : (name : Tree) (test : TestTree) → OperandForm name → IsPrintableTest test → PairOf name test
   pair_of name (within_test operand) form printable = within_pair name operand form (forms_of operand printable).operand

@@ -45,7 +45,8 @@ digit_is : (digit : ℕ) → digit < 10 → digit_value (48 + digit) ≡ digit
 digit_is digit below = omega (arith, digit_value_digit (48 + digit) (omega arith, omega arith))
 
 -- with the first digit in front
-first_in_front : (places digit rest : ℕ) (digits : List ℕ) → digit < 10 → WritesFraction places rest digits → WritesFraction (suc places) (digit * 10 ^ places + rest) ((48 + digit) ∷ digits)
+first_in_front : (places digit rest : ℕ) (digits : List ℕ) → digit < 10 → WritesFraction places rest digits
+    → WritesFraction (suc places) (digit * 10 ^ places + rest) ((48 + digit) ∷ digits)
 first_in_front places digit rest digits below written =
     let left = places - length digits in
     let few = written.few in
@@ -78,13 +79,16 @@ nothing_written places fraction none = record {
   some = λ other. absurd (other none);
 }
 
-some_written : (places fraction : ℕ) → (fraction ≡ 0 → ⊥) → fraction < 10 ^ suc places → WritesFraction places (fraction % 10 ^ places) (fraction_digits places (fraction % 10 ^ places)) → WritesFraction (suc places) fraction (fraction_digits (suc places) fraction)
+some_written : (places fraction : ℕ) → (fraction ≡ 0 → ⊥) → fraction < 10 ^ suc places
+    → WritesFraction places (fraction % 10 ^ places) (fraction_digits places (fraction % 10 ^ places))
+    → WritesFraction (suc places) fraction (fraction_digits (suc places) fraction)
 some_written places fraction other below rest =
     let less : suc places - 1 ≡ places = omega arith in
     let step : fraction_digits (suc places) fraction ≡ (48 + fraction / 10 ^ places) ∷ fraction_digits places (fraction % 10 ^ places) =
     fraction_digits-step (suc places) fraction other below ∙ ap (λ (n : ℕ). (48 + fraction / 10 ^ n) ∷ fraction_digits n (fraction % 10 ^ n)) less in
     let digit : fraction / 10 ^ places < 10 = under_ten less in
-    let front : WritesFraction (suc places) (fraction / 10 ^ places * 10 ^ places + fraction % 10 ^ places) ((48 + fraction / 10 ^ places) ∷ fraction_digits places (fraction % 10 ^ places)) =
+    let front : WritesFraction (suc places) (fraction / 10 ^ places * 10 ^ places + fraction % 10 ^ places)
+    ((48 + fraction / 10 ^ places) ∷ fraction_digits places (fraction % 10 ^ places)) =
     first_in_front places (fraction / 10 ^ places) (fraction % 10 ^ places) (fraction_digits places (fraction % 10 ^ places)) digit rest in
     let same : fraction / 10 ^ places * 10 ^ places + fraction % 10 ^ places ≡ fraction = div-add-mod' fraction (10 ^ places) in
     let P : List ℕ → Type 0 = λ digits. WritesFraction (suc places) fraction digits in

@@ -35,5 +35,6 @@ canonical_is_read tree canonical short =
     }
 
 -- and so is the text of the tree of any constraint
-pub printed_is_read : (text : List ℕ) (tree : Tree) → IsConstraint text tree → length (constraint_text tree) ≤ most_bytes → IsConstraint (constraint_text tree) tree
+pub printed_is_read : (text : List ℕ) (tree : Tree) → IsConstraint text tree
+    → length (constraint_text tree) ≤ most_bytes → IsConstraint (constraint_text tree) tree
 printed_is_read text tree constraint short = canonical_is_read tree (constraint_canonical text tree constraint) short

@@ -88,12 +88,15 @@ close_one count rest flat =
     let same : count + 1 - 1 ≡ count = omega arith in
     ap (λ (left : ℕ). symbols_deep left rest) same ∙ flat
 
-placed_shallow : (stands : Bool) (front : List Symbol → List Symbol) (height : ℕ) → IsShallow front height → IsShallow (λ rest. opened stands (front (closed stands rest))) (placed_levels stands height)
+placed_shallow : (stands : Bool) (front : List Symbol → List Symbol) (height : ℕ) → IsShallow front height
+    → IsShallow (λ rest. opened stands (front (closed stands rest))) (placed_levels stands height)
 placed_shallow true front height flat count rest within ends = flat count rest within ends
 placed_shallow false front height flat count rest within ends =
-    open_one count (symbols_deep (count + 1) (front (mark RoundClose ∷ rest))) (omega arith) (flat (count + 1) (mark RoundClose ∷ rest) (omega arith) (close_one count rest ends))
+    open_one count (symbols_deep (count + 1) (front (mark RoundClose ∷ rest))) (omega arith)
+    (flat (count + 1) (mark RoundClose ∷ rest) (omega arith) (close_one count rest ends))
 
-operator_flat : (operator : Operator) (count : ℕ) (rest : List Symbol) → symbols_deep count rest ≡ false → symbols_deep count (mark (operator_kind operator) ∷ rest) ≡ false
+operator_flat : (operator : Operator) (count : ℕ) (rest : List Symbol) → symbols_deep count rest ≡ false
+    → symbols_deep count (mark (operator_kind operator) ∷ rest) ≡ false
 operator_flat Descendants count rest flat = flat
 operator_flat DescendantsOrSelf count rest flat = flat
 operator_flat Children count rest flat = flat
@@ -105,7 +108,8 @@ operator_flat ParentsOrSelf count rest flat = flat
 operator_flat Top count rest flat = flat
 operator_flat Bottom count rest flat = flat
 
-compare_flat : (compare : Compare) (count : ℕ) (rest : List Symbol) → symbols_deep count rest ≡ false → symbols_deep count (mark (compare_kind compare) ∷ rest) ≡ false
+compare_flat : (compare : Compare) (count : ℕ) (rest : List Symbol) → symbols_deep count rest ≡ false
+    → symbols_deep count (mark (compare_kind compare) ∷ rest) ≡ false
 compare_flat Equal count rest flat = flat
 compare_flat NotEqual count rest flat = flat
 compare_flat Less count rest flat = flat
@@ -113,7 +117,8 @@ compare_flat LessOrEqual count rest flat = flat
 compare_flat Greater count rest flat = flat
 compare_flat GreaterOrEqual count rest flat = flat
 
-count_flat : (least : ℕ) (most : Option ℕ) (count : ℕ) (rest : List Symbol) → symbols_deep count rest ≡ false → symbols_deep count (count_symbols least most rest) ≡ false
+count_flat : (least : ℕ) (most : Option ℕ) (count : ℕ) (rest : List Symbol) → symbols_deep count rest ≡ false
+    → symbols_deep count (count_symbols least most rest) ≡ false
 count_flat least None count rest flat = by (least == 1) refl
   where
     by : (test : Bool) → (least == 1) ≡ test → symbols_deep count (count_symbols least None rest) ≡ false
@@ -144,7 +149,10 @@ mutual
   constraint_shallow (concept_tree id) count rest within flat = flat
   constraint_shallow any_tree count rest within flat = flat
   constraint_shallow (walk_tree operator operand) count rest within flat =
-      operator_flat operator count (opened (is_member_or_focus operand) (constraint_symbols operand (closed (is_member_or_focus operand) rest))) (placed_shallow (is_member_or_focus operand) (constraint_symbols operand) (levels operand) (constraint_shallow operand) count rest within flat)
+      operator_flat operator count (opened (is_member_or_focus operand)
+      (constraint_symbols operand (closed (is_member_or_focus operand) rest)))
+      (placed_shallow (is_member_or_focus operand) (constraint_symbols operand) (levels operand)
+      (constraint_shallow operand) count rest within flat)
   constraint_shallow (member_tree operand) count rest within flat =
       placed_shallow (is_focus operand) (constraint_symbols operand) (levels operand) (constraint_shallow operand) count rest within flat
   constraint_shallow (and_tree parts) count rest within flat = joined_shallow And (λ count rest flat. flat) parts count rest within flat
@@ -156,7 +164,8 @@ mutual
       placed_shallow (is_sub start) (constraint_symbols start) (levels start) (constraint_shallow start) count (listed_symbols Dot names rest) (omega arith)
       (listed_shallow Dot (λ count rest flat. flat) names count rest (omega arith) flat)
   constraint_shallow (refined_tree focus refinement) count rest within flat =
-      placed_shallow (is_sub focus) (constraint_symbols focus) (levels focus) (constraint_shallow focus) count (mark Colon ∷ refinement_symbols refinement rest) (omega arith)
+      placed_shallow (is_sub focus) (constraint_symbols focus) (levels focus) (constraint_shallow focus) count
+      (mark Colon ∷ refinement_symbols refinement rest) (omega arith)
       (refinement_shallow refinement count rest (omega arith) flat)
 
   joined_shallow : (kind : TokenKind) → IsFlat kind → (trees : Trees) → IsShallow (joined_symbols kind trees) (list_levels trees)
@@ -173,21 +182,26 @@ mutual
 
   refinement_shallow : (tree : RefinementTree) → IsShallow (refinement_symbols tree) (refinement_levels tree)
   refinement_shallow (one_refinement what) count rest within flat = attribute_shallow what count rest within flat
-  refinement_shallow (group_refinement number set) count rest within flat = count_flat number.min number.max count (mark BraceOpen ∷ set_symbols set (mark BraceClose ∷ rest))
-      (open_one count (symbols_deep (count + 1) (set_symbols set (mark BraceClose ∷ rest))) (omega arith) (set_shallow set (count + 1) (mark BraceClose ∷ rest) (omega arith) (close_one count rest flat)))
+  refinement_shallow (group_refinement number set) count rest within flat =
+      count_flat number.min number.max count (mark BraceOpen ∷ set_symbols set (mark BraceClose ∷ rest))
+      (open_one count (symbols_deep (count + 1) (set_symbols set (mark BraceClose ∷ rest))) (omega arith)
+      (set_shallow set (count + 1) (mark BraceClose ∷ rest) (omega arith) (close_one count rest flat)))
   refinement_shallow (and_refinement parts) count rest within flat = joined_items_shallow And (λ count rest flat. flat) parts count rest within flat
   refinement_shallow (or_refinement parts) count rest within flat = joined_items_shallow Or (λ count rest flat. flat) parts count rest within flat
 
   joined_items_shallow : (kind : TokenKind) → IsFlat kind → (trees : RefinementTrees) → IsShallow (joined_item_symbols kind trees) (item_levels trees)
   joined_items_shallow kind flat_kind no_refinements count rest within flat = flat
   joined_items_shallow kind flat_kind (refinement_then first more) count rest within flat =
-      placed_shallow (is_item first) (refinement_symbols first) (refinement_levels first) (refinement_shallow first) count (listed_item_symbols kind more rest) (omega arith)
+      placed_shallow (is_item first) (refinement_symbols first) (refinement_levels first)
+      (refinement_shallow first) count (listed_item_symbols kind more rest) (omega arith)
       (listed_items_shallow kind flat_kind more count rest (omega arith) flat)
 
   listed_items_shallow : (kind : TokenKind) → IsFlat kind → (trees : RefinementTrees) → IsShallow (listed_item_symbols kind trees) (item_levels trees)
   listed_items_shallow kind flat_kind no_refinements count rest within flat = flat
-  listed_items_shallow kind flat_kind (refinement_then first more) count rest within flat = flat_kind count (placed_item first (listed_item_symbols kind more rest))
-      (placed_shallow (is_item first) (refinement_symbols first) (refinement_levels first) (refinement_shallow first) count (listed_item_symbols kind more rest) (omega arith)
+  listed_items_shallow kind flat_kind (refinement_then first more) count rest within flat =
+      flat_kind count (placed_item first (listed_item_symbols kind more rest))
+      (placed_shallow (is_item first) (refinement_symbols first) (refinement_levels first)
+      (refinement_shallow first) count (listed_item_symbols kind more rest) (omega arith)
       (listed_items_shallow kind flat_kind more count rest (omega arith) flat))
 
   set_shallow : (tree : AttributeSetTree) → IsShallow (set_symbols tree) (set_levels tree)
@@ -209,7 +223,8 @@ mutual
 
   attribute_shallow : (what : AttributeTree) → IsShallow (attribute_symbols what) (attribute_levels what)
   attribute_shallow (attribute_tree number reverse name test) count rest within flat =
-      count_flat number.min number.max count (reverse_tokens reverse (placed name (test_symbols test rest))) (reverse_flat reverse count (placed name (test_symbols test rest))
+      count_flat number.min number.max count (reverse_tokens reverse (placed name (test_symbols test rest)))
+      (reverse_flat reverse count (placed name (test_symbols test rest))
       (placed_shallow (is_sub name) (constraint_symbols name) (levels name) (constraint_shallow name) count (test_symbols test rest) (omega arith)
       (test_shallow test count rest (omega arith) flat)))
 

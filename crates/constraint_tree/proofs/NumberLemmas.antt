@@ -66,7 +66,8 @@ whole_reads whole written =
     ∙ ap (λ (test : Bool). if test then Some (whole_of (decimal whole)) else None) written.is
     ∙ ap (λ (number : ℕ). Some (number * 10 ^ 18)) written.value
 
-fraction_reads : (whole fraction : ℕ) → WritesWhole whole → (fraction ≡ 0 → ⊥) → fraction < 10 ^ 18 → unsigned_of (decimal whole ++ 46 ∷ fraction_digits 18 fraction) ≡ Some (whole * 10 ^ 18 + fraction)
+fraction_reads : (whole fraction : ℕ) → WritesWhole whole → (fraction ≡ 0 → ⊥) → fraction < 10 ^ 18
+    → unsigned_of (decimal whole ++ 46 ∷ fraction_digits 18 fraction) ≡ Some (whole * 10 ^ 18 + fraction)
 fraction_reads whole fraction written other small =
     let behind = fraction_written 18 fraction small in
     let is : is_number 1 18 (fraction_digits 18 fraction) ≡ true = is_number_from (fraction_digits 18 fraction) (behind.some other) behind.few behind.each in
@@ -75,7 +76,8 @@ fraction_reads whole fraction written other small =
     ∙ ap (λ (number : ℕ). Some (number * 10 ^ 18 + fraction_of (fraction_digits 18 fraction))) written.value
     ∙ ap (λ (number : ℕ). Some (whole * 10 ^ 18 + number)) behind.value
 
-parts_read : (whole fraction : ℕ) → whole < 10 ^ 18 → fraction < 10 ^ 18 → unsigned_of (decimal whole ++ fraction_text fraction) ≡ Some (whole * 10 ^ 18 + fraction)
+parts_read : (whole fraction : ℕ) → whole < 10 ^ 18 → fraction < 10 ^ 18
+    → unsigned_of (decimal whole ++ fraction_text fraction) ≡ Some (whole * 10 ^ 18 + fraction)
 parts_read whole fraction small below = by (fraction == 0) refl
   where
     by : (test : Bool) → (fraction == 0) ≡ test → unsigned_of (decimal whole ++ fraction_text fraction) ≡ Some (whole * 10 ^ 18 + fraction)
@@ -83,10 +85,12 @@ parts_read whole fraction small below = by (fraction == 0) refl
         let none : fraction ≡ 0 = eqb-true fraction 0 test in
         let nothing : fraction_text fraction ≡ [] = ap (λ (empty : Bool). if empty then [] else 46 ∷ fraction_digits 18 fraction) test in
         let sum : whole * 10 ^ 18 ≡ whole * 10 ^ 18 + fraction = omega (arith, none) in
-        ap unsigned_of (sym (no_more (decimal whole) (fraction_text fraction) nothing)) ∙ whole_reads whole (whole_written whole small) ∙ ap (λ (number : ℕ). Some number) sum
+        ap unsigned_of (sym (no_more (decimal whole) (fraction_text fraction) nothing))
+        ∙ whole_reads whole (whole_written whole small) ∙ ap (λ (number : ℕ). Some number) sum
     by false test =
         let other : (fraction ≡ 0) → ⊥ = λ none. grind (arith, nat_tests, test) in
-        let something : fraction_text fraction ≡ 46 ∷ fraction_digits 18 fraction = ap (λ (empty : Bool). if empty then [] else 46 ∷ fraction_digits 18 fraction) test in
+        let something : fraction_text fraction ≡ 46 ∷ fraction_digits 18 fraction =
+        ap (λ (empty : Bool). if empty then [] else 46 ∷ fraction_digits 18 fraction) test in
         ap (λ (text : List ℕ). unsigned_of (decimal whole ++ text)) something ∙ fraction_reads whole fraction (whole_written whole small) other below
 
 unsigned_reads : (number : ℕ) → number < 10 ^ 36 → unsigned_of (unsigned_text number) ≡ Some number
@@ -150,13 +154,17 @@ positive_small (Some number) value small is =
     let same : pos number ≡ value = cc in
     subst (λ (z : ℤ). IsSmall z) same (small number refl)
 
-negative_small : (found : Option ℕ) (value : ℤ) → ((number : ℕ) → found ≡ Some number → number < 10 ^ 36) → option_map (λ number. neg_ℤ (pos number)) found ≡ Some value → IsSmall value
+negative_small : (found : Option ℕ) (value : ℤ) → ((number : ℕ) → found ≡ Some number → number < 10 ^ 36)
+    → option_map (λ number. neg_ℤ (pos number)) found ≡ Some value → IsSmall value
 negative_small None value small is = absurd (cc)
 negative_small (Some number) value small is =
     let same : neg_ℤ (pos number) ≡ value = cc in
     subst (λ (z : ℤ). IsSmall z) same (negated_small number (small number refl))
 
-signed_small : (minus plus : Bool) (text : List ℕ) (value : ℤ) → (if minus then option_map (λ number. neg_ℤ (pos number)) (unsigned_of (drop 1 text)) else if plus then option_map pos (unsigned_of (drop 1 text)) else option_map pos (unsigned_of text)) ≡ Some value → IsSmall value
+signed_small : (minus plus : Bool) (text : List ℕ) (value : ℤ)
+    → (if minus then option_map (λ number. neg_ℤ (pos number))
+    (unsigned_of (drop 1 text)) else if plus then option_map pos (unsigned_of (drop 1 text)) else option_map pos
+    (unsigned_of text)) ≡ Some value → IsSmall value
 signed_small true plus text value is = negative_small (unsigned_of (drop 1 text)) value (number_small (parts_at point (drop 1 text))) is
 signed_small false true text value is = positive_small (unsigned_of (drop 1 text)) value (number_small (parts_at point (drop 1 text))) is
 signed_small false false text value is = positive_small (unsigned_of text) value (number_small (parts_at point text)) is

@@ -38,7 +38,10 @@ pub along : {text other : List ℕ} (symbols : List Symbol) → text ≡ other �
 along symbols same reads = subst (λ (found : List ℕ). Reads found symbols) same reads
 
 -- one more piece in front
-pub piece_then : (piece : Piece) (rest : List ℕ) (front : List Symbol → List Symbol) (symbols : List Symbol) → ((tokens : List Spelled) → map symbol_of (with_spelled (kind_of piece) (bytes_of piece) tokens) ≡ front (map symbol_of tokens)) → IsRead piece rest → IsUtf8 (bytes_of piece) → Reads rest symbols → Reads (piece_text piece rest) (front symbols)
+pub piece_then : (piece : Piece) (rest : List ℕ) (front : List Symbol → List Symbol) (symbols : List Symbol)
+    → ((tokens : List Spelled)
+    → map symbol_of (with_spelled (kind_of piece) (bytes_of piece) tokens) ≡ front (map symbol_of tokens))
+    → IsRead piece rest → IsUtf8 (bytes_of piece) → Reads rest symbols → Reads (piece_text piece rest) (front symbols)
 piece_then piece rest front symbols spelled read utf8 more = record {
   pieces = piece ∷ more.pieces;
   cut = record {
@@ -61,9 +64,16 @@ pub low_bytes : (bytes : List ℕ) → list_all (λ byte. nat_lt byte 128) bytes
 low_bytes bytes each = IsUtf8-from_ascii bytes (ascii_from bytes each)
 
 -- one more symbol in front
-mark_then : (bytes : List ℕ) (kind : TokenKind) (rest : List ℕ) (symbols : List Symbol) → ((tokens : List Spelled) → map symbol_of (with_spelled (Some kind) (bytes ++ []) tokens) ≡ mark kind ∷ map symbol_of tokens) → symbol_kind bytes ≡ Some kind → ((byte : ℕ) (behind : List ℕ) → rest ≡ byte ∷ behind → ends_before bytes byte ≡ true) → unsupported (bytes ++ rest) ≡ None → list_all (λ byte. nat_lt byte 128) (bytes ++ []) ≡ true → Reads rest symbols → Reads (bytes ++ rest) (mark kind ∷ symbols)
+mark_then : (bytes : List ℕ) (kind : TokenKind) (rest : List ℕ) (symbols : List Symbol)
+    → ((tokens : List Spelled)
+    → map symbol_of (with_spelled (Some kind) (bytes ++ []) tokens) ≡ mark kind ∷ map symbol_of tokens)
+    → symbol_kind bytes ≡ Some kind
+    → ((byte : ℕ) (behind : List ℕ) → rest ≡ byte ∷ behind → ends_before bytes byte ≡ true)
+    → unsupported (bytes ++ rest) ≡ None → list_all (λ byte. nat_lt byte 128) (bytes ++ []) ≡ true
+    → Reads rest symbols → Reads (bytes ++ rest) (mark kind ∷ symbols)
 mark_then bytes kind rest symbols spelled known ends supported low more =
-    piece_then (symbol bytes kind) rest (λ found. mark kind ∷ found) symbols spelled (symbol_read bytes kind rest known ends supported) (low_bytes (bytes ++ []) low) more
+    piece_then (symbol bytes kind) rest (λ found. mark kind ∷ found) symbols spelled
+    (symbol_read bytes kind rest known ends supported) (low_bytes (bytes ++ []) low) more
 
 -- the symbols that stand in front of any text
 pub round_open : (rest : List ℕ) (symbols : List Symbol) → Reads rest symbols → Reads (40 ∷ rest) (mark RoundOpen ∷ symbols)
@@ -135,19 +145,24 @@ ends_ancestor_or_self : (byte : ℕ) → member_byte byte ≡ true → ends_befo
 ends_ancestor_or_self byte is = let no_mark = other_byte member_byte byte 33 is refl in rw no_mark refl
 
 -- an operator in front of its operand
-pub operator_reads : (operator : Operator) (rest : List ℕ) (symbols : List Symbol) → begins member_byte rest ≡ true → Reads rest symbols → Reads (operator_text operator ++ rest) (mark (operator_kind operator) ∷ symbols)
+pub operator_reads : (operator : Operator) (rest : List ℕ) (symbols : List Symbol) → begins member_byte rest ≡ true
+    → Reads rest symbols → Reads (operator_text operator ++ rest) (mark (operator_kind operator) ∷ symbols)
 operator_reads Descendants rest symbols starts more =
-    mark_then (60 ∷ []) DescendantOf rest symbols (λ tokens. refl) refl (λ byte behind is. ends_descendant byte (first_passes member_byte rest byte behind starts is)) refl refl more
+    mark_then (60 ∷ []) DescendantOf rest symbols (λ tokens. refl) refl
+    (λ byte behind is. ends_descendant byte (first_passes member_byte rest byte behind starts is)) refl refl more
 operator_reads DescendantsOrSelf rest symbols starts more =
-    mark_then (60 ∷ 60 ∷ []) DescendantOrSelfOf rest symbols (λ tokens. refl) refl (λ byte behind is. ends_descendant_or_self byte (first_passes member_byte rest byte behind starts is)) refl refl more
+    mark_then (60 ∷ 60 ∷ []) DescendantOrSelfOf rest symbols (λ tokens. refl) refl
+    (λ byte behind is. ends_descendant_or_self byte (first_passes member_byte rest byte behind starts is)) refl refl more
 operator_reads Children rest symbols starts more =
     mark_then (60 ∷ 33 ∷ []) ChildOf rest symbols (λ tokens. refl) refl (λ byte behind is. refl) refl refl more
 operator_reads ChildrenOrSelf rest symbols starts more =
     mark_then (60 ∷ 60 ∷ 33 ∷ []) ChildOrSelfOf rest symbols (λ tokens. refl) refl (λ byte behind is. refl) refl refl more
 operator_reads Ancestors rest symbols starts more =
-    mark_then (62 ∷ []) AncestorOf rest symbols (λ tokens. refl) refl (λ byte behind is. ends_ancestor byte (first_passes member_byte rest byte behind starts is)) refl refl more
+    mark_then (62 ∷ []) AncestorOf rest symbols (λ tokens. refl) refl
+    (λ byte behind is. ends_ancestor byte (first_passes member_byte rest byte behind starts is)) refl refl more
 operator_reads AncestorsOrSelf rest symbols starts more =
-    mark_then (62 ∷ 62 ∷ []) AncestorOrSelfOf rest symbols (λ tokens. refl) refl (λ byte behind is. ends_ancestor_or_self byte (first_passes member_byte rest byte behind starts is)) refl refl more
+    mark_then (62 ∷ 62 ∷ []) AncestorOrSelfOf rest symbols (λ tokens. refl) refl
+    (λ byte behind is. ends_ancestor_or_self byte (first_passes member_byte rest byte behind starts is)) refl refl more
 operator_reads Parents rest symbols starts more =
     mark_then (62 ∷ 33 ∷ []) ParentOf rest symbols (λ tokens. refl) refl (λ byte behind is. refl) refl refl more
 operator_reads ParentsOrSelf rest symbols starts more =
@@ -161,10 +176,12 @@ operator_reads Bottom rest symbols starts more =
 hash_is : (rest : List ℕ) (byte : ℕ) (behind : List ℕ) → 35 ∷ rest ≡ byte ∷ behind → byte ≡ 35
 hash_is rest byte behind is = cc
 
-ends_at_hash : (bytes : List ℕ) → ends_before bytes 35 ≡ true → (rest : List ℕ) (byte : ℕ) (behind : List ℕ) → 35 ∷ rest ≡ byte ∷ behind → ends_before bytes byte ≡ true
+ends_at_hash : (bytes : List ℕ) → ends_before bytes 35 ≡ true → (rest : List ℕ) (byte : ℕ) (behind : List ℕ)
+    → 35 ∷ rest ≡ byte ∷ behind → ends_before bytes byte ≡ true
 ends_at_hash bytes ends rest byte behind is = ap (ends_before bytes) (hash_is rest byte behind is) ∙ ends
 
-pub compare_reads : (compare : Compare) (rest : List ℕ) (symbols : List Symbol) → Reads (35 ∷ rest) symbols → Reads (compare_text compare ++ 35 ∷ rest) (mark (compare_kind compare) ∷ symbols)
+pub compare_reads : (compare : Compare) (rest : List ℕ) (symbols : List Symbol) → Reads (35 ∷ rest) symbols
+    → Reads (compare_text compare ++ 35 ∷ rest) (mark (compare_kind compare) ∷ symbols)
 compare_reads Equal rest symbols more = equal_sign (35 ∷ rest) symbols more
 compare_reads NotEqual rest symbols more = not_equal_sign (35 ∷ rest) symbols more
 compare_reads Less rest symbols more =
@@ -196,7 +213,8 @@ no_filter [] starts = refl
 no_filter (byte ∷ rest) starts = let apart = swapped byte 123 starts in rw apart refl
 
 pub brace_open : (rest : List ℕ) (symbols : List Symbol) → begins_with 123 rest ≡ false → Reads rest symbols → Reads (123 ∷ rest) (mark BraceOpen ∷ symbols)
-brace_open rest symbols starts more = mark_then (123 ∷ []) BraceOpen rest symbols (λ tokens. refl) refl (λ byte behind is. refl) (no_filter rest starts) refl more
+brace_open rest symbols starts more =
+    mark_then (123 ∷ []) BraceOpen rest symbols (λ tokens. refl) refl (λ byte behind is. refl) (no_filter rest starts) refl more
 
 -- `.` in front of an operand
 ends_dot : (byte : ℕ) → operand_byte byte ≡ true → ends_before (46 ∷ []) byte ≡ true
@@ -204,27 +222,44 @@ ends_dot byte is = let no_dot = other_byte operand_byte byte 46 is refl in rw no
 
 pub dot : (rest : List ℕ) (symbols : List Symbol) → begins operand_byte rest ≡ true → Reads rest symbols → Reads (46 ∷ rest) (mark Dot ∷ symbols)
 dot rest symbols starts more =
-    mark_then (46 ∷ []) Dot rest symbols (λ tokens. refl) refl (λ byte behind is. ends_dot byte (first_passes operand_byte rest byte behind starts is)) refl refl more
+    mark_then (46 ∷ []) Dot rest symbols (λ tokens. refl) refl
+    (λ byte behind is. ends_dot byte (first_passes operand_byte rest byte behind starts is)) refl refl more
 
 -- words, with the blanks around them
 space_then : (rest : List ℕ) (symbols : List Symbol) → Reads rest symbols → Reads (32 ∷ rest) symbols
 space_then rest symbols more =
-    piece_then (space 32) rest (λ found. found) symbols (λ tokens. refl) (record { stands = refl; supported = refl; within = refl }) (low_bytes (32 ∷ []) refl) more
+    piece_then (space 32) rest (λ found. found) symbols (λ tokens. refl)
+    (record { stands = refl; supported = refl; within = refl }) (low_bytes (32 ∷ []) refl) more
 
 pub or_word : (rest : List ℕ) (symbols : List Symbol) → Reads rest symbols → Reads (32 ∷ 79 ∷ 82 ∷ 32 ∷ rest) (mark Or ∷ symbols)
 or_word rest symbols more =
     space_then (79 ∷ 82 ∷ 32 ∷ rest) (mark Or ∷ symbols)
-    (piece_then (word (79 ∷ 82 ∷ []) Or) (32 ∷ rest) (λ found. mark Or ∷ found) symbols (λ tokens. refl) (record { stands = (record { some = omega arith; each = refl; ended = refl }, refl, inl refl); supported = refl; within = refl }) (low_bytes (79 ∷ 82 ∷ []) refl)
+    (piece_then (word (79 ∷ 82 ∷ []) Or) (32 ∷ rest) (λ found. mark Or ∷ found) symbols (λ tokens. refl)
+    (record {
+      stands = (record { some = omega arith; each = refl; ended = refl }, refl, inl refl);
+      supported = refl;
+      within = refl;
+    }) (low_bytes (79 ∷ 82 ∷ []) refl)
     (space_then rest symbols more))
 
 pub minus_word : (rest : List ℕ) (symbols : List Symbol) → Reads rest symbols → Reads (32 ∷ 77 ∷ 73 ∷ 78 ∷ 85 ∷ 83 ∷ 32 ∷ rest) (mark Minus ∷ symbols)
 minus_word rest symbols more =
     let letters : List ℕ = 77 ∷ 73 ∷ 78 ∷ 85 ∷ 83 ∷ [] in
     space_then (77 ∷ 73 ∷ 78 ∷ 85 ∷ 83 ∷ 32 ∷ rest) (mark Minus ∷ symbols)
-    (piece_then (word letters Minus) (32 ∷ rest) (λ found. mark Minus ∷ found) symbols (λ tokens. refl) (record { stands = (record { some = omega arith; each = refl; ended = refl }, refl, inl refl); supported = refl; within = refl }) (low_bytes letters refl)
+    (piece_then (word letters Minus) (32 ∷ rest) (λ found. mark Minus ∷ found) symbols (λ tokens. refl)
+    (record {
+      stands = (record { some = omega arith; each = refl; ended = refl }, refl, inl refl);
+      supported = refl;
+      within = refl;
+    }) (low_bytes letters refl)
     (space_then rest symbols more))
 
 pub reverse_word : (rest : List ℕ) (symbols : List Symbol) → Reads rest symbols → Reads (82 ∷ 32 ∷ rest) (mark Reverse ∷ symbols)
 reverse_word rest symbols more =
-    piece_then (word (82 ∷ []) Reverse) (32 ∷ rest) (λ found. mark Reverse ∷ found) symbols (λ tokens. refl) (record { stands = (record { some = omega arith; each = refl; ended = refl }, refl, tt); supported = refl; within = refl }) (low_bytes (82 ∷ []) refl)
+    piece_then (word (82 ∷ []) Reverse) (32 ∷ rest) (λ found. mark Reverse ∷ found) symbols (λ tokens. refl)
+    (record {
+      stands = (record { some = omega arith; each = refl; ended = refl }, refl, tt);
+      supported = refl;
+      within = refl;
+    }) (low_bytes (82 ∷ []) refl)
     (space_then rest symbols more)

@@ -30,12 +30,15 @@ close_follows true rest = refl
 close_follows false rest = refl
 
 -- with the brackets that it needs
-placed_reads : (stands inner outer : Bool) (text : List ℕ) (front : List Symbol → List Symbol) → (stands ≡ true → (rest : List ℕ) → Follows outer rest → Follows inner rest) → ReadsBefore inner text front → ReadsBefore outer (placed_text stands text) (λ symbols. opened stands (front (closed stands symbols)))
+placed_reads : (stands inner outer : Bool) (text : List ℕ) (front : List Symbol → List Symbol)
+    → (stands ≡ true → (rest : List ℕ) → Follows outer rest → Follows inner rest) → ReadsBefore inner text front
+    → ReadsBefore outer (placed_text stands text) (λ symbols. opened stands (front (closed stands symbols)))
 placed_reads true inner outer text front same reads rest symbols follows more =
     along (front symbols) (ap (λ (whole : List ℕ). whole ++ rest) (sym (append-nil text))) (reads rest symbols (same refl rest follows) more)
 placed_reads false inner outer text front same reads rest symbols follows more =
     along (mark RoundOpen ∷ front (mark RoundClose ∷ symbols)) (ap (λ (whole : List ℕ). 40 ∷ whole) (sym (append_assoc text (41 ∷ []) rest)))
-    (round_open (text ++ 41 ∷ rest) (front (mark RoundClose ∷ symbols)) (reads (41 ∷ rest) (mark RoundClose ∷ symbols) (close_follows inner rest) (round_close rest symbols more)))
+    (round_open (text ++ 41 ∷ rest) (front (mark RoundClose ∷ symbols))
+    (reads (41 ∷ rest) (mark RoundClose ∷ symbols) (close_follows inner rest) (round_close rest symbols more)))
 
 -- what may stand behind an operand may stand behind what stands without brackets
 sub_follows : (stands : Bool) → stands ≡ true → (rest : List ℕ) → Follows true rest → Follows stands rest
@@ -78,13 +81,17 @@ abbrev ReadsTree : Tree → Type 0
 ReadsTree tree = ReadsBefore (is_sub tree) (constraint_text tree) (constraint_symbols tree)
 
 -- an operand is read with its brackets, and so are an item and a part
-operand_reads : (tree : Tree) → ReadsTree tree → ReadsBefore true (placed tree) (λ symbols. opened (is_sub tree) (constraint_symbols tree (closed (is_sub tree) symbols)))
+operand_reads : (tree : Tree) → ReadsTree tree
+    → ReadsBefore true (placed tree) (λ symbols. opened (is_sub tree) (constraint_symbols tree (closed (is_sub tree) symbols)))
 operand_reads tree reads = placed_reads (is_sub tree) (is_sub tree) true (constraint_text tree) (constraint_symbols tree) (sub_follows (is_sub tree)) reads
 
-item_reads : (tree : RefinementTree) → ReadsBefore false (refinement_text tree) (refinement_symbols tree) → ReadsBefore false (placed_item tree) (λ symbols. opened (is_item tree) (refinement_symbols tree (closed (is_item tree) symbols)))
+item_reads : (tree : RefinementTree) → ReadsBefore false (refinement_text tree) (refinement_symbols tree)
+    → ReadsBefore false (placed_item tree) (λ symbols. opened (is_item tree)
+    (refinement_symbols tree (closed (is_item tree) symbols)))
 item_reads tree reads = placed_reads (is_item tree) false false (refinement_text tree) (refinement_symbols tree) (λ is rest follows. follows) reads
 
-part_reads : (tree : AttributeSetTree) → ReadsBefore false (set_text tree) (set_symbols tree) → ReadsBefore false (placed_part tree) (λ symbols. opened (is_part tree) (set_symbols tree (closed (is_part tree) symbols)))
+part_reads : (tree : AttributeSetTree) → ReadsBefore false (set_text tree) (set_symbols tree)
+    → ReadsBefore false (placed_part tree) (λ symbols. opened (is_part tree) (set_symbols tree (closed (is_part tree) symbols)))
 part_reads tree reads = placed_reads (is_part tree) false false (set_text tree) (set_symbols tree) (λ is rest follows. follows) reads
 
 -- what stands between the parts of a list
@@ -119,22 +126,30 @@ three_parts : (one two three rest : List ℕ) → one ++ (two ++ (three ++ rest)
 three_parts one two three rest = simp append_assoc
 
 -- the rest of a list may stand behind a part
-list_follows : (kind : TokenKind) (before : List ℕ) → Joins true before kind → (trees : Trees) (rest : List ℕ) → Follows true rest → Follows true (listed_text before trees ++ rest)
+list_follows : (kind : TokenKind) (before : List ℕ) → Joins true before kind → (trees : Trees) (rest : List ℕ)
+    → Follows true rest → Follows true (listed_text before trees ++ rest)
 list_follows kind before joint no_trees rest follows = follows
 list_follows kind before joint (tree_then first more) rest follows =
-    subst (λ (text : List ℕ). Follows true text) (three_parts before (placed first) (listed_text before more) rest) (joint.apart (placed first ++ (listed_text before more ++ rest)))
+    subst (λ (text : List ℕ). Follows true text) (three_parts before (placed first) (listed_text before more) rest)
+    (joint.apart (placed first ++ (listed_text before more ++ rest)))
 
 -- and behind an item
-items_follow : (kind : TokenKind) (before : List ℕ) → JoinsAll before kind → (trees : RefinementTrees) (rest : List ℕ) → Follows false rest → Follows false (listed_items before trees ++ rest)
+items_follow : (kind : TokenKind) (before : List ℕ) → JoinsAll before kind
+    → (trees : RefinementTrees) (rest : List ℕ) → Follows false rest → Follows false (listed_items before trees ++ rest)
 items_follow kind before joint no_refinements rest follows = follows
 items_follow kind before joint (refinement_then first more) rest follows =
-    subst (λ (text : List ℕ). Follows false text) (three_parts before (placed_item first) (listed_items before more) rest) (joint.apart (placed_item first ++ (listed_items before more ++ rest)))
+    subst (λ (text : List ℕ). Follows false text)
+    (three_parts before (placed_item first) (listed_items before more) rest)
+    (joint.apart (placed_item first ++ (listed_items before more ++ rest)))
 
 -- and behind a part
-parts_follow : (kind : TokenKind) (before : List ℕ) → JoinsAll before kind → (trees : AttributeSetTrees) (rest : List ℕ) → Follows false rest → Follows false (listed_parts before trees ++ rest)
+parts_follow : (kind : TokenKind) (before : List ℕ) → JoinsAll before kind
+    → (trees : AttributeSetTrees) (rest : List ℕ) → Follows false rest → Follows false (listed_parts before trees ++ rest)
 parts_follow kind before joint no_sets rest follows = follows
 parts_follow kind before joint (set_then first more) rest follows =
-    subst (λ (text : List ℕ). Follows false text) (three_parts before (placed_part first) (listed_parts before more) rest) (joint.apart (placed_part first ++ (listed_parts before more ++ rest)))
+    subst (λ (text : List ℕ). Follows false text)
+    (three_parts before (placed_part first) (listed_parts before more) rest)
+    (joint.apart (placed_part first ++ (listed_parts before more ++ rest)))
 
 -- a test may stand behind a name
 test_follows : (test : TestTree) (rest : List ℕ) → Follows true (test_text test ++ rest)
@@ -148,49 +163,61 @@ test_follows (number_test Greater value) rest = refl
 test_follows (number_test GreaterOrEqual value) rest = refl
 
 -- `R` in front of a name
-reverse_reads : (reverse : Bool) (rest : List ℕ) (symbols : List Symbol) → Reads rest symbols → Reads (reverse_text reverse ++ rest) (reverse_tokens reverse symbols)
+reverse_reads : (reverse : Bool) (rest : List ℕ) (symbols : List Symbol) → Reads rest symbols
+    → Reads (reverse_text reverse ++ rest) (reverse_tokens reverse symbols)
 reverse_reads true rest symbols more = reverse_word rest symbols more
 reverse_reads false rest symbols more = more
 
 mutual
   -- the text of a constraint, of the parts of a list, and of those behind the first
   pub constraint_reads : (tree : Tree) → IsPrintable tree → ReadsTree tree
-  constraint_reads (concept_tree id) printable rest symbols follows more = digits_read id rest symbols (digits_written 6 id (omega arith) printable) follows more
+  constraint_reads (concept_tree id) printable rest symbols follows more =
+      digits_read id rest symbols (digits_written 6 id (omega arith) printable) follows more
   constraint_reads any_tree printable rest symbols follows more = wildcard rest symbols more
   constraint_reads (walk_tree operator operand) printable rest symbols follows more =
-      let inside = placed_reads (is_member_or_focus operand) (is_sub operand) true (constraint_text operand) (constraint_symbols operand) (member_follows operand) (constraint_reads operand printable) rest symbols follows more in
-      along _ (two_parts (operator_text operator) (placed_text (is_member_or_focus operand) (constraint_text operand)) rest) (operator_reads operator _ _ (behind_operator operand printable rest) inside)
+      let inside = placed_reads (is_member_or_focus operand) (is_sub operand) true (constraint_text operand)
+      (constraint_symbols operand) (member_follows operand) (constraint_reads operand printable) rest symbols follows more in
+      along _ (two_parts (operator_text operator)
+      (placed_text (is_member_or_focus operand) (constraint_text operand)) rest)
+      (operator_reads operator _ _ (behind_operator operand printable rest) inside)
   constraint_reads (member_tree operand) printable rest symbols follows more =
-      let inside = placed_reads (is_focus operand) (is_sub operand) true (constraint_text operand) (constraint_symbols operand) (focus_follows operand) (constraint_reads operand printable) rest symbols follows more in
+      let inside = placed_reads (is_focus operand) (is_sub operand) true (constraint_text operand)
+      (constraint_symbols operand) (focus_follows operand) (constraint_reads operand printable) rest symbols follows more in
       caret _ _ (behind_caret operand printable rest) inside
-  constraint_reads (and_tree parts) printable rest symbols follows more = joined_reads And (codes ",") and_joins parts printable.1 rest symbols (ends_digits rest follows) more
-  constraint_reads (or_tree parts) printable rest symbols follows more = joined_reads Or (codes " OR ") or_joins parts printable.1 rest symbols (ends_digits rest follows) more
+  constraint_reads (and_tree parts) printable rest symbols follows more =
+      joined_reads And (codes ",") and_joins parts printable.1 rest symbols (ends_digits rest follows) more
+  constraint_reads (or_tree parts) printable rest symbols follows more =
+      joined_reads Or (codes " OR ") or_joins parts printable.1 rest symbols (ends_digits rest follows) more
   constraint_reads (minus_tree first second) printable rest symbols follows more =
       let other = operand_reads second (constraint_reads second printable.1) rest symbols (ends_digits rest follows) more in
       let one = operand_reads first (constraint_reads first printable.0) _ _ refl (minus_word _ _ other) in
       along _ (three_parts (placed first) (codes " MINUS ") (placed second) rest) one
   constraint_reads (dotted_tree start names) printable rest symbols follows more =
       let others = listed_reads Dot (codes ".") dot_joins names printable.2 rest symbols (ends_digits rest follows) more in
-      let one = operand_reads start (constraint_reads start printable.0) _ _ (list_follows Dot (codes ".") dot_joins names rest (ends_digits rest follows)) others in
+      let one = operand_reads start (constraint_reads start printable.0) _ _
+      (list_follows Dot (codes ".") dot_joins names rest (ends_digits rest follows)) others in
       along _ (two_parts (placed start) (listed_text (codes ".") names) rest) one
   constraint_reads (refined_tree focus refinement) printable rest symbols follows more =
       let other = refinement_reads refinement printable.1 rest symbols follows more in
       let one = operand_reads focus (constraint_reads focus printable.0) _ _ refl (colon _ _ other) in
       along _ (three_parts (placed focus) (codes ":") (refinement_text refinement) rest) one
 
-  joined_reads : (kind : TokenKind) (before : List ℕ) → Joins true before kind → (trees : Trees) → ArePrintable trees → ReadsBefore true (joined_text before trees) (joined_symbols kind trees)
+  joined_reads : (kind : TokenKind) (before : List ℕ) → Joins true before kind → (trees : Trees) → ArePrintable trees
+      → ReadsBefore true (joined_text before trees) (joined_symbols kind trees)
   joined_reads kind before joint no_trees printable rest symbols follows more = more
   joined_reads kind before joint (tree_then first others) printable rest symbols follows more =
       let behind = listed_reads kind before joint others printable.1 rest symbols follows more in
       let one = operand_reads first (constraint_reads first printable.0) _ _ (list_follows kind before joint others rest follows) behind in
       along _ (two_parts (placed first) (listed_text before others) rest) one
 
-  listed_reads : (kind : TokenKind) (before : List ℕ) → Joins true before kind → (trees : Trees) → ArePrintable trees → ReadsBefore true (listed_text before trees) (listed_symbols kind trees)
+  listed_reads : (kind : TokenKind) (before : List ℕ) → Joins true before kind → (trees : Trees) → ArePrintable trees
+      → ReadsBefore true (listed_text before trees) (listed_symbols kind trees)
   listed_reads kind before joint no_trees printable rest symbols follows more = more
   listed_reads kind before joint (tree_then first others) printable rest symbols follows more =
       let behind = listed_reads kind before joint others printable.1 rest symbols follows more in
       let one = operand_reads first (constraint_reads first printable.0) _ _ (list_follows kind before joint others rest follows) behind in
-      along _ (three_parts before (placed first) (listed_text before others) rest) (joint.joins _ _ (operand_begins first printable.0 (listed_text before others ++ rest)) one)
+      along _ (three_parts before (placed first) (listed_text before others) rest)
+      (joint.joins _ _ (operand_begins first printable.0 (listed_text before others ++ rest)) one)
 
   -- the text of a refinement and of its items
   refinement_reads : (tree : RefinementTree) → IsPrintableRefinement tree → ReadsBefore false (refinement_text tree) (refinement_symbols tree)
@@ -198,18 +225,23 @@ mutual
   refinement_reads (group_refinement count set) printable rest symbols follows more =
       let inside = set_reads set printable.1 (125 ∷ rest) _ refl (brace_close rest symbols more) in
       let braces = brace_open _ _ (set_unbraced set printable.1 (125 ∷ rest)) inside in
-      along _ (four_parts (cardinality_text count) (codes "{") (set_text set) (codes "}") rest) (count_reads count.min count.max _ _ printable.0.0 printable.0.1 braces)
-  refinement_reads (and_refinement parts) printable rest symbols follows more = joined_items_read And (codes ",") and_joins_all parts printable.1 rest symbols follows more
-  refinement_reads (or_refinement parts) printable rest symbols follows more = joined_items_read Or (codes " OR ") or_joins_all parts printable.1 rest symbols follows more
+      along _ (four_parts (cardinality_text count) (codes "{") (set_text set) (codes "}") rest)
+      (count_reads count.min count.max _ _ printable.0.0 printable.0.1 braces)
+  refinement_reads (and_refinement parts) printable rest symbols follows more =
+      joined_items_read And (codes ",") and_joins_all parts printable.1 rest symbols follows more
+  refinement_reads (or_refinement parts) printable rest symbols follows more =
+      joined_items_read Or (codes " OR ") or_joins_all parts printable.1 rest symbols follows more
 
-  joined_items_read : (kind : TokenKind) (before : List ℕ) → JoinsAll before kind → (trees : RefinementTrees) → ArePrintableItems trees → ReadsBefore false (joined_items before trees) (joined_item_symbols kind trees)
+  joined_items_read : (kind : TokenKind) (before : List ℕ) → JoinsAll before kind → (trees : RefinementTrees)
+      → ArePrintableItems trees → ReadsBefore false (joined_items before trees) (joined_item_symbols kind trees)
   joined_items_read kind before joint no_refinements printable rest symbols follows more = more
   joined_items_read kind before joint (refinement_then first others) printable rest symbols follows more =
       let behind = listed_items_read kind before joint others printable.1 rest symbols follows more in
       let one = item_reads first (refinement_reads first printable.0) _ _ (items_follow kind before joint others rest follows) behind in
       along _ (two_parts (placed_item first) (listed_items before others) rest) one
 
-  listed_items_read : (kind : TokenKind) (before : List ℕ) → JoinsAll before kind → (trees : RefinementTrees) → ArePrintableItems trees → ReadsBefore false (listed_items before trees) (listed_item_symbols kind trees)
+  listed_items_read : (kind : TokenKind) (before : List ℕ) → JoinsAll before kind → (trees : RefinementTrees)
+      → ArePrintableItems trees → ReadsBefore false (listed_items before trees) (listed_item_symbols kind trees)
   listed_items_read kind before joint no_refinements printable rest symbols follows more = more
   listed_items_read kind before joint (refinement_then first others) printable rest symbols follows more =
       let behind = listed_items_read kind before joint others printable.1 rest symbols follows more in
@@ -222,14 +254,16 @@ mutual
   set_reads (and_set parts) printable rest symbols follows more = joined_parts_read And (codes ",") and_joins_all parts printable.1 rest symbols follows more
   set_reads (or_set parts) printable rest symbols follows more = joined_parts_read Or (codes " OR ") or_joins_all parts printable.1 rest symbols follows more
 
-  joined_parts_read : (kind : TokenKind) (before : List ℕ) → JoinsAll before kind → (trees : AttributeSetTrees) → ArePrintableParts trees → ReadsBefore false (joined_parts before trees) (joined_part_symbols kind trees)
+  joined_parts_read : (kind : TokenKind) (before : List ℕ) → JoinsAll before kind → (trees : AttributeSetTrees)
+      → ArePrintableParts trees → ReadsBefore false (joined_parts before trees) (joined_part_symbols kind trees)
   joined_parts_read kind before joint no_sets printable rest symbols follows more = more
   joined_parts_read kind before joint (set_then first others) printable rest symbols follows more =
       let behind = listed_parts_read kind before joint others printable.1 rest symbols follows more in
       let one = part_reads first (set_reads first printable.0) _ _ (parts_follow kind before joint others rest follows) behind in
       along _ (two_parts (placed_part first) (listed_parts before others) rest) one
 
-  listed_parts_read : (kind : TokenKind) (before : List ℕ) → JoinsAll before kind → (trees : AttributeSetTrees) → ArePrintableParts trees → ReadsBefore false (listed_parts before trees) (listed_part_symbols kind trees)
+  listed_parts_read : (kind : TokenKind) (before : List ℕ) → JoinsAll before kind → (trees : AttributeSetTrees)
+      → ArePrintableParts trees → ReadsBefore false (listed_parts before trees) (listed_part_symbols kind trees)
   listed_parts_read kind before joint no_sets printable rest symbols follows more = more
   listed_parts_read kind before joint (set_then first others) printable rest symbols follows more =
       let behind = listed_parts_read kind before joint others printable.1 rest symbols follows more in

@@ -54,7 +54,8 @@ goes_on_from (first ∷ bytes) rest (next ∷ other) more is longer =
     record { byte = found.byte; behind = found.behind; is = found.is; on = and_from (first == next) (goes_on bytes found.byte other) equal found.on }
 
 -- what each entry of a table passes, the bytes that it has a kind for pass
-kind_in-passes : (test : List ℕ → Bool) (entries : List (List ℕ × TokenKind)) (bytes : List ℕ) → list_all (λ entry. test entry.0) entries ≡ true → IsSome (kind_in entries bytes) → test bytes ≡ true
+kind_in-passes : (test : List ℕ → Bool) (entries : List (List ℕ × TokenKind)) (bytes : List ℕ)
+    → list_all (λ entry. test entry.0) entries ≡ true → IsSome (kind_in entries bytes) → test bytes ≡ true
 kind_in-passes test [] bytes each some = absurd (cc)
 kind_in-passes test (entry ∷ entries) bytes each some =
     let parts = and_parts (test entry.0) (list_all (λ other. test other.0) entries) each in
@@ -78,5 +79,7 @@ longest bytes rest ends other more some is = at_most (length bytes) (length othe
     absurd (cc))
 
 -- a symbol is read in front of a text whose first byte ends it
-pub symbol_read : (bytes : List ℕ) (kind : TokenKind) (rest : List ℕ) → symbol_kind bytes ≡ Some kind → ((byte : ℕ) (behind : List ℕ) → rest ≡ byte ∷ behind → ends_before bytes byte ≡ true) → unsupported (bytes ++ rest) ≡ None → IsRead (symbol bytes kind) rest
+pub symbol_read : (bytes : List ℕ) (kind : TokenKind) (rest : List ℕ) → symbol_kind bytes ≡ Some kind
+    → ((byte : ℕ) (behind : List ℕ) → rest ≡ byte ∷ behind → ends_before bytes byte ≡ true)
+    → unsupported (bytes ++ rest) ≡ None → IsRead (symbol bytes kind) rest
 symbol_read bytes kind rest known ends supported = record { stands = (known, longest bytes rest ends); supported = supported; within = refl }

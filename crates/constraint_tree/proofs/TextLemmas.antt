@@ -21,7 +21,10 @@ no_more [] more is = sym is
 no_more (byte ∷ old) more is = ap (λ (bytes : List ℕ). byte ∷ bytes) (no_more old more is)
 
 -- a dotted constraint, from what is written one after another
-pub dotted_written : (start : Tree) (names : Trees) (whole : Tree) (before behind : Bool) (old opened written closed all : List ℕ) → whole ≡ dotted_tree start names → before ≡ is_sub start → behind ≡ is_sub start → opened ≡ old ++ opening before → written ≡ opened ++ constraint_text start → closed ≡ written ++ closing behind → all ≡ closed ++ listed_text (codes ".") names → all ≡ old ++ constraint_text whole
+pub dotted_written : (start : Tree) (names : Trees) (whole : Tree) (before behind : Bool)
+    (old opened written closed all : List ℕ) → whole ≡ dotted_tree start names → before ≡ is_sub start
+    → behind ≡ is_sub start → opened ≡ old ++ opening before → written ≡ opened ++ constraint_text start
+    → closed ≡ written ++ closing behind → all ≡ closed ++ listed_text (codes ".") names → all ≡ old ++ constraint_text whole
 dotted_written start names whole before behind old opened written closed all whole_is before_is behind_is opened_is written_is closed_is all_is =
     let front_is : closed ≡ ((old ++ opening (is_sub start)) ++ constraint_text start) ++ closing (is_sub start) = cc in
     all_is ∙ ap (λ (front : List ℕ). front ++ listed_text (codes ".") names) front_is
@@ -39,7 +42,8 @@ fraction_digits-none (suc places) fraction is =
     let none : nat_eq fraction 0 ≡ true = grind (arith, nat_tests) in
     ap (λ (test : Bool). if test then [] else (48 + fraction / 10 ^ places) ∷ fraction_digits places (fraction % 10 ^ places)) none
 
-fraction_digits-suc : (places fraction : ℕ) → nat_eq fraction 0 ≡ false → fraction_digits (suc places) fraction ≡ (48 + fraction / 10 ^ places) ∷ fraction_digits places (fraction % 10 ^ places)
+fraction_digits-suc : (places fraction : ℕ) → nat_eq fraction 0 ≡ false
+    → fraction_digits (suc places) fraction ≡ (48 + fraction / 10 ^ places) ∷ fraction_digits places (fraction % 10 ^ places)
 unfolding fraction_digits
 fraction_digits-suc places fraction is =
     ap (λ (test : Bool). if test then [] else (48 + fraction / 10 ^ places) ∷ fraction_digits places (fraction % 10 ^ places)) is
@@ -67,7 +71,9 @@ first_digit places fraction some fits =
     ap_below : {rest : ℕ} → fraction / 10 ^ rest < 10 → places - 1 ≡ rest → fraction / 10 ^ (places - 1) < 10
     ap_below below less = rw less below
 
-pub fraction_digits-step : (places fraction : ℕ) → (fraction ≡ 0 → ⊥) → fraction < 10 ^ places → fraction_digits places fraction ≡ (48 + fraction / 10 ^ (places - 1)) ∷ fraction_digits (places - 1) (fraction % 10 ^ (places - 1))
+pub fraction_digits-step : (places fraction : ℕ) → (fraction ≡ 0 → ⊥) → fraction < 10 ^ places
+    → fraction_digits places fraction
+    ≡ (48 + fraction / 10 ^ (places - 1)) ∷ fraction_digits (places - 1) (fraction % 10 ^ (places - 1))
 fraction_digits-step places fraction some fits =
     let found = some_places places fraction some fits in
     let less : places - 1 ≡ found.0 = omega (arith, found.1) in
@@ -75,7 +81,9 @@ fraction_digits-step places fraction some fits =
     ap (λ (count : ℕ). fraction_digits count fraction) found.1 ∙ fraction_digits-suc found.0 fraction apart
     ∙ ap (λ (count : ℕ). (48 + fraction / 10 ^ count) ∷ fraction_digits count (fraction % 10 ^ count)) (sym less)
 
-pub places_written : (places fraction unit : ℕ) (old pushed all : List ℕ) → (fraction ≡ 0 → ⊥) → fraction < 10 ^ places → unit ≡ 10 ^ (places - 1) → pushed ≡ old ++ (48 + fraction / unit) ∷ [] → all ≡ pushed ++ fraction_digits (places - 1) (fraction % unit) → all ≡ old ++ fraction_digits places fraction
+pub places_written : (places fraction unit : ℕ) (old pushed all : List ℕ) → (fraction ≡ 0 → ⊥)
+    → fraction < 10 ^ places → unit ≡ 10 ^ (places - 1) → pushed ≡ old ++ (48 + fraction / unit) ∷ []
+    → all ≡ pushed ++ fraction_digits (places - 1) (fraction % unit) → all ≡ old ++ fraction_digits places fraction
 places_written places fraction unit old pushed all some fits unit_is pushed_is all_is =
     let step = fraction_digits-step places fraction some fits in
     let step_at : fraction_digits places fraction ≡ (48 + fraction / unit) ∷ fraction_digits (places - 1) (fraction % unit) =

@@ -31,14 +31,21 @@ tree_of-And parts = ap and_tree (row_of_trees-items (hidden-the_row-Constraint-1
 pub tree_of-Or : (parts : Vec Constraint Global) → tree_of (constraint.Or parts) ≡ or_tree (trees_of parts.items)
 tree_of-Or parts = ap or_tree (row_of_trees-items (hidden-the_row-Constraint-1 parts) ∙ ap trees_of (items_hidden-the_row-Constraint-1 parts))
 
-pub tree_of-Dotted : (start : Box Constraint Global) (names : Vec Constraint Global) → tree_of (constraint.Dotted start names) ≡ dotted_tree (tree_of start.value) (trees_of names.items)
-tree_of-Dotted start names = ap (dotted_tree (tree_of start.value)) (row_of_trees-items (hidden-the_row-Constraint-1 names) ∙ ap trees_of (items_hidden-the_row-Constraint-1 names))
+pub tree_of-Dotted : (start : Box Constraint Global) (names : Vec Constraint Global)
+    → tree_of (constraint.Dotted start names) ≡ dotted_tree (tree_of start.value) (trees_of names.items)
+tree_of-Dotted start names =
+    ap (dotted_tree (tree_of start.value)) (row_of_trees-items (hidden-the_row-Constraint-1 names)
+    ∙ ap trees_of (items_hidden-the_row-Constraint-1 names))
 
 pub refinement_tree_of-And : (parts : Vec Refinement Global) → refinement_tree_of (refinement.And parts) ≡ and_refinement (refinement_trees_of parts.items)
-refinement_tree_of-And parts = ap and_refinement (row_of_refinements-items (hidden-the_row-Refinement-2 parts) ∙ ap refinement_trees_of (items_hidden-the_row-Refinement-2 parts))
+refinement_tree_of-And parts =
+    ap and_refinement (row_of_refinements-items (hidden-the_row-Refinement-2 parts)
+    ∙ ap refinement_trees_of (items_hidden-the_row-Refinement-2 parts))
 
 pub refinement_tree_of-Or : (parts : Vec Refinement Global) → refinement_tree_of (refinement.Or parts) ≡ or_refinement (refinement_trees_of parts.items)
-refinement_tree_of-Or parts = ap or_refinement (row_of_refinements-items (hidden-the_row-Refinement-2 parts) ∙ ap refinement_trees_of (items_hidden-the_row-Refinement-2 parts))
+refinement_tree_of-Or parts =
+    ap or_refinement (row_of_refinements-items (hidden-the_row-Refinement-2 parts)
+    ∙ ap refinement_trees_of (items_hidden-the_row-Refinement-2 parts))
 
 pub set_tree_of-And : (parts : Vec AttributeSet Global) → set_tree_of (attribute_set.And parts) ≡ and_set (set_trees_of parts.items)
 set_tree_of-And parts = ap and_set (row_of_sets-items (hidden-the_row-AttributeSet-0 parts) ∙ ap set_trees_of (items_hidden-the_row-AttributeSet-0 parts))

@@ -30,7 +30,9 @@ module _ {T : Type 0} (text : List ℕ) (spelled_of : T → List Spelled) (reada
 placed_tokens-FollowOn : (text : List ℕ) (from at : ℕ) (pieces : List Piece) (rest : List ℕ) → from ≤ at → at ≤ length text
     → drop at text ≡ pieces_text pieces rest → AreRead pieces rest → FollowOn text from (placed_tokens at pieces)
 placed_tokens-FollowOn text from at [] rest low within is each = tt
-placed_tokens-FollowOn text from at (piece ∷ pieces) rest low within is each = by_kind (kind_of piece) (λ (low_end : ℕ) (below : low_end ≤ at + length (bytes_of piece)). placed_tokens-FollowOn text low_end (at + length (bytes_of piece)) pieces rest below ends behind each.1)
+placed_tokens-FollowOn text from at (piece ∷ pieces) rest low within is each =
+    by_kind (kind_of piece) (λ (low_end : ℕ) (below : low_end ≤ at + length (bytes_of piece)). placed_tokens-FollowOn
+    text low_end (at + length (bytes_of piece)) pieces rest below ends behind each.1)
   where
     size : length text - at ≡ length (bytes_of piece) + length (pieces_text pieces rest)
     size = sym (length-drop at text) ∙ ap length is ∙ length-piece_text piece (pieces_text pieces rest)
@@ -44,13 +46,16 @@ placed_tokens-FollowOn text from at (piece ∷ pieces) rest low within is each =
     some : 0 < length (bytes_of piece)
     some = some_bytes piece (pieces_text pieces rest) each.0.stands
 
-    by_kind : (kind : Option TokenKind) → ((low_end : ℕ) → low_end ≤ at + length (bytes_of piece) → FollowOn text low_end (placed_tokens (at + length (bytes_of piece)) pieces))
+    by_kind : (kind : Option TokenKind)
+        → ((low_end : ℕ) → low_end ≤ at + length (bytes_of piece)
+        → FollowOn text low_end (placed_tokens (at + length (bytes_of piece)) pieces))
         → FollowOn text from (with_placed kind (bytes_of piece) at (placed_tokens (at + length (bytes_of piece)) pieces))
     by_kind None more = more from (omega (arith, low))
     by_kind (Some kind) more =
         let width : (at + length (bytes_of piece)) - at ≡ length (bytes_of piece) = omega arith in
         let slice : bytes_of piece ≡ take ((at + length (bytes_of piece)) - at) (drop at text) =
-        sym (take-piece_text piece (pieces_text pieces rest)) ∙ ap (take (length (bytes_of piece))) (sym is) ∙ ap (λ (k : ℕ). take k (drop at text)) (sym width) in
+        sym (take-piece_text piece (pieces_text pieces rest)) ∙ ap (take (length (bytes_of piece))) (sym is)
+        ∙ ap (λ (k : ℕ). take k (drop at text)) (sym width) in
         (low, omega (arith, some), ends, slice, more (at + length (bytes_of piece)) (omega arith))
 
 pub ArePlacedIn-FollowOn : (text : List ℕ) (tokens : List Placed) → ArePlacedIn text tokens → FollowOn text 0 tokens

@@ -27,12 +27,14 @@ pieces_text-push : (pieces : List Piece) (piece : Piece) (rest : List ℕ) → p
 pieces_text-push [] piece rest = refl
 pieces_text-push (first ∷ pieces) piece rest = ap (piece_text first) (pieces_text-push pieces piece rest)
 
-AreRead-push : (pieces : List Piece) (piece : Piece) (rest : List ℕ) → AreRead pieces (piece_text piece rest) → IsRead piece rest → AreRead (pieces ++ piece ∷ []) rest
+AreRead-push : (pieces : List Piece) (piece : Piece) (rest : List ℕ) → AreRead pieces (piece_text piece rest)
+    → IsRead piece rest → AreRead (pieces ++ piece ∷ []) rest
 AreRead-push [] piece rest each read = (read, tt)
 AreRead-push (first ∷ pieces) piece rest each read =
     (subst (IsRead first) (sym (pieces_text-push pieces piece rest)) each.0, AreRead-push pieces piece rest each.1 read)
 
-IsCut-push : (text : List ℕ) (pieces : List Piece) (piece : Piece) (rest : List ℕ) → IsCut text pieces (piece_text piece rest) → IsRead piece rest → IsCut text (pieces ++ piece ∷ []) rest
+IsCut-push : (text : List ℕ) (pieces : List Piece) (piece : Piece) (rest : List ℕ)
+    → IsCut text pieces (piece_text piece rest) → IsRead piece rest → IsCut text (pieces ++ piece ∷ []) rest
 IsCut-push text pieces piece rest cut read = record {
   whole = cut.whole ∙ sym (pieces_text-push pieces piece rest);
   each = AreRead-push pieces piece rest cut.each read;
@@ -42,11 +44,13 @@ with_spelled-append : (kind : Option TokenKind) (bytes : List ℕ) (xs ys : List
 with_spelled-append None bytes xs ys = refl
 with_spelled-append (Some kind) bytes xs ys = refl
 
-with_placed-append : (kind : Option TokenKind) (bytes : List ℕ) (start : ℕ) (xs ys : List Placed) → with_placed kind bytes start (xs ++ ys) ≡ with_placed kind bytes start xs ++ ys
+with_placed-append : (kind : Option TokenKind) (bytes : List ℕ) (start : ℕ) (xs ys : List Placed)
+    → with_placed kind bytes start (xs ++ ys) ≡ with_placed kind bytes start xs ++ ys
 with_placed-append None bytes start xs ys = refl
 with_placed-append (Some kind) bytes start xs ys = refl
 
-spelled_tokens-push : (pieces : List Piece) (piece : Piece) → spelled_tokens (pieces ++ piece ∷ []) ≡ spelled_tokens pieces ++ with_spelled (kind_of piece) (bytes_of piece) []
+spelled_tokens-push : (pieces : List Piece) (piece : Piece)
+    → spelled_tokens (pieces ++ piece ∷ []) ≡ spelled_tokens pieces ++ with_spelled (kind_of piece) (bytes_of piece) []
 spelled_tokens-push [] piece = refl
 spelled_tokens-push (first ∷ pieces) piece =
     ap (with_spelled (kind_of first) (bytes_of first)) (spelled_tokens-push pieces piece)
@@ -77,7 +81,8 @@ pub record StepsOn (text : List ℕ) (at : ℕ) (spelled : List Spelled) (placed
   pub within : at + length (bytes_of piece) ≤ length text
   pub some : 0 < length (bytes_of piece)
   pub slice : take (length (bytes_of piece)) (drop at text) ≡ bytes_of piece
-  pub so_far : CutSoFar text (at + length (bytes_of piece)) (spelled ++ with_spelled (kind_of piece) (bytes_of piece) []) (placed ++ with_placed (kind_of piece) (bytes_of piece) at [])
+  pub so_far : CutSoFar text (at + length (bytes_of piece))
+      (spelled ++ with_spelled (kind_of piece) (bytes_of piece) []) (placed ++ with_placed (kind_of piece) (bytes_of piece) at [])
 
 pub next_piece : (text : List ℕ) (at : ℕ) (spelled : List Spelled) (placed : List Placed) (piece : Piece) → at ≤ length text
     → CutSoFar text at spelled placed → reading at (drop at text) ≡ Ok piece → StepsOn text at spelled placed piece
@@ -96,10 +101,12 @@ next_piece text at spelled placed piece within so_far found =
       so_far = record {
         pieces = so_far.pieces ++ piece ∷ [];
         cut = subst (IsCut text (so_far.pieces ++ piece ∷ [])) behind cut;
-        spelling = ap (λ (tokens : List Spelled). tokens ++ with_spelled (kind_of piece) (bytes_of piece) []) so_far.spelling ∙ sym (spelled_tokens-push so_far.pieces piece);
+        spelling = ap (λ (tokens : List Spelled). tokens ++ with_spelled (kind_of piece) (bytes_of piece) [])
+            so_far.spelling ∙ sym (spelled_tokens-push so_far.pieces piece);
         places =
             ap (λ (tokens : List Placed). tokens ++ with_placed (kind_of piece) (bytes_of piece) at []) so_far.places
-            ∙ ap (λ (k : ℕ). placed_tokens 0 so_far.pieces ++ with_placed (kind_of piece) (bytes_of piece) k []) (sym place ∙ zero_add (pieces_length so_far.pieces))
+            ∙ ap (λ (k : ℕ). placed_tokens 0 so_far.pieces ++ with_placed (kind_of piece) (bytes_of piece) k [])
+            (sym place ∙ zero_add (pieces_length so_far.pieces))
             ∙ sym (placed_tokens-push 0 so_far.pieces piece);
       };
     }
@@ -110,18 +117,23 @@ next_piece text at spelled placed piece within so_far found =
 -- what the code has read is a step of the cut
 pub steps_on : (text : List ℕ) (at : ℕ) (spelled : List Spelled) (placed : List Placed) (x : Found) → at ≤ length text → CutSoFar text at spelled placed
     → Ok x ≡ found_of (reading at (take (length text - at) (drop at text))) → (piece : Piece) × (found piece ≡ x) × StepsOn text at spelled placed piece
-steps_on text at spelled placed x within so_far read = by_result (reading at (drop at text)) refl (read ∙ ap (λ (rest : List ℕ). found_of (reading at rest)) (take_rest text at))
+steps_on text at spelled placed x within so_far read =
+    by_result (reading at (drop at text)) refl (read ∙ ap (λ (rest : List ℕ). found_of (reading at rest)) (take_rest text at))
   where
-    by_result : (r : Result Piece QueryFault) → reading at (drop at text) ≡ r → Ok x ≡ found_of r → (piece : Piece) × (found piece ≡ x) × StepsOn text at spelled placed piece
+    by_result : (r : Result Piece QueryFault) → reading at (drop at text) ≡ r → Ok x ≡ found_of r
+        → (piece : Piece) × (found piece ≡ x) × StepsOn text at spelled placed piece
     by_result (Err fault) is read = absurd cc
     by_result (Ok piece) is read = (piece, cc, next_piece text at spelled placed piece within so_far is)
 
 -- and what it has refused is refused there
-pub refused_at : (text : List ℕ) (at : ℕ) (spelled : List Spelled) (placed : List Placed) (fault : QueryFault) → at < length text → CutSoFar text at spelled placed
+pub refused_at : (text : List ℕ) (at : ℕ) (spelled : List Spelled) (placed : List Placed) (fault : QueryFault)
+    → at < length text → CutSoFar text at spelled placed
     → Err fault ≡ found_of (reading at (take (length text - at) (drop at text))) → (cause : Cause) × IsRefusedAt text at cause × (fault ≡ fault_at at cause)
-refused_at text at spelled placed fault within so_far read = by_result (reading at (drop at text)) refl (read ∙ ap (λ (rest : List ℕ). found_of (reading at rest)) (take_rest text at))
+refused_at text at spelled placed fault within so_far read =
+    by_result (reading at (drop at text)) refl (read ∙ ap (λ (rest : List ℕ). found_of (reading at rest)) (take_rest text at))
   where
-    by_result : (r : Result Piece QueryFault) → reading at (drop at text) ≡ r → Err fault ≡ found_of r → (cause : Cause) × IsRefusedAt text at cause × (fault ≡ fault_at at cause)
+    by_result : (r : Result Piece QueryFault) → reading at (drop at text) ≡ r → Err fault ≡ found_of r
+        → (cause : Cause) × IsRefusedAt text at cause × (fault ≡ fault_at at cause)
     by_result (Ok piece) is read = absurd cc
     by_result (Err other) is read =
         let left = length-drop at text in
@@ -135,7 +147,8 @@ pub with_spelled-Some : (piece : Piece) (kind : TokenKind) (bytes : List ℕ) �
 with_spelled-Some piece kind bytes is same =
     ap (λ (text : List ℕ). with_spelled (Some kind) text []) same ∙ ap (λ (o : Option TokenKind). with_spelled o (bytes_of piece) []) (sym is)
 
-pub with_placed-Some : (piece : Piece) (kind : TokenKind) (bytes : List ℕ) (start end : ℕ) → kind_of piece ≡ Some kind → bytes ≡ bytes_of piece → end ≡ start + length (bytes_of piece)
+pub with_placed-Some : (piece : Piece) (kind : TokenKind) (bytes : List ℕ) (start end : ℕ)
+    → kind_of piece ≡ Some kind → bytes ≡ bytes_of piece → end ≡ start + length (bytes_of piece)
     → record { token = record { kind = kind; bytes = bytes }; start = start; end = end } ∷ [] ≡ with_placed (kind_of piece) (bytes_of piece) start []
 with_placed-Some piece kind bytes start end is same ends =
     ap (λ (n : ℕ). record { token = record { kind = kind; bytes = bytes }; start = start; end = n } ∷ []) ends
@@ -143,10 +156,12 @@ with_placed-Some piece kind bytes start end is same ends =
     ∙ ap (λ (o : Option TokenKind). with_placed o (bytes_of piece) start []) (sym is)
 
 -- inside of a run its end is known
-pub run_on : (text : List ℕ) (at n end : ℕ) → end ≡ at + prefix_len is_code_byte (drop at text) → at + n < end → prefix_len is_code_byte (drop (at + n) text) + (at + n) ≡ end
+pub run_on : (text : List ℕ) (at n end : ℕ) → end ≡ at + prefix_len is_code_byte (drop at text) → at + n < end
+    → prefix_len is_code_byte (drop (at + n) text) + (at + n) ≡ end
 run_on text at n end is inside =
     let more = prefix_len-drop is_code_byte n (drop at text) (omega arith) in
-    let same : prefix_len is_code_byte (drop n (drop at text)) ≡ prefix_len is_code_byte (drop (at + n) text) = ap (prefix_len is_code_byte) (drop-drop n at text) in
+    let same : prefix_len is_code_byte (drop n (drop at text)) ≡ prefix_len is_code_byte (drop (at + n) text) =
+    ap (prefix_len is_code_byte) (drop-drop n at text) in
     omega (arith, more, same)
 
 -- the empty text has no pieces
@@ -160,7 +175,8 @@ CutSoFar-empty text at spelled placed empty so_far = so_far.spelling ∙ none so
         absurd (omega (arith, ap length cut.whole, ap length empty, length-piece_text piece behind, some_bytes piece behind cut.each.0.stands))
 
 -- what a token's kind puts in front is a token
-pub has_token : (piece : Piece) (kind : TokenKind) (tokens : List Spelled) → kind_of piece ≡ Some kind → 0 < length (tokens ++ with_spelled (kind_of piece) (bytes_of piece) [])
+pub has_token : (piece : Piece) (kind : TokenKind) (tokens : List Spelled) → kind_of piece ≡ Some kind
+    → 0 < length (tokens ++ with_spelled (kind_of piece) (bytes_of piece) [])
 has_token piece kind tokens is =
     let one : length (with_spelled (kind_of piece) (bytes_of piece) []) ≡ 1 = rw is refl in
     omega (arith, one, length-append tokens (with_spelled (kind_of piece) (bytes_of piece) []))
@@ -184,12 +200,14 @@ append-nil (x ∷ xs) = ap (λ (more : List _). x ∷ more) (append-nil xs)
 pub no_spelled : (piece : Piece) (tokens : List Spelled) → kind_of piece ≡ None → tokens ++ with_spelled (kind_of piece) (bytes_of piece) [] ≡ tokens
 no_spelled piece tokens none = ap (λ (o : Option TokenKind). tokens ++ with_spelled o (bytes_of piece) []) none ∙ append-nil tokens
 
-pub no_placed : (piece : Piece) (start : ℕ) (tokens : List Placed) → kind_of piece ≡ None → tokens ++ with_placed (kind_of piece) (bytes_of piece) start [] ≡ tokens
+pub no_placed : (piece : Piece) (start : ℕ) (tokens : List Placed) → kind_of piece ≡ None
+    → tokens ++ with_placed (kind_of piece) (bytes_of piece) start [] ≡ tokens
 no_placed piece start tokens none = ap (λ (o : Option TokenKind). tokens ++ with_placed o (bytes_of piece) start []) none ∙ append-nil tokens
 
 -- what is kept so far, told in other words
 pub so_far_is : (text : List ℕ) (at : ℕ) (size other_size : ℕ) (spelled other_spelled : List Spelled) (placed other_placed : List Placed)
-    → size ≡ other_size → other_spelled ≡ spelled → other_placed ≡ placed → CutSoFar text (at + other_size) other_spelled other_placed → CutSoFar text (at + size) spelled placed
+    → size ≡ other_size → other_spelled ≡ spelled → other_placed ≡ placed
+    → CutSoFar text (at + other_size) other_spelled other_placed → CutSoFar text (at + size) spelled placed
 so_far_is text at size other_size spelled other_spelled placed other_placed sizes spellings places so_far = record {
   pieces = so_far.pieces;
   cut = subst (λ (n : ℕ). IsCut text so_far.pieces (drop (at + n) text)) (sym sizes) so_far.cut;

@@ -23,7 +23,8 @@ pub record StandsIn (text : List ℕ) (piece : Piece) : Type 0 where
   pub stands : Stands piece rest
 
 -- the run that is taken from the front of a text, if there is one
-pub take_while-IsRun : (test : ℕ → Bool) (text : List ℕ) → 0 < length (take_while test text) → IsRun test (take_while test text) (drop (prefix_len test text) text)
+pub take_while-IsRun : (test : ℕ → Bool) (text : List ℕ) → 0 < length (take_while test text)
+    → IsRun test (take_while test text) (drop (prefix_len test text) text)
 take_while-IsRun test text some = record { some = some; each = prefix_len-each test text; ended = prefix_len-ended test text }
 
 -- digits without a leading zero that are found

@@ -25,7 +25,13 @@ ended (suc most) (byte ∷ behind) few = by_result (λ (rest : List ℕ) (fewer 
     by_result : ((rest : List ℕ) → length rest ≤ most → Ended rest) → (r : Result Piece QueryFault) → reading 0 (byte ∷ behind) ≡ r → Ended (byte ∷ behind)
     by_result more (Err fault) is =
         let refused = reading-Err 0 (byte ∷ behind) fault (omega arith) is in
-        record { pieces = []; rest = byte ∷ behind; cut = record { whole = refl; each = tt }; place = (0, omega arith); end = inr (refused.cause, refused.refuses) }
+        record {
+          pieces = [];
+          rest = byte ∷ behind;
+          cut = record { whole = refl; each = tt };
+          place = (0, omega arith);
+          end = inr (refused.cause, refused.refuses);
+        }
     by_result more (Ok piece) is =
         let here = reading-Ok 0 (byte ∷ behind) piece is in
         let size = ap length here.is ∙ length-piece_text piece here.rest in

@@ -28,7 +28,8 @@ length-number sign whole fraction =
     let behind : List ℕ = whole ++ fraction_text fraction [] in
     omega (arith, length-sign_text sign behind, length-append whole (fraction_text fraction []), length-fraction_text fraction [])
 
-point_is : (fraction : List ℕ) (count point : ℕ) → count ≡ length fraction → ((0 < count) × (point ≡ 1)) ⊎ ((count ≡ 0) × (point ≡ 0)) → point ≡ point_length fraction
+point_is : (fraction : List ℕ) (count point : ℕ) → count ≡ length fraction
+    → ((0 < count) × (point ≡ 1)) ⊎ ((count ≡ 0) × (point ≡ 0)) → point ≡ point_length fraction
 point_is [] count point is (inl (some, one)) = absurd (omega (arith, some))
 point_is [] count point is (inr (none, zero_is)) = zero_is
 point_is (digit ∷ more) count point is (inl (some, one)) = one

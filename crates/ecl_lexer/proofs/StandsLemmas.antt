@@ -19,7 +19,8 @@ use Rattle.ecl_lexer.proofs.SymbolLemmas.{piece_at-symbol, symbol_at-read}
 pub take_while-run : (test : ℕ → Bool) (run rest : List ℕ) → list_all test run ≡ true → begins test rest ≡ false → take_while test (run ++ rest) ≡ run
 take_while-run test run rest each ended = take_at run rest (prefix_len test (run ++ rest)) (sym (prefix_len-run test run rest each ended))
 
-pub drop_while-run : (test : ℕ → Bool) (run rest : List ℕ) → list_all test run ≡ true → begins test rest ≡ false → drop (prefix_len test (run ++ rest)) (run ++ rest) ≡ rest
+pub drop_while-run : (test : ℕ → Bool) (run rest : List ℕ) → list_all test run ≡ true → begins test rest ≡ false
+    → drop (prefix_len test (run ++ rest)) (run ++ rest) ≡ rest
 drop_while-run test run rest each ended = drop_at run rest (prefix_len test (run ++ rest)) (sym (prefix_len-run test run rest each ended))
 
 space-found : (byte : ℕ) (rest : List ℕ) → is_space byte ≡ true → piece_at (byte ∷ rest) ≡ Some (space byte)
@@ -89,7 +90,8 @@ digits-found (first ∷ more) rest stands =
     here ∙ ap (option_map digits) (plain_at-found (first ∷ more) rest stands.0 stands.1)
 
 -- what is no sign is read as none
-sign_at-found : (sign : Sign) (whole behind : List ℕ) → 0 < length whole → list_all is_ascii_digit whole ≡ true → sign_at (sign_text sign (whole ++ behind)) ≡ sign
+sign_at-found : (sign : Sign) (whole behind : List ℕ) → 0 < length whole → list_all is_ascii_digit whole ≡ true
+    → sign_at (sign_text sign (whole ++ behind)) ≡ sign
 sign_at-found plus whole behind some each = refl
 sign_at-found minus whole behind some each = refl
 sign_at-found unsigned [] behind some each = absurd (omega arith)

@@ -76,13 +76,17 @@ abbrev pub IsLongest : List ℕ → List ℕ → Type 0
 IsLongest bytes rest = (other more : List ℕ) → IsSome (symbol_kind other) → bytes ++ rest ≡ other ++ more → length other ≤ length bytes
 
 sized_kind-cases : (size : ℕ) (text : List ℕ)
-    → (sized_kind size text ≡ None) ⊎ ((kind : TokenKind) × (size ≤ length text) × (symbol_kind (take size text) ≡ Some kind) × (sized_kind size text ≡ Some kind))
+    → (sized_kind size text ≡ None)
+    ⊎ ((kind : TokenKind) × (size ≤ length text) × (symbol_kind (take size text) ≡ Some kind)
+    × (sized_kind size text ≡ Some kind))
 sized_kind-cases size text = elim (cases_Bool (nat_le size (length text))) [
   | inr short ↦ inl (rw short refl)
   | inl fits ↦ by_kind fits (symbol_kind (take size text)) refl
 ] where
   by_kind : nat_le size (length text) ≡ true → (o : Option TokenKind) → symbol_kind (take size text) ≡ o
-      → (sized_kind size text ≡ None) ⊎ ((kind : TokenKind) × (size ≤ length text) × (symbol_kind (take size text) ≡ Some kind) × (sized_kind size text ≡ Some kind))
+      → (sized_kind size text ≡ None)
+      ⊎ ((kind : TokenKind) × (size ≤ length text) × (symbol_kind (take size text) ≡ Some kind)
+      × (sized_kind size text ≡ Some kind))
   by_kind fits None is = inl (rw fits is)
   by_kind fits (Some kind) is = inr (kind, leb-true size (length text) fits, is, rw fits is)
 
@@ -198,7 +202,8 @@ symbol_at-found text piece found = elim (sized_kind-cases 3 text) [
               | inr (kind, fits, known, is) ↦
                   let same : Some (symbol (take 1 text) kind) ≡ Some piece = rw is at last in
                   symbol_of 1 text kind piece fits known (λ (other more : List ℕ) (some : IsSome (symbol_kind other)) (is : text ≡ other ++ more).
-                  below 1 (length other) (below 2 (length other) (few_bytes other some) (sized_none 3 text no_three other more some is)) (sized_none 2 text no_two other more some is)) cc
+                  below 1 (length other) (below 2 (length other) (few_bytes other some)
+                  (sized_none 3 text no_three other more some is)) (sized_none 2 text no_two other more some is)) cc
               | inl no_one ↦ let nothing : None ≡ Some piece = rw no_one at last in absurd cc
             ]
       ]

@@ -118,14 +118,22 @@ name_no_brackets (plain (concept run is)) c rest = refl
 name_no_brackets (plain (concept_term run is)) c rest = refl
 name_no_brackets (plain any) c rest = refl
 name_no_brackets (plain (round constraint)) c rest =
-    ap (λ (left : List Symbol). cond (is_some {T = Compare × List Symbol} (compare_at left)) None (Some (constraint_tokens constraint (mark token.RoundClose ∷ mark (compare_kind c) ∷ rest))))
+    ap (λ (left : List Symbol). cond (is_some {T = Compare × List Symbol} (compare_at left)) None
+    (Some (constraint_tokens constraint (mark token.RoundClose ∷ mark (compare_kind c) ∷ rest))))
     (close_constraint constraint 0 (mark token.RoundClose ∷ mark (compare_kind c) ∷ rest))
-    ∙ ap (λ (found : Option Compare). cond (is_some {T = Compare × List Symbol} (option_map (λ compare. (compare, rest)) found)) None (Some (constraint_tokens constraint (mark token.RoundClose ∷ mark (compare_kind c) ∷ rest)))) (compare_back c)
+    ∙ ap (λ (found : Option Compare). cond (is_some {T = Compare × List Symbol}
+    (option_map (λ compare. (compare, rest)) found)) None
+    (Some (constraint_tokens constraint (mark token.RoundClose ∷ mark (compare_kind c) ∷ rest)))) (compare_back c)
 name_no_brackets (member focus) c rest = refl
 name_no_brackets (walk o focus) c rest =
-    ap (λ (b : Bool). otherwise (cond b (Some (focus_tokens focus (mark (compare_kind c) ∷ rest))) None) None (λ left. cond (is_some {T = Compare × List Symbol} (compare_at (behind_close 0 left))) None (Some left))) (no_operator marks.RoundOpen refl o)
+    ap (λ (b : Bool). otherwise (cond b (Some (focus_tokens focus (mark (compare_kind c) ∷ rest))) None) None
+    (λ left. cond (is_some {T = Compare × List Symbol} (compare_at (behind_close 0 left))) None (Some left)))
+    (no_operator marks.RoundOpen refl o)
 name_no_brackets (walk_member o focus) c rest =
-    ap (λ (b : Bool). otherwise (cond b (Some (mark token.MemberOf ∷ focus_tokens focus (mark (compare_kind c) ∷ rest))) None) None (λ left. cond (is_some {T = Compare × List Symbol} (compare_at (behind_close 0 left))) None (Some left))) (no_operator marks.RoundOpen refl o)
+    ap (λ (b : Bool). otherwise (cond b (Some (mark token.MemberOf
+    ∷ focus_tokens focus (mark (compare_kind c) ∷ rest))) None) None
+    (λ left. cond (is_some {T = Compare × List Symbol} (compare_at (behind_close 0 left))) None (Some left)))
+    (no_operator marks.RoundOpen refl o)
 
 pair_no_brackets : (form : PairForm) (rest : List Symbol) → bracketed_at (pair_tokens form rest) ≡ None
 pair_no_brackets (within name value) rest = name_no_brackets name compare.Equal (sub_tokens value rest)
@@ -190,7 +198,8 @@ parts_fit kind no_parts rest = omega arith
 parts_fit kind (part_then form more) rest = omega (arith, longer_part form (parts_tokens kind more rest), parts_fit kind more rest)
 
 -- one of several joined forms is read behind its joint
-many_step : {T : Type 0} (reader : List Symbol → Found T) (wanted : Mark) (kind : TokenKind) → Joins wanted kind → (turns : ℕ) (item : T) (more : List T) (tokens after rest : List Symbol)
+many_step : {T : Type 0} (reader : List Symbol → Found T) (wanted : Mark) (kind : TokenKind) → Joins wanted kind
+    → (turns : ℕ) (item : T) (more : List T) (tokens after rest : List Symbol)
     → reader tokens ≡ Some (item, after) → many reader wanted turns after ≡ Some (more, rest)
     → many reader wanted (suc turns) (mark kind ∷ tokens) ≡ Some (item ∷ more, rest)
 unfolding many
@@ -224,58 +233,84 @@ count_no_brackets (between least most is also) rest = refl
 
 -- forms are read in front of what may follow them, where the brackets in them may be opened
 mutual
-  unfolding constraint_in constraint_behind sub_in member_in focus_in readers refinement_in refinement_behind item_in item_behind set_in set_behind part_in pair_in test_in
+  unfolding constraint_in constraint_behind sub_in member_in focus_in readers refinement_in refinement_behind item_in
+      item_behind set_in set_behind part_in pair_in test_in
 
   pub constraint_complete : (most : ℕ) (form : ConstraintForm) (rest : List Symbol) → constraint_depth form ≤ most → AfterWhole rest
       → constraint_in (readers most) (constraint_tokens form rest) ≡ Some (constraint_tree form, rest)
   constraint_complete most (alone sub) rest fits after =
       rw (sub_complete most sub rest fits after.item.term, after.joins_and, after.joins_or, after.joins_dot, after.colon, after.minus) refl
   constraint_complete most (refined focus refinement) rest fits after =
-      rw (sub_complete most focus (mark token.Colon ∷ refinement_tokens refinement rest) (omega arith) refl, refinement_complete most refinement rest (omega arith) after) refl
+      rw (
+        sub_complete most focus (mark token.Colon ∷ refinement_tokens refinement rest) (omega arith) refl,
+        refinement_complete most refinement rest (omega arith) after,
+      ) refl
   constraint_complete most (conjunction first second more) rest fits after =
       rw (
         sub_complete most first (mark token.And ∷ sub_tokens second (subs_tokens token.And more rest)) (omega arith) refl,
-        many_step (sub_in (readers most)) marks.And token.And by_and (length (sub_tokens second (subs_tokens token.And more rest))) (sub_tree second) (sub_list more) (sub_tokens second (subs_tokens token.And more rest)) (subs_tokens token.And more rest) rest
+        many_step (sub_in (readers most)) marks.And token.And by_and
+            (length (sub_tokens second (subs_tokens token.And more rest))) (sub_tree second) (sub_list more)
+            (sub_tokens second (subs_tokens token.And more rest)) (subs_tokens token.And more rest) rest
             (sub_complete most second (subs_tokens token.And more rest) (omega arith) (subs_term marks.And token.And by_and more rest after.item.term))
-            (subs_complete most marks.And token.And by_and more (length (sub_tokens second (subs_tokens token.And more rest))) rest (omega arith) (omega (arith, subs_fit token.And more rest, longer_sub second (subs_tokens token.And more rest))) after.joins_and after.item.term),
+            (subs_complete most marks.And token.And by_and more
+            (length (sub_tokens second (subs_tokens token.And more rest))) rest (omega arith)
+            (omega (arith, subs_fit token.And more rest, longer_sub second (subs_tokens token.And more rest)))
+            after.joins_and after.item.term),
         sub_list-trees more,
       ) refl
   constraint_complete most (disjunction first second more) rest fits after =
       rw (
         sub_complete most first (mark token.Or ∷ sub_tokens second (subs_tokens token.Or more rest)) (omega arith) refl,
-        many_step (sub_in (readers most)) marks.Or token.Or by_or (length (sub_tokens second (subs_tokens token.Or more rest))) (sub_tree second) (sub_list more) (sub_tokens second (subs_tokens token.Or more rest)) (subs_tokens token.Or more rest) rest
+        many_step (sub_in (readers most)) marks.Or token.Or by_or
+            (length (sub_tokens second (subs_tokens token.Or more rest))) (sub_tree second) (sub_list more)
+            (sub_tokens second (subs_tokens token.Or more rest)) (subs_tokens token.Or more rest) rest
             (sub_complete most second (subs_tokens token.Or more rest) (omega arith) (subs_term marks.Or token.Or by_or more rest after.item.term))
-            (subs_complete most marks.Or token.Or by_or more (length (sub_tokens second (subs_tokens token.Or more rest))) rest (omega arith) (omega (arith, subs_fit token.Or more rest, longer_sub second (subs_tokens token.Or more rest))) after.joins_or after.item.term),
+            (subs_complete most marks.Or token.Or by_or more
+            (length (sub_tokens second (subs_tokens token.Or more rest))) rest (omega arith)
+            (omega (arith, subs_fit token.Or more rest, longer_sub second (subs_tokens token.Or more rest)))
+            after.joins_or after.item.term),
         sub_list-trees more,
       ) refl
   constraint_complete most (exclusion first second) rest fits after =
-      rw (sub_complete most first (mark token.Minus ∷ sub_tokens second rest) (omega arith) refl, sub_complete most second rest (omega arith) after.item.term) refl
+      rw (
+        sub_complete most first (mark token.Minus ∷ sub_tokens second rest) (omega arith) refl,
+        sub_complete most second rest (omega arith) after.item.term,
+      ) refl
   constraint_complete most (dotted start name more) rest fits after =
       rw (
         sub_complete most start (mark token.Dot ∷ sub_tokens name (subs_tokens token.Dot more rest)) (omega arith) refl,
-        many_step (sub_in (readers most)) marks.Dot token.Dot by_dot (length (sub_tokens name (subs_tokens token.Dot more rest))) (sub_tree name) (sub_list more) (sub_tokens name (subs_tokens token.Dot more rest)) (subs_tokens token.Dot more rest) rest
+        many_step (sub_in (readers most)) marks.Dot token.Dot by_dot
+            (length (sub_tokens name (subs_tokens token.Dot more rest))) (sub_tree name) (sub_list more)
+            (sub_tokens name (subs_tokens token.Dot more rest)) (subs_tokens token.Dot more rest) rest
             (sub_complete most name (subs_tokens token.Dot more rest) (omega arith) (subs_term marks.Dot token.Dot by_dot more rest after.item.term))
-            (subs_complete most marks.Dot token.Dot by_dot more (length (sub_tokens name (subs_tokens token.Dot more rest))) rest (omega arith) (omega (arith, subs_fit token.Dot more rest, longer_sub name (subs_tokens token.Dot more rest))) after.joins_dot after.item.term),
+            (subs_complete most marks.Dot token.Dot by_dot more
+            (length (sub_tokens name (subs_tokens token.Dot more rest))) rest (omega arith)
+            (omega (arith, subs_fit token.Dot more rest, longer_sub name (subs_tokens token.Dot more rest)))
+            after.joins_dot after.item.term),
         sub_list-trees more,
       ) refl
 
-  subs_complete : (most : ℕ) (wanted : Mark) (kind : TokenKind) → Joins wanted kind → (forms : SubForms) (turns : ℕ) (rest : List Symbol) → subs_depth forms ≤ most → sub_count forms ≤ turns
+  subs_complete : (most : ℕ) (wanted : Mark) (kind : TokenKind) → Joins wanted kind
+      → (forms : SubForms) (turns : ℕ) (rest : List Symbol) → subs_depth forms ≤ most → sub_count forms ≤ turns
       → behind wanted rest ≡ None → behind marks.Term rest ≡ None
       → many (sub_in (readers most)) wanted turns (subs_tokens kind forms rest) ≡ Some (sub_list forms, rest)
   subs_complete most wanted kind joint no_subs turns rest fits enough none term = many_stop (sub_in (readers most)) wanted turns rest none
   subs_complete most wanted kind joint (sub_then sub more) zero rest fits enough none term = absurd (omega arith)
   subs_complete most wanted kind joint (sub_then sub more) (suc turns) rest fits enough none term =
-      many_step (sub_in (readers most)) wanted kind joint turns (sub_tree sub) (sub_list more) (sub_tokens sub (subs_tokens kind more rest)) (subs_tokens kind more rest) rest
+      many_step (sub_in (readers most)) wanted kind joint turns (sub_tree sub) (sub_list more)
+      (sub_tokens sub (subs_tokens kind more rest)) (subs_tokens kind more rest) rest
       (sub_complete most sub (subs_tokens kind more rest) (omega arith) (subs_term wanted kind joint more rest term))
       (subs_complete most wanted kind joint more turns rest (omega arith) (omega arith) none term)
 
-  subs_term : (wanted : Mark) (kind : TokenKind) → Joins wanted kind → (forms : SubForms) (rest : List Symbol) → behind marks.Term rest ≡ None → behind marks.Term (subs_tokens kind forms rest) ≡ None
+  subs_term : (wanted : Mark) (kind : TokenKind) → Joins wanted kind → (forms : SubForms) (rest : List Symbol)
+      → behind marks.Term rest ≡ None → behind marks.Term (subs_tokens kind forms rest) ≡ None
   subs_term wanted kind joint no_subs rest term = term
   subs_term wanted kind joint (sub_then sub more) rest term = (before_joint wanted kind joint (sub_tokens sub (subs_tokens kind more rest))).term
 
   sub_complete : (most : ℕ) (form : SubForm) (rest : List Symbol) → sub_depth form ≤ most → behind marks.Term rest ≡ None
       → sub_in (readers most) (sub_tokens form rest) ≡ Some (sub_tree form, rest)
-  sub_complete most (plain focus) rest fits term = sub_plain (readers most) focus rest ∙ member_plain (readers most) focus rest ∙ focus_complete most focus rest fits term
+  sub_complete most (plain focus) rest fits term = sub_plain (readers most) focus rest
+      ∙ member_plain (readers most) focus rest ∙ focus_complete most focus rest fits term
   sub_complete most (member focus) rest fits term = rw (focus_complete most focus rest fits term) refl
   sub_complete most (walk o focus) rest fits term = rw (operator_back o, member_plain (readers most) focus rest, focus_complete most focus rest fits term) refl
   sub_complete most (walk_member o focus) rest fits term = rw (operator_back o, focus_complete most focus rest fits term) refl
@@ -295,52 +330,91 @@ mutual
       rw (item_complete most item rest fits after.item, after.joins_and, after.joins_or) refl
   refinement_complete most (all_items first second more) rest fits after =
       rw (
-        item_complete most first (mark token.And ∷ item_tokens second (items_tokens token.And more rest)) (omega arith) (before_joint marks.And token.And by_and (item_tokens second (items_tokens token.And more rest))),
-        many_step (item_in (readers most)) marks.And token.And by_and (length (item_tokens second (items_tokens token.And more rest))) (item_tree second) (item_list more) (item_tokens second (items_tokens token.And more rest)) (items_tokens token.And more rest) rest
+        item_complete most first (mark token.And ∷ item_tokens second (items_tokens token.And more rest))
+            (omega arith) (before_joint marks.And token.And by_and (item_tokens second (items_tokens token.And more rest))),
+        many_step (item_in (readers most)) marks.And token.And by_and
+            (length (item_tokens second (items_tokens token.And more rest))) (item_tree second) (item_list more)
+            (item_tokens second (items_tokens token.And more rest)) (items_tokens token.And more rest) rest
             (item_complete most second (items_tokens token.And more rest) (omega arith) (items_after marks.And token.And by_and more rest after.item))
-            (items_complete most marks.And token.And by_and more (length (item_tokens second (items_tokens token.And more rest))) rest (omega arith) (omega (arith, items_fit token.And more rest, longer_item second (items_tokens token.And more rest))) after.joins_and after.item),
+            (items_complete most marks.And token.And by_and more
+            (length (item_tokens second (items_tokens token.And more rest))) rest (omega arith)
+            (omega (arith, items_fit token.And more rest, longer_item second (items_tokens token.And more rest)))
+            after.joins_and after.item),
         item_list-trees more,
       ) refl
   refinement_complete most (some_items first second more) rest fits after =
       rw (
-        item_complete most first (mark token.Or ∷ item_tokens second (items_tokens token.Or more rest)) (omega arith) (before_joint marks.Or token.Or by_or (item_tokens second (items_tokens token.Or more rest))),
-        many_step (item_in (readers most)) marks.Or token.Or by_or (length (item_tokens second (items_tokens token.Or more rest))) (item_tree second) (item_list more) (item_tokens second (items_tokens token.Or more rest)) (items_tokens token.Or more rest) rest
+        item_complete most first (mark token.Or ∷ item_tokens second (items_tokens token.Or more rest)) (omega arith)
+            (before_joint marks.Or token.Or by_or (item_tokens second (items_tokens token.Or more rest))),
+        many_step (item_in (readers most)) marks.Or token.Or by_or
+            (length (item_tokens second (items_tokens token.Or more rest))) (item_tree second) (item_list more)
+            (item_tokens second (items_tokens token.Or more rest)) (items_tokens token.Or more rest) rest
             (item_complete most second (items_tokens token.Or more rest) (omega arith) (items_after marks.Or token.Or by_or more rest after.item))
-            (items_complete most marks.Or token.Or by_or more (length (item_tokens second (items_tokens token.Or more rest))) rest (omega arith) (omega (arith, items_fit token.Or more rest, longer_item second (items_tokens token.Or more rest))) after.joins_or after.item),
+            (items_complete most marks.Or token.Or by_or more
+            (length (item_tokens second (items_tokens token.Or more rest))) rest (omega arith)
+            (omega (arith, items_fit token.Or more rest, longer_item second (items_tokens token.Or more rest)))
+            after.joins_or after.item),
         item_list-trees more,
       ) refl
 
-  items_complete : (most : ℕ) (wanted : Mark) (kind : TokenKind) → Joins wanted kind → (forms : ItemForms) (turns : ℕ) (rest : List Symbol) → items_depth forms ≤ most → item_count forms ≤ turns
+  items_complete : (most : ℕ) (wanted : Mark) (kind : TokenKind) → Joins wanted kind
+      → (forms : ItemForms) (turns : ℕ) (rest : List Symbol) → items_depth forms ≤ most → item_count forms ≤ turns
       → behind wanted rest ≡ None → AfterItem rest
       → many (item_in (readers most)) wanted turns (items_tokens kind forms rest) ≡ Some (item_list forms, rest)
   items_complete most wanted kind joint no_items turns rest fits enough none after = many_stop (item_in (readers most)) wanted turns rest none
   items_complete most wanted kind joint (item_then item more) zero rest fits enough none after = absurd (omega arith)
   items_complete most wanted kind joint (item_then item more) (suc turns) rest fits enough none after =
-      many_step (item_in (readers most)) wanted kind joint turns (item_tree item) (item_list more) (item_tokens item (items_tokens kind more rest)) (items_tokens kind more rest) rest
+      many_step (item_in (readers most)) wanted kind joint turns (item_tree item) (item_list more)
+      (item_tokens item (items_tokens kind more rest)) (items_tokens kind more rest) rest
       (item_complete most item (items_tokens kind more rest) (omega arith) (items_after wanted kind joint more rest after))
       (items_complete most wanted kind joint more turns rest (omega arith) (omega arith) none after)
 
-  items_after : (wanted : Mark) (kind : TokenKind) → Joins wanted kind → (forms : ItemForms) (rest : List Symbol) → AfterItem rest → AfterItem (items_tokens kind forms rest)
+  items_after : (wanted : Mark) (kind : TokenKind) → Joins wanted kind → (forms : ItemForms) (rest : List Symbol)
+      → AfterItem rest → AfterItem (items_tokens kind forms rest)
   items_after wanted kind joint no_items rest after = after
   items_after wanted kind joint (item_then item more) rest after = before_joint wanted kind joint (item_tokens item (items_tokens kind more rest))
 
   item_complete : (most : ℕ) (form : ItemForm) (rest : List Symbol) → item_depth form ≤ most → AfterItem rest
       → item_in (readers most) (item_tokens form rest) ≡ Some (item_tree form, rest)
   item_complete most (attribute None false pair) rest fits after =
-      rw (pair_no_brackets pair rest, pair_begins marks.BracketOpen no_bracket pair rest, pair_begins marks.BraceOpen no_brace pair rest, pair_begins marks.Reverse no_reverse pair rest, pair_complete most None false pair rest fits after.term) refl
+      rw (
+        pair_no_brackets pair rest,
+        pair_begins marks.BracketOpen no_bracket pair rest,
+        pair_begins marks.BraceOpen no_brace pair rest,
+        pair_begins marks.Reverse no_reverse pair rest,
+        pair_complete most None false pair rest fits after.term,
+      ) refl
   item_complete most (attribute None true pair) rest fits after = rw (pair_complete most None true pair rest fits after.term) refl
   item_complete most (attribute (Some count) false pair) rest fits after =
-      rw (count_no_brackets count (pair_tokens pair rest), count_complete (Some count) (pair_tokens pair rest) (pair_begins marks.BracketOpen no_bracket pair rest), pair_begins marks.BraceOpen no_brace pair rest, pair_begins marks.Reverse no_reverse pair rest, pair_complete most (Some count) false pair rest fits after.term) refl
+      rw (
+        count_no_brackets count (pair_tokens pair rest),
+        count_complete (Some count) (pair_tokens pair rest) (pair_begins marks.BracketOpen no_bracket pair rest),
+        pair_begins marks.BraceOpen no_brace pair rest,
+        pair_begins marks.Reverse no_reverse pair rest,
+        pair_complete most (Some count) false pair rest fits after.term,
+      ) refl
   item_complete most (attribute (Some count) true pair) rest fits after =
-      rw (count_no_brackets count (mark token.Reverse ∷ pair_tokens pair rest), count_complete (Some count) (mark token.Reverse ∷ pair_tokens pair rest) refl, pair_complete most (Some count) true pair rest fits after.term) refl
+      rw (
+        count_no_brackets count (mark token.Reverse ∷ pair_tokens pair rest),
+        count_complete (Some count) (mark token.Reverse ∷ pair_tokens pair rest) refl,
+        pair_complete most (Some count) true pair rest fits after.term,
+      ) refl
   item_complete zero (group count set) rest fits after = absurd (omega arith)
   item_complete (suc most) (group None set) rest fits after =
       rw (set_complete most set (mark token.BraceClose ∷ rest) (omega arith) (before_brace rest)) refl
   item_complete (suc most) (group (Some count) set) rest fits after =
-      rw (count_no_brackets count (mark token.BraceOpen ∷ set_tokens set (mark token.BraceClose ∷ rest)), count_complete (Some count) (mark token.BraceOpen ∷ set_tokens set (mark token.BraceClose ∷ rest)) refl, set_complete most set (mark token.BraceClose ∷ rest) (omega arith) (before_brace rest)) refl
+      rw (
+        count_no_brackets count (mark token.BraceOpen ∷ set_tokens set (mark token.BraceClose ∷ rest)),
+        count_complete (Some count) (mark token.BraceOpen ∷ set_tokens set (mark token.BraceClose ∷ rest)) refl,
+        set_complete most set (mark token.BraceClose ∷ rest) (omega arith) (before_brace rest),
+      ) refl
   item_complete zero (round_refinement refinement) rest fits after = absurd (omega arith)
   item_complete (suc most) (round_refinement refinement) rest fits after =
-      rw (close_refinement refinement 0 (mark token.RoundClose ∷ rest), after.compare, refinement_complete most refinement (mark token.RoundClose ∷ rest) (omega arith) (before_round rest)) refl
+      rw (
+        close_refinement refinement 0 (mark token.RoundClose ∷ rest),
+        after.compare,
+        refinement_complete most refinement (mark token.RoundClose ∷ rest) (omega arith) (before_round rest),
+      ) refl
 
   set_complete : (most : ℕ) (form : SetForm) (rest : List Symbol) → set_depth form ≤ most → AfterWhole rest
       → set_in (readers most) (set_tokens form rest) ≡ Some (set_tree form, rest)
@@ -348,32 +422,47 @@ mutual
       rw (part_complete most part rest fits after.item, after.joins_and, after.joins_or) refl
   set_complete most (all_parts first second more) rest fits after =
       rw (
-        part_complete most first (mark token.And ∷ part_tokens second (parts_tokens token.And more rest)) (omega arith) (before_joint marks.And token.And by_and (part_tokens second (parts_tokens token.And more rest))),
-        many_step (part_in (readers most)) marks.And token.And by_and (length (part_tokens second (parts_tokens token.And more rest))) (part_tree second) (part_list more) (part_tokens second (parts_tokens token.And more rest)) (parts_tokens token.And more rest) rest
+        part_complete most first (mark token.And ∷ part_tokens second (parts_tokens token.And more rest))
+            (omega arith) (before_joint marks.And token.And by_and (part_tokens second (parts_tokens token.And more rest))),
+        many_step (part_in (readers most)) marks.And token.And by_and
+            (length (part_tokens second (parts_tokens token.And more rest))) (part_tree second) (part_list more)
+            (part_tokens second (parts_tokens token.And more rest)) (parts_tokens token.And more rest) rest
             (part_complete most second (parts_tokens token.And more rest) (omega arith) (parts_after marks.And token.And by_and more rest after.item))
-            (parts_complete most marks.And token.And by_and more (length (part_tokens second (parts_tokens token.And more rest))) rest (omega arith) (omega (arith, parts_fit token.And more rest, longer_part second (parts_tokens token.And more rest))) after.joins_and after.item),
+            (parts_complete most marks.And token.And by_and more
+            (length (part_tokens second (parts_tokens token.And more rest))) rest (omega arith)
+            (omega (arith, parts_fit token.And more rest, longer_part second (parts_tokens token.And more rest)))
+            after.joins_and after.item),
         part_list-trees more,
       ) refl
   set_complete most (some_parts first second more) rest fits after =
       rw (
-        part_complete most first (mark token.Or ∷ part_tokens second (parts_tokens token.Or more rest)) (omega arith) (before_joint marks.Or token.Or by_or (part_tokens second (parts_tokens token.Or more rest))),
-        many_step (part_in (readers most)) marks.Or token.Or by_or (length (part_tokens second (parts_tokens token.Or more rest))) (part_tree second) (part_list more) (part_tokens second (parts_tokens token.Or more rest)) (parts_tokens token.Or more rest) rest
+        part_complete most first (mark token.Or ∷ part_tokens second (parts_tokens token.Or more rest)) (omega arith)
+            (before_joint marks.Or token.Or by_or (part_tokens second (parts_tokens token.Or more rest))),
+        many_step (part_in (readers most)) marks.Or token.Or by_or
+            (length (part_tokens second (parts_tokens token.Or more rest))) (part_tree second) (part_list more)
+            (part_tokens second (parts_tokens token.Or more rest)) (parts_tokens token.Or more rest) rest
             (part_complete most second (parts_tokens token.Or more rest) (omega arith) (parts_after marks.Or token.Or by_or more rest after.item))
-            (parts_complete most marks.Or token.Or by_or more (length (part_tokens second (parts_tokens token.Or more rest))) rest (omega arith) (omega (arith, parts_fit token.Or more rest, longer_part second (parts_tokens token.Or more rest))) after.joins_or after.item),
+            (parts_complete most marks.Or token.Or by_or more
+            (length (part_tokens second (parts_tokens token.Or more rest))) rest (omega arith)
+            (omega (arith, parts_fit token.Or more rest, longer_part second (parts_tokens token.Or more rest)))
+            after.joins_or after.item),
         part_list-trees more,
       ) refl
 
-  parts_complete : (most : ℕ) (wanted : Mark) (kind : TokenKind) → Joins wanted kind → (forms : PartForms) (turns : ℕ) (rest : List Symbol) → parts_depth forms ≤ most → part_count forms ≤ turns
+  parts_complete : (most : ℕ) (wanted : Mark) (kind : TokenKind) → Joins wanted kind
+      → (forms : PartForms) (turns : ℕ) (rest : List Symbol) → parts_depth forms ≤ most → part_count forms ≤ turns
       → behind wanted rest ≡ None → AfterItem rest
       → many (part_in (readers most)) wanted turns (parts_tokens kind forms rest) ≡ Some (part_list forms, rest)
   parts_complete most wanted kind joint no_parts turns rest fits enough none after = many_stop (part_in (readers most)) wanted turns rest none
   parts_complete most wanted kind joint (part_then part more) zero rest fits enough none after = absurd (omega arith)
   parts_complete most wanted kind joint (part_then part more) (suc turns) rest fits enough none after =
-      many_step (part_in (readers most)) wanted kind joint turns (part_tree part) (part_list more) (part_tokens part (parts_tokens kind more rest)) (parts_tokens kind more rest) rest
+      many_step (part_in (readers most)) wanted kind joint turns (part_tree part) (part_list more)
+      (part_tokens part (parts_tokens kind more rest)) (parts_tokens kind more rest) rest
       (part_complete most part (parts_tokens kind more rest) (omega arith) (parts_after wanted kind joint more rest after))
       (parts_complete most wanted kind joint more turns rest (omega arith) (omega arith) none after)
 
-  parts_after : (wanted : Mark) (kind : TokenKind) → Joins wanted kind → (forms : PartForms) (rest : List Symbol) → AfterItem rest → AfterItem (parts_tokens kind forms rest)
+  parts_after : (wanted : Mark) (kind : TokenKind) → Joins wanted kind → (forms : PartForms) (rest : List Symbol)
+      → AfterItem rest → AfterItem (parts_tokens kind forms rest)
   parts_after wanted kind joint no_parts rest after = after
   parts_after wanted kind joint (part_then part more) rest after = before_joint wanted kind joint (part_tokens part (parts_tokens kind more rest))
 
@@ -382,16 +471,38 @@ mutual
   part_complete most (counted_part None pair) rest fits after =
       rw (pair_no_brackets pair rest, pair_begins marks.BracketOpen no_bracket pair rest, pair_complete most None false pair rest fits after.term) refl
   part_complete most (counted_part (Some count) pair) rest fits after =
-      rw (count_no_brackets count (pair_tokens pair rest), count_complete (Some count) (pair_tokens pair rest) (pair_begins marks.BracketOpen no_bracket pair rest), pair_complete most (Some count) false pair rest fits after.term) refl
+      rw (
+        count_no_brackets count (pair_tokens pair rest),
+        count_complete (Some count) (pair_tokens pair rest) (pair_begins marks.BracketOpen no_bracket pair rest),
+        pair_complete most (Some count) false pair rest fits after.term,
+      ) refl
   part_complete zero (round_set set) rest fits after = absurd (omega arith)
   part_complete (suc most) (round_set set) rest fits after =
-      rw (close_set set 0 (mark token.RoundClose ∷ rest), after.compare, set_complete most set (mark token.RoundClose ∷ rest) (omega arith) (before_round rest)) refl
+      rw (
+        close_set set 0 (mark token.RoundClose ∷ rest),
+        after.compare,
+        set_complete most set (mark token.RoundClose ∷ rest) (omega arith) (before_round rest),
+      ) refl
 
-  pair_complete : (most : ℕ) (count : Option CountForm) (reverse : Bool) (form : PairForm) (rest : List Symbol) → pair_depth form ≤ most → behind marks.Term rest ≡ None
+  pair_complete : (most : ℕ) (count : Option CountForm) (reverse : Bool) (form : PairForm) (rest : List Symbol)
+      → pair_depth form ≤ most → behind marks.Term rest ≡ None
       → pair_in (readers most) (cardinality_of count) reverse (pair_tokens form rest) ≡ Some (pair_tree count reverse form, rest)
   pair_complete most count reverse (within name value) rest fits term =
-      rw (sub_complete most name (mark token.Equal ∷ sub_tokens value rest) (omega arith) refl, sub_no_number value rest, sub_complete most value rest (omega arith) term) refl
+      rw (
+        sub_complete most name (mark token.Equal ∷ sub_tokens value rest) (omega arith) refl,
+        sub_no_number value rest,
+        sub_complete most value rest (omega arith) term,
+      ) refl
   pair_complete most count reverse (outside name value) rest fits term =
-      rw (sub_complete most name (mark token.NotEqual ∷ sub_tokens value rest) (omega arith) refl, sub_no_number value rest, sub_complete most value rest (omega arith) term) refl
+      rw (
+        sub_complete most name (mark token.NotEqual ∷ sub_tokens value rest) (omega arith) refl,
+        sub_no_number value rest,
+        sub_complete most value rest (omega arith) term,
+      ) refl
   pair_complete most count reverse (number name c text value is) rest fits term =
-      rw (sub_complete most name (mark (compare_kind c) ∷ decimal text ∷ rest) fits (ap (λ (b : Bool). cond b (Some (decimal text ∷ rest)) None) (no_compare marks.Term refl c)), compare_back c, is) refl
+      rw (
+        sub_complete most name (mark (compare_kind c) ∷ decimal text ∷ rest) fits
+            (ap (λ (b : Bool). cond b (Some (decimal text ∷ rest)) None) (no_compare marks.Term refl c)),
+        compare_back c,
+        is,
+      ) refl

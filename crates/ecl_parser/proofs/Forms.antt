@@ -126,10 +126,12 @@ mutual
       close_sub start level (mark token.Dot ∷ sub_tokens name (subs_tokens token.Dot more rest))
       ∙ close_sub name level (subs_tokens token.Dot more rest) ∙ close_subs token.Dot joins_dot more level rest
 
-  close_subs : (kind : TokenKind) → IsJoint kind → (forms : SubForms) (level : ℕ) (rest : List Symbol) → behind_close level (subs_tokens kind forms rest) ≡ behind_close level rest
+  close_subs : (kind : TokenKind) → IsJoint kind → (forms : SubForms) (level : ℕ) (rest : List Symbol)
+      → behind_close level (subs_tokens kind forms rest) ≡ behind_close level rest
   close_subs kind joint no_subs level rest = refl
   close_subs kind joint (sub_then sub more) level rest =
-      close_joint kind joint level (sub_tokens sub (subs_tokens kind more rest)) ∙ close_sub sub level (subs_tokens kind more rest) ∙ close_subs kind joint more level rest
+      close_joint kind joint level (sub_tokens sub (subs_tokens kind more rest))
+      ∙ close_sub sub level (subs_tokens kind more rest) ∙ close_subs kind joint more level rest
 
   close_sub : (form : SubForm) (level : ℕ) (rest : List Symbol) → behind_close level (sub_tokens form rest) ≡ behind_close level rest
   close_sub (plain focus) level rest = close_focus focus level rest
@@ -152,14 +154,17 @@ mutual
       close_item first level (mark token.Or ∷ item_tokens second (items_tokens token.Or more rest))
       ∙ close_item second level (items_tokens token.Or more rest) ∙ close_items token.Or joins_or more level rest
 
-  close_items : (kind : TokenKind) → IsJoint kind → (forms : ItemForms) (level : ℕ) (rest : List Symbol) → behind_close level (items_tokens kind forms rest) ≡ behind_close level rest
+  close_items : (kind : TokenKind) → IsJoint kind → (forms : ItemForms) (level : ℕ) (rest : List Symbol)
+      → behind_close level (items_tokens kind forms rest) ≡ behind_close level rest
   close_items kind joint no_items level rest = refl
   close_items kind joint (item_then item more) level rest =
-      close_joint kind joint level (item_tokens item (items_tokens kind more rest)) ∙ close_item item level (items_tokens kind more rest) ∙ close_items kind joint more level rest
+      close_joint kind joint level (item_tokens item (items_tokens kind more rest))
+      ∙ close_item item level (items_tokens kind more rest) ∙ close_items kind joint more level rest
 
   pub close_item : (form : ItemForm) (level : ℕ) (rest : List Symbol) → behind_close level (item_tokens form rest) ≡ behind_close level rest
   close_item (attribute count reverse pair) level rest =
-      close_count count level (reverse_tokens reverse (pair_tokens pair rest)) ∙ close_reverse reverse level (pair_tokens pair rest) ∙ close_pair pair level rest
+      close_count count level (reverse_tokens reverse (pair_tokens pair rest))
+      ∙ close_reverse reverse level (pair_tokens pair rest) ∙ close_pair pair level rest
   close_item (group count set) level rest =
       close_count count level (mark token.BraceOpen ∷ set_tokens set (mark token.BraceClose ∷ rest)) ∙ close_set set level (mark token.BraceClose ∷ rest)
   close_item (round_refinement refinement) level rest = close_refinement refinement (suc level) (mark token.RoundClose ∷ rest)
@@ -173,10 +178,12 @@ mutual
       close_part first level (mark token.Or ∷ part_tokens second (parts_tokens token.Or more rest))
       ∙ close_part second level (parts_tokens token.Or more rest) ∙ close_parts token.Or joins_or more level rest
 
-  close_parts : (kind : TokenKind) → IsJoint kind → (forms : PartForms) (level : ℕ) (rest : List Symbol) → behind_close level (parts_tokens kind forms rest) ≡ behind_close level rest
+  close_parts : (kind : TokenKind) → IsJoint kind → (forms : PartForms) (level : ℕ) (rest : List Symbol)
+      → behind_close level (parts_tokens kind forms rest) ≡ behind_close level rest
   close_parts kind joint no_parts level rest = refl
   close_parts kind joint (part_then part more) level rest =
-      close_joint kind joint level (part_tokens part (parts_tokens kind more rest)) ∙ close_part part level (parts_tokens kind more rest) ∙ close_parts kind joint more level rest
+      close_joint kind joint level (part_tokens part (parts_tokens kind more rest))
+      ∙ close_part part level (parts_tokens kind more rest) ∙ close_parts kind joint more level rest
 
   close_part : (form : PartForm) (level : ℕ) (rest : List Symbol) → behind_close level (part_tokens form rest) ≡ behind_close level rest
   close_part (counted_part count pair) level rest = close_count count level (pair_tokens pair rest) ∙ close_pair pair level rest
@@ -201,11 +208,30 @@ longer_reverse false rest = omega arith
 mutual
   pub longer_constraint : (form : ConstraintForm) (rest : List Symbol) → length rest < length (constraint_tokens form rest)
   longer_constraint (alone sub) rest = longer_sub sub rest
-  longer_constraint (refined focus refinement) rest = omega (arith, longer_sub focus (mark token.Colon ∷ refinement_tokens refinement rest), longer_refinement refinement rest)
-  longer_constraint (conjunction first second more) rest = omega (arith, longer_sub first (mark token.And ∷ sub_tokens second (subs_tokens token.And more rest)), longer_sub second (subs_tokens token.And more rest), longer_subs token.And more rest)
-  longer_constraint (disjunction first second more) rest = omega (arith, longer_sub first (mark token.Or ∷ sub_tokens second (subs_tokens token.Or more rest)), longer_sub second (subs_tokens token.Or more rest), longer_subs token.Or more rest)
+  longer_constraint (refined focus refinement) rest =
+      omega (arith, longer_sub focus (mark token.Colon ∷ refinement_tokens refinement rest), longer_refinement refinement rest)
+  longer_constraint (conjunction first second more) rest =
+      omega (
+        arith,
+        longer_sub first (mark token.And ∷ sub_tokens second (subs_tokens token.And more rest)),
+        longer_sub second (subs_tokens token.And more rest),
+        longer_subs token.And more rest,
+      )
+  longer_constraint (disjunction first second more) rest =
+      omega (
+        arith,
+        longer_sub first (mark token.Or ∷ sub_tokens second (subs_tokens token.Or more rest)),
+        longer_sub second (subs_tokens token.Or more rest),
+        longer_subs token.Or more rest,
+      )
   longer_constraint (exclusion first second) rest = omega (arith, longer_sub first (mark token.Minus ∷ sub_tokens second rest), longer_sub second rest)
-  longer_constraint (dotted start name more) rest = omega (arith, longer_sub start (mark token.Dot ∷ sub_tokens name (subs_tokens token.Dot more rest)), longer_sub name (subs_tokens token.Dot more rest), longer_subs token.Dot more rest)
+  longer_constraint (dotted start name more) rest =
+      omega (
+        arith,
+        longer_sub start (mark token.Dot ∷ sub_tokens name (subs_tokens token.Dot more rest)),
+        longer_sub name (subs_tokens token.Dot more rest),
+        longer_subs token.Dot more rest,
+      )
 
   longer_subs : (kind : TokenKind) (forms : SubForms) (rest : List Symbol) → length rest ≤ length (subs_tokens kind forms rest)
   longer_subs kind no_subs rest = omega arith
@@ -233,17 +259,52 @@ mutual
 
   pub longer_refinement : (form : RefinementForm) (rest : List Symbol) → length rest < length (refinement_tokens form rest)
   longer_refinement (one_item form) rest = longer_item form rest
-  longer_refinement (all_items first second more) rest = omega (arith, longer_item first (mark token.And ∷ item_tokens second (items_tokens token.And more rest)), longer_item second (items_tokens token.And more rest), longer_items token.And more rest)
-  longer_refinement (some_items first second more) rest = omega (arith, longer_item first (mark token.Or ∷ item_tokens second (items_tokens token.Or more rest)), longer_item second (items_tokens token.Or more rest), longer_items token.Or more rest)
+  longer_refinement (all_items first second more) rest =
+      omega (
+        arith,
+        longer_item first (mark token.And ∷ item_tokens second (items_tokens token.And more rest)),
+        longer_item second (items_tokens token.And more rest),
+        longer_items token.And more rest,
+      )
+  longer_refinement (some_items first second more) rest =
+      omega (
+        arith,
+        longer_item first (mark token.Or ∷ item_tokens second (items_tokens token.Or more rest)),
+        longer_item second (items_tokens token.Or more rest),
+        longer_items token.Or more rest,
+      )
 
   pub longer_set : (form : SetForm) (rest : List Symbol) → length rest < length (set_tokens form rest)
   longer_set (one_part form) rest = longer_part form rest
-  longer_set (all_parts first second more) rest = omega (arith, longer_part first (mark token.And ∷ part_tokens second (parts_tokens token.And more rest)), longer_part second (parts_tokens token.And more rest), longer_parts token.And more rest)
-  longer_set (some_parts first second more) rest = omega (arith, longer_part first (mark token.Or ∷ part_tokens second (parts_tokens token.Or more rest)), longer_part second (parts_tokens token.Or more rest), longer_parts token.Or more rest)
+  longer_set (all_parts first second more) rest =
+      omega (
+        arith,
+        longer_part first (mark token.And ∷ part_tokens second (parts_tokens token.And more rest)),
+        longer_part second (parts_tokens token.And more rest),
+        longer_parts token.And more rest,
+      )
+  longer_set (some_parts first second more) rest =
+      omega (
+        arith,
+        longer_part first (mark token.Or ∷ part_tokens second (parts_tokens token.Or more rest)),
+        longer_part second (parts_tokens token.Or more rest),
+        longer_parts token.Or more rest,
+      )
 
   pub longer_item : (form : ItemForm) (rest : List Symbol) → length rest < length (item_tokens form rest)
-  longer_item (attribute count reverse pair) rest = omega (arith, longer_count count (reverse_tokens reverse (pair_tokens pair rest)), longer_reverse reverse (pair_tokens pair rest), longer_pair pair rest)
-  longer_item (group count set) rest = omega (arith, longer_count count (mark token.BraceOpen ∷ set_tokens set (mark token.BraceClose ∷ rest)), longer_set set (mark token.BraceClose ∷ rest))
+  longer_item (attribute count reverse pair) rest =
+      omega (
+        arith,
+        longer_count count (reverse_tokens reverse (pair_tokens pair rest)),
+        longer_reverse reverse (pair_tokens pair rest),
+        longer_pair pair rest,
+      )
+  longer_item (group count set) rest =
+      omega (
+        arith,
+        longer_count count (mark token.BraceOpen ∷ set_tokens set (mark token.BraceClose ∷ rest)),
+        longer_set set (mark token.BraceClose ∷ rest),
+      )
   longer_item (round_refinement refinement) rest = omega (arith, longer_refinement refinement (mark token.RoundClose ∷ rest))
 
   pub longer_part : (form : PartForm) (rest : List Symbol) → length rest < length (part_tokens form rest)

@@ -6,5 +6,6 @@ pub mod ParseLemmas
 pub mod ReadLemmas
 pub mod Shallow
 pub mod Sound
+pub mod SoundParts
 pub mod TextLemmas
 pub mod TokenLemmas

@@ -124,7 +124,8 @@ constraint_not_refused text tree Memory is refused = refused
 constraint_not_refused text tree Long is refused = tokens_no_fault text is.tokens Long is.readable is.are_tokens refused
 constraint_not_refused text tree Utf8 is refused = tokens_no_fault text is.tokens Utf8 is.readable is.are_tokens refused
 constraint_not_refused text tree (NoToken offset) is refused = tokens_no_fault text is.tokens (NoToken offset) is.readable is.are_tokens refused
-constraint_not_refused text tree (Unsupported offset feature) is refused = tokens_no_fault text is.tokens (Unsupported offset feature) is.readable is.are_tokens refused
+constraint_not_refused text tree (Unsupported offset feature) is refused =
+    tokens_no_fault text is.tokens (Unsupported offset feature) is.readable is.are_tokens refused
 constraint_not_refused text tree (Limit offset) is refused = tokens_no_fault text is.tokens (Limit offset) is.readable is.are_tokens refused
 
 -- a text has one refusal at the most: of its tokens, or before there are any
@@ -190,7 +191,8 @@ right_only text (Err other) right fault is = elim right.1 [
 
 -- the answer about the tokens of a text is the answer about the text
 pub right_of_tokens : (text : List ℕ) (tokens : List Spelled) (result : Result Constraint QueryFault) → IsReadable text → AreTokensOf text tokens
-    → IfOk result (λ _. is_deep 0 tokens ≡ false) → IfOk result (λ found. IsTreeOf tokens (tree_of found)) → IfErr result (AreFaulty tokens) → IsRight text result
+    → IfOk result (λ _. is_deep 0 tokens ≡ false) → IfOk result (λ found. IsTreeOf tokens (tree_of found))
+    → IfErr result (AreFaulty tokens) → IsRight text result
 right_of_tokens text tokens (Ok found) readable are shallow tree fault =
     (record { readable = readable; tokens = tokens; are_tokens = are; shallow = shallow; is_tree = tree }, tt)
 right_of_tokens text tokens (Err Memory) readable are shallow tree fault = (tt, inl refl)

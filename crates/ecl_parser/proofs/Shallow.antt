@@ -112,7 +112,8 @@ abbrev Fits : ℕ → ℕ → List Symbol → Type 0
 Fits count depth rest = (count + depth ≤ 64) × (deep count rest ≡ false)
 
 mutual
-  pub shallow_constraint : (form : ConstraintForm) (count : ℕ) (rest : List Symbol) → count ≤ 64 → deep count (constraint_tokens form rest) ≡ false → Fits count (constraint_depth form) rest
+  pub shallow_constraint : (form : ConstraintForm) (count : ℕ) (rest : List Symbol) → count ≤ 64
+      → deep count (constraint_tokens form rest) ≡ false → Fits count (constraint_depth form) rest
   shallow_constraint (alone sub) count rest fits is = shallow_sub sub count rest fits is
   shallow_constraint (refined focus refinement) count rest fits is =
       let first = shallow_sub focus count (mark token.Colon ∷ refinement_tokens refinement rest) fits is in
@@ -138,24 +139,30 @@ mutual
       let two = shallow_sub second count rest fits one.1 in
       (omega (arith, one.0, two.0), two.1)
 
-  shallow_subs : (kind : TokenKind) → IsJoint kind → (forms : SubForms) (count : ℕ) (rest : List Symbol) → count ≤ 64 → deep count (subs_tokens kind forms rest) ≡ false → Fits count (subs_depth forms) rest
+  shallow_subs : (kind : TokenKind) → IsJoint kind → (forms : SubForms) (count : ℕ) (rest : List Symbol) → count ≤ 64
+      → deep count (subs_tokens kind forms rest) ≡ false → Fits count (subs_depth forms) rest
   shallow_subs kind joint no_subs count rest fits is = (omega arith, is)
   shallow_subs kind joint (sub_then form more) count rest fits is =
-      let one = shallow_sub form count (subs_tokens kind more rest) fits (sym (deep_joint kind joint count (sub_tokens form (subs_tokens kind more rest))) ∙ is) in
+      let one = shallow_sub form count (subs_tokens kind more rest) fits
+      (sym (deep_joint kind joint count (sub_tokens form (subs_tokens kind more rest))) ∙ is) in
       let others = shallow_subs kind joint more count rest fits one.1 in
       (omega (arith, one.0, others.0), others.1)
 
-  shallow_items : (kind : TokenKind) → IsJoint kind → (forms : ItemForms) (count : ℕ) (rest : List Symbol) → count ≤ 64 → deep count (items_tokens kind forms rest) ≡ false → Fits count (items_depth forms) rest
+  shallow_items : (kind : TokenKind) → IsJoint kind → (forms : ItemForms) (count : ℕ) (rest : List Symbol)
+      → count ≤ 64 → deep count (items_tokens kind forms rest) ≡ false → Fits count (items_depth forms) rest
   shallow_items kind joint no_items count rest fits is = (omega arith, is)
   shallow_items kind joint (item_then form more) count rest fits is =
-      let one = shallow_item form count (items_tokens kind more rest) fits (sym (deep_joint kind joint count (item_tokens form (items_tokens kind more rest))) ∙ is) in
+      let one = shallow_item form count (items_tokens kind more rest) fits
+      (sym (deep_joint kind joint count (item_tokens form (items_tokens kind more rest))) ∙ is) in
       let others = shallow_items kind joint more count rest fits one.1 in
       (omega (arith, one.0, others.0), others.1)
 
-  shallow_parts : (kind : TokenKind) → IsJoint kind → (forms : PartForms) (count : ℕ) (rest : List Symbol) → count ≤ 64 → deep count (parts_tokens kind forms rest) ≡ false → Fits count (parts_depth forms) rest
+  shallow_parts : (kind : TokenKind) → IsJoint kind → (forms : PartForms) (count : ℕ) (rest : List Symbol)
+      → count ≤ 64 → deep count (parts_tokens kind forms rest) ≡ false → Fits count (parts_depth forms) rest
   shallow_parts kind joint no_parts count rest fits is = (omega arith, is)
   shallow_parts kind joint (part_then form more) count rest fits is =
-      let one = shallow_part form count (parts_tokens kind more rest) fits (sym (deep_joint kind joint count (part_tokens form (parts_tokens kind more rest))) ∙ is) in
+      let one = shallow_part form count (parts_tokens kind more rest) fits
+      (sym (deep_joint kind joint count (part_tokens form (parts_tokens kind more rest))) ∙ is) in
       let others = shallow_parts kind joint more count rest fits one.1 in
       (omega (arith, one.0, others.0), others.1)
 
@@ -163,9 +170,11 @@ mutual
   shallow_sub (plain focus) count rest fits is = shallow_focus focus count rest fits is
   shallow_sub (member focus) count rest fits is = shallow_focus focus count rest fits is
   shallow_sub (walk o focus) count rest fits is = shallow_focus focus count rest fits (sym (deep_operator o count (focus_tokens focus rest)) ∙ is)
-  shallow_sub (walk_member o focus) count rest fits is = shallow_focus focus count rest fits (sym (deep_operator o count (mark token.MemberOf ∷ focus_tokens focus rest)) ∙ is)
+  shallow_sub (walk_member o focus) count rest fits is =
+      shallow_focus focus count rest fits (sym (deep_operator o count (mark token.MemberOf ∷ focus_tokens focus rest)) ∙ is)
 
-  shallow_focus : (form : FocusForm) (count : ℕ) (rest : List Symbol) → count ≤ 64 → deep count (focus_tokens form rest) ≡ false → Fits count (focus_depth form) rest
+  shallow_focus : (form : FocusForm) (count : ℕ) (rest : List Symbol) → count ≤ 64
+      → deep count (focus_tokens form rest) ≡ false → Fits count (focus_depth form) rest
   shallow_focus (concept run holds) count rest fits is = (omega arith, is)
   shallow_focus (concept_term run holds) count rest fits is = (omega arith, is)
   shallow_focus any count rest fits is = (omega arith, is)
@@ -174,7 +183,8 @@ mutual
       let form = shallow_constraint constraint (count + 1) (mark token.RoundClose ∷ rest) inside.0 inside.1 in
       (omega (arith, form.0), closed count rest form.1)
 
-  shallow_refinement : (form : RefinementForm) (count : ℕ) (rest : List Symbol) → count ≤ 64 → deep count (refinement_tokens form rest) ≡ false → Fits count (refinement_depth form) rest
+  shallow_refinement : (form : RefinementForm) (count : ℕ) (rest : List Symbol) → count ≤ 64
+      → deep count (refinement_tokens form rest) ≡ false → Fits count (refinement_depth form) rest
   shallow_refinement (one_item form) count rest fits is = shallow_item form count rest fits is
   shallow_refinement (all_items first second more) count rest fits is =
       let one = shallow_item first count (mark token.And ∷ item_tokens second (items_tokens token.And more rest)) fits is in
@@ -200,11 +210,14 @@ mutual
       let others = shallow_parts token.Or joins_or more count rest fits two.1 in
       (omega (arith, one.0, two.0, others.0), others.1)
 
-  shallow_item : (form : ItemForm) (count : ℕ) (rest : List Symbol) → count ≤ 64 → deep count (item_tokens form rest) ≡ false → Fits count (item_depth form) rest
+  shallow_item : (form : ItemForm) (count : ℕ) (rest : List Symbol) → count ≤ 64
+      → deep count (item_tokens form rest) ≡ false → Fits count (item_depth form) rest
   shallow_item (attribute found reverse pair) count rest fits is =
-      shallow_pair pair count rest fits (sym (deep_reverse reverse count (pair_tokens pair rest)) ∙ sym (deep_count found count (reverse_tokens reverse (pair_tokens pair rest))) ∙ is)
+      shallow_pair pair count rest fits (sym (deep_reverse reverse count (pair_tokens pair rest))
+      ∙ sym (deep_count found count (reverse_tokens reverse (pair_tokens pair rest))) ∙ is)
   shallow_item (group found set) count rest fits is =
-      let inside = opened count (deep (count + 1) (set_tokens set (mark token.BraceClose ∷ rest))) fits (sym (deep_count found count (mark token.BraceOpen ∷ set_tokens set (mark token.BraceClose ∷ rest))) ∙ is) in
+      let inside = opened count (deep (count + 1) (set_tokens set (mark token.BraceClose ∷ rest))) fits
+      (sym (deep_count found count (mark token.BraceOpen ∷ set_tokens set (mark token.BraceClose ∷ rest))) ∙ is) in
       let form = shallow_set set (count + 1) (mark token.BraceClose ∷ rest) inside.0 inside.1 in
       (omega (arith, form.0), closed count rest form.1)
   shallow_item (round_refinement refinement) count rest fits is =
@@ -212,14 +225,16 @@ mutual
       let form = shallow_refinement refinement (count + 1) (mark token.RoundClose ∷ rest) inside.0 inside.1 in
       (omega (arith, form.0), closed count rest form.1)
 
-  shallow_part : (form : PartForm) (count : ℕ) (rest : List Symbol) → count ≤ 64 → deep count (part_tokens form rest) ≡ false → Fits count (part_depth form) rest
+  shallow_part : (form : PartForm) (count : ℕ) (rest : List Symbol) → count ≤ 64
+      → deep count (part_tokens form rest) ≡ false → Fits count (part_depth form) rest
   shallow_part (counted_part found pair) count rest fits is = shallow_pair pair count rest fits (sym (deep_count found count (pair_tokens pair rest)) ∙ is)
   shallow_part (round_set set) count rest fits is =
       let inside = opened count (deep (count + 1) (set_tokens set (mark token.RoundClose ∷ rest))) fits is in
       let form = shallow_set set (count + 1) (mark token.RoundClose ∷ rest) inside.0 inside.1 in
       (omega (arith, form.0), closed count rest form.1)
 
-  shallow_pair : (form : PairForm) (count : ℕ) (rest : List Symbol) → count ≤ 64 → deep count (pair_tokens form rest) ≡ false → Fits count (pair_depth form) rest
+  shallow_pair : (form : PairForm) (count : ℕ) (rest : List Symbol) → count ≤ 64
+      → deep count (pair_tokens form rest) ≡ false → Fits count (pair_depth form) rest
   shallow_pair (within name value) count rest fits is =
       let one = shallow_sub name count (mark token.Equal ∷ sub_tokens value rest) fits is in
       let two = shallow_sub value count rest fits one.1 in
@@ -233,7 +248,8 @@ mutual
       (one.0, sym (deep_compare c count (decimal text ∷ rest)) ∙ one.1)
 
 -- the form of tokens that are not too deep may be read
-pub fits_most : (form : ConstraintForm) (tokens : List Spelled) → map symbol_of tokens ≡ constraint_tokens form [] → is_deep 0 tokens ≡ false → constraint_depth form ≤ 64
+pub fits_most : (form : ConstraintForm) (tokens : List Spelled) → map symbol_of tokens ≡ constraint_tokens form []
+    → is_deep 0 tokens ≡ false → constraint_depth form ≤ 64
 fits_most form tokens same shallow =
     let found = shallow_constraint form 0 [] (omega arith) (ap (deep 0) (sym same) ∙ sym (deep_symbols tokens 0) ∙ shallow) in
     omega (arith, found.0)

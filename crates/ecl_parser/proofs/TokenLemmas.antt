@@ -157,4 +157,5 @@ at_token (first ∷ rest) zero token within is = ap (λ (t : Token). symbol_of (
 at_token (first ∷ rest) (suc at) token within is =
     let next : at + 1 ≡ suc at = omega arith in
     let behind : suc at + 1 ≡ suc (suc at) = omega arith in
-    at_token rest at token (omega arith) is ∙ ap (λ n. symbol_of (spelled token) ∷ symbols_from rest n) next ∙ ap (λ n. symbol_of (spelled token) ∷ symbols_from (first ∷ rest) n) (sym behind)
+    at_token rest at token (omega arith) is ∙ ap (λ n. symbol_of (spelled token) ∷ symbols_from rest n) next
+    ∙ ap (λ n. symbol_of (spelled token) ∷ symbols_from (first ∷ rest) n) (sym behind)

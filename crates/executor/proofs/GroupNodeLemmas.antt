@@ -26,7 +26,8 @@ module _ (release : Release) where
 
   -- each group
   pub each_where : range_with_len 0 (length all) ≡ groups_where release (λ pairs. true)
-  each_where = sym (numbers_where-all (length all)) ∙ numbers_where-agree (length all) (λ n. true) (by_number (λ pairs. true)) (λ n within. at n within (slice_get all n) refl)
+  each_where = sym (numbers_where-all (length all))
+      ∙ numbers_where-agree (length all) (λ n. true) (by_number (λ pairs. true)) (λ n within. at n within (slice_get all n) refl)
     where
       at : (n : ℕ) → n < length all → (found : Option ConceptGroup) → slice_get all n ≡ found → true ≡ some_group_in release (λ pairs. true) found
       at n within None is = absurd (none_within all n within is)

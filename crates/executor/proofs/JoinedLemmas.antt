@@ -39,11 +39,13 @@ lists_are release family.Children = refl
 
 over_lists : (count : ℕ) (hierarchy : Hierarchy) (over : IsOver count hierarchy) (f : Family) → lists_of hierarchy f ≡ lists_where count (stands over.release f)
 over_lists count hierarchy over f =
-    ap (λ (h : Hierarchy). lists_of h f) over.hierarchy_is ∙ lists_are over.release f ∙ ap (λ (n : ℕ). lists_where n (stands over.release f)) (sym over.count_is)
+    ap (λ (h : Hierarchy). lists_of h f) over.hierarchy_is ∙ lists_are over.release f
+    ∙ ap (λ (n : ℕ). lists_where n (stands over.release f)) (sym over.count_is)
 
 -- there is a list for each concept
 pub over_length : (count : ℕ) (hierarchy : Hierarchy) → IsOver count hierarchy → (f : Family) → length (lists_of hierarchy f) ≡ count
-over_length count hierarchy over f = ap (λ (lists : List (List ℕ)). length lists) (over_lists count hierarchy over f) ∙ length-where count (stands over.release f)
+over_length count hierarchy over f = ap (λ (lists : List (List ℕ)). length lists) (over_lists count hierarchy over f)
+    ∙ length-where count (stands over.release f)
 
 -- the list of a concept has those that it stands to
 pub over_list : (count : ℕ) (hierarchy : Hierarchy) (over : IsOver count hierarchy) (f : Family) (concept : ℕ) → concept < count
@@ -52,16 +54,19 @@ over_list count hierarchy over f concept below =
     ap (λ (lists : List (List ℕ)). list_of lists concept) (over_lists count hierarchy over f) ∙ list_of-where count (stands over.release f) concept below
 
 -- it rises
-pub over_rising : (count : ℕ) (hierarchy : Hierarchy) → IsOver count hierarchy → (f : Family) (concept : ℕ) → concept < count → IsRisingBelow count (list_of (lists_of hierarchy f) concept)
+pub over_rising : (count : ℕ) (hierarchy : Hierarchy) → IsOver count hierarchy → (f : Family) (concept : ℕ)
+    → concept < count → IsRisingBelow count (list_of (lists_of hierarchy f) concept)
 over_rising count hierarchy over f concept below =
-    subst (λ (xs : List ℕ). IsRisingBelow count xs) (sym (over_list count hierarchy over f concept below)) (numbers_where-rising count (stands over.release f concept))
+    subst (λ (xs : List ℕ). IsRisingBelow count xs) (sym (over_list count hierarchy over f concept below))
+    (numbers_where-rising count (stands over.release f concept))
 
 -- what it has is so, and the other way round
 pub listed_stands : (count : ℕ) (hierarchy : Hierarchy) (over : IsOver count hierarchy) (f : Family) (concept n : ℕ) → concept < count
     → has_item (list_of (lists_of hierarchy f) concept) n ≡ true → (n < count) × (stands over.release f concept n ≡ true)
 listed_stands count hierarchy over f concept n below told =
     there_where count (stands over.release f concept) n
-    (item_there (numbers_where count (stands over.release f concept)) n (ap (λ (xs : List ℕ). has_item xs n) (sym (over_list count hierarchy over f concept below)) ∙ told))
+    (item_there (numbers_where count (stands over.release f concept)) n
+    (ap (λ (xs : List ℕ). has_item xs n) (sym (over_list count hierarchy over f concept below)) ∙ told))
 
 pub stands_listed : (count : ℕ) (hierarchy : Hierarchy) (over : IsOver count hierarchy) (f : Family) (concept n : ℕ) → concept < count → n < count
     → stands over.release f concept n ≡ true → has_item (list_of (lists_of hierarchy f) concept) n ≡ true
@@ -70,7 +75,8 @@ stands_listed count hierarchy over f concept n below within holds =
     ∙ there_item (numbers_where count (stands over.release f concept)) n (where_there count (stands over.release f concept) n within holds)
 
 -- the list of a concept that is in a list is in that list, if the family is whole
-stands_on : (release : Release) (f : Family) → is_whole f ≡ true → (a b c : ℕ) → stands release f a b ≡ true → stands release f b c ≡ true → stands release f a c ≡ true
+stands_on : (release : Release) (f : Family) → is_whole f ≡ true → (a b c : ℕ) → stands release f a b ≡ true
+    → stands release f b c ≡ true → stands release f a c ≡ true
 stands_on release family.Ancestors whole a b c one other =
     let id : ℕ → ℕ = λ n. get_or release.concepts n 0 in
     test_from_chain release.isa (chain_of_two (chain_from_test release.isa (id a) (id b) one) (chain_from_test release.isa (id b) (id c) other))
@@ -81,7 +87,8 @@ stands_on release family.Parents whole a b c one other = absurd (false≢true wh
 stands_on release family.Children whole a b c one other = absurd (false≢true whole)
 
 pub over_whole : (count : ℕ) (hierarchy : Hierarchy) → IsOver count hierarchy → (f : Family) → is_whole f ≡ true → (a b n : ℕ) → a < count → b < count
-    → has_item (list_of (lists_of hierarchy f) a) b ≡ true → has_item (list_of (lists_of hierarchy f) b) n ≡ true → has_item (list_of (lists_of hierarchy f) a) n ≡ true
+    → has_item (list_of (lists_of hierarchy f) a) b ≡ true → has_item (list_of (lists_of hierarchy f) b) n ≡ true
+    → has_item (list_of (lists_of hierarchy f) a) n ≡ true
 over_whole count hierarchy over f whole a b n a_below b_below one other =
     let first = listed_stands count hierarchy over f a b a_below one in
     let second = listed_stands count hierarchy over f b n b_below other in
@@ -100,9 +107,11 @@ pub over_near : (count : ℕ) (hierarchy : Hierarchy) → IsOver count hierarchy
     → list_any set (list_of (lists_of hierarchy (near_of f)) concept) ≡ true → list_any set (list_of (lists_of hierarchy f) concept) ≡ true
 over_near count hierarchy over f concept below set told =
     let found = passing_item set (list_of (lists_of hierarchy (near_of f)) concept) told in
-    let at = listed_stands count hierarchy over (near_of f) concept found.0 below (there_item (list_of (lists_of hierarchy (near_of f)) concept) found.0 found.1) in
+    let at = listed_stands count hierarchy over (near_of f) concept found.0 below
+    (there_item (list_of (lists_of hierarchy (near_of f)) concept) found.0 found.1) in
     some_item_passes set (list_of (lists_of hierarchy f) concept) found.0
-    (item_there (list_of (lists_of hierarchy f) concept) found.0 (stands_listed count hierarchy over f concept found.0 below at.0 (near_stands over.release f concept found.0 at.1)))
+    (item_there (list_of (lists_of hierarchy f) concept) found.0
+    (stands_listed count hierarchy over f concept found.0 below at.0 (near_stands over.release f concept found.0 at.1)))
     found.2
 
 -- ---- joining
@@ -112,7 +121,8 @@ or_nothing false = refl
 
 -- one list more
 any_more : (lists : List (List ℕ)) (before : List ℕ) (concept n : ℕ)
-    → list_any (λ c. has_item (list_of lists c) n) (before ++ concept ∷ []) ≡ (list_any (λ c. has_item (list_of lists c) n) before || has_item (list_of lists concept) n)
+    → list_any (λ c. has_item (list_of lists c) n) (before ++ concept ∷ [])
+    ≡ (list_any (λ c. has_item (list_of lists c) n) before || has_item (list_of lists concept) n)
 any_more lists before concept n =
     any_append (λ c. has_item (list_of lists c) n) before (concept ∷ [])
     ∙ ap (λ (b : Bool). list_any (λ c. has_item (list_of lists c) n) before || b) (or_nothing (has_item (list_of lists concept) n))
@@ -137,10 +147,12 @@ join_list lists before numbers list next count concept rises list_rises is next_
     has_all count numbers list next rises list_rises next_is n ∙ (λ i. joined n i || has_item (is i) n) ∙ sym (any_more lists before concept n)
 
 -- the list of a concept that is there already brings nothing
-pub join_skipped : (count : ℕ) (hierarchy : Hierarchy) → IsOver count hierarchy → (f : Family) → is_whole f ≡ true → (before numbers : List ℕ) (concept : ℕ) → concept < count
+pub join_skipped : (count : ℕ) (hierarchy : Hierarchy) → IsOver count hierarchy → (f : Family) → is_whole f ≡ true
+    → (before numbers : List ℕ) (concept : ℕ) → concept < count
     → has_item numbers concept ≡ true → AreJoined (lists_of hierarchy f) before numbers → AreJoined (lists_of hierarchy f) (before ++ concept ∷ []) numbers
 join_skipped count hierarchy over f whole before numbers concept below there joined n =
-    joined n ∙ sym (absorbed (list_any (λ c. has_item (list_of lists c) n) before) (has_item (list_of lists concept) n) brings) ∙ sym (any_more lists before concept n)
+    joined n ∙ sym (absorbed (list_any (λ c. has_item (list_of lists c) n) before)
+    (has_item (list_of lists concept) n) brings) ∙ sym (any_more lists before concept n)
   where
     lists : List (List ℕ)
     lists = lists_of hierarchy f
@@ -162,18 +174,22 @@ join_skipped count hierarchy over f whole before numbers concept below there joi
         (cases_lt found.0 count))
 
 -- one concept more of those with long lists, or with short ones
-pub with_length_more : (lists : List (List ℕ)) (long : Bool) (concepts before : List ℕ) (k : ℕ) → k < length concepts → beq (is_long (list_of lists (get_or concepts k 0))) long ≡ true
+pub with_length_more : (lists : List (List ℕ)) (long : Bool) (concepts before : List ℕ) (k : ℕ) → k < length concepts
+    → beq (is_long (list_of lists (get_or concepts k 0))) long ≡ true
     → before ++ with_length lists long (take (k + 1) concepts) ≡ (before ++ with_length lists long (take k concepts)) ++ get_or concepts k 0 ∷ []
 with_length_more lists long concepts before k within chosen =
     let test : ℕ → Bool = λ concept. beq (is_long (list_of lists concept)) long in
-    ap (λ (xs : List ℕ). before ++ xs) (sym (filter_step test concepts (filter test (take k concepts)) (filter test (take k concepts) ++ get_or concepts k 0 ∷ []) k true within refl (sym chosen) refl))
+    ap (λ (xs : List ℕ). before ++ xs) (sym (filter_step test concepts (filter test (take k concepts))
+    (filter test (take k concepts) ++ get_or concepts k 0 ∷ []) k true within refl (sym chosen) refl))
     ∙ sym (append_assoc before (filter test (take k concepts)) (get_or concepts k 0 ∷ []))
 
-pub with_length_same : (lists : List (List ℕ)) (long : Bool) (concepts : List ℕ) (k : ℕ) → k < length concepts → beq (is_long (list_of lists (get_or concepts k 0))) long ≡ false
+pub with_length_same : (lists : List (List ℕ)) (long : Bool) (concepts : List ℕ) (k : ℕ) → k < length concepts
+    → beq (is_long (list_of lists (get_or concepts k 0))) long ≡ false
     → with_length lists long (take (k + 1) concepts) ≡ with_length lists long (take k concepts)
 with_length_same lists long concepts k within passed =
     let test : ℕ → Bool = λ concept. beq (is_long (list_of lists concept)) long in
-    sym (filter_step test concepts (filter test (take k concepts)) (filter test (take k concepts)) k false within refl (sym passed) (sym (append-nil (filter test (take k concepts)))))
+    sym (filter_step test concepts (filter test (take k concepts))
+    (filter test (take k concepts)) k false within refl (sym passed) (sym (append-nil (filter test (take k concepts)))))
 
 -- the long ones and then the short ones are all
 any_split : {X : Type 0} (test : X → Bool) (long : X → Bool) (xs : List X)
@@ -190,7 +206,8 @@ any_split {X = X} test long (x ∷ xs) =
     shorts : List X
     shorts = filter (λ y. beq (long y) false) xs
 
-    by_case : (b : Bool) → (list_any test (cond (beq b true) (x ∷ longs) longs) || list_any test (cond (beq b false) (x ∷ shorts) shorts)) ≡ (test x || (list_any test longs || list_any test shorts))
+    by_case : (b : Bool) → (list_any test (cond (beq b true) (x ∷ longs) longs)
+        || list_any test (cond (beq b false) (x ∷ shorts) shorts)) ≡ (test x || (list_any test longs || list_any test shorts))
     by_case true = left (test x) (list_any test longs) (list_any test shorts)
       where
         left : (a b c : Bool) → ((a || b) || c) ≡ (a || (b || c))
@@ -205,7 +222,8 @@ any_split {X = X} test long (x ∷ xs) =
 
 pub both_joined : (lists : List (List ℕ)) (concepts numbers : List ℕ)
     → AreJoined lists (with_length lists true concepts ++ with_length lists false concepts) numbers → AreJoined lists concepts numbers
-both_joined lists concepts numbers joined n = joined n ∙ any_split (λ concept. has_item (list_of lists concept) n) (λ concept. is_long (list_of lists concept)) concepts
+both_joined lists concepts numbers joined n = joined n
+    ∙ any_split (λ concept. has_item (list_of lists concept) n) (λ concept. is_long (list_of lists concept)) concepts
 
 pub all_joined : (count : ℕ) (lists : List (List ℕ)) (concepts numbers : List ℕ) → IsRisingBelow count numbers → AreJoined lists concepts numbers
     → numbers ≡ joined count lists concepts
@@ -218,16 +236,21 @@ one_joined count lists concept =
     numbers_where-agree count (has_item (list_of lists concept)) (λ n. list_any (λ c. has_item (list_of lists c) n) (concept ∷ []))
     (λ n within. sym (or_nothing (has_item (list_of lists concept) n)))
 
-pub list_joined : (count : ℕ) (lists : List (List ℕ)) (concept : ℕ) (list : List ℕ) → IsRisingBelow count list → list ≡ list_of lists concept → list ≡ joined count lists (concept ∷ [])
+pub list_joined : (count : ℕ) (lists : List (List ℕ)) (concept : ℕ) (list : List ℕ) → IsRisingBelow count list
+    → list ≡ list_of lists concept → list ≡ joined count lists (concept ∷ [])
 list_joined count lists concept list rises is =
     rising_is_numbers_where count list rises ∙ ap (λ (xs : List ℕ). numbers_where count (has_item xs)) is ∙ one_joined count lists concept
 
-pub words_are : (count : ℕ) (words list : List ℕ) → ((n : ℕ) → is_set words n ≡ has_item list n) → numbers_where count (is_set words) ≡ numbers_where count (has_item list)
+pub words_are : (count : ℕ) (words list : List ℕ) → ((n : ℕ) → is_set words n ≡ has_item list n)
+    → numbers_where count (is_set words) ≡ numbers_where count (has_item list)
 words_are count words list marked = numbers_where-agree count (is_set words) (has_item list) (λ n within. marked n)
 
-pub words_list : (count bound : ℕ) (words list : List ℕ) → bound ≡ count → IsRisingBelow count list → ((n : ℕ) → is_set words n ≡ has_item list n) → numbers_where bound (is_set words) ≡ list
+pub words_list : (count bound : ℕ) (words list : List ℕ) → bound ≡ count → IsRisingBelow count list
+    → ((n : ℕ) → is_set words n ≡ has_item list n) → numbers_where bound (is_set words) ≡ list
 words_list count bound words list is rises marked =
     ap (λ (n : ℕ). numbers_where n (is_set words)) is ∙ words_are count words list marked ∙ sym (rising_is_numbers_where count list rises)
 
-pub words_joined : (count : ℕ) (lists : List (List ℕ)) (concept : ℕ) (words : List ℕ) → ((n : ℕ) → is_set words n ≡ has_item (list_of lists concept) n) → numbers_where count (is_set words) ≡ joined count lists (concept ∷ [])
+pub words_joined : (count : ℕ) (lists : List (List ℕ)) (concept : ℕ) (words : List ℕ)
+    → ((n : ℕ) → is_set words n ≡ has_item (list_of lists concept) n)
+    → numbers_where count (is_set words) ≡ joined count lists (concept ∷ [])
 words_joined count lists concept words marked = words_are count words (list_of lists concept) marked ∙ one_joined count lists concept

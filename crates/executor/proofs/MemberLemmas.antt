@@ -55,7 +55,8 @@ any_exchanged id [] rows x = sym (any_none rows)
 any_exchanged id (refset ∷ refsets) rows x =
     ap (λ (b : Bool). is_child rows (id refset) x || b) (any_exchanged id refsets rows x)
     ∙ sym (any_or (λ row. (row.0 == id refset) && (row.1 == x)) (λ row. list_any (λ other. id other == row.0) refsets && (row.1 == x)) rows)
-    ∙ any_agree rows _ _ (0, 0) (λ k there. both (get_or rows k (0, 0)).0 (id refset) (list_any (λ other. id other == (get_or rows k (0, 0)).0) refsets) ((get_or rows k (0, 0)).1 == x))
+    ∙ any_agree rows _ _ (0, 0) (λ k there. both (get_or rows k (0, 0)).0 (id refset)
+    (list_any (λ other. id other == (get_or rows k (0, 0)).0) refsets) ((get_or rows k (0, 0)).1 == x))
   where
     swapped : (a b : ℕ) → (a == b) ≡ (b == a)
     swapped a b = both_ways (a == b) (b == a) (λ told. eq-eqb b a (sym (eqb-true a b told))) (λ told. eq-eqb a b (sym (eqb-true b a told)))
@@ -139,14 +140,16 @@ members_below release (item ∷ items) below =
     (members_below release items (All-tail (λ item. item < length release.concepts) item items below))
 
 -- a concept is one of those in a set where it is in it
-pub one_of_set : (release : Release) (set : ℕ → Bool) (items : List ℕ) → items ≡ numbers_in release set → ((concept : ℕ) → set concept ≡ true → has_concept release concept ≡ true)
+pub one_of_set : (release : Release) (set : ℕ → Bool) (items : List ℕ) → items ≡ numbers_in release set
+    → ((concept : ℕ) → set concept ≡ true → has_concept release concept ≡ true)
     → (id : ℕ) → is_one_of release.concepts items id ≡ set id
 one_of_set release set items is forced id = both_ways (is_one_of release.concepts items id) (set id) there back
   where
     there : is_one_of release.concepts items id ≡ true → set id ≡ true
     there told =
         let found = passing_item (λ number. get_or release.concepts number 0 == id) items told in
-        let at = there_where (length release.concepts) (λ m. set (get_or release.concepts m 0)) found.0 (subst (λ (xs : List ℕ). Contains xs found.0) is found.1) in
+        let at = there_where (length release.concepts) (λ m. set (get_or release.concepts m 0)) found.0
+        (subst (λ (xs : List ℕ). Contains xs found.0) is found.1) in
         ap set (sym (eqb-true (get_or release.concepts found.0 0) id found.2)) ∙ at.1
 
     back : set id ≡ true → is_one_of release.concepts items id ≡ true
@@ -155,15 +158,19 @@ one_of_set release set items is forced id = both_ways (is_one_of release.concept
         let k : ℕ = there.0 in
         let at : get_or release.concepts k 0 ≡ id = get_or_default release.concepts k 0 id there.1 ∙ there.2 in
         some_item_passes (λ number. get_or release.concepts number 0 == id) items k
-        (subst (λ (xs : List ℕ). Contains xs k) (sym is) (where_there (length release.concepts) (λ m. set (get_or release.concepts m 0)) k there.1 (ap set at ∙ holds)))
+        (subst (λ (xs : List ℕ). Contains xs k) (sym is)
+        (where_there (length release.concepts) (λ m. set (get_or release.concepts m 0)) k there.1 (ap set at ∙ holds)))
         (eq-eqb (get_or release.concepts k 0) id at)
 
 -- and these are the components of the reference sets in the set
-pub components_in : (release : Release) (set : ℕ → Bool) (items : List ℕ) → items ≡ numbers_in release set → ((concept : ℕ) → set concept ≡ true → has_concept release concept ≡ true)
+pub components_in : (release : Release) (set : ℕ → Bool) (items : List ℕ) → items ≡ numbers_in release set
+    → ((concept : ℕ) → set concept ≡ true → has_concept release concept ≡ true)
     → components_of release items ≡ numbers_in release (is_component release set)
 components_in release set items is forced =
     numbers_in-agree release
     (λ concept. list_any (λ (row : ℕ × ℕ). list_any (λ refset. get_or release.concepts refset 0 == row.0) items && (row.1 == concept)) release.members)
     (λ concept. list_any (λ (row : ℕ × ℕ). set row.0 && (row.1 == concept)) release.members)
-    (λ n within. any_agree release.members _ _ (0, 0) (λ k there i. one_of_set release set items is forced (get_or release.members k (0, 0)).0 i && ((get_or release.members k (0, 0)).1 == get_or release.concepts n 0)))
+    (λ n within. any_agree release.members _ _ (0, 0)
+    (λ k there i. one_of_set release set items is forced (get_or release.members k (0, 0)).0 i
+    && ((get_or release.members k (0, 0)).1 == get_or release.concepts n 0)))
     ∙ in_force_kept release (λ concept. list_any (λ (row : ℕ × ℕ). set row.0 && (row.1 == concept)) release.members)

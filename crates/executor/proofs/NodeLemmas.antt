@@ -28,7 +28,9 @@ module _ (release : Release) (plan : Plan) (found : List ℕ) where
   pub all_node : plan ≡ all_plan → found ≡ range_with_len 0 (length release.concepts) → found ≡ numbers_in release (means release plan)
   all_node is found_is = found_is ∙ each_in_force release ∙ meant release plan all_plan is
 
-  pub one_node : (id : ℕ) → plan ≡ one_plan id → found ≡ numbers_in release (λ concept. has_concept release concept && (concept == id)) → found ≡ numbers_in release (means release plan)
+  pub one_node : (id : ℕ) → plan ≡ one_plan id
+      → found ≡ numbers_in release (λ concept. has_concept release concept && (concept == id))
+      → found ≡ numbers_in release (means release plan)
   one_node id is found_is = found_is ∙ meant release plan (one_plan id) is
 
   pub walk_node : (child : Plan) (operator : Operator) (hierarchy : Hierarchy) (count : ℕ) (from : List ℕ) → plan ≡ walk_plan operator child
@@ -46,26 +48,33 @@ module _ (release : Release) (plan : Plan) (found : List ℕ) where
   members_node child from is from_is found_is =
       found_is ∙ components_in release (means release child) from from_is (in_force_if_meant release child) ∙ meant release plan (members_plan child) is
 
-  pub and_node : (parts : List ConceptPlan) → plan ≡ and_plan (plans_of parts) → found ≡ numbers_in release (λ concept. list_all (λ part. means release (plan_of part) concept) parts)
+  pub and_node : (parts : List ConceptPlan) → plan ≡ and_plan (plans_of parts)
+      → found ≡ numbers_in release (λ concept. list_all (λ part. means release (plan_of part) concept) parts)
       → found ≡ numbers_in release (means release plan)
   and_node parts is found_is =
       found_is ∙ in_force_kept release (λ concept. list_all (λ part. means release (plan_of part) concept) parts)
-      ∙ numbers_in-agree release (λ concept. has_concept release concept && list_all (λ part. means release (plan_of part) concept) parts) (λ concept. has_concept release concept && all_mean release (plans_of parts) concept)
+      ∙ numbers_in-agree release (λ concept. has_concept release concept
+      && list_all (λ part. means release (plan_of part) concept) parts)
+      (λ concept. has_concept release concept && all_mean release (plans_of parts) concept)
       (λ n _. ap (λ (b : Bool). has_concept release (get_or release.concepts n 0) && b) (all_listed parts (get_or release.concepts n 0)))
       ∙ meant release plan (and_plan (plans_of parts)) is
     where
-      all_listed : (some : List ConceptPlan) (concept : ℕ) → list_all (λ part. means release (plan_of part) concept) some ≡ all_mean release (plans_of some) concept
+      all_listed : (some : List ConceptPlan) (concept : ℕ)
+          → list_all (λ part. means release (plan_of part) concept) some ≡ all_mean release (plans_of some) concept
       all_listed [] concept = refl
       all_listed (part ∷ some) concept = ap (λ (b : Bool). means release (plan_of part) concept && b) (all_listed some concept)
 
-  pub or_node : (parts : List ConceptPlan) → plan ≡ or_plan (plans_of parts) → found ≡ numbers_in release (λ concept. list_any (λ part. means release (plan_of part) concept) parts)
+  pub or_node : (parts : List ConceptPlan) → plan ≡ or_plan (plans_of parts)
+      → found ≡ numbers_in release (λ concept. list_any (λ part. means release (plan_of part) concept) parts)
       → found ≡ numbers_in release (means release plan)
   or_node parts is found_is =
       found_is
-      ∙ numbers_in-agree release (λ concept. list_any (λ part. means release (plan_of part) concept) parts) (λ concept. some_means release (plans_of parts) concept) (λ n _. some_listed parts (get_or release.concepts n 0))
+      ∙ numbers_in-agree release (λ concept. list_any (λ part. means release (plan_of part) concept) parts)
+      (λ concept. some_means release (plans_of parts) concept) (λ n _. some_listed parts (get_or release.concepts n 0))
       ∙ meant release plan (or_plan (plans_of parts)) is
     where
-      some_listed : (some : List ConceptPlan) (concept : ℕ) → list_any (λ part. means release (plan_of part) concept) some ≡ some_means release (plans_of some) concept
+      some_listed : (some : List ConceptPlan) (concept : ℕ)
+          → list_any (λ part. means release (plan_of part) concept) some ≡ some_means release (plans_of some) concept
       some_listed [] concept = refl
       some_listed (part ∷ some) concept = ap (λ (b : Bool). means release (plan_of part) concept || b) (some_listed some concept)
 

@@ -43,7 +43,8 @@ module _ (release : Release) (set : ℕ → Bool) (items : List ℕ) (is : items
 
   -- the joined lists of the items
   pub joined_is : (test : ℕ → ℕ → Bool)
-      → joined count (lists_where count (λ a b. test (id a) (id b))) items ≡ numbers_in release (λ concept. some_member release set (λ other. test other concept))
+      → joined count (lists_where count (λ a b. test (id a) (id b))) items
+      ≡ numbers_in release (λ concept. some_member release set (λ other. test other concept))
   joined_is test =
       numbers_where-agree count _ (λ n. some_member release set (λ other. test other (id n)))
       (λ n within. both_ways _ _ (there n within) (back n within))
@@ -51,14 +52,16 @@ module _ (release : Release) (set : ℕ → Bool) (items : List ℕ) (is : items
       lists : List (List ℕ)
       lists = lists_where count (λ a b. test (id a) (id b))
 
-      there : (n : ℕ) → n < count → list_any (λ concept. has_item (list_of lists concept) n) items ≡ true → some_member release set (λ other. test other (id n)) ≡ true
+      there : (n : ℕ) → n < count → list_any (λ concept. has_item (list_of lists concept) n) items ≡ true
+          → some_member release set (λ other. test other (id n)) ≡ true
       there n within holds =
           let found = passing_item (λ concept. has_item (list_of lists concept) n) items holds in
           let at = member found.0 found.1 in
           some_item_passes (λ other. set other && test other (id n)) release.concepts (id found.0) (Contains-get_or release.concepts found.0 0 at.0)
           (and_from _ _ at.1 (sym (in_list test found.0 n at.0 within) ∙ found.2))
 
-      back : (n : ℕ) → n < count → some_member release set (λ other. test other (id n)) ≡ true → list_any (λ concept. has_item (list_of lists concept) n) items ≡ true
+      back : (n : ℕ) → n < count → some_member release set (λ other. test other (id n)) ≡ true
+          → list_any (λ concept. has_item (list_of lists concept) n) items ≡ true
       back n within holds =
           let found = passing_item (λ other. set other && test other (id n)) release.concepts holds in
           let k : ℕ = found.1.0 in
@@ -70,7 +73,8 @@ module _ (release : Release) (set : ℕ → Bool) (items : List ℕ) (is : items
 
   -- the items none of which is in their list
   pub apart_is : (test : ℕ → ℕ → Bool)
-      → apart (lists_where count (λ a b. test (id a) (id b))) items ≡ numbers_in release (λ concept. set concept && not (some_member release set (λ other. test concept other)))
+      → apart (lists_where count (λ a b. test (id a) (id b))) items
+      ≡ numbers_in release (λ concept. set concept && not (some_member release set (λ other. test concept other)))
   apart_is test =
       ap (filter (λ concept. not (list_any (has_item items) (list_of lists concept)))) is
       ∙ filter-numbers_where count (λ n. set (id n)) (λ concept. not (list_any (has_item items) (list_of lists concept)))

@@ -79,7 +79,9 @@ module _ (release : Release) (may : ℕ → Bool) where
 
   -- all parts, where that at a place was executed first
   pub led_all : (parts : List ConceptPlan) (lead : ℕ) (found : List ℕ)
-      → found ≡ numbers_where (length release.concepts) (λ n. (may n && leads_off release (slice_get parts lead) (get_or release.concepts n 0)) && list_all (λ part. means release (plan_of part) (get_or release.concepts n 0)) parts)
+      → found ≡ numbers_where (length release.concepts)
+      (λ n. (may n && leads_off release (slice_get parts lead) (get_or release.concepts n 0))
+      && list_all (λ part. means release (plan_of part) (get_or release.concepts n 0)) parts)
       → found ≡ numbers_within release may (λ concept. list_all (λ part. means release (plan_of part) concept) parts)
   led_all parts lead found found_is =
       all_done (length release.concepts) may (λ n. leads_off release (slice_get parts lead) (get_or release.concepts n 0))
@@ -104,8 +106,12 @@ module _ (release : Release) (may : ℕ → Bool) where
 
   -- the part that was executed first is passed over
   pub led_again : (parts : List ConceptPlan) (lead k : ℕ) → k ≡ lead → k < length parts → (found : List ℕ)
-      → found ≡ numbers_where (length release.concepts) (λ n. (may n && leads_off release (slice_get parts lead) (get_or release.concepts n 0)) && list_all (λ part. means release (plan_of part) (get_or release.concepts n 0)) (take k parts))
-      → found ≡ numbers_where (length release.concepts) (λ n. (may n && leads_off release (slice_get parts lead) (get_or release.concepts n 0)) && list_all (λ part. means release (plan_of part) (get_or release.concepts n 0)) (take (k + 1) parts))
+      → found ≡ numbers_where (length release.concepts)
+      (λ n. (may n && leads_off release (slice_get parts lead) (get_or release.concepts n 0))
+      && list_all (λ part. means release (plan_of part) (get_or release.concepts n 0)) (take k parts))
+      → found ≡ numbers_where (length release.concepts)
+      (λ n. (may n && leads_off release (slice_get parts lead) (get_or release.concepts n 0))
+      && list_all (λ part. means release (plan_of part) (get_or release.concepts n 0)) (take (k + 1) parts))
   led_again parts lead k here within found found_is = elim (slice_get_cases parts k).1 [
     | inl (x, inside, at, is) ↦
         all_again (length release.concepts) (λ (part : ConceptPlan) n. means release (plan_of part) (get_or release.concepts n 0)) parts k x within
@@ -201,8 +207,12 @@ module _ (release : Release) (may : ℕ → Bool) where
           (slice_get all n)) parts lead part each is
 
   pub groups_led_again : (parts : List UnitPlan) (lead k : ℕ) → k ≡ lead → k < length parts → (found : List ℕ)
-      → found ≡ numbers_where (length all) (λ n. (may n && some_group_in release (leads_off_groups release (slice_get parts lead)) (slice_get all n)) && list_all (λ part. some_group_in release (unit_means release (unit_plan_of part)) (slice_get all n)) (take k parts))
-      → found ≡ numbers_where (length all) (λ n. (may n && some_group_in release (leads_off_groups release (slice_get parts lead)) (slice_get all n)) && list_all (λ part. some_group_in release (unit_means release (unit_plan_of part)) (slice_get all n)) (take (k + 1) parts))
+      → found ≡ numbers_where (length all) (λ n. (may n && some_group_in release
+      (leads_off_groups release (slice_get parts lead)) (slice_get all n))
+      && list_all (λ part. some_group_in release (unit_means release (unit_plan_of part)) (slice_get all n)) (take k parts))
+      → found ≡ numbers_where (length all) (λ n. (may n && some_group_in release
+      (leads_off_groups release (slice_get parts lead)) (slice_get all n))
+      && list_all (λ part. some_group_in release (unit_means release (unit_plan_of part)) (slice_get all n)) (take (k + 1) parts))
   groups_led_again parts lead k here within found found_is = elim (slice_get_cases parts k).1 [
     | inl (x, inside, at, is) ↦
         all_again (length all) (λ (part : UnitPlan) n. some_group_in release (unit_means release (unit_plan_of part)) (slice_get all n)) parts k x within
@@ -223,7 +233,8 @@ module _ (release : Release) (may : ℕ → Bool) where
       ∙ ap (λ (at : Option UnitPlan). groups_within release may (leads_off_groups release at)) (sym (slice_get_past parts lead past))
 
   pub any_done : (parts : List UnitPlan) (found : List ℕ)
-      → found ≡ numbers_where (length all) (λ n. may n && list_any (λ part. some_group_in release (unit_means release (unit_plan_of part)) (slice_get all n)) parts)
+      → found ≡ numbers_where (length all) (λ n. may n && list_any
+      (λ part. some_group_in release (unit_means release (unit_plan_of part)) (slice_get all n)) parts)
       → found ≡ groups_within release may (λ pairs. list_any (λ part. unit_means release (unit_plan_of part) pairs) parts)
   any_done parts found found_is = found_is ∙ (λ i. numbers_where (length all) (λ n. may n && any_in parts (slice_get all n) i))
 

@@ -39,11 +39,13 @@ chain_from_test (row ∷ rows) from to holds = elim (or_cases (reaches rows from
 ]
 
 -- what the test says of the parent of the first row, which needs no way back to that row
-test_after_first : (row : ℕ × ℕ) (rows : List (ℕ × ℕ)) (to : ℕ) → (row.1 ≡ to) ⊎ (reaches (row ∷ rows) row.1 to ≡ true) → (row.1 == to || reaches rows row.1 to) ≡ true
+test_after_first : (row : ℕ × ℕ) (rows : List (ℕ × ℕ)) (to : ℕ)
+    → (row.1 ≡ to) ⊎ (reaches (row ∷ rows) row.1 to ≡ true) → (row.1 == to || reaches rows row.1 to) ≡ true
 test_after_first row rows to x3 = grind (arith, or_left, eq-eqb, or_cases, reaches, inl, or_right, inr, and_parts)
 
 -- the test of a row and then of its parent
-test_by_row : (rows : List (ℕ × ℕ)) (child parent to : ℕ) → Contains rows (child, parent) → (parent ≡ to) ⊎ (reaches rows parent to ≡ true) → reaches rows child to ≡ true
+test_by_row : (rows : List (ℕ × ℕ)) (child parent to : ℕ) → Contains rows (child, parent)
+    → (parent ≡ to) ⊎ (reaches rows parent to ≡ true) → reaches rows child to ≡ true
 test_by_row [] child parent to (k, below, is) after = absurd (omega arith)
 test_by_row (row ∷ rows) child parent to first after = elim (contained_cases row rows (child, parent) first) [
   | inl is ↦ grind (arith, nat_tests, (ap (λ pair. pair.0) is), (ap (λ pair. pair.1) is), (test_after_first row rows to), inl, inr)

@@ -19,7 +19,8 @@ pub roots_none : (waiting : List ℕ) → AreRoots 0 waiting []
 unfolding IsDistinct
 roots_none waiting = record { once = tt; members = λ concept. grind arith }
 
-pub roots_one : (count : ℕ) (waiting roots : List ℕ) → AreRoots count waiting roots → get_or waiting count 0 ≡ 0 → AreRoots (count + 1) waiting (roots ++ count ∷ [])
+pub roots_one : (count : ℕ) (waiting roots : List ℕ) → AreRoots count waiting roots → get_or waiting count 0 ≡ 0
+    → AreRoots (count + 1) waiting (roots ++ count ∷ [])
 roots_one count waiting roots known none = record {
   once = IsDistinct-push nat_eq_equiv roots count known.once (had_not roots count (λ there. absurd (omega (arith, ((known.members count).0 there).0))));
   members = members-push (λ c. (c < count + 1) × (get_or waiting c 0 ≡ 0)) roots count (omega arith, none) (λ c apart. grind (arith, (known.members c)));
@@ -32,9 +33,23 @@ roots_other count waiting roots known some = record { once = known.once; members
 abbrev pub open_count : List ℕ → List ℕ → ℕ
 open_count done parents = count_by (λ parent. not (has done parent)) parents
 
-pub open_less : (done : List ℕ) (parent : ℕ) (parents : List ℕ) → has done parent ≡ false → open_count (done ++ parent ∷ []) parents + times parent parents ≡ open_count done parents
+pub open_less : (done : List ℕ) (parent : ℕ) (parents : List ℕ) → has done parent ≡ false
+    → open_count (done ++ parent ∷ []) parents + times parent parents ≡ open_count done parents
 open_less done parent [] new = refl
-open_less done parent (x ∷ parents) new = grind (arith, common_steps, nat_tests, sum_by-cons, cond, not, has, ⊎_elim, eq-eqb, ne_eqb, (open_less done parent parents new))
+open_less done parent (x ∷ parents) new =
+    grind (
+      arith,
+      common_steps,
+      nat_tests,
+      sum_by-cons,
+      cond,
+      not,
+      has,
+      ⊎_elim,
+      eq-eqb,
+      ne_eqb,
+      (open_less done parent parents new),
+    )
 
 pub open_all : (parents : List ℕ) → open_count [] parents ≡ length parents
 open_all [] = refl
@@ -42,7 +57,8 @@ open_all (x ∷ parents) = omega (arith, sum_by-cons (λ p. cond {A = ℕ} (not 
 
 -- an item that passes a test is counted
 pub counted : (p : ℕ → Bool) (xs : List ℕ) (x : ℕ) → Contains xs x → p x ≡ true → 0 < count_by p xs
-counted p xs x (k, within, is) holds = omega (arith, count_by_more_yes p xs k x within (ap p is ∙ holds), sum_by-take-le (λ y. cond {A = ℕ} (p y) 1 0) xs (k + 1))
+counted p xs x (k, within, is) holds =
+    omega (arith, count_by_more_yes p xs k x within (ap p is ∙ holds), sum_by-take-le (λ y. cond {A = ℕ} (p y) 1 0) xs (k + 1))
 
 -- where none is open, each parent is done; where some are, there is one
 pub all_done : (done parents : List ℕ) (parent : ℕ) → open_count done parents ≡ 0 → Contains parents parent → has done parent ≡ true
@@ -60,21 +76,32 @@ some_open done (x ∷ parents) some = ⊎_elim
 -- a list whose key is another has no such child, and the list of the key as many as its parents
 times-with_key : (child key parent : ℕ) (list : List ℕ) → times child (items_of (with_key key list) parent) ≡ cond (key == child) (times parent list) 0
 times-with_key child key parent [] = grind (arith, nat_tests)
-times-with_key child key parent (x ∷ list) = grind (arith, common_steps, nat_tests, items_of, filter, with_key, sum_by-cons, cond, (times-with_key child key parent list))
+times-with_key child key parent (x ∷ list) =
+    grind (arith, common_steps, nat_tests, items_of, filter, with_key, sum_by-cons, cond, (times-with_key child key parent list))
 
 times-turned_cons : (list : List ℕ) (lists : List (List ℕ)) (key child parent : ℕ)
-    → times child (items_of (turned_from key (list ∷ lists)) parent) ≡ cond (key == child) (times parent list) 0 + times child (items_of (turned_from (key + 1) lists) parent)
-times-turned_cons list lists key child parent = grind (arith, common_steps, nat_tests, times, items_of-append, with_key, turned_from, times-append, items_of, times-with_key)
+    → times child (items_of (turned_from key (list ∷ lists)) parent)
+    ≡ cond (key == child) (times parent list) 0 + times child (items_of (turned_from (key + 1) lists) parent)
+times-turned_cons list lists key child parent =
+    grind (arith, common_steps, nat_tests, times, items_of-append, with_key, turned_from, times-append, items_of, times-with_key)
 
 -- no key below the first has a child, and a child is as often in the lists as its own list says
 times-turned_out : (lists : List (List ℕ)) (key child parent : ℕ) → child < key → times child (items_of (turned_from key lists) parent) ≡ 0
 times-turned_out [] key child parent below = refl
-times-turned_out (list ∷ lists) key child parent below = grind (arith, nat_tests, (times-turned_cons list lists key child parent), (times-turned_out lists (key + 1) child parent))
+times-turned_out (list ∷ lists) key child parent below =
+    grind (arith, nat_tests, (times-turned_cons list lists key child parent), (times-turned_out lists (key + 1) child parent))
 
 times-turned : (lists : List (List ℕ)) (key i parent : ℕ) → times (key + i) (items_of (turned_from key lists) parent) ≡ times parent (get_or lists i [])
 times-turned [] key i parent = refl
-times-turned (list ∷ lists) key zero parent = rw add-zero (grind (arith, nat_tests, (times-turned_cons list lists key key parent), (times-turned_out lists (key + 1) key parent)))
-times-turned (list ∷ lists) key (suc i) parent = grind (arith, nat_tests, (times-turned_cons list lists key (key + 1 + i) parent), (times-turned lists (key + 1) i parent))
+times-turned (list ∷ lists) key zero parent =
+    rw add-zero (grind (
+      arith,
+      nat_tests,
+      (times-turned_cons list lists key key parent),
+      (times-turned_out lists (key + 1) key parent),
+    ))
+times-turned (list ∷ lists) key (suc i) parent =
+    grind (arith, nat_tests, (times-turned_cons list lists key (key + 1 + i) parent), (times-turned lists (key + 1) i parent))
 
 -- a concept is as often among the children of a parent as the parent is among its parents
 pub times-children : (count : ℕ) (rows : List (ℕ × ℕ)) (concept parent : ℕ) → parent < count

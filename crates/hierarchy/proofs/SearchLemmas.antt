@@ -17,7 +17,13 @@ marks_reached_set rows start marks row there from sound concept marked = grind (
 pub marked-from_followed : {rows : List (ℕ × ℕ)} {child ancestor : ℕ} (start : ℕ) (marks : List Bool)
     → All (IsFollowed start marks) rows → (child ≡ start) ⊎ IsMarked marks child → Reaches rows child ancestor → IsMarked marks ancestor
 marked-from_followed {rows} {child} {ancestor} start marks closed from (one_row there) = grind arith
-marked-from_followed {rows} start marks closed from (more_rows there rest) = grind (arith, inr, (marked-from_followed start marks closed (inr (All-contains (IsFollowed start marks) rows _ closed there from)) rest))
+marked-from_followed {rows} start marks closed from (more_rows there rest) =
+    grind (
+      arith,
+      inr,
+      (marked-from_followed start marks closed
+          (inr (All-contains (IsFollowed start marks) rows _ closed there from)) rest),
+    )
 
 -- where no row leads to a lower rank, no chain does
 pub rank_in-Reaches : {rows : List (ℕ × ℕ)} {child ancestor : ℕ} (ranks : List ℕ) → NoneFalls ranks rows

@@ -22,8 +22,10 @@ use Rattle.hierarchy.proofs.ReleaseLemmas.{contains_had, had_not, not_contained,
 pub items_of-contained : (rows : List (ℕ × ℕ)) (child parent : ℕ) → Contains rows (child, parent) → Contains (items_of rows child) parent
 items_of-contained [] child parent there = absurd (omega (arith, there.1))
 items_of-contained (row ∷ rows) child parent there = ⊎_elim
-    (λ (is : row ≡ (child, parent)). subst (λ r. Contains (items_of (r ∷ rows) child) parent) (sym is) (rw (eq-eqb child child refl) (first_contained parent (items_of rows child))))
-    (λ later. subst (λ xs. Contains xs parent) (sym (items_of-append (row ∷ []) rows child)) (Contains-append_right (items_of (row ∷ []) child) (items_of rows child) parent (items_of-contained rows child parent later)))
+    (λ (is : row ≡ (child, parent)). subst (λ r. Contains (items_of (r ∷ rows) child) parent) (sym is)
+    (rw (eq-eqb child child refl) (first_contained parent (items_of rows child))))
+    (λ later. subst (λ xs. Contains xs parent) (sym (items_of-append (row ∷ []) rows child))
+    (Contains-append_right (items_of (row ∷ []) child) (items_of rows child) parent (items_of-contained rows child parent later)))
     (contained_cases row rows (child, parent) there)
 
 pub contained_items_of : (rows : List (ℕ × ℕ)) (child parent : ℕ) → Contains (items_of rows child) parent → Contains rows (child, parent)
@@ -33,24 +35,31 @@ contained_items_of (row ∷ rows) child parent there = ⊎_elim
     (λ (is : row.1 ≡ parent). (0, omega arith, λ i. (eqb-true row.0 child own i, is i)))
     (λ (later : Contains (items_of rows child) parent). rest_contained row rows (child, parent) (contained_items_of rows child parent later))
     (contained_cases row.1 (items_of rows child) parent (let own_there = rw own at there in own_there)))
-    (λ (other : (row.0 == child) ≡ false). rest_contained row rows (child, parent) (contained_items_of rows child parent (let later = rw other at there in later)))
+    (λ (other : (row.0 == child) ≡ false). rest_contained row rows (child, parent)
+    (contained_items_of rows child parent (let later = rw other at there in later)))
     (cases_Bool (row.0 == child))
 
 -- what is in the first of a list is in more of it, and in a list without repetition no item is among those before it
 longer : (xs : List ℕ) (few more x : ℕ) → few ≤ more → Contains (take few xs) x → Contains (take more xs) x
-longer xs few more x le there = subst (λ ys. Contains ys x) (take-append-drop few (take more xs)) (Contains-append_left _ (drop few (take more xs)) x (rw (take-take few more xs le) there))
+longer xs few more x le there =
+    subst (λ ys. Contains ys x) (take-append-drop few (take more xs))
+    (Contains-append_left _ (drop few (take more xs)) x (rw (take-take few more xs le) there))
 
 once_apart : (xs : List ℕ) (k : ℕ) → IsDistinct nat_eq xs → k < length xs → Contains (take k xs) (get_or xs k 0) → ⊥
 once_apart xs k once within (j, below, is) =
     let less : j < k = omega (arith, below, length-take k xs) in
-    eqb-false (get_or xs j 0) (get_or xs k 0) (apart_from_distinct nat_eq xs j k 0 once less within) (sym (get_or-take k xs j 0 less) ∙ get_or_default (take k xs) j 0 (get_or xs k 0) below ∙ is)
+    eqb-false (get_or xs j 0) (get_or xs k 0) (apart_from_distinct nat_eq xs j k 0 once less within)
+    (sym (get_or-take k xs j 0 less) ∙ get_or_default (take k xs) j 0 (get_or xs k 0) below ∙ is)
 
 -- two lists without repetition that share no item, one behind the other
 distinct-append : (xs ys : List ℕ) → IsDistinct nat_eq xs → IsDistinct nat_eq ys → ((x : ℕ) → Contains xs x → Contains ys x → ⊥) → IsDistinct nat_eq (xs ++ ys)
 distinct-append xs ys once more apart = IsDistinct-from_apart nat_eq (xs ++ ys) (λ i j d less below. ⊎_elim
     (λ (early : j < length xs). grind (arith, get_or_append_left, (apart_from_distinct nat_eq xs i j d once less early)))
     (λ (late : length xs ≤ j). ⊎_elim
-    (λ (early : i < length xs). rw (get_or_append_left xs ys d i early, get_or-append_right xs ys (length xs) j d refl late) (ne_eqb (get_or xs i d) (get_or ys (j - length xs) d)
+    (λ (early : i < length xs). rw (
+      get_or_append_left xs ys d i early,
+      get_or-append_right xs ys (length xs) j d refl late,
+    ) (ne_eqb (get_or xs i d) (get_or ys (j - length xs) d)
     (λ same. apart (get_or xs i d) (Contains-get_or xs i d early) (rw same (Contains-get_or ys (j - length xs) d (omega (arith, length-append xs ys)))))))
     (λ (later : length xs ≤ i). grind (arith, get_or-append_right, length-append, (apart_from_distinct nat_eq ys (i - length xs) (j - length xs) d more)))
     (cases_lt i (length xs)))
@@ -65,23 +74,30 @@ pub record OnWay (count : ℕ) (rows : List (ℕ × ℕ)) (done : ℕ) (waiting 
   pub once : IsDistinct nat_eq order
   pub first : (place parent : ℕ) → place < length order → Contains rows (get_or order place 0, parent) → Contains (take place order) parent
 
-listed : (count : ℕ) (rows : List (ℕ × ℕ)) (concept parent : ℕ) → concept < count → Contains rows (concept, parent) ↔ Contains (list_of (lists_by count rows) concept) parent
-listed count rows concept parent below = rw (list_of-lists_by count rows concept below) (items_of-contained rows concept parent, contained_items_of rows concept parent)
+listed : (count : ℕ) (rows : List (ℕ × ℕ)) (concept parent : ℕ) → concept < count
+    → Contains rows (concept, parent) ↔ Contains (list_of (lists_by count rows) concept) parent
+listed count rows concept parent below =
+    rw (list_of-lists_by count rows concept below)
+    (items_of-contained rows concept parent, contained_items_of rows concept parent)
 
-pub way_start : {count : ℕ} {rows : List (ℕ × ℕ)} {waiting order left : List ℕ} {parents : List (List ℕ)} → waiting ≡ lengths parents → parents ≡ lists_by count rows → left ≡ waiting
+pub way_start : {count : ℕ} {rows : List (ℕ × ℕ)} {waiting order left : List ℕ} {parents : List (List ℕ)}
+    → waiting ≡ lengths parents → parents ≡ lists_by count rows → left ≡ waiting
     → AreRoots (length left) left order → OnWay count rows 0 waiting order
 way_start {count} {rows} {waiting} {order} lengths_is parents_is same roots =
     let counts : waiting ≡ lengths (lists_by count rows) = lengths_is ∙ ap lengths parents_is in
     let long : length waiting ≡ count = ap (λ (xs : List ℕ). length xs) counts ∙ length-lengths count rows in
     let number : (concept : ℕ) → get_or waiting concept 0 ≡ open_count [] (list_of (lists_by count rows) concept) =
-    λ concept. ap (λ (xs : List ℕ). get_or xs concept 0) counts ∙ get_or-map (λ (xs : List ℕ). length xs) (lists_by count rows) concept [] ∙ sym (open_all (list_of (lists_by count rows) concept)) in record {
+    λ concept. ap (λ (xs : List ℕ). get_or xs concept 0) counts
+    ∙ get_or-map (λ (xs : List ℕ). length xs) (lists_by count rows) concept []
+    ∙ sym (open_all (list_of (lists_by count rows) concept)) in record {
       long = long;
       past = omega arith;
       left = number;
       members = rw (sym long, sym same) roots.members;
       once = roots.once;
       first = λ place parent within row.
-          let both : (get_or order place 0 < length waiting) × (get_or waiting (get_or order place 0) 0 ≡ 0) = rw same at ((roots.members (get_or order place 0)).0 (Contains-get_or order place 0 within)) in
+          let both : (get_or order place 0 < length waiting) × (get_or waiting (get_or order place 0) 0 ≡ 0) =
+          rw same at ((roots.members (get_or order place 0)).0 (Contains-get_or order place 0 within)) in
           let there = (listed count rows (get_or order place 0) parent (omega (arith, both.0, long))).0 row in
           absurd (omega (arith, both.1, number (get_or order place 0), open_all (list_of (lists_by count rows) (get_or order place 0)), there.1));
     }
@@ -99,42 +115,83 @@ module _ {count done : ℕ} {rows : List (ℕ × ℕ)} {waiting order : List ℕ
       + times concept (list_of (turned count (lists_by count rows)) (get_or order done 0)) ≡ get_or waiting concept 0
   next_left within concept =
       let next = get_or order done 0 in
-      let less = open_less (take done order) next (list_of (lists_by count rows) concept) (had_not (take done order) next (once_apart order done way.once within)) in
+      let less = open_less (take done order) next (list_of (lists_by count rows) concept)
+      (had_not (take done order) next (once_apart order done way.once within)) in
       omega (arith, less, way.left concept, times-children count rows concept next (next_below within))
 
   -- the next concept is done
-  way_step : (after added : List ℕ) → done < length order → IsReleased (list_of (turned count (lists_by count rows)) (get_or order done 0)) waiting after added → OnWay count rows (done + 1) after (order ++ added)
+  way_step : (after added : List ℕ) → done < length order
+      → IsReleased (list_of (turned count (lists_by count rows)) (get_or order done 0)) waiting after added
+      → OnWay count rows (done + 1) after (order ++ added)
   way_step after added within released =
-      let left : (concept : ℕ) → get_or after concept 0 ≡ open_count (take (done + 1) (order ++ added)) (list_of (lists_by count rows) concept) = grind (arith, take-append-le, take_more, next_left) in
+      let left : (concept : ℕ)
+      → get_or after concept 0
+      ≡ open_count (take (done + 1) (order ++ added)) (list_of (lists_by count rows) concept) =
+      grind (arith, take-append-le, take_more, next_left) in
       let forth : (concept : ℕ) → Contains (order ++ added) concept → (concept < count) × (get_or after concept 0 ≡ 0) =
-      λ concept there. grind (arith, ⊎_elim, cases_lt, (Contains-append_cases order added concept there), (way.members concept), (released.members concept), (released.less concept), get_or_past, way.long) in record {
+      λ concept there. grind (
+        arith,
+        ⊎_elim,
+        cases_lt,
+        (Contains-append_cases order added concept there),
+        (way.members concept),
+        (released.members concept),
+        (released.less concept),
+        get_or_past,
+        way.long,
+      ) in record {
         long = released.len ∙ way.long;
         past = omega (arith, length-append order added);
         left = left;
-        members = λ concept. (forth concept, λ both. grind (arith, ⊎_elim, cases_eq, (Contains-append_left order added concept), (Contains-append_right order added concept), (way.members concept), (released.members concept)));
+        members = λ concept. (
+          forth concept,
+          λ both. grind (
+            arith,
+            ⊎_elim,
+            cases_eq,
+            (Contains-append_left order added concept),
+            (Contains-append_right order added concept),
+            (way.members concept),
+            (released.members concept),
+          ),
+        );
         once = distinct-append order added way.once released.once (λ x old new. omega (arith, ((way.members x).0 old).1, ((released.members x).0 new).0));
         first = λ place other below row. ⊎_elim
-            (λ (early : place < length order). rw (take-append-le place order added (omega arith)) (way.first place other early (subst (λ (c : ℕ). Contains rows (c, other)) (get_or_append_left order added 0 place early) row)))
+            (λ (early : place < length order). rw (take-append-le place order added (omega arith))
+            (way.first place other early (subst (λ (c : ℕ). Contains rows (c, other))
+            (get_or_append_left order added 0 place early) row)))
             (λ (late : length order ≤ place).
             let concept = get_or (order ++ added) place 0 in
             let both = forth concept (Contains-get_or (order ++ added) place 0 below) in
             longer (order ++ added) (done + 1) place other (omega arith) (contains_had (take (done + 1) (order ++ added)) other
-            (all_done (take (done + 1) (order ++ added)) (list_of (lists_by count rows) concept) other (sym (left concept) ∙ both.1) ((listed count rows concept other both.0).0 row))))
+            (all_done (take (done + 1) (order ++ added)) (list_of (lists_by count rows) concept) other
+            (sym (left concept) ∙ both.1) ((listed count rows concept other both.0).0 row))))
             (cases_lt place (length order));
       }
 
   -- the children of the next: they are concepts, each waits for it as often as it is listed, and once they are let go it is done
-  pub way_turn : {parent : ℕ} {list : List ℕ} {parents children : List (List ℕ)} → done < length order → parents ≡ lists_by count rows → children ≡ turned count parents → parent ≡ get_or order done parent
-      → list ≡ list_of children parent → (parent < length children) × All (λ child. child < length waiting) list × ((concept : ℕ) → times concept list ≤ get_or waiting concept 0)
+  pub way_turn : {parent : ℕ} {list : List ℕ} {parents children : List (List ℕ)} → done < length order
+      → parents ≡ lists_by count rows → children ≡ turned count parents → parent ≡ get_or order done parent
+      → list ≡ list_of children parent
+      → (parent < length children) × All (λ child. child < length waiting) list
+      × ((concept : ℕ) → times concept list ≤ get_or waiting concept 0)
       × ((after added : List ℕ) → IsReleased list waiting after added → OnWay count rows (done + 1) after (order ++ added))
   way_turn {parent} {list} {parents} within parents_is children_is parent_is list_is =
       let read : parent ≡ get_or order done 0 = get_or_read order done parent within parent_is 0 in
-      let own : list ≡ list_of (turned count (lists_by count rows)) (get_or order done 0) = list_is ∙ (λ i. list_of ((children_is ∙ ap (turned count) parents_is) i) (read i)) in
+      let own : list ≡ list_of (turned count (lists_by count rows)) (get_or order done 0) = list_is
+      ∙ (λ i. list_of ((children_is ∙ ap (turned count) parents_is) i) (read i)) in
       let wait : (concept : ℕ) → times concept list ≤ get_or waiting concept 0 = λ concept. omega (arith, next_left within concept, ap (times concept) own) in (
         omega (arith, read, next_below within, ap (λ (xs : List (List ℕ)). length xs) children_is, length-lists_by count (turned_from 0 parents)),
         (λ i d inside.
             let child = get_or list i d in
-            grind (arith, ⊎_elim, cases_lt, (counted (λ x. x == child) list child (Contains-get_or list i d inside) (eq-eqb child child refl)), (wait child), (get_or_past waiting child 0))),
+            grind (
+              arith,
+              ⊎_elim,
+              cases_lt,
+              (counted (λ x. x == child) list child (Contains-get_or list i d inside) (eq-eqb child child refl)),
+              (wait child),
+              (get_or_past waiting child 0),
+            )),
         wait,
         (λ after added released. way_step after added within (subst (λ (xs : List ℕ). IsReleased xs waiting after added) own released)),
       )
@@ -146,7 +203,8 @@ module _ {count done : ℕ} {rows : List (ℕ × ℕ)} {waiting order : List ℕ
       record { once = way.once; members = λ concept. grind (arith, (way.members concept), (none concept), way.long); first = way.first }
 
   -- where some concept waits for ever: one that is in no order has a parent that is in none
-  stuck : IsWithin count rows → length order ≤ done → (concept : ℕ) → concept < count → has order concept ≡ false → (parent : ℕ) × Contains rows (concept, parent) × (parent < count) × (has order parent ≡ false)
+  stuck : IsWithin count rows → length order ≤ done → (concept : ℕ) → concept < count → has order concept ≡ false
+      → (parent : ℕ) × Contains rows (concept, parent) × (parent < count) × (has order parent ≡ false)
   stuck within full concept below lost =
       let waits : get_or waiting concept 0 ≢ 0 = λ none. not_contained order concept lost ((way.members concept).1 (below, none)) in
       let all = ap (λ (done : List ℕ). open_count done (list_of (lists_by count rows) concept)) (take_all done order full) in
@@ -155,14 +213,22 @@ module _ {count done : ℕ} {rows : List (ℕ × ℕ)} {waiting order : List ℕ
       (found.0, row, (All-contains (λ (row : ℕ × ℕ). (row.0 < count) × (row.1 < count)) rows (concept, found.0) within row).1, found.2)
 
   -- from such a concept on, a chain of such concepts comes back to one of its own
-  chain : IsWithin count rows → length order ≤ done → (steps : ℕ) (path : List ℕ) (concept : ℕ) → length path + steps ≡ count + 1 → IsDistinct nat_eq path → ((q : ℕ) → Contains path q → (q < count) × Reaches rows q concept)
+  chain : IsWithin count rows → length order ≤ done → (steps : ℕ) (path : List ℕ) (concept : ℕ)
+      → length path + steps ≡ count + 1 → IsDistinct nat_eq path
+      → ((q : ℕ) → Contains path q → (q < count) × Reaches rows q concept)
       → concept < count → has order concept ≡ false → (cyclic : ℕ) × (cyclic < count) × Reaches rows cyclic cyclic
-  chain within full zero path concept long once reach near lost = absurd (omega (arith, long, length-le_from_distinct_below path count once (λ q told. (reach q (contains_had path q told)).0)))
+  chain within full zero path concept long once reach near lost =
+      absurd (omega (
+        arith,
+        long,
+        length-le_from_distinct_below path count once (λ q told. (reach q (contains_had path q told)).0),
+      ))
   chain within full (suc steps) path concept long once reach near lost = ⊎_elim
       (λ (seen : has path concept ≡ true). (concept, near, (reach concept (contains_had path concept seen)).1))
       (λ (new : has path concept ≡ false).
       let next = stuck within full concept near lost in
-      chain within full steps (path ++ concept ∷ []) next.0 (omega (arith, long, length-append path (concept ∷ []))) (IsDistinct-push nat_eq_equiv path concept once new)
+      chain within full steps (path ++ concept ∷ []) next.0 (omega (arith, long, length-append path (concept ∷ [])))
+      (IsDistinct-push nat_eq_equiv path concept once new)
       (λ q there. ⊎_elim
       (λ (old : Contains path q). ((reach q old).0, chain_of_two (reach q old).1 (one_row next.1)))
       (λ (same : concept ≡ q). subst (λ (c : ℕ). (c < count) × Reaches rows c next.0) same (near, one_row next.1))
@@ -170,7 +236,8 @@ module _ {count done : ℕ} {rows : List (ℕ × ℕ)} {waiting order : List ℕ
       next.2 next.3)
       (cases_Bool (has path concept))
 
-  pub way_stuck : {left : List ℕ} → IsWithin count rows → length order ≤ done → left ≡ waiting → (concept : ℕ) → (concept < length left) × (0 < get_or left concept 0) → (cyclic : ℕ) × (cyclic < count) × Reaches rows cyclic cyclic
+  pub way_stuck : {left : List ℕ} → IsWithin count rows → length order ≤ done → left ≡ waiting → (concept : ℕ)
+      → (concept < length left) × (0 < get_or left concept 0) → (cyclic : ℕ) × (cyclic < count) × Reaches rows cyclic cyclic
   unfolding IsDistinct
   way_stuck within full is concept found =
       let found : (concept < length waiting) × (0 < get_or waiting concept 0) = rw is at found in
@@ -181,19 +248,27 @@ module _ {count done : ℕ} {rows : List (ℕ × ℕ)} {waiting order : List ℕ
 pub parents_below : (count : ℕ) (rows : List (ℕ × ℕ)) (lists : List (List ℕ)) → IsWithin count rows → lists ≡ lists_by count rows → AreItemsBelow count lists
 parents_below count rows lists within is k d below j e inside =
     let near : k < count = omega (arith, below, ap (λ (xs : List (List ℕ)). length xs) is, length-lists_by count rows) in
-    let list : get_or lists k d ≡ items_of rows k = get_or_default lists k d [] below ∙ ap (λ (xs : List (List ℕ)). get_or xs k []) is ∙ list_of-lists_by count rows k near in
-    let row = contained_items_of rows k (get_or (get_or lists k d) j e) (subst (λ (xs : List ℕ). Contains xs (get_or (get_or lists k d) j e)) list (Contains-get_or (get_or lists k d) j e inside)) in
+    let list : get_or lists k d ≡ items_of rows k = get_or_default lists k d [] below
+    ∙ ap (λ (xs : List (List ℕ)). get_or xs k []) is ∙ list_of-lists_by count rows k near in
+    let row = contained_items_of rows k (get_or (get_or lists k d) j e)
+    (subst (λ (xs : List ℕ). Contains xs (get_or (get_or lists k d) j e)) list
+    (Contains-get_or (get_or lists k d) j e inside)) in
     (All-contains (λ (row : ℕ × ℕ). (row.0 < count) × (row.1 < count)) rows (k, get_or (get_or lists k d) j e) within row).1
 
 -- a chain of rows leads from a place to an earlier one
-climbs : {rows : List (ℕ × ℕ)} {child ancestor count : ℕ} (order : List ℕ) → IsParentsFirst count rows order → Reaches rows child ancestor → (k : ℕ) → k < length order → get_or order k 0 ≡ child → Contains (take k order) ancestor
-climbs {rows} {child} {ancestor} order first (one_row row) k within is = first.first k ancestor within (subst (λ (c : ℕ). Contains rows (c, ancestor)) (sym is) row)
+climbs : {rows : List (ℕ × ℕ)} {child ancestor count : ℕ} (order : List ℕ) → IsParentsFirst count rows order
+    → Reaches rows child ancestor → (k : ℕ) → k < length order → get_or order k 0 ≡ child → Contains (take k order) ancestor
+climbs {rows} {child} {ancestor} order first (one_row row) k within is =
+    first.first k ancestor within (subst (λ (c : ℕ). Contains rows (c, ancestor)) (sym is) row)
 climbs {rows} {child} {ancestor} order first (more_rows {parent = parent} row rest) k within is =
     let there = first.first k parent within (subst (λ (c : ℕ). Contains rows (c, parent)) (sym is) row) in
     let less : there.0 < k = omega (arith, there.1, length-take k order) in
-    longer order there.0 k ancestor (omega arith) (climbs order first rest there.0 (omega arith) (sym (get_or-take k order there.0 0 less) ∙ get_or_default (take k order) there.0 0 parent there.1 ∙ there.2))
+    longer order there.0 k ancestor (omega arith)
+    (climbs order first rest there.0 (omega arith)
+    (sym (get_or-take k order there.0 0 less) ∙ get_or_default (take k order) there.0 0 parent there.1 ∙ there.2))
 
-pub ordered_acyclic : (count : ℕ) (rows : List (ℕ × ℕ)) (order : List ℕ) → IsParentsFirst count rows order → (concept : ℕ) → concept < count → Reaches rows concept concept → ⊥
+pub ordered_acyclic : (count : ℕ) (rows : List (ℕ × ℕ)) (order : List ℕ) → IsParentsFirst count rows order
+    → (concept : ℕ) → concept < count → Reaches rows concept concept → ⊥
 ordered_acyclic count rows order first concept below round =
     let there = (first.members concept).1 below in
     let is : get_or order there.0 0 ≡ concept = get_or_default order there.0 0 concept there.1 ∙ there.2 in

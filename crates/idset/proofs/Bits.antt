@@ -47,10 +47,13 @@ minus_bit a b i =
     ∙ without_one (bit_at a i) (bit_at b i) (bit_at-lt a i) (bit_at-lt b i)
 
 -- ---- a bit of words that are made one from two
-is_set-zip2 : (f : ℕ → ℕ → ℕ) (g : Bool → Bool → Bool) → ((a b i : ℕ) → eqb (bit_at (f a b) i) 1 ≡ g (eqb (bit_at a i) 1) (eqb (bit_at b i) 1)) → g false false ≡ false → (xs ys : List ℕ) → length xs ≡ length ys → (n : ℕ) → is_set (zip2 f xs ys) n ≡ g (is_set xs n) (is_set ys n)
+is_set-zip2 : (f : ℕ → ℕ → ℕ) (g : Bool → Bool → Bool)
+    → ((a b i : ℕ) → eqb (bit_at (f a b) i) 1 ≡ g (eqb (bit_at a i) 1) (eqb (bit_at b i) 1)) → g false false ≡ false
+    → (xs ys : List ℕ) → length xs ≡ length ys → (n : ℕ) → is_set (zip2 f xs ys) n ≡ g (is_set xs n) (is_set ys n)
 is_set-zip2 f g each none xs ys long n =
     elim (cases_lt (n / 64) (length xs)) [
-      | inl in' ↦ (λ i. eqb (bit_at (get_or-zip2 f xs ys (n / 64) 0 0 0 in' (omega arith) i) (n % 64)) 1) ∙ each (get_or xs (n / 64) 0) (get_or ys (n / 64) 0) (n % 64)
+      | inl in' ↦ (λ i. eqb (bit_at (get_or-zip2 f xs ys (n / 64) 0 0 0 in' (omega arith) i) (n % 64)) 1)
+          ∙ each (get_or xs (n / 64) 0) (get_or ys (n / 64) 0) (n % 64)
       | inr past ↦
           past_end (zip2 f xs ys) n (omega (arith, length-zip2 f xs ys long)) ∙ sym none
           ∙ sym (λ i. g (past_end xs n past i) (past_end ys n (omega arith) i))
@@ -94,17 +97,24 @@ minus_words_below bound xs ys below below' = record {
   clear = λ n past. is_set-minus xs ys (same_length bound xs ys below below') n ∙ (λ i. below.clear n past i && not (is_set ys n));
 }
 
-pub and_words_items : (bound : ℕ) (xs ys : List ℕ) → AreWordsBelow bound xs → AreWordsBelow bound ys → numbers_where bound (is_set (zip2 bit_and xs ys)) ≡ common_items (numbers_where bound (is_set xs)) (numbers_where bound (is_set ys))
+pub and_words_items : (bound : ℕ) (xs ys : List ℕ) → AreWordsBelow bound xs → AreWordsBelow bound ys
+    → numbers_where bound (is_set (zip2 bit_and xs ys))
+    ≡ common_items (numbers_where bound (is_set xs)) (numbers_where bound (is_set ys))
 and_words_items bound xs ys below below' =
     numbers_where-agree bound (is_set (zip2 bit_and xs ys)) (λ n. is_set xs n && is_set ys n) (λ n _. is_set-and xs ys (same_length bound xs ys below below') n)
     ∙ sym (common_items-numbers_where bound (is_set xs) (is_set ys))
 
-pub or_words_items : (bound : ℕ) (xs ys : List ℕ) → AreWordsBelow bound xs → AreWordsBelow bound ys → numbers_where bound (is_set (zip2 bit_or xs ys)) ≡ all_items bound (numbers_where bound (is_set xs)) (numbers_where bound (is_set ys))
+pub or_words_items : (bound : ℕ) (xs ys : List ℕ) → AreWordsBelow bound xs → AreWordsBelow bound ys
+    → numbers_where bound (is_set (zip2 bit_or xs ys))
+    ≡ all_items bound (numbers_where bound (is_set xs)) (numbers_where bound (is_set ys))
 or_words_items bound xs ys below below' =
     numbers_where-agree bound (is_set (zip2 bit_or xs ys)) (λ n. is_set xs n || is_set ys n) (λ n _. is_set-or xs ys (same_length bound xs ys below below') n)
     ∙ sym (all_items-numbers_where bound (is_set xs) (is_set ys))
 
-pub minus_words_items : (bound : ℕ) (xs ys : List ℕ) → AreWordsBelow bound xs → AreWordsBelow bound ys → numbers_where bound (is_set (zip2 bit_minus xs ys)) ≡ other_items (numbers_where bound (is_set xs)) (numbers_where bound (is_set ys))
+pub minus_words_items : (bound : ℕ) (xs ys : List ℕ) → AreWordsBelow bound xs → AreWordsBelow bound ys
+    → numbers_where bound (is_set (zip2 bit_minus xs ys))
+    ≡ other_items (numbers_where bound (is_set xs)) (numbers_where bound (is_set ys))
 minus_words_items bound xs ys below below' =
-    numbers_where-agree bound (is_set (zip2 bit_minus xs ys)) (λ n. is_set xs n && not (is_set ys n)) (λ n _. is_set-minus xs ys (same_length bound xs ys below below') n)
+    numbers_where-agree bound (is_set (zip2 bit_minus xs ys)) (λ n. is_set xs n && not (is_set ys n))
+    (λ n _. is_set-minus xs ys (same_length bound xs ys below below') n)
     ∙ sym (other_items-numbers_where bound (is_set xs) (is_set ys))

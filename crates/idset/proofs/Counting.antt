@@ -12,7 +12,9 @@ use Rattle.idset.specs.Words.{AreWordsBelow, is_set}
 use Rattle.idset.proofs.Normal.{numbers_from, numbers_from-add, numbers_where-skip}
 
 -- ---- a vector
-pub vector_sum : (f : ℕ → ℕ → ℕ) (g h : ℕ → ℕ) → ((s x : ℕ) → s + x < 2 ^ 64 → f s x ≡ s + x) → ((x : ℕ) → x < 2 ^ 64 → g (h x) ≡ count_ones x) → (a : ℕ) (xs : List ℕ) → Each1 (Fits w64) xs → a + 64 * length xs < 2 ^ 64 → fold_l f a (map g (map h xs)) ≡ a + sum_by count_ones xs
+pub vector_sum : (f : ℕ → ℕ → ℕ) (g h : ℕ → ℕ) → ((s x : ℕ) → s + x < 2 ^ 64 → f s x ≡ s + x)
+    → ((x : ℕ) → x < 2 ^ 64 → g (h x) ≡ count_ones x) → (a : ℕ) (xs : List ℕ) → Each1 (Fits w64) xs
+    → a + 64 * length xs < 2 ^ 64 → fold_l f a (map g (map h xs)) ≡ a + sum_by count_ones xs
 vector_sum f g h adds counts a [] fits small = sym (add-zero a)
 vector_sum f g h adds counts a (x ∷ xs) fits small =
     let narrow : x < 2 ^ 64 = fits.0.fits in
@@ -53,7 +55,8 @@ bits_counted (suc k) w low p small same =
     front false x xs = omega arith
 
 -- ---- a list of words
-words_counted : (words : List ℕ) (low : ℕ) (p : ℕ → Bool) → ((k : ℕ) → get_or words k 0 < 2 ^ 64) → ((n : ℕ) → p (low + n) ≡ is_set words n) → length (numbers_from low (64 * length words) p) ≡ sum_by count_ones words
+words_counted : (words : List ℕ) (low : ℕ) (p : ℕ → Bool) → ((k : ℕ) → get_or words k 0 < 2 ^ 64)
+    → ((n : ℕ) → p (low + n) ≡ is_set words n) → length (numbers_from low (64 * length words) p) ≡ sum_by count_ones words
 words_counted [] low p narrow same = refl
 words_counted (word ∷ words) low p narrow same =
     let long : 64 * length (word ∷ words) ≡ 64 + 64 * length words = omega arith in
@@ -77,13 +80,15 @@ words_counted (word ∷ words) low p narrow same =
         (λ i. eqb (bit_at (get_or (word ∷ words) (next i) 0) (same i)) 1)
 
 -- the bits of the words of a set are as many as its numbers
-pub length-words : (bound : ℕ) (words : List ℕ) → AreWordsBelow bound words → ((k : ℕ) → get_or words k 0 < 2 ^ 64) → sum_by count_ones words ≡ length (numbers_where bound (is_set words))
+pub length-words : (bound : ℕ) (words : List ℕ) → AreWordsBelow bound words → ((k : ℕ) → get_or words k 0 < 2 ^ 64)
+    → sum_by count_ones words ≡ length (numbers_where bound (is_set words))
 length-words bound words below narrow =
     sym (words_counted words 0 (is_set words) narrow (λ n. (λ i. is_set words (zero-add n i))))
     ∙ ap length (numbers_where-skip bound (64 * length words) (is_set words) (omega (arith, below.enough)) (λ n past _. below.clear n past))
 
 -- ---- the whole vectors of a list and the words after them
-pub count_vector_step : (words : List ℕ) (block count more : ℕ) → count ≡ sum_by count_ones (take (block * 16) words) → more ≡ sum_by count_ones (chunk (block * 16) 16 words) → count + more ≡ sum_by count_ones (take ((block + 1) * 16) words)
+pub count_vector_step : (words : List ℕ) (block count more : ℕ) → count ≡ sum_by count_ones (take (block * 16) words)
+    → more ≡ sum_by count_ones (chunk (block * 16) 16 words) → count + more ≡ sum_by count_ones (take ((block + 1) * 16) words)
 count_vector_step words block count more so_far made =
     let end : block * 16 + 16 ≡ (block + 1) * 16 = omega arith in
     (λ i. so_far i + made i) ∙ sym (sum_by-append count_ones (take (block * 16) words) (chunk (block * 16) 16 words))

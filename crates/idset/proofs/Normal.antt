@@ -11,11 +11,13 @@ abbrev pub numbers_from : ℕ → ℕ → (ℕ → Bool) → List ℕ
 numbers_from low count test = filter test (range_with_len low count)
 
 -- tests that agree on the range keep the same numbers
-pub numbers_from-agree : (low count : ℕ) (p q : ℕ → Bool) → ((n : ℕ) → low ≤ n → n < low + count → p n ≡ q n) → numbers_from low count p ≡ numbers_from low count q
+pub numbers_from-agree : (low count : ℕ) (p q : ℕ → Bool) → ((n : ℕ) → low ≤ n → n < low + count → p n ≡ q n)
+    → numbers_from low count p ≡ numbers_from low count q
 numbers_from-agree low zero p q agree = refl
 numbers_from-agree low (suc count) p q agree =
     let here : p low ≡ q low = agree low (omega arith) (omega arith) in
-    let rest : numbers_from (low + 1) count p ≡ numbers_from (low + 1) count q = numbers_from-agree (low + 1) count p q (λ n above below. agree n (omega arith) (omega arith)) in
+    let rest : numbers_from (low + 1) count p ≡ numbers_from (low + 1) count q =
+    numbers_from-agree (low + 1) count p q (λ n above below. agree n (omega arith) (omega arith)) in
     (λ i. cond (here i) (low ∷ rest i) (rest i))
 
 -- tests that agree below the bound give the same list
@@ -28,7 +30,8 @@ has_item-below low zero p n below = refl
 has_item-below low (suc count) p n below =
     let apart : eqb low n ≡ false = ne_eqb low n (λ e. omega arith) in
     let rest : has_item (numbers_from (low + 1) count p) n ≡ false = has_item-below (low + 1) count p n (omega arith) in
-    elim (p low) as (λ b. has_item (cond b (low ∷ numbers_from (low + 1) count p) (numbers_from (low + 1) count p)) n ≡ false) [ true ↦ (λ i. apart i || rest i) | false ↦ rest ]
+    elim (p low) as (λ b. has_item (cond b (low ∷ numbers_from (low + 1) count p) (numbers_from (low + 1) count p)) n
+    ≡ false) [ true ↦ (λ i. apart i || rest i) | false ↦ rest ]
 
 has_item-from : (low count : ℕ) (p : ℕ → Bool) (n : ℕ) → low ≤ n → n < low + count → has_item (numbers_from low count p) n ≡ p n
 has_item-from low zero p n above below = absurd (omega arith)
@@ -37,11 +40,15 @@ has_item-from low (suc count) p n above below =
       | inl same ↦
           let kept : has_item (numbers_from (low + 1) count p) n ≡ false = has_item-below (low + 1) count p n (omega arith) in
           let here : eqb low n ≡ true = eq-eqb low n same in
-          (elim (p low) as (λ b. has_item (cond b (low ∷ numbers_from (low + 1) count p) (numbers_from (low + 1) count p)) n ≡ b) [ true ↦ (λ i. here i || has_item (numbers_from (low + 1) count p) n) | false ↦ kept ]) ∙ ap p same
+          (elim (p low) as (λ b. has_item (cond b (low ∷ numbers_from (low + 1) count p)
+          (numbers_from (low + 1) count p)) n ≡ b)
+          [ true ↦ (λ i. here i || has_item (numbers_from (low + 1) count p) n) | false ↦ kept ]) ∙ ap p same
       | inr apart ↦
           let rest : has_item (numbers_from (low + 1) count p) n ≡ p n = has_item-from (low + 1) count p n (omega arith) (omega arith) in
           let other : eqb low n ≡ false = ne_eqb low n apart in
-          (elim (p low) as (λ b. has_item (cond b (low ∷ numbers_from (low + 1) count p) (numbers_from (low + 1) count p)) n ≡ p n) [ true ↦ (λ i. other i || has_item (numbers_from (low + 1) count p) n) ∙ rest | false ↦ rest ])
+          (elim (p low) as (λ b. has_item (cond b (low ∷ numbers_from (low + 1) count p)
+          (numbers_from (low + 1) count p)) n ≡ p n)
+          [ true ↦ (λ i. other i || has_item (numbers_from (low + 1) count p) n) ∙ rest | false ↦ rest ])
     ]
 
 -- below the bound, being among the numbers is to pass the test
@@ -54,7 +61,8 @@ has_item-past_from low zero p n past = refl
 has_item-past_from low (suc count) p n past =
     let apart : eqb low n ≡ false = ne_eqb low n (λ e. omega arith) in
     let rest : has_item (numbers_from (low + 1) count p) n ≡ false = has_item-past_from (low + 1) count p n (omega arith) in
-    elim (p low) as (λ b. has_item (cond b (low ∷ numbers_from (low + 1) count p) (numbers_from (low + 1) count p)) n ≡ false) [ true ↦ (λ i. apart i || rest i) | false ↦ rest ]
+    elim (p low) as (λ b. has_item (cond b (low ∷ numbers_from (low + 1) count p) (numbers_from (low + 1) count p)) n
+    ≡ false) [ true ↦ (λ i. apart i || rest i) | false ↦ rest ]
 
 -- a number that is no number below the bound is not among them
 pub has_item-numbers_where_past : (bound : ℕ) (p : ℕ → Bool) (n : ℕ) → bound ≤ n → has_item (numbers_where bound p) n ≡ false
@@ -78,12 +86,18 @@ numbers_from-add low zero more p = (λ i. numbers_from (low-zero i) (zero-more i
     zero-more : 0 + more ≡ more
     zero-more = omega arith
 numbers_from-add low (suc count) more p =
-    let after : numbers_from (low + 1) (count + more) p ≡ numbers_from (low + 1) count p ++ numbers_from (low + 1 + count) more p = numbers_from-add (low + 1) count more p in
+    let after : numbers_from (low + 1) (count + more) p ≡ numbers_from (low + 1) count p
+    ++ numbers_from (low + 1 + count) more p = numbers_from-add (low + 1) count more p in
     let place : low + 1 + count ≡ low + suc count = omega arith in
     let long : suc count + more ≡ suc (count + more) = omega arith in
-    let joined : numbers_from (low + 1) (count + more) p ≡ numbers_from (low + 1) count p ++ numbers_from (low + suc count) more p = after ∙ (λ i. numbers_from (low + 1) count p ++ numbers_from (place i) more p) in
+    let joined : numbers_from (low + 1) (count + more) p ≡ numbers_from (low + 1) count p
+    ++ numbers_from (low + suc count) more p = after
+    ∙ (λ i. numbers_from (low + 1) count p ++ numbers_from (place i) more p) in
     (λ i. numbers_from low (long i) p) ∙
-    (elim (p low) as (λ b. cond b (low ∷ numbers_from (low + 1) (count + more) p) (numbers_from (low + 1) (count + more) p) ≡ cond b (low ∷ numbers_from (low + 1) count p) (numbers_from (low + 1) count p) ++ numbers_from (low + suc count) more p) [ true ↦ (λ i. low ∷ joined i) | false ↦ joined ])
+    (elim (p low) as (λ b. cond b (low ∷ numbers_from (low + 1) (count + more) p)
+    (numbers_from (low + 1) (count + more) p)
+    ≡ cond b (low ∷ numbers_from (low + 1) count p) (numbers_from (low + 1) count p)
+    ++ numbers_from (low + suc count) more p) [ true ↦ (λ i. low ∷ joined i) | false ↦ joined ])
 
 -- the numbers below a sum are those below the first part, and those of the stretch after it
 pub numbers_where-add : (bound more : ℕ) (p : ℕ → Bool) → numbers_where (bound + more) p ≡ numbers_where bound p ++ filter p (range_with_len bound more)
@@ -103,7 +117,8 @@ numbers_from-none low (suc count) p none =
     ∙ numbers_from-none (low + 1) count p (λ n above below. none n (omega arith) (omega arith))
 
 -- where no number from one bound up to another passes, the bounds give the same list
-pub numbers_where-skip : (bound further : ℕ) (p : ℕ → Bool) → bound ≤ further → ((n : ℕ) → bound ≤ n → n < further → p n ≡ false) → numbers_where further p ≡ numbers_where bound p
+pub numbers_where-skip : (bound further : ℕ) (p : ℕ → Bool) → bound ≤ further
+    → ((n : ℕ) → bound ≤ n → n < further → p n ≡ false) → numbers_where further p ≡ numbers_where bound p
 numbers_where-skip bound further p le none =
     let long : further ≡ bound + (further - bound) = omega arith in
     (λ i. numbers_where (long i) p) ∙ numbers_where-add bound (further - bound) p
@@ -111,7 +126,9 @@ numbers_where-skip bound further p le none =
     ∙ append-nil (numbers_where bound p)
 
 -- the least number that passes from a bound on comes next
-pub numbers_where-next : (bound number : ℕ) (p : ℕ → Bool) → bound ≤ number → ((n : ℕ) → bound ≤ n → n < number → p n ≡ false) → p number ≡ true → numbers_where (number + 1) p ≡ numbers_where bound p ++ number ∷ []
+pub numbers_where-next : (bound number : ℕ) (p : ℕ → Bool) → bound ≤ number
+    → ((n : ℕ) → bound ≤ n → n < number → p n ≡ false) → p number ≡ true
+    → numbers_where (number + 1) p ≡ numbers_where bound p ++ number ∷ []
 numbers_where-next bound number p le none here =
     numbers_where-more number p ∙ (λ i. numbers_where-skip bound number p le none i ++ cond (here i) (number ∷ []) [])
 
@@ -120,26 +137,34 @@ filter-filter : (p q : ℕ → Bool) (xs : List ℕ) → filter p (filter q xs) 
 filter-filter p q [] = refl
 filter-filter p q (x ∷ xs) =
     let rest : filter p (filter q xs) ≡ filter (λ n. q n && p n) xs = filter-filter p q xs in
-    elim (q x) as (λ b. filter p (cond b (x ∷ filter q xs) (filter q xs)) ≡ cond (b && p x) (x ∷ filter (λ n. q n && p n) xs) (filter (λ n. q n && p n) xs)) [ true ↦ (λ i. cond (p x) (x ∷ rest i) (rest i)) | false ↦ rest ]
+    elim (q x) as (λ b. filter p (cond b (x ∷ filter q xs) (filter q xs))
+    ≡ cond (b && p x) (x ∷ filter (λ n. q n && p n) xs) (filter (λ n. q n && p n) xs))
+    [ true ↦ (λ i. cond (p x) (x ∷ rest i) (rest i)) | false ↦ rest ]
 
 -- the numbers that pass one test, kept by another
 pub filter-numbers_where : (bound : ℕ) (p q : ℕ → Bool) → filter q (numbers_where bound p) ≡ numbers_where bound (λ n. p n && q n)
 filter-numbers_where bound p q = filter-filter q p (range_with_len 0 bound)
 
 -- what the operations on sets are in normal form
-pub common_items-numbers_where : (bound : ℕ) (p q : ℕ → Bool) → common_items (numbers_where bound p) (numbers_where bound q) ≡ numbers_where bound (λ n. p n && q n)
+pub common_items-numbers_where : (bound : ℕ) (p q : ℕ → Bool)
+    → common_items (numbers_where bound p) (numbers_where bound q) ≡ numbers_where bound (λ n. p n && q n)
 common_items-numbers_where bound p q =
     filter-numbers_where bound p (has_item (numbers_where bound q))
-    ∙ numbers_where-agree bound (λ n. p n && has_item (numbers_where bound q) n) (λ n. p n && q n) (λ n below. ap (λ b. p n && b) (has_item-numbers_where bound q n below))
+    ∙ numbers_where-agree bound (λ n. p n && has_item (numbers_where bound q) n) (λ n. p n && q n)
+    (λ n below. ap (λ b. p n && b) (has_item-numbers_where bound q n below))
 
-pub other_items-numbers_where : (bound : ℕ) (p q : ℕ → Bool) → other_items (numbers_where bound p) (numbers_where bound q) ≡ numbers_where bound (λ n. p n && not (q n))
+pub other_items-numbers_where : (bound : ℕ) (p q : ℕ → Bool)
+    → other_items (numbers_where bound p) (numbers_where bound q) ≡ numbers_where bound (λ n. p n && not (q n))
 other_items-numbers_where bound p q =
     filter-numbers_where bound p (λ n. not (has_item (numbers_where bound q) n))
-    ∙ numbers_where-agree bound (λ n. p n && not (has_item (numbers_where bound q) n)) (λ n. p n && not (q n)) (λ n below. ap (λ b. p n && not b) (has_item-numbers_where bound q n below))
+    ∙ numbers_where-agree bound (λ n. p n && not (has_item (numbers_where bound q) n)) (λ n. p n && not (q n))
+    (λ n below. ap (λ b. p n && not b) (has_item-numbers_where bound q n below))
 
-pub all_items-numbers_where : (bound : ℕ) (p q : ℕ → Bool) → all_items bound (numbers_where bound p) (numbers_where bound q) ≡ numbers_where bound (λ n. p n || q n)
+pub all_items-numbers_where : (bound : ℕ) (p q : ℕ → Bool)
+    → all_items bound (numbers_where bound p) (numbers_where bound q) ≡ numbers_where bound (λ n. p n || q n)
 all_items-numbers_where bound p q =
-    numbers_where-agree bound (λ n. has_item (numbers_where bound p) n || has_item (numbers_where bound q) n) (λ n. p n || q n) (λ n below i. has_item-numbers_where bound p n below i || has_item-numbers_where bound q n below i)
+    numbers_where-agree bound (λ n. has_item (numbers_where bound p) n || has_item (numbers_where bound q) n)
+    (λ n. p n || q n) (λ n below i. has_item-numbers_where bound p n below i || has_item-numbers_where bound q n below i)
 
 pub missing_numbers-numbers_where : (bound : ℕ) (p : ℕ → Bool) → missing_numbers bound (numbers_where bound p) ≡ numbers_where bound (λ n. not (p n))
 missing_numbers-numbers_where bound p =

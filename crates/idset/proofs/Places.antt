@@ -22,7 +22,8 @@ get_or-below lowest bound (item ∷ items) zero rises in' = (rises_on lowest bou
 get_or-below lowest bound (item ∷ items) (suc k) rises in' =
     get_or-below (suc item) bound items k (rises_on lowest bound item items rises).rest (omega arith)
 
-pub get_or-rising : (lowest bound : ℕ) (items : List ℕ) (j k : ℕ) → rises_within lowest bound items ≡ true → j < k → k < length items → get_or items j 0 < get_or items k 0
+pub get_or-rising : (lowest bound : ℕ) (items : List ℕ) (j k : ℕ) → rises_within lowest bound items ≡ true → j < k
+    → k < length items → get_or items j 0 < get_or items k 0
 get_or-rising lowest bound [] j k rises lt in' = absurd (omega arith)
 get_or-rising lowest bound (item ∷ items) j zero rises lt in' = absurd (omega arith)
 get_or-rising lowest bound (item ∷ items) zero (suc k) rises lt in' =
@@ -70,10 +71,21 @@ place_at_most items n k le =
     elim (cases_lt k (place_of items n)) [ inl lt ↦ absurd (omega (arith, below_place items n k lt)) | inr ge ↦ ge ]
 
 -- the place is where the items before are below the number, and the one there is not
-pub place_is : (bound : ℕ) (items : List ℕ) (n p : ℕ) → IsRisingBelow bound items → p ≤ length items → (0 < p → get_or items (p - 1) 0 < n) → (p < length items → n ≤ get_or items p 0) → p ≡ place_of items n
+pub place_is : (bound : ℕ) (items : List ℕ) (n p : ℕ) → IsRisingBelow bound items → p ≤ length items
+    → (0 < p → get_or items (p - 1) 0 < n) → (p < length items → n ≤ get_or items p 0) → p ≡ place_of items n
 place_is bound items n p rises in' before here =
-    let low : p ≤ place_of items n = elim (cases_lt 0 p) [ inl some ↦ omega (arith, place_above bound items n (p - 1) rises (omega arith) (before some)) | inr none ↦ omega arith ] in
-    let high : place_of items n ≤ p = elim (cases_lt p (length items)) [ inl lt ↦ place_at_most items n p (here lt) | inr ge ↦ omega (arith, place_le items n) ] in
+    let low : p ≤ place_of items n =
+    elim (cases_lt 0 p) [
+      | inl some ↦
+          omega (arith, place_above bound items n (p - 1) rises (omega arith) (before some))
+      | inr none ↦ omega arith
+    ] in
+    let high : place_of items n ≤ p =
+    elim (cases_lt p (length items)) [
+      | inl lt ↦ place_at_most items n p (here lt)
+      | inr ge ↦
+          omega (arith, place_le items n)
+    ] in
     omega arith
 
 -- a larger number has no earlier place
@@ -95,7 +107,8 @@ place-cons_here : (item : ℕ) (items : List ℕ) (n : ℕ) → n ≤ item → p
 place-cons_here item items n le = (λ i. cond (le-ltb item n le i) (1 + place_of items n) 0)
 
 -- what stands from the place on rises from the number
-pub drop_place-rising : (lowest bound : ℕ) (items : List ℕ) (n : ℕ) → rises_within lowest bound items ≡ true → rises_within n bound (drop (place_of items n) items) ≡ true
+pub drop_place-rising : (lowest bound : ℕ) (items : List ℕ) (n : ℕ) → rises_within lowest bound items ≡ true
+    → rises_within n bound (drop (place_of items n) items) ≡ true
 drop_place-rising lowest bound [] n rises = refl
 drop_place-rising lowest bound (item ∷ items) n rises =
     let on = rises_on lowest bound item items rises in
@@ -111,7 +124,8 @@ has_item-drop_place (item ∷ items) n m le =
     elim (cases_lt item n) [
       | inl lt ↦
           let apart : eqb item m ≡ false = ne_eqb item m (λ e. omega arith) in
-          (λ i. has_item (drop (place-cons_below item items n lt i) (item ∷ items)) m) ∙ has_item-drop_place items n m le ∙ sym (λ i. apart i || has_item items m)
+          (λ i. has_item (drop (place-cons_below item items n lt i) (item ∷ items)) m)
+          ∙ has_item-drop_place items n m le ∙ sym (λ i. apart i || has_item items m)
       | inr ge ↦ (λ i. has_item (drop (place-cons_here item items n ge i) (item ∷ items)) m)
     ]
 
@@ -120,11 +134,14 @@ pub has_item-get_or : (items : List ℕ) (k : ℕ) → k < length items → has_
 has_item-get_or items k in' = list_any_at (λ item. eqb item (get_or items k 0)) items k 0 in' (eq-eqb (get_or items k 0) (get_or items k 0) refl)
 
 -- between a number and the item at its place there is none
-pub none_between : (bound : ℕ) (items : List ℕ) (n m : ℕ) → IsRisingBelow bound items → n ≤ m → (place_of items n < length items → m < get_or items (place_of items n) 0) → has_item items m ≡ false
+pub none_between : (bound : ℕ) (items : List ℕ) (n m : ℕ) → IsRisingBelow bound items → n ≤ m
+    → (place_of items n < length items → m < get_or items (place_of items n) 0) → has_item items m ≡ false
 none_between bound items n m rises le before =
     sym (has_item-drop_place items n m le) ∙ none_in 0 bound items n m rises le before
   where
-    none_in : (lowest bound : ℕ) (items : List ℕ) (n m : ℕ) → rises_within lowest bound items ≡ true → n ≤ m → (place_of items n < length items → m < get_or items (place_of items n) 0) → has_item (drop (place_of items n) items) m ≡ false
+    none_in : (lowest bound : ℕ) (items : List ℕ) (n m : ℕ) → rises_within lowest bound items ≡ true → n ≤ m
+        → (place_of items n < length items → m < get_or items (place_of items n) 0)
+        → has_item (drop (place_of items n) items) m ≡ false
     none_in lowest bound [] n m rises le before = refl
     none_in lowest bound (item ∷ items) n m rises le before =
         let on = rises_on lowest bound item items rises in
@@ -136,25 +153,33 @@ none_between bound items n m rises le before =
           | inr ge ↦
               let step = place-cons_here item items n ge in
               let above : m < item = subst (λ (p : ℕ). m < get_or (item ∷ items) p 0) step (before (omega (arith, step))) in
-              (λ i. has_item (drop (step i) (item ∷ items)) m) ∙ has_item-below_lowest item bound (item ∷ items) m (rises_from_on item bound item items (omega arith) on.below on.rest) above
+              (λ i. has_item (drop (step i) (item ∷ items)) m)
+              ∙ has_item-below_lowest item bound (item ∷ items) m
+              (rises_from_on item bound item items (omega arith) on.below on.rest) above
         ]
 
 -- a number is in the list if it stands at its place
-pub has_item-place : (bound : ℕ) (items : List ℕ) (n : ℕ) → IsRisingBelow bound items → has_item items n ≡ (ltb (place_of items n) (length items) && eqb (get_or items (place_of items n) 0) n)
+pub has_item-place : (bound : ℕ) (items : List ℕ) (n : ℕ) → IsRisingBelow bound items
+    → has_item items n ≡ (ltb (place_of items n) (length items) && eqb (get_or items (place_of items n) 0) n)
 has_item-place bound items n rises =
     elim (cases_lt (place_of items n) (length items)) [
       | inl lt ↦ (elim (cases_eq (get_or items (place_of items n) 0) n) [
-        | inl same ↦ subst (λ (m : ℕ). has_item items m ≡ true) same (has_item-get_or items (place_of items n) lt) ∙ sym (eq-eqb (get_or items (place_of items n) 0) n same)
-        | inr apart ↦ none_between bound items n n rises (omega arith) (λ _. omega (arith, at_place items n lt)) ∙ sym (ne_eqb (get_or items (place_of items n) 0) n apart)
+        | inl same ↦ subst (λ (m : ℕ). has_item items m ≡ true) same (has_item-get_or items (place_of items n) lt)
+            ∙ sym (eq-eqb (get_or items (place_of items n) 0) n same)
+        | inr apart ↦ none_between bound items n n rises (omega arith) (λ _. omega (arith, at_place items n lt))
+            ∙ sym (ne_eqb (get_or items (place_of items n) 0) n apart)
       ]) ∙ sym (λ i. lt-ltb (place_of items n) (length items) lt i && eqb (get_or items (place_of items n) 0) n)
-      | inr ge ↦ none_between bound items n n rises (omega arith) (λ in'. absurd (omega arith)) ∙ sym (λ i. le-ltb (place_of items n) (length items) ge i && eqb (get_or items (place_of items n) 0) n)
+      | inr ge ↦ none_between bound items n n rises (omega arith) (λ in'. absurd (omega arith))
+          ∙ sym (λ i. le-ltb (place_of items n) (length items) ge i && eqb (get_or items (place_of items n) 0) n)
     ]
 
 -- the two answers of the test, by the place
 pub has_item-here : (items : List ℕ) (n p : ℕ) → IsRising items → p ≡ place_of items n → p < length items → eqb (get_or items p 0) n ≡ has_item items n
 has_item-here items n p rises is lt =
     let here : place_of items n < length items = omega arith in
-    (λ i. eqb (get_or items (is i) 0) n) ∙ sym (has_item-place (2 ^ 32) items n rises ∙ (λ i. lt-ltb (place_of items n) (length items) here i && eqb (get_or items (place_of items n) 0) n))
+    (λ i. eqb (get_or items (is i) 0) n)
+    ∙ sym (has_item-place (2 ^ 32) items n rises
+    ∙ (λ i. lt-ltb (place_of items n) (length items) here i && eqb (get_or items (place_of items n) 0) n))
 
 pub has_item-gone : (items : List ℕ) (n p : ℕ) → IsRising items → p ≡ place_of items n → length items ≤ p → false ≡ has_item items n
 has_item-gone items n p rises is ge =
@@ -174,13 +199,20 @@ read_all items n k le past = omega (arith, place_le items n)
 pub ruleset readings = (read_below, read_reached, read_all, place_le, place_at_most, has_item-here, has_item-gone)
 
 -- ---- a step of a loop over a rising list that looks each item up in another
-pub filter_step : (p : ℕ → Bool) (items out next : List ℕ) (i : ℕ) (kept : Bool) → i < length items → out ≡ filter p (take i items) → kept ≡ p (get_or items i 0) → next ≡ out ++ cond kept (get_or items i 0 ∷ []) [] → next ≡ filter p (take (i + 1) items)
+pub filter_step : (p : ℕ → Bool) (items out next : List ℕ) (i : ℕ) (kept : Bool) → i < length items
+    → out ≡ filter p (take i items) → kept ≡ p (get_or items i 0)
+    → next ≡ out ++ cond kept (get_or items i 0 ∷ []) [] → next ≡ filter p (take (i + 1) items)
 filter_step p items out next i kept in' so_far same pushed =
     pushed ∙ (λ j. so_far j ++ cond (same j) (get_or items i 0 ∷ []) []) ∙ sym (filter_more p items i 0 in')
 
-pub behind_step : (items others : List ℕ) (i p : ℕ) → IsRising items → i + 1 < length items → p ≡ place_of others (get_or items i 0) → p ≤ place_of others (get_or items (i + 1) 0)
+pub behind_step : (items others : List ℕ) (i p : ℕ) → IsRising items → i + 1 < length items
+    → p ≡ place_of others (get_or items i 0) → p ≤ place_of others (get_or items (i + 1) 0)
 behind_step items others i p rises in' is =
-    omega (arith, place_grows others (get_or items i 0) (get_or items (i + 1) 0) (omega (arith, get_or-rising 0 (2 ^ 32) items i (i + 1) rises (omega arith) in')))
+    omega (
+      arith,
+      place_grows others (get_or items i 0) (get_or items (i + 1) 0)
+          (omega (arith, get_or-rising 0 (2 ^ 32) items i (i + 1) rises (omega arith) in')),
+    )
 
 -- a rising list of numbers of 32 bits has no more items than 32 bits count
 pub count_fits : (bound : ℕ) (items : List ℕ) → IsRisingBelow bound items → length items ≤ bound

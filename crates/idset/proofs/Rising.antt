@@ -17,17 +17,20 @@ rises_on lowest bound item items rises =
     let inner = and_parts (ltb item bound) (rises_within (suc item) bound items) outer.1 in
     record { above = leb-true lowest item outer.0; below = ltb-true item bound inner.0; rest = inner.1 }
 
-pub rises_from_on : (lowest bound item : ℕ) (items : List ℕ) → lowest ≤ item → item < bound → rises_within (suc item) bound items ≡ true → rises_within lowest bound (item ∷ items) ≡ true
+pub rises_from_on : (lowest bound item : ℕ) (items : List ℕ) → lowest ≤ item → item < bound
+    → rises_within (suc item) bound items ≡ true → rises_within lowest bound (item ∷ items) ≡ true
 rises_from_on lowest bound item items above below rest =
     and_from (leb lowest item) (ltb item bound && rises_within (suc item) bound items) (le-leb lowest item above)
     (and_from (ltb item bound) (rises_within (suc item) bound items) (lt-ltb item bound below) rest)
 
 -- wider limits
-pub rises_within-wider : (lowest bound lower higher : ℕ) (items : List ℕ) → lower ≤ lowest → bound ≤ higher → rises_within lowest bound items ≡ true → rises_within lower higher items ≡ true
+pub rises_within-wider : (lowest bound lower higher : ℕ) (items : List ℕ) → lower ≤ lowest → bound ≤ higher
+    → rises_within lowest bound items ≡ true → rises_within lower higher items ≡ true
 rises_within-wider lowest bound lower higher [] le le' rises = refl
 rises_within-wider lowest bound lower higher (item ∷ items) le le' rises =
     let on = rises_on lowest bound item items rises in
-    rises_from_on lower higher item items (omega (arith, on.above)) (omega (arith, on.below)) (rises_within-wider (suc item) bound (suc item) higher items (omega arith) le' on.rest)
+    rises_from_on lower higher item items (omega (arith, on.above)) (omega (arith, on.below))
+    (rises_within-wider (suc item) bound (suc item) higher items (omega arith) le' on.rest)
 
 -- nothing below the lowest, and nothing from the bound on
 pub has_item-below_lowest : (lowest bound : ℕ) (items : List ℕ) (n : ℕ) → rises_within lowest bound items ≡ true → n < lowest → has_item items n ≡ false
@@ -56,10 +59,12 @@ first_le : (lowest bound x y : ℕ) (xs ys : List ℕ) → rises_within lowest b
 first_le lowest bound x y xs ys rises same =
     let on = rises_on lowest bound y ys rises in
     let has : has_item (y ∷ ys) x ≡ true = sym same ∙ (λ i. eqb-same x i || has_item xs x) in
-    elim (or_cases (eqb y x) (has_item ys x) has) [ inl here ↦ omega (arith, eqb-true y x here) | inr later ↦ omega (arith, lowest_le (suc y) bound ys x on.rest later) ]
+    elim (or_cases (eqb y x) (has_item ys x) has)
+    [ inl here ↦ omega (arith, eqb-true y x here) | inr later ↦ omega (arith, lowest_le (suc y) bound ys x on.rest later) ]
 
 -- two rising lists with the same members are one list
-pub same_rising : (lowest bound : ℕ) (xs ys : List ℕ) → rises_within lowest bound xs ≡ true → rises_within lowest bound ys ≡ true → ((n : ℕ) → has_item xs n ≡ has_item ys n) → xs ≡ ys
+pub same_rising : (lowest bound : ℕ) (xs ys : List ℕ) → rises_within lowest bound xs ≡ true
+    → rises_within lowest bound ys ≡ true → ((n : ℕ) → has_item xs n ≡ has_item ys n) → xs ≡ ys
 same_rising lowest bound [] [] rises-x rises-y same = refl
 same_rising lowest bound [] (y ∷ ys) rises-x rises-y same = absurd (false≢true (same y ∙ (λ i. eqb-same y i || has_item ys y)))
 same_rising lowest bound (x ∷ xs) [] rises-x rises-y same = absurd (false≢true (sym (same x) ∙ (λ i. eqb-same x i || has_item xs x)))
@@ -71,7 +76,8 @@ same_rising lowest bound (x ∷ xs) (y ∷ ys) rises-x rises-y same =
     let rest : xs ≡ ys = same_rising (suc x) bound xs ys on-x.rest rises (λ n. rest_same lowest bound x y xs ys n first on-x.rest rises (same n)) in
     (λ i. first i ∷ rest i)
   where
-    rest_same : (lowest bound x y : ℕ) (xs ys : List ℕ) (n : ℕ) → x ≡ y → rises_within (suc x) bound xs ≡ true → rises_within (suc x) bound ys ≡ true → has_item (x ∷ xs) n ≡ has_item (y ∷ ys) n → has_item xs n ≡ has_item ys n
+    rest_same : (lowest bound x y : ℕ) (xs ys : List ℕ) (n : ℕ) → x ≡ y → rises_within (suc x) bound xs ≡ true
+        → rises_within (suc x) bound ys ≡ true → has_item (x ∷ xs) n ≡ has_item (y ∷ ys) n → has_item xs n ≡ has_item ys n
     rest_same lowest bound x y xs ys n first rises-x rises-y same =
         elim (cases_lt x n) [
           | inl above ↦
@@ -95,7 +101,8 @@ rises_within-filter lowest bound p (x ∷ xs) rises =
 rises_within-range : (lowest bound low count : ℕ) → lowest ≤ low → low + count ≤ bound → rises_within lowest bound (range_with_len low count) ≡ true
 rises_within-range lowest bound low zero le le' = refl
 rises_within-range lowest bound low (suc count) le le' =
-    rises_from_on lowest bound low (range_with_len (low + 1) count) le (omega arith) (rises_within-range (suc low) bound (low + 1) count (omega arith) (omega arith))
+    rises_from_on lowest bound low (range_with_len (low + 1) count) le (omega arith)
+    (rises_within-range (suc low) bound (low + 1) count (omega arith) (omega arith))
 
 -- the numbers below a bound that pass a test rise below it
 pub numbers_where-rising : (bound : ℕ) (p : ℕ → Bool) → IsRisingBelow bound (numbers_where bound p)
@@ -111,7 +118,8 @@ rising_is_numbers_where bound items rises =
     ])
 
 -- a rising list whose members below the bound are those that pass a test
-pub rising_is_where : (bound : ℕ) (items : List ℕ) (p : ℕ → Bool) → IsRisingBelow bound items → ((n : ℕ) → n < bound → has_item items n ≡ p n) → items ≡ numbers_where bound p
+pub rising_is_where : (bound : ℕ) (items : List ℕ) (p : ℕ → Bool) → IsRisingBelow bound items
+    → ((n : ℕ) → n < bound → has_item items n ≡ p n) → items ≡ numbers_where bound p
 rising_is_where bound items p rises same = rising_is_numbers_where bound items rises ∙ numbers_where-agree bound (has_item items) p same
 
 -- the operations keep the rule
@@ -137,11 +145,13 @@ common_items-swap bound xs ys rises-x rises-y =
     and_swap false false = refl
 
 -- two rising stretches, the second from where the first ends
-pub rises_within-append : (lowest middle bound : ℕ) (xs ys : List ℕ) → lowest ≤ middle → middle ≤ bound → rises_within lowest middle xs ≡ true → rises_within middle bound ys ≡ true → rises_within lowest bound (xs ++ ys) ≡ true
+pub rises_within-append : (lowest middle bound : ℕ) (xs ys : List ℕ) → lowest ≤ middle → middle ≤ bound
+    → rises_within lowest middle xs ≡ true → rises_within middle bound ys ≡ true → rises_within lowest bound (xs ++ ys) ≡ true
 rises_within-append lowest middle bound [] ys le le' rises-x rises-y = rises_within-wider middle bound lowest bound ys le (omega arith) rises-y
 rises_within-append lowest middle bound (x ∷ xs) ys le le' rises-x rises-y =
     let on = rises_on lowest middle x xs rises-x in
-    rises_from_on lowest bound x (xs ++ ys) on.above (omega (arith, on.below)) (rises_within-append (suc x) middle bound xs ys (omega (arith, on.below)) le' on.rest rises-y)
+    rises_from_on lowest bound x (xs ++ ys) on.above (omega (arith, on.below))
+    (rises_within-append (suc x) middle bound xs ys (omega (arith, on.below)) le' on.rest rises-y)
 
 -- what rises below a bound of 32 bits rises
 pub rising_fits : (bound : ℕ) (items : List ℕ) → IsRisingBelow bound items → bound < 2 ^ 32 → IsRising items

@@ -15,7 +15,10 @@ same_takes : (xs ys : List ℕ) (i : ℕ) → i ≤ length xs → length ys ≡ 
 same_takes xs ys i in' long = length-take-le i xs in' ∙ sym (length-take-le i ys (omega arith))
 
 -- one vector more of a list that is made of two
-pub zip2_vector_step : (f : ℕ → ℕ → ℕ) (xs ys out lanes : List ℕ) (i : ℕ) → i + 4 ≤ length xs → length ys ≡ length xs → length out ≡ length xs → lanes ≡ zip2 f (chunk i 4 xs) (chunk i 4 ys) → take i out ≡ zip2 f (take i xs) (take i ys) → take (i + 4) (put_chunk i out lanes) ≡ zip2 f (take (i + 4) xs) (take (i + 4) ys)
+pub zip2_vector_step : (f : ℕ → ℕ → ℕ) (xs ys out lanes : List ℕ) (i : ℕ) → i + 4 ≤ length xs → length ys ≡ length xs
+    → length out ≡ length xs → lanes ≡ zip2 f (chunk i 4 xs) (chunk i 4 ys)
+    → take i out ≡ zip2 f (take i xs) (take i ys)
+    → take (i + 4) (put_chunk i out lanes) ≡ zip2 f (take (i + 4) xs) (take (i + 4) ys)
 zip2_vector_step f xs ys out lanes i in' long long-out made so_far =
     let long-x : length (chunk i 4 xs) ≡ 4 = length-chunk i 4 xs in' in
     let long-y : length (chunk i 4 ys) ≡ 4 = length-chunk i 4 ys (omega arith) in
@@ -26,7 +29,9 @@ zip2_vector_step f xs ys out lanes i in' long long-out made so_far =
     ∙ (λ j. zip2 f (sym (take-add i 4 xs) j) (sym (take-add i 4 ys) j))
 
 -- one word more
-pub zip2_word_step : (f : ℕ → ℕ → ℕ) (xs ys out : List ℕ) (word i : ℕ) → i < length xs → length ys ≡ length xs → length out ≡ length xs → word ≡ f (get_or xs i 0) (get_or ys i 0) → take i out ≡ zip2 f (take i xs) (take i ys) → take (i + 1) (set out i word) ≡ zip2 f (take (i + 1) xs) (take (i + 1) ys)
+pub zip2_word_step : (f : ℕ → ℕ → ℕ) (xs ys out : List ℕ) (word i : ℕ) → i < length xs → length ys ≡ length xs
+    → length out ≡ length xs → word ≡ f (get_or xs i 0) (get_or ys i 0) → take i out ≡ zip2 f (take i xs) (take i ys)
+    → take (i + 1) (set out i word) ≡ zip2 f (take (i + 1) xs) (take (i + 1) ys)
 zip2_word_step f xs ys out word i in' long long-out made so_far =
     take_more_set out i word (omega arith)
     ∙ (λ j. so_far j ++ made j ∷ [])

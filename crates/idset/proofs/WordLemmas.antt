@@ -26,42 +26,53 @@ pub record Holds (bound : ℕ) (words content : List ℕ) : Type 0 where
   pub rising : IsRisingBelow bound (numbers_where bound (is_set words))
   pub items : numbers_where bound (is_set words) ≡ content
 
-pub holds_and : (bound other_bound : ℕ) (xs ys made : List ℕ) → bound ≡ other_bound → AreWordsBelow bound xs → AreWordsBelow other_bound ys → made ≡ zip2 bit_and xs ys → Holds bound made (common_items (numbers_where bound (is_set xs)) (numbers_where other_bound (is_set ys)))
+pub holds_and : (bound other_bound : ℕ) (xs ys made : List ℕ) → bound ≡ other_bound → AreWordsBelow bound xs
+    → AreWordsBelow other_bound ys → made ≡ zip2 bit_and xs ys
+    → Holds bound made (common_items (numbers_where bound (is_set xs)) (numbers_where other_bound (is_set ys)))
 holds_and bound other_bound xs ys made same below below' is =
     let too = below_too bound other_bound ys same below' in
     record {
       held = subst (λ (words : List ℕ). AreWordsBelow bound words) (sym is) (and_words_below bound xs ys below too);
       rising = numbers_where-rising bound (is_set made);
-      items = (λ i. numbers_where bound (is_set (is i))) ∙ and_words_items bound xs ys below too ∙ (λ i. common_items (numbers_where bound (is_set xs)) (numbers_where (same i) (is_set ys)));
+      items = (λ i. numbers_where bound (is_set (is i))) ∙ and_words_items bound xs ys below too
+          ∙ (λ i. common_items (numbers_where bound (is_set xs)) (numbers_where (same i) (is_set ys)));
     }
 
-pub holds_or : (bound other_bound : ℕ) (xs ys made : List ℕ) → bound ≡ other_bound → AreWordsBelow bound xs → AreWordsBelow other_bound ys → made ≡ zip2 bit_or xs ys → Holds bound made (all_items bound (numbers_where bound (is_set xs)) (numbers_where other_bound (is_set ys)))
+pub holds_or : (bound other_bound : ℕ) (xs ys made : List ℕ) → bound ≡ other_bound → AreWordsBelow bound xs
+    → AreWordsBelow other_bound ys → made ≡ zip2 bit_or xs ys
+    → Holds bound made (all_items bound (numbers_where bound (is_set xs)) (numbers_where other_bound (is_set ys)))
 holds_or bound other_bound xs ys made same below below' is =
     let too = below_too bound other_bound ys same below' in
     record {
       held = subst (λ (words : List ℕ). AreWordsBelow bound words) (sym is) (or_words_below bound xs ys below too);
       rising = numbers_where-rising bound (is_set made);
-      items = (λ i. numbers_where bound (is_set (is i))) ∙ or_words_items bound xs ys below too ∙ (λ i. all_items bound (numbers_where bound (is_set xs)) (numbers_where (same i) (is_set ys)));
+      items = (λ i. numbers_where bound (is_set (is i))) ∙ or_words_items bound xs ys below too
+          ∙ (λ i. all_items bound (numbers_where bound (is_set xs)) (numbers_where (same i) (is_set ys)));
     }
 
-pub holds_minus : (bound other_bound : ℕ) (xs ys made : List ℕ) → bound ≡ other_bound → AreWordsBelow bound xs → AreWordsBelow other_bound ys → made ≡ zip2 bit_minus xs ys → Holds bound made (other_items (numbers_where bound (is_set xs)) (numbers_where other_bound (is_set ys)))
+pub holds_minus : (bound other_bound : ℕ) (xs ys made : List ℕ) → bound ≡ other_bound → AreWordsBelow bound xs
+    → AreWordsBelow other_bound ys → made ≡ zip2 bit_minus xs ys
+    → Holds bound made (other_items (numbers_where bound (is_set xs)) (numbers_where other_bound (is_set ys)))
 holds_minus bound other_bound xs ys made same below below' is =
     let too = below_too bound other_bound ys same below' in
     record {
       held = subst (λ (words : List ℕ). AreWordsBelow bound words) (sym is) (minus_words_below bound xs ys below too);
       rising = numbers_where-rising bound (is_set made);
-      items = (λ i. numbers_where bound (is_set (is i))) ∙ minus_words_items bound xs ys below too ∙ (λ i. other_items (numbers_where bound (is_set xs)) (numbers_where (same i) (is_set ys)));
+      items = (λ i. numbers_where bound (is_set (is i))) ∙ minus_words_items bound xs ys below too
+          ∙ (λ i. other_items (numbers_where bound (is_set xs)) (numbers_where (same i) (is_set ys)));
     }
 
 -- marked numbers
 pub items_below : (bound : ℕ) (items : List ℕ) → IsRisingBelow bound items → All (λ item. item < bound) items
 items_below bound items rises k d in' = subst (λ (item : ℕ). item < bound) (get_or_default items k 0 d in') (get_or-below 0 bound items k rises in')
 
-pub marked_items : (bound : ℕ) (words items : List ℕ) → IsRisingBelow bound items → MarkedBelow bound words (has_item items) → numbers_where bound (is_set words) ≡ items
+pub marked_items : (bound : ℕ) (words items : List ℕ) → IsRisingBelow bound items
+    → MarkedBelow bound words (has_item items) → numbers_where bound (is_set words) ≡ items
 marked_items bound words items rises marked =
     numbers_where-agree bound (is_set words) (has_item items) (λ n _. marked.marked n) ∙ sym (rising_is_numbers_where bound items rises)
 
-pub marked_numbers : (bound : ℕ) (words : List ℕ) (test : ℕ → Bool) → MarkedBelow bound words test → numbers_where bound (is_set words) ≡ numbers_where bound test
+pub marked_numbers : (bound : ℕ) (words : List ℕ) (test : ℕ → Bool) → MarkedBelow bound words test
+    → numbers_where bound (is_set words) ≡ numbers_where bound test
 marked_numbers bound words test marked = numbers_where-agree bound (is_set words) test (λ n _. marked.marked n)
 
 pub marked_every : (bound : ℕ) (words : List ℕ) → MarkedBelow bound words (λ n. ltb n bound) → numbers_where bound (is_set words) ≡ range_with_len 0 bound
@@ -69,11 +80,15 @@ marked_every bound words marked =
     numbers_where-agree bound (is_set words) (λ _. true) (λ n below. marked.marked n ∙ lt-ltb n bound below) ∙ numbers_where-all bound
 
 -- marks added to those of a set
-pub holds_more : (bound : ℕ) (words made items : List ℕ) → AreWordsBelow bound words → IsRisingBelow bound items → length made ≡ length words → ((n : ℕ) → is_set made n ≡ (is_set words n || has_item items n)) → Holds bound made (all_items bound (numbers_where bound (is_set words)) items)
+pub holds_more : (bound : ℕ) (words made items : List ℕ) → AreWordsBelow bound words → IsRisingBelow bound items
+    → length made ≡ length words → ((n : ℕ) → is_set made n ≡ (is_set words n || has_item items n))
+    → Holds bound made (all_items bound (numbers_where bound (is_set words)) items)
 holds_more bound words made items below rises long marked = record {
   held = record { enough = long ∙ below.enough; clear = λ n past. marked n ∙ (λ i. below.clear n past i || has_item-past_bound 0 bound items n rises past i) };
   rising = numbers_where-rising bound (is_set made);
-  items = numbers_where-agree bound (is_set made) (λ n. has_item (numbers_where bound (is_set words)) n || has_item items n) (λ n lt. marked n ∙ (λ i. sym (has_item-numbers_where bound (is_set words) n lt) i || has_item items n));
+  items = numbers_where-agree bound (is_set made)
+      (λ n. has_item (numbers_where bound (is_set words)) n || has_item items n)
+      (λ n lt. marked n ∙ (λ i. sym (has_item-numbers_where bound (is_set words) n lt) i || has_item items n));
 }
 
 -- a set has the numbers whose bit is set
@@ -85,11 +100,14 @@ has_marked bound words n below =
     ]
 
 -- marks taken from those of a set
-pub holds_less : (bound : ℕ) (words made items : List ℕ) → AreWordsBelow bound words → IsRisingBelow bound items → length made ≡ length words → ((n : ℕ) → is_set made n ≡ (is_set words n && not (has_item items n))) → Holds bound made (other_items (numbers_where bound (is_set words)) items)
+pub holds_less : (bound : ℕ) (words made items : List ℕ) → AreWordsBelow bound words → IsRisingBelow bound items
+    → length made ≡ length words → ((n : ℕ) → is_set made n ≡ (is_set words n && not (has_item items n)))
+    → Holds bound made (other_items (numbers_where bound (is_set words)) items)
 holds_less bound words made items below rises long marked = record {
   held = record { enough = long ∙ below.enough; clear = λ n past. marked n ∙ (λ i. below.clear n past i && not (has_item items n)) };
   rising = numbers_where-rising bound (is_set made);
-  items = numbers_where-agree bound (is_set made) (λ n. is_set words n && not (has_item items n)) (λ n _. marked n) ∙ sym (filter-numbers_where bound (is_set words) (λ n. not (has_item items n)));
+  items = numbers_where-agree bound (is_set made) (λ n. is_set words n && not (has_item items n)) (λ n _. marked n)
+      ∙ sym (filter-numbers_where bound (is_set words) (λ n. not (has_item items n)));
 }
 
 -- the items of a list that are marked, and those that are not
@@ -101,12 +119,16 @@ beq_false : (a : Bool) → beq a false ≡ not a
 beq_false true = refl
 beq_false false = refl
 
-pub kept_common : (bound : ℕ) (words items own kept : List ℕ) → AreWordsBelow bound words → items ≡ own → kept ≡ filter (λ n. beq (is_set words n) true) items → kept ≡ common_items own (numbers_where bound (is_set words))
+pub kept_common : (bound : ℕ) (words items own kept : List ℕ) → AreWordsBelow bound words → items ≡ own
+    → kept ≡ filter (λ n. beq (is_set words n) true) items → kept ≡ common_items own (numbers_where bound (is_set words))
 kept_common bound words items own kept below same is =
-    is ∙ filter_agree (λ n. beq (is_set words n) true) (has_item (numbers_where bound (is_set words))) (λ n. beq_true (is_set words n) ∙ has_marked bound words n below) items
+    is ∙ filter_agree (λ n. beq (is_set words n) true) (has_item (numbers_where bound (is_set words)))
+    (λ n. beq_true (is_set words n) ∙ has_marked bound words n below) items
     ∙ ap (filter (has_item (numbers_where bound (is_set words)))) same
 
-pub kept_other : (bound : ℕ) (words items own kept : List ℕ) → AreWordsBelow bound words → items ≡ own → kept ≡ filter (λ n. beq (is_set words n) false) items → kept ≡ other_items own (numbers_where bound (is_set words))
+pub kept_other : (bound : ℕ) (words items own kept : List ℕ) → AreWordsBelow bound words → items ≡ own
+    → kept ≡ filter (λ n. beq (is_set words n) false) items → kept ≡ other_items own (numbers_where bound (is_set words))
 kept_other bound words items own kept below same is =
-    is ∙ filter_agree (λ n. beq (is_set words n) false) (λ n. not (has_item (numbers_where bound (is_set words)) n)) (λ n. beq_false (is_set words n) ∙ ap not (has_marked bound words n below)) items
+    is ∙ filter_agree (λ n. beq (is_set words n) false) (λ n. not (has_item (numbers_where bound (is_set words)) n))
+    (λ n. beq_false (is_set words n) ∙ ap not (has_marked bound words n below)) items
     ∙ ap (filter (λ n. not (has_item (numbers_where bound (is_set words)) n))) same

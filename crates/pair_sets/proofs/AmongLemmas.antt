@@ -73,7 +73,8 @@ places_count p test at (entry ∷ entries) place told _ =
     here = ap at (omega arith) ∙ told 0
 
     by_case : (b : Bool) → count_by at (places_from (place + 1) p (map (λ (e : Entry). e.row) entries)) ≡ count_by (λ e. p e.row && test e) entries
-        → count_by at (cond b (place ∷ places_from (place + 1) p (map (λ (e : Entry). e.row) entries)) (places_from (place + 1) p (map (λ (e : Entry). e.row) entries)))
+        → count_by at (cond b (place ∷ places_from (place + 1) p (map (λ (e : Entry). e.row) entries))
+        (places_from (place + 1) p (map (λ (e : Entry). e.row) entries)))
         ≡ cond (b && test entry) (1 + count_by (λ e. p e.row && test e) entries) (count_by (λ e. p e.row && test e) entries)
     by_case true rest =
         count-cons at place (places_from (place + 1) p (map (λ (e : Entry). e.row) entries)) ∙ (λ i. cond (here i) (1 + rest i) (rest i))

@@ -410,7 +410,8 @@ marks_below kept bound [] cells below = All-nil (λ n. n < bound)
 marks_below kept bound (mark ∷ marks) [] below = All-nil (λ n. n < bound)
 marks_below kept bound (mark ∷ marks) (cell ∷ cells) below =
     let rest = marks_below kept bound marks cells (All-tail (λ (m : Flagged). m.number < bound) mark marks below) in
-    elim (kept mark cell) as (λ b. All (λ n. n < bound) (cond b (mark.number ∷ picked kept (λ m c. m.number) marks cells) (picked kept (λ m c. m.number) marks cells))) [
+    elim (kept mark cell) as (λ b. All (λ n. n < bound)
+    (cond b (mark.number ∷ picked kept (λ m c. m.number) marks cells) (picked kept (λ m c. m.number) marks cells))) [
       | true ↦ All-cons (λ n. n < bound) mark.number (picked kept (λ m c. m.number) marks cells) (below 0 mark (omega arith)) rest
       | false ↦ rest
     ]

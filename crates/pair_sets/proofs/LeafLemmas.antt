@@ -139,7 +139,9 @@ module _ {X : Type 0} (key : X → ℕ) (kept : ℕ → Bool) (test : X → Bool
                 (λ i. ((ne_eqb k (key x) (λ same. other (sym same)) i || has_item keys (key x)) && kept (key x)) && test x)
                 ∙ sym (λ i. (ne_eqb (key x) k other i && test x) || ((has_item keys (key x) && kept (key x)) && test x))
           ]
-      by_case rest false is = rest ∙ count_agree (λ x. (has_item keys (key x) && kept (key x)) && test x) (λ x. (((k == key x) || has_item keys (key x)) && kept (key x)) && test x) xs
+      by_case rest false is = rest
+          ∙ count_agree (λ x. (has_item keys (key x) && kept (key x)) && test x)
+          (λ x. (((k == key x) || has_item keys (key x)) && kept (key x)) && test x) xs
           (λ x there. skipped x)
         where
           skipped : (x : X) → ((has_item keys (key x) && kept (key x)) && test x) ≡ ((((k == key x) || has_item keys (key x)) && kept (key x)) && test x)
@@ -344,7 +346,8 @@ sources_known release rising all =
     (and_parts (has_item release.concepts row.source) true (and_parts (has_item release.concepts row.source && true) true told).0).0))
     release.attributes
     (count_full (λ (row : Attribute). (has_item release.concepts row.source && true) && true) release.attributes
-    (sym (count_by_keys (λ (row : Attribute). row.source) (λ id. true) (λ row. true) release.attributes release.concepts (concepts_apart release.concepts rising))
+    (sym (count_by_keys (λ (row : Attribute). row.source) (λ id. true)
+    (λ row. true) release.attributes release.concepts (concepts_apart release.concepts rising))
     ∙ (λ i. count_by (λ (row : Attribute). true) (flat_map (rows_of release) (filter-all (λ id. true) release.concepts (λ k d within. refl) i)))
     ∙ sym (length-filter (λ (row : Attribute). true) (attributes_by_source release))
     ∙ ap (λ (rows : List Attribute). length rows) (filter-all (λ (row : Attribute). true) (attributes_by_source release) (λ k d within. refl))

@@ -7,19 +7,25 @@ use Rattle.idset.specs.Sets.{IsRisingBelow}
 use Rattle.idset.proofs.Places.{get_or-below}
 
 -- all of some items and one more pass, and some of them
-pub all_take : {X : Type 0} (test : X → Bool) (xs : List X) (k : ℕ) (d : X) → k < length xs → list_all test (take (suc k) xs) ≡ (list_all test (take k xs) && test (get_or xs k d))
+pub all_take : {X : Type 0} (test : X → Bool) (xs : List X) (k : ℕ) (d : X) → k < length xs
+    → list_all test (take (suc k) xs) ≡ (list_all test (take k xs) && test (get_or xs k d))
 all_take test [] k d within = absurd (omega (arith, within))
 all_take test (x ∷ xs) zero d within = elim (test x) as (λ b. (b && true) ≡ (true && b)) [ true ↦ refl | false ↦ refl ]
-all_take test (x ∷ xs) (suc k) d within = ap (λ (b : Bool). test x && b) (all_take test xs k d (omega (arith, within))) ∙ assoc (test x) (list_all test (take k xs)) (test (get_or xs k d))
+all_take test (x ∷ xs) (suc k) d within =
+    ap (λ (b : Bool). test x && b) (all_take test xs k d (omega (arith, within)))
+    ∙ assoc (test x) (list_all test (take k xs)) (test (get_or xs k d))
   where
     assoc : (a b c : Bool) → (a && (b && c)) ≡ ((a && b) && c)
     assoc true b c = refl
     assoc false b c = refl
 
-pub any_take : {X : Type 0} (test : X → Bool) (xs : List X) (k : ℕ) (d : X) → k < length xs → list_any test (take (suc k) xs) ≡ (list_any test (take k xs) || test (get_or xs k d))
+pub any_take : {X : Type 0} (test : X → Bool) (xs : List X) (k : ℕ) (d : X) → k < length xs
+    → list_any test (take (suc k) xs) ≡ (list_any test (take k xs) || test (get_or xs k d))
 any_take test [] k d within = absurd (omega (arith, within))
 any_take test (x ∷ xs) zero d within = elim (test x) as (λ b. (b || false) ≡ (false || b)) [ true ↦ refl | false ↦ refl ]
-any_take test (x ∷ xs) (suc k) d within = ap (λ (b : Bool). test x || b) (any_take test xs k d (omega (arith, within))) ∙ assoc (test x) (list_any test (take k xs)) (test (get_or xs k d))
+any_take test (x ∷ xs) (suc k) d within =
+    ap (λ (b : Bool). test x || b) (any_take test xs k d (omega (arith, within)))
+    ∙ assoc (test x) (list_any test (take k xs)) (test (get_or xs k d))
   where
     assoc : (a b c : Bool) → (a || (b || c)) ≡ ((a || b) || c)
     assoc true b c = refl
@@ -38,7 +44,8 @@ any_append test (x ∷ xs) ys = ap (λ (b : Bool). test x || b) (any_append test
     assoc false b c = refl
 
 -- where tests agree on the items of a list, so they do on whether some item passes
-pub any_agree : {X : Type 0} (xs : List X) (p q : X → Bool) (d : X) → ((k : ℕ) → k < length xs → p (get_or xs k d) ≡ q (get_or xs k d)) → list_any p xs ≡ list_any q xs
+pub any_agree : {X : Type 0} (xs : List X) (p q : X → Bool) (d : X)
+    → ((k : ℕ) → k < length xs → p (get_or xs k d) ≡ q (get_or xs k d)) → list_any p xs ≡ list_any q xs
 any_agree [] p q d agree = refl
 any_agree (x ∷ xs) p q d agree = λ i. agree 0 (omega arith) i || any_agree xs p q d (λ k within. agree (suc k) (omega (arith, within))) i
 

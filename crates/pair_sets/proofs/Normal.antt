@@ -50,7 +50,8 @@ pub none_in : (release : Release) → [] ≡ numbers_in release (λ _. false)
 none_in release = sym (numbers_where-none (length release.concepts))
 
 -- a number among them is that of a concept in the set
-pub member_in : (release : Release) (set : ℕ → Bool) (n : ℕ) → n < length release.concepts → has_item (numbers_in release set) n ≡ set (get_or release.concepts n 0)
+pub member_in : (release : Release) (set : ℕ → Bool) (n : ℕ) → n < length release.concepts
+    → has_item (numbers_in release set) n ≡ set (get_or release.concepts n 0)
 member_in release set n within =
     has_item-numbers_where_any (length release.concepts) (λ m. set (get_or release.concepts m 0)) n ∙ below
   where
@@ -108,7 +109,8 @@ one_in release rising id None at =
     none_in release
     ∙ numbers_in-agree release (λ _. false) (λ concept. has_concept release concept && (concept == id))
     (λ n within. both_ways false _ (λ told. absurd (false≢true told))
-    (λ told. absurd (concept_number-None release.concepts id at n within (eqb-true (get_or release.concepts n 0) id (and_parts (has_concept release (get_or release.concepts n 0)) _ told).1))))
+    (λ told. absurd (concept_number-None release.concepts id at n within
+    (eqb-true (get_or release.concepts n 0) id (and_parts (has_concept release (get_or release.concepts n 0)) _ told).1))))
 one_in release rising id (Some place) at =
     let found = concept_number-Some release.concepts id place at in
     rising_is_where (length release.concepts) (place ∷ []) _ (alone place (length release.concepts) found.0)
@@ -133,7 +135,8 @@ one_in release rising id (Some place) at =
 filter_of_map : (test : ℕ → Bool) (f : ℕ → ℕ) (xs : List ℕ) → filter test (map f xs) ≡ map f (filter (λ x. test (f x)) xs)
 filter_of_map test f [] = refl
 filter_of_map test f (x ∷ xs) =
-    elim (test (f x)) as (λ b. cond b (f x ∷ filter test (map f xs)) (filter test (map f xs)) ≡ map f (cond b (x ∷ filter (λ y. test (f y)) xs) (filter (λ y. test (f y)) xs))) [
+    elim (test (f x)) as (λ b. cond b (f x ∷ filter test (map f xs)) (filter test (map f xs))
+    ≡ map f (cond b (x ∷ filter (λ y. test (f y)) xs) (filter (λ y. test (f y)) xs))) [
       | true ↦ ap (λ (ys : List ℕ). f x ∷ ys) (filter_of_map test f xs)
       | false ↦ filter_of_map test f xs
     ]

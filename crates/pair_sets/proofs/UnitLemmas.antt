@@ -50,14 +50,17 @@ module _ (release : Release) (test : ConceptGroup → Bool) (concept : ℕ) wher
   other_groups other apart [] = refl
   other_groups other apart (key ∷ keys) =
       count-cons is_counted (group_with other key) (map (group_with other) keys)
-      ∙ (λ i. cond (ne_eqb other concept apart i && test (group_with other key)) (1 + count_by is_counted (map (group_with other) keys)) (count_by is_counted (map (group_with other) keys)))
+      ∙ (λ i. cond (ne_eqb other concept apart i && test (group_with other key))
+      (1 + count_by is_counted (map (group_with other) keys)) (count_by is_counted (map (group_with other) keys)))
       ∙ other_groups other apart keys
 
-  no_unit_plans : (concepts : List ℕ) → AllByRecursion (λ other. nat_eq concept other ≡ false) concepts → count_by is_counted (groups_among release concepts) ≡ 0
+  no_unit_plans : (concepts : List ℕ) → AllByRecursion (λ other. nat_eq concept other ≡ false) concepts
+      → count_by is_counted (groups_among release concepts) ≡ 0
   no_unit_plans [] apart = refl
   no_unit_plans (other ∷ concepts) apart =
       count-append is_counted (groups_at release other) (groups_among release concepts)
-      ∙ (λ i. other_groups other (λ same. false≢true (sym apart.0 ∙ eq-eqb concept other (sym same))) (keys_of release other) i + no_unit_plans concepts apart.1 i)
+      ∙ (λ i. other_groups other (λ same. false≢true (sym apart.0 ∙ eq-eqb concept other (sym same)))
+      (keys_of release other) i + no_unit_plans concepts apart.1 i)
 
   -- so among all groups those of the concept are
   pub own_counted : (concepts : List ℕ) → IsDistinct nat_eq concepts → Contains concepts concept
@@ -186,7 +189,9 @@ module _ (release : Release) (rising : IsStrictlyIncreasing release.concepts) wh
   units_found count set items found items_are found_is =
       found_is
       ∙ (λ i. numbers_where (length release.concepts) (λ n. lies_in count (groups_owned release (items_are i) n)))
-      ∙ numbers_where-agree (length release.concepts) (λ n. lies_in count (groups_owned release (groups_where release set) n)) (λ n. has_groups release count set (get_or release.concepts n 0))
+      ∙ numbers_where-agree (length release.concepts)
+      (λ n. lies_in count (groups_owned release (groups_where release set) n))
+      (λ n. has_groups release count set (get_or release.concepts n 0))
       (λ n within. ap (lies_in count) (set_counted release rising set n within))
 
   -- and of candidates those of them with so many
@@ -197,7 +202,9 @@ module _ (release : Release) (rising : IsStrictlyIncreasing release.concepts) wh
       → found ≡ numbers_within release (has_item wanted) (has_groups release count set)
   units_within count set wanted own items some found have items_are some_is found_is =
       restricted_to (length release.concepts) (has_item wanted) (λ n. lies_in count (groups_owned release items n)) some found some_is found_is
-      ∙ numbers_where-agree (length release.concepts) (λ n. has_item wanted n && lies_in count (groups_owned release items n)) (λ n. has_item wanted n && has_groups release count set (get_or release.concepts n 0))
+      ∙ numbers_where-agree (length release.concepts)
+      (λ n. has_item wanted n && lies_in count (groups_owned release items n))
+      (λ n. has_item wanted n && has_groups release count set (get_or release.concepts n 0))
       (λ n within. of_wanted (has_item wanted n) _ _
       (λ is_wanted. ap (lies_in count) (ap (λ (groups : List ℕ). groups_owned release groups n) items_are
       ∙ owned_counted set (has_item own) n within (λ k inside same. have n k is_wanted within inside same))))

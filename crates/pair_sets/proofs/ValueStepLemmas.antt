@@ -64,7 +64,8 @@ some_pair_is_value release sources types =
     (λ concept. has_pairs (record { min = 1; max = None }) types (is_within sources) (in_pairs release concept))
     (λ concept. list_any (λ row. (sources row.source && types row.type_id) && value_eq row.value (concept_value concept)) release.attributes)
     (λ n within. at (get_or release.concepts n 0))
-    ∙ in_force_kept release (λ concept. list_any (λ row. (sources row.source && types row.type_id) && value_eq row.value (concept_value concept)) release.attributes)
+    ∙ in_force_kept release (λ concept. list_any
+    (λ row. (sources row.source && types row.type_id) && value_eq row.value (concept_value concept)) release.attributes)
   where
     at : (concept : ℕ) → has_pairs (record { min = 1; max = None }) types (is_within sources) (in_pairs release concept)
         ≡ list_any (λ row. (sources row.source && types row.type_id) && value_eq row.value (concept_value concept)) release.attributes

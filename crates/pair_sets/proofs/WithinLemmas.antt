@@ -152,4 +152,6 @@ module _ (release : Release) (may : ℕ → Bool) where
 
   pub kept_groups : (set : List Pair → Bool) (some found : List ℕ) → some ≡ groups_where release set → found ≡ filter may some
       → found ≡ groups_within release may set
-  kept_groups set some found some_is found_is = restricted_to (length (all_groups release)) may (λ n. some_group_in release set (slice_get (all_groups release) n)) some found some_is found_is
+  kept_groups set some found some_is found_is =
+      restricted_to (length (all_groups release)) may
+      (λ n. some_group_in release set (slice_get (all_groups release) n)) some found some_is found_is

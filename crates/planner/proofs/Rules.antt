@@ -10,9 +10,39 @@ pub ruleset costing =
     (plan_of-And, plan_of-Or, plan_of-Values, unit_plan_of-And, unit_plan_of-Or, capped_product, drop_further, drop_leaf, plan_count-parts, group_count-parts)
 
 -- for those that list bounds
-pub ruleset listing =
-    (plan_of-And, plan_of-Or, plan_of-Values, unit_plan_of-And, unit_plan_of-Or, capped_product, drop_further, drop_leaf, plan_count-parts, group_count-parts, put_seam, put_seam_two)
+pub ruleset listing = (
+  plan_of-And,
+  plan_of-Or,
+  plan_of-Values,
+  unit_plan_of-And,
+  unit_plan_of-Or,
+  capped_product,
+  drop_further,
+  drop_leaf,
+  plan_count-parts,
+  group_count-parts,
+  put_seam,
+  put_seam_two,
+)
 
 -- for those that choose
-pub ruleset settling =
-    (plan_of-And, plan_of-Or, plan_of-Values, unit_plan_of-And, unit_plan_of-Or, drop_further, drop_leaf, plan_count-parts, put_seam, put_seam_two, append_assoc, append-nil, drop_chosen, group_drop_chosen, group_leads_chosen, group_size_chosen, leads_chosen, size_chosen)
+pub ruleset settling = (
+  plan_of-And,
+  plan_of-Or,
+  plan_of-Values,
+  unit_plan_of-And,
+  unit_plan_of-Or,
+  drop_further,
+  drop_leaf,
+  plan_count-parts,
+  put_seam,
+  put_seam_two,
+  append_assoc,
+  append-nil,
+  drop_chosen,
+  group_drop_chosen,
+  group_leads_chosen,
+  group_size_chosen,
+  leads_chosen,
+  size_chosen,
+)

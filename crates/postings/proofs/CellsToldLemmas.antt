@@ -54,11 +54,13 @@ module _ (inside : Inside) (are : AreIndexed inside) (now : Indexed) (same : ind
         ∙ row_at inside are now same n d.row here
 
     -- the flags of a column are those of the rows
-    flag : (column : List Flagged) (test : Entry → Bool) → map (λ (mark : Flagged). mark.is_first) (map (mark_at column) inside.rows.places.items) ≡ map test (entries_of rows)
+    flag : (column : List Flagged) (test : Entry → Bool)
+        → map (λ (mark : Flagged). mark.is_first) (map (mark_at column) inside.rows.places.items) ≡ map test (entries_of rows)
         → (mark_at column (get_or inside.rows.places.items n 0)).is_first ≡ test entry
     flag column test same_flags =
         let some : Flagged = mark_at column 0 in
-        ap (λ (mark : Flagged). mark.is_first) (sym (get_or-map (mark_at column) inside.rows.places.items n 0 some (row_there inside are now same n below).place))
+        ap (λ (mark : Flagged). mark.is_first) (sym (get_or-map (mark_at column) inside.rows.places.items n 0 some
+        (row_there inside are now same n below).place))
         ∙ sym (get_or-map (λ (mark : Flagged). mark.is_first) (map (mark_at column) inside.rows.places.items) n some (test d)
         (omega (arith, (row_there inside are now same n below).place, length-map inside.rows.places.items (mark_at column))))
         ∙ ap (λ (flags : List Bool). get_or flags n (test d)) same_flags

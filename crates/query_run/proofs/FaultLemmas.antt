@@ -25,11 +25,13 @@ module _ (answers : Answers) where
   answers_none written = ([], refl, Appends-nil written)
 
   -- one line has its answer
-  pub answers_one : (before after : Option (List ℕ)) (line text : List ℕ) → answers line text → Appends before after text → AreWritten answers (line ∷ []) before after
+  pub answers_one : (before after : Option (List ℕ)) (line text : List ℕ) → answers line text
+      → Appends before after text → AreWritten answers (line ∷ []) before after
   answers_one before after line text is wrote = (text, (text, [], is, refl, sym (append-nil text)), wrote)
 
   -- the answers to more lines follow
-  answers_append : (lines more : List (List ℕ)) (text others : List ℕ) → AreAnswers answers lines text → AreAnswers answers more others → AreAnswers answers (lines ++ more) (text ++ others)
+  answers_append : (lines more : List (List ℕ)) (text others : List ℕ) → AreAnswers answers lines text
+      → AreAnswers answers more others → AreAnswers answers (lines ++ more) (text ++ others)
   answers_append [] more text others none are = subst (λ (bytes : List ℕ). AreAnswers answers more (bytes ++ others)) (sym none) are
   answers_append (line ∷ lines) more text others (first, rest, is, are, joined) follow = (
     first,
@@ -63,10 +65,12 @@ module _ (answers : Answers) where
       next,
       place,
       omega (arith, length-append done lines),
-      subst (λ (found : List (List ℕ)). AreAnswers answers found (text ++ whole)) (sym (take-append-add done lines count)) (answers_append done (take count lines) text whole are wholes),
+      subst (λ (found : List (List ℕ)). AreAnswers answers found (text ++ whole))
+          (sym (take-append-add done lines count)) (answers_append done (take count lines) text whole are wholes),
       subst (λ (line : List ℕ). answers line next) (sym (get_or-append-add done lines count [])) is,
       less,
-      subst (Appends before after) (sym (append_assoc text whole (take place next))) (Appends-trans before mid after text (whole ++ take place next) wrote writes),
+      subst (Appends before after) (sym (append_assoc text whole (take place next)))
+          (Appends-trans before mid after text (whole ++ take place next) wrote writes),
     )
 
     -- other lines were answered before
@@ -97,7 +101,8 @@ module _ (answers : Answers) where
     )
 
     -- other lines come behind
-    pub LeavesWritten-more : (fault : RunFault) → LeavesWritten answers lines count fault before after → LeavesWritten answers (lines ++ more) count fault before after
+    pub LeavesWritten-more : (fault : RunFault) → LeavesWritten answers lines count fault before after
+        → LeavesWritten answers (lines ++ more) count fault before after
     LeavesWritten-more (Read answered) writes = first_of_more writes
     LeavesWritten-more (Write answered) writes = part_of_more writes
     LeavesWritten-more (Memory answered) writes = first_of_more writes
@@ -107,11 +112,13 @@ module _ (answers : Answers) where
   pub one_unwritten : (written : Option (List ℕ)) (line : List ℕ) → WritesFirst answers (line ∷ []) 0 written written
   one_unwritten written line = (omega arith, answers_none written)
 
-  pub one_part : (before after : Option (List ℕ)) (line text : List ℕ) (place : ℕ) → answers line text → place < length text → Appends before after (take place text)
+  pub one_part : (before after : Option (List ℕ)) (line text : List ℕ) (place : ℕ) → answers line text
+      → place < length text → Appends before after (take place text)
       → WritesPart answers (line ∷ []) 0 before after
   one_part before after line text place is less wrote = ([], text, place, omega arith, refl, is, less, wrote)
 
-  pub leaves_one : (before after : Option (List ℕ)) (line waits : List ℕ) (fault : AnswerFault) (count : ℕ) → LeavesAnswer (answers line) fault before after [] waits
+  pub leaves_one : (before after : Option (List ℕ)) (line waits : List ℕ) (fault : AnswerFault) (count : ℕ)
+      → LeavesAnswer (answers line) fault before after [] waits
       → LeavesWritten answers (line ∷ []) 0 (run_fault_of fault count) before after
   leaves_one before after line waits answer.Memory count (same, none) =
       subst (λ (written : Option (List ℕ)). WritesFirst answers (line ∷ []) 0 before written) (sym same) (one_unwritten before line)

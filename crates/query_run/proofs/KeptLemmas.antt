@@ -54,8 +54,10 @@ module _ (answers : Answers) (same_front : (one other text : List ℕ) → kept_
   answer_kept : (end text : List ℕ) → answers (kept ++ end) text → answers (line ++ end) text
   answer_kept end text = same_front (kept ++ end) (line ++ end) text (ap (λ (front : List ℕ). kept_of (front ++ end)) is ∙ kept_twice line end)
 
-  pub written_kept : (end : List ℕ) (before after : Option (List ℕ)) → AreWritten answers ((kept ++ end) ∷ []) before after → AreWritten answers ((line ++ end) ∷ []) before after
-  written_kept end before after (text, (first, rest, answered, none, joined), wrote) = (text, (first, rest, answer_kept end first answered, none, joined), wrote)
+  pub written_kept : (end : List ℕ) (before after : Option (List ℕ))
+      → AreWritten answers ((kept ++ end) ∷ []) before after → AreWritten answers ((line ++ end) ∷ []) before after
+  written_kept end before after (text, (first, rest, answered, none, joined), wrote) =
+      (text, (first, rest, answer_kept end first answered, none, joined), wrote)
 
   pub leaves_kept : (end : List ℕ) (fault : RunFault) (before after : Option (List ℕ))
       → LeavesWritten answers ((kept ++ end) ∷ []) 0 fault before after → LeavesWritten answers ((line ++ end) ∷ []) 0 fault before after
@@ -67,7 +69,8 @@ module _ (answers : Answers) (same_front : (one other text : List ℕ) → kept_
 
   module _ (clear : HasNoFeed line) where
     -- the last line of an input
-    pub last_written : (before after : Option (List ℕ)) → AreWritten answers (query_lines kept) before after → AreWritten answers (query_lines line) before after
+    pub last_written : (before after : Option (List ℕ)) → AreWritten answers (query_lines kept) before after
+        → AreWritten answers (query_lines line) before after
     last_written before after wrote = elim (last_line line kept is clear) [
       | inl none ↦ subst (λ (text : List ℕ). AreWritten answers (query_lines text) before after) (none.1 ∙ sym none.0) wrote
       | inr one ↦

@@ -112,6 +112,7 @@ IsCutInto-unended bytes lines pending piece cut clear =
     (IsCutInto-then bytes lines pending piece [] (pending ++ piece) cut next)
 
 -- at the end the pending bytes are the last line, unless there are none
-pub query_lines_cut : (bytes : List ℕ) (lines : List (List ℕ)) (pending : List ℕ) → IsCutInto bytes lines pending → query_lines bytes ≡ lines ++ query_lines pending
+pub query_lines_cut : (bytes : List ℕ) (lines : List (List ℕ)) (pending : List ℕ) → IsCutInto bytes lines pending
+    → query_lines bytes ≡ lines ++ query_lines pending
 query_lines_cut bytes lines pending cut =
     ap query_lines (sym (append-nil bytes)) ∙ cut.goes_on [] ∙ ap (λ (text : List ℕ). lines ++ query_lines text) (append-nil pending)

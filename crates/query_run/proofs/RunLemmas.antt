@@ -17,7 +17,9 @@ HasStopped answers input_old input_new output_old output_new fault =
     × LeavesWritten answers (query_lines read) (whole_answers fault) fault output_old output_new
     × AnswersEnded fault read
 
-module _ (answers : Answers) (read : List ℕ) (lines : List (List ℕ)) (pending : List ℕ) (cut : IsCutInto read lines pending) (answered : ℕ) (count : answered ≡ length lines) (output_old mid : Option (List ℕ)) (wrote : AreWritten answers lines output_old mid) where
+module _ (answers : Answers) (read : List ℕ) (lines : List (List ℕ)) (pending : List ℕ)
+    (cut : IsCutInto read lines pending) (answered : ℕ) (count : answered ≡ length lines)
+    (output_old mid : Option (List ℕ)) (wrote : AreWritten answers lines output_old mid) where
   -- the lines that have ended are the first ones
   pub WritesFirst_cut : WritesFirst answers (query_lines read) answered output_old mid
   WritesFirst_cut =
@@ -31,7 +33,8 @@ module _ (answers : Answers) (read : List ℕ) (lines : List (List ℕ)) (pendin
   feeds_cut = count ∙ cut.feeds
 
   -- a fault of an answer to one of the lines that follow
-  pub HasStopped_in : (fault : RunFault) (more : List (List ℕ)) (further : ℕ) (failed : Bool) (bytes : List ℕ) (input_old input_new output_new : Option (List ℕ))
+  pub HasStopped_in : (fault : RunFault) (more : List (List ℕ)) (further : ℕ) (failed : Bool) (bytes : List ℕ)
+      (input_old input_new output_new : Option (List ℕ))
       → Consumes input_old input_new bytes → query_lines bytes ≡ lines ++ more → IsAnswerFault fault (answered + further) failed
       → LeavesWritten answers more further fault mid output_new → HasStopped answers input_old input_new output_old output_new fault
   HasStopped_in fault more further failed bytes input_old input_new output_new consumed all is leaves =
@@ -63,7 +66,9 @@ module _ (answers : Answers) (read : List ℕ) (lines : List (List ℕ)) (pendin
         (answers_then answers output_old mid output_new lines (query_lines pending) wrote is))
     finish_answers (Err fault) at_end is = is
 
-    pub finish_fault : (result : Result ℕ RunFault) (failed : Bool) → IfErr result (λ fault. IsAnswerFault fault answered failed × LeavesWritten answers (query_lines pending) 0 fault mid output_new)
+    pub finish_fault : (result : Result ℕ RunFault) (failed : Bool)
+        → IfErr result (λ fault. IsAnswerFault fault answered failed
+        × LeavesWritten answers (query_lines pending) 0 fault mid output_new)
         → IfErr result (HasStopped answers input_old input_new output_old output_new)
     finish_fault (Ok total) failed is = is
     finish_fault (Err fault) failed is =

@@ -28,7 +28,8 @@ use Rattle.command_line.specs.declared.words.Mode.{Mode}
 use Rattle.command_line.specs.declared.words.Mode.TheVariants.{Sample, Query, Explain, Check}
 
 -- a fault that came while a release was served, and was told by its line
-pub stops_with : {R W E : Type 0} (r : Input R) (w : Output W) (e : Output E) (mode : Mode) (contents : Contents) (fault : RunFault) (status : Status) (before after : Streams R W E)
+pub stops_with : {R W E : Type 0} (r : Input R) (w : Output W) (e : Output E) (mode : Mode) (contents : Contents)
+    (fault : RunFault) (status : Status) (before after : Streams R W E)
     → status ≡ status_of fault → IsCut r w mode fault contents before after
     → HaveFailed fault (r.has_failed after.input) (w.has_failed after.output) → CountsTurns fault (r.read_count before.input) (r.read_count after.input)
     → IsTold e before.errors after.errors (fault_text fault) → ServesWith r w e mode contents status before after
@@ -44,7 +45,8 @@ stops_with r w e mode contents fault status before after is cut failed turns tol
     by (Turns count) cut failed turns told = record { fault = Turns count; ends = refl; served = cut; failed = failed; turns = turns; told = told }
 
 -- files that were refused, and nothing was read or written
-pub refuses_with : {R W E : Type 0} (r : Input R) (w : Output W) (e : Output E) (task : Task) (fault : LoadFault) (status : Status) (input : R) (output : W) (before after : E)
+pub refuses_with : {R W E : Type 0} (r : Input R) (w : Output W) (e : Output E) (task : Task) (fault : LoadFault)
+    (status : Status) (input : R) (output : W) (before after : E)
     → task.loaded ≡ Err fault → TellsLoadFault e task.names fault status before after
     → EndsWith r w e task status (streams input output before) (streams input output after)
 refuses_with r w e task fault Done input output before after is told = absurd told
@@ -103,8 +105,10 @@ only_memory : (fault : LoadFault) → IsFaultOf fault (Ok sample_contents) → (
 only_memory fault said other = let clash : Ok sample_contents ≡ Err fault = said other in (cc)
 
 -- only for want of memory it is not
-pub refuses_sample : {R W E : Type 0} (r : Input R) (w : Output W) (e : Output E) (fault : LoadFault) (status : Status) (input : R) (output : W) (before after : E)
-    → IsFaultOf fault (Ok sample_contents) → TellsLoadFault e [] fault status before after → EndsWith r w e sample_task status (streams input output before) (streams input output after)
+pub refuses_sample : {R W E : Type 0} (r : Input R) (w : Output W) (e : Output E) (fault : LoadFault)
+    (status : Status) (input : R) (output : W) (before after : E)
+    → IsFaultOf fault (Ok sample_contents) → TellsLoadFault e [] fault status before after
+    → EndsWith r w e sample_task status (streams input output before) (streams input output after)
 refuses_sample r w e fault Done input output before after said told = absurd told
 refuses_sample r w e fault DeviceFault input output before after said told =
     absurd (only_memory fault said (λ memory. let clash : MemoryRefused ≡ DeviceFault = ap refusal_status_of (sym memory) ∙ told.0 in (cc)))
@@ -114,11 +118,13 @@ refuses_sample r w e fault ReleaseRefused input output before after said told =
 refuses_sample r w e fault MemoryRefused input output before after said told = inr (record { read = refl; written = refl; told = told })
 
 -- what a load of a source's files answered, where it tells its files
-pub loaded_whole : (told : Option (List FileText)) (limits : Limits) (language : List ℕ) (names : List (List ℕ)) (contents : Contents) → limits ≡ standard_limits
+pub loaded_whole : (told : Option (List FileText)) (limits : Limits) (language : List ℕ) (names : List (List ℕ))
+    (contents : Contents) → limits ≡ standard_limits
     → IfSome told (λ known. load_of limits language (listed known names) ≡ Ok contents) → IfSome told (λ known. AreInOrder known names ⊎ ⊥)
     → IfSome told (λ known. IsLoadOf known language names (Ok contents))
 loaded_whole None limits language names contents same loads ordered = tt
-loaded_whole (Some known) limits language names contents same loads (inl order) = (order, ap (λ (l : Limits). load_of l language (listed known names)) (sym same) ∙ loads)
+loaded_whole (Some known) limits language names contents same loads (inl order) =
+    (order, ap (λ (l : Limits). load_of l language (listed known names)) (sym same) ∙ loads)
 loaded_whole (Some known) limits language names contents same loads (inr none) = absurd none
 
 pub loaded_not : (told : Option (List FileText)) (limits : Limits) (language : List ℕ) (names : List (List ℕ)) (fault : LoadFault) → limits ≡ standard_limits
@@ -136,7 +142,8 @@ pub counts_device : {X : Type 0} (text : X → List ℕ) (items : List X) (old n
     → (is_device fault ≡ true → FailsToList old new (map text items) fault ⊎ FailsBelow (length items) old new fault)
     → is_device fault ≡ true → FailsToList old new (map text items) fault ⊎ FailsBelow (length (map text items)) old new fault
 counts_device text items old new fault said =
-    subst (λ (count : ℕ). is_device fault ≡ true → FailsToList old new (map text items) fault ⊎ FailsBelow count old new fault) (sym (length-map items text)) said
+    subst (λ (count : ℕ). is_device fault ≡ true
+    → FailsToList old new (map text items) fault ⊎ FailsBelow count old new fault) (sym (length-map items text)) said
 
 -- what is said of want of memory behind a load
 pub loaded_no_more : (told : Option (List FileText)) (language : List ℕ) (names : List (List ℕ)) (fault : LoadFault) → fault ≡ load.Memory
@@ -151,7 +158,8 @@ asked_as told old new lent language mode asked task is same task_is =
     subst (λ (m : Mode). IsTask told old new language m task) (sym is) (subst (λ (code : List ℕ). IsTask told old new code mode task) same task_is)
 
 -- a report that was written whole
-pub ends_reported : {R W E : Type 0} (r : Input R) (w : Output W) (e : Output E) (task : Task) (contents : Contents) (text : List ℕ) (input : R) (before after : W) (errors : E)
+pub ends_reported : {R W E : Type 0} (r : Input R) (w : Output W) (e : Output E) (task : Task) (contents : Contents)
+    (text : List ℕ) (input : R) (before after : W) (errors : E)
     → task.mode ≡ Check → task.loaded ≡ Ok contents → text ≡ report_text (report_of contents)
     → Appends (w.written before) (w.written after) text → r.has_failed input ≡ false → w.has_failed after ≡ false
     → EndsWith r w e task Done (streams input before errors) (streams input after errors)
@@ -167,7 +175,8 @@ ends_reported r w e task contents text input before after errors mode loads is w
 })
 
 -- a report that was written in part
-pub ends_cut : {R W E : Type 0} (r : Input R) (w : Output W) (e : Output E) (task : Task) (contents : Contents) (text : List ℕ) (input : R) (before after : W) (errors told : E) (status : Status)
+pub ends_cut : {R W E : Type 0} (r : Input R) (w : Output W) (e : Output E) (task : Task) (contents : Contents)
+    (text : List ℕ) (input : R) (before after : W) (errors told : E) (status : Status)
     → task.mode ≡ Check → task.loaded ≡ Ok contents → text ≡ report_text (report_of contents) → status ≡ DeviceFault
     → (place : ℕ) × (place < length text) × Appends (w.written before) (w.written after) (take place text)
     → r.has_failed input ≡ false → w.has_failed after ≡ true → IsTold e errors told (fault_text (Write 0))

@@ -149,7 +149,8 @@ pub record IsDone {R W E : Type 0} (r : Input R) (w : Output W) (mode : Mode) (c
 
 -- status 1, or 4 where memory was refused in a run: what was read and written until the fault, of which
 -- stream it is, and the line that tells of it
-pub record IsStopped {R W E : Type 0} (r : Input R) (w : Output W) (e : Output E) (mode : Mode) (contents : Contents) (status : Status) (before after : Streams R W E) : Type 0 where
+pub record IsStopped {R W E : Type 0} (r : Input R) (w : Output W) (e : Output E) (mode : Mode) (contents : Contents)
+    (status : Status) (before after : Streams R W E) : Type 0 where
   pub fault : RunFault
   pub ends : status_of fault ≡ status
   pub served : IsCut r w mode fault contents before after
@@ -181,7 +182,8 @@ ServesWith r w e mode contents ReleaseRefused before after = ⊥
 ServesWith r w e mode contents MemoryRefused before after = IsStopped r w e mode contents MemoryRefused before after
 
 -- the release that is asked for was loaded and served
-pub record IsLoadedAndServed {R W E : Type 0} (r : Input R) (w : Output W) (e : Output E) (task : Task) (status : Status) (before after : Streams R W E) : Type 0 where
+pub record IsLoadedAndServed {R W E : Type 0} (r : Input R) (w : Output W) (e : Output E) (task : Task)
+    (status : Status) (before after : Streams R W E) : Type 0 where
   pub contents : Contents
   pub loaded : task.loaded ≡ Ok contents
   pub ended : ServesWith r w e task.mode contents status before after

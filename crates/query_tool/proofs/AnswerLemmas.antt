@@ -36,7 +36,9 @@ pub one_answer_each : ((text : List ℕ) (one other : Tree) → IsConstraint tex
     → HasOneAnswer
 one_answer_each trees refusals not_both contents line one other (inl (tree, is, text)) (inl (tree_2, is_2, text_2)) =
     text ∙ ap (constraint_answer contents) (trees line tree tree_2 is is_2) ∙ sym text_2
-one_answer_each trees refusals not_both contents line one other (inl (tree, is, text)) (inr (fault, refused, text_2)) = absurd (not_both line tree fault is refused)
-one_answer_each trees refusals not_both contents line one other (inr (fault, refused, text)) (inl (tree, is, text_2)) = absurd (not_both line tree fault is refused)
+one_answer_each trees refusals not_both contents line one other (inl (tree, is, text))
+    (inr (fault, refused, text_2)) = absurd (not_both line tree fault is refused)
+one_answer_each trees refusals not_both contents line one other (inr (fault, refused, text))
+    (inl (tree, is, text_2)) = absurd (not_both line tree fault is refused)
 one_answer_each trees refusals not_both contents line one other (inr (fault, refused, text)) (inr (fault_2, refused_2, text_2)) =
     text ∙ ap refusal_text (refusals line fault fault_2 refused refused_2) ∙ sym text_2

@@ -3,7 +3,9 @@ use Rattle.std.proofs.Common.{◌≡◌, [], ◌∷◌, refl}
 use Rattle.release_files.specs.Lines.{lines_of}
 
 -- CR LF, LF alone, and a last line without an end
-each_end : lines_of (97 ∷ 13 ∷ 10 ∷ 98 ∷ 10 ∷ 99 ∷ []) ≡ record { number = 1; end = 3; bytes = 97 ∷ [] } ∷ record { number = 2; end = 5; bytes = 98 ∷ [] } ∷ record { number = 3; end = 6; bytes = 99 ∷ [] } ∷ []
+each_end : lines_of (97 ∷ 13 ∷ 10 ∷ 98 ∷ 10 ∷ 99 ∷ [])
+    ≡ record { number = 1; end = 3; bytes = 97 ∷ [] } ∷ record { number = 2; end = 5; bytes = 98 ∷ [] }
+    ∷ record { number = 3; end = 6; bytes = 99 ∷ [] } ∷ []
 unfolding lines_of
 each_end = refl
 

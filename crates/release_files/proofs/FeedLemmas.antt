@@ -49,7 +49,8 @@ rest_clear bytes place at before none k below is = ⊎_elim
     (λ (earlier : k < place). before k earlier is)
     (λ (later : place ≤ k).
     let step : place + (k - place) ≡ k = omega (arith, later) in
-    none (k - place) (omega (arith, below, later)) (ap (λ (byte : ℕ). eqb byte 10) (get_or-drop place bytes (k - place) 0 ∙ (λ i. get_or bytes (step i) 0)) ∙ is))
+    none (k - place) (omega (arith, below, later))
+    (ap (λ (byte : ℕ). eqb byte 10) (get_or-drop place bytes (k - place) 0 ∙ (λ i. get_or bytes (step i) 0)) ∙ is))
     (cases_lt k place)
 
 pub rest_feed : (bytes : List ℕ) (place at : ℕ) → place ≤ length bytes → NoFeed bytes place → at < length (drop place bytes) → NoFeed (drop place bytes) at

@@ -20,10 +20,12 @@ front_clear bytes at fits none k d below is =
 pub clear_further : (bytes : List ℕ) (searched at : ℕ) → HasNoFeed (take searched bytes) → at ≤ length (drop searched bytes) → NoFeed (drop searched bytes) at
     → HasNoFeed (take (searched + at) bytes)
 clear_further bytes searched at clear fits none =
-    rw (take-add searched at bytes) (All-append (λ byte. byte ≢ 10) (take searched bytes) (take at (drop searched bytes)) clear (front_clear (drop searched bytes) at fits none))
+    rw (take-add searched at bytes) (All-append (λ byte. byte ≢ 10) (take searched bytes)
+    (take at (drop searched bytes)) clear (front_clear (drop searched bytes) at fits none))
 
 -- the first line feed ends a part
-pub ended_part : (bytes : List ℕ) (at : ℕ) → at < length bytes → HasNoFeed (take at bytes) → eqb (get_or bytes at 0) 10 ≡ true → IsEndedPart (take (suc at) bytes)
+pub ended_part : (bytes : List ℕ) (at : ℕ) → at < length bytes → HasNoFeed (take at bytes)
+    → eqb (get_or bytes at 0) 10 ≡ true → IsEndedPart (take (suc at) bytes)
 ended_part bytes at fits clear is rest =
     let whole : take (suc at) bytes ≡ take at bytes ++ 10 ∷ [] =
     take-suc bytes at 0 fits ∙ ap (λ (byte : ℕ). take at bytes ++ byte ∷ []) (eqb-true (get_or bytes at 0) 10 is) in
@@ -59,7 +61,8 @@ pub KeepsBytes-refl : (rest : Option (List ℕ)) (held : List ℕ) → KeepsByte
 KeepsBytes-refl None held = tt
 KeepsBytes-refl (Some rest) held = refl
 
-pub KeepsBytes-trans : (first next last : Option (List ℕ)) (old mid new : List ℕ) → KeepsBytes first next old mid → KeepsBytes next last mid new → KeepsBytes first last old new
+pub KeepsBytes-trans : (first next last : Option (List ℕ)) (old mid new : List ℕ) → KeepsBytes first next old mid
+    → KeepsBytes next last mid new → KeepsBytes first last old new
 KeepsBytes-trans None next last old mid new before after = tt
 KeepsBytes-trans (Some first) None last old mid new before after = absurd before
 KeepsBytes-trans (Some first) (Some next) None old mid new before after = absurd after
@@ -98,7 +101,9 @@ grows_read before after held items moved grown read start filled count is move r
     let front : take at read ≡ held =
     kept ∙ sym (take-take at (length moved) grown room) ∙ ap (take at) grow ∙ move ∙ sym is in record {
       piece = piece;
-      held = ap (λ (n : ℕ). take n read) all_is ∙ take-add at count read ∙ ap (λ (bytes : List ℕ). bytes ++ take count (drop at read)) front ∙ ap (λ (n : ℕ). held ++ take n (drop at read)) count_is;
+      held = ap (λ (n : ℕ). take n read) all_is ∙ take-add at count read
+          ∙ ap (λ (bytes : List ℕ). bytes ++ take count (drop at read)) front
+          ∙ ap (λ (n : ℕ). held ++ take n (drop at read)) count_is;
       counted = omega (arith, length-take (at + count - at) (drop at read), length-drop at read);
       consumed = consumes;
       end = end;
@@ -119,7 +124,8 @@ take_nothing zero = refl
 take_nothing (suc count) = refl
 
 -- bytes that were read are no longer among those that may be read
-reached_bytes : (before after : Option (List ℕ)) (piece : List ℕ) (left new_left count : ℕ) → Consumes before after piece → length piece ≡ count → count ≤ left → new_left ≡ left - count
+reached_bytes : (before after : Option (List ℕ)) (piece : List ℕ) (left new_left count : ℕ)
+    → Consumes before after piece → length piece ≡ count → count ≤ left → new_left ≡ left - count
     → Consumes (reachable left before) (reachable new_left after) piece
 unfolding reachable
 reached_bytes None after piece left new_left count consumes counted few less = tt

@@ -14,7 +14,8 @@ parts_onto : (byte : ℕ) (bytes : List ℕ) → (eqb byte 10 ≡ true → ⊥) 
 parts_onto byte bytes other = rw (false_from_ne_true (eqb byte 10) other) refl
 
 -- the first part goes up to the first line feed
-pub parts_first : (bytes : List ℕ) (at : ℕ) → at < length bytes → NoFeed bytes at → eqb (get_or bytes at 0) 10 ≡ true → parts bytes ≡ take (suc at) bytes ∷ parts (drop (suc at) bytes)
+pub parts_first : (bytes : List ℕ) (at : ℕ) → at < length bytes → NoFeed bytes at → eqb (get_or bytes at 0) 10 ≡ true
+    → parts bytes ≡ take (suc at) bytes ∷ parts (drop (suc at) bytes)
 parts_first [] at fits none is = absurd (omega arith)
 parts_first (byte ∷ bytes) zero fits none is = rw is refl
 parts_first (byte ∷ bytes) (suc at) fits none is =
@@ -72,7 +73,8 @@ lines_of_parts (byte ∷ bytes) =
     let rest = lines_of_parts bytes in
     elim (cases_eq byte 10) [
       | inl is ↦ rw (eq-eqb byte 10 is) (rw is (ended [] (parts bytes) (All-nil (λ x. x ≢ 10)) rest.0), ap (λ bytes. byte ∷ bytes) rest.1)
-      | inr other ↦ rw (parts_onto byte bytes (λ is. other (eqb-true byte 10 is))) (lines_onto byte (parts bytes) other rest.0, concat_onto byte (parts bytes) ∙ ap (λ bytes. byte ∷ bytes) rest.1)
+      | inr other ↦ rw (parts_onto byte bytes (λ is. other (eqb-true byte 10 is)))
+          (lines_onto byte (parts bytes) other rest.0, concat_onto byte (parts bytes) ∙ ap (λ bytes. byte ∷ bytes) rest.1)
     ]
 
 -- so they are the one way to cut it into lines

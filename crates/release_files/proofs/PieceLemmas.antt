@@ -8,7 +8,8 @@ use Rattle.release_files.specs.declared.piece_lines.Stage.TheVariants.{Fresh, Be
 use Rattle.release_files.proofs.Parts.{length-parts, lines_of_parts}
 
 -- as long as no count reaches u64::MAX, lines are counted as they are numbered
-counted_numbered : (number end : ℕ) (cut : List (List ℕ)) → number + length cut < 2 ^ 64 → end + length (concat cut) < 2 ^ 64 → counted_lines number end cut ≡ numbered number end cut
+counted_numbered : (number end : ℕ) (cut : List (List ℕ)) → number + length cut < 2 ^ 64
+    → end + length (concat cut) < 2 ^ 64 → counted_lines number end cut ≡ numbered number end cut
 counted_numbered number end [] few short = refl
 counted_numbered number end (part ∷ cut) few short =
     let same_number : counted number 1 ≡ number + 1 = omega arith in

@@ -15,7 +15,8 @@ counted count more = min (count + more) (2 ^ 64 - 1)
 abbrev pub counted_lines : ℕ → ℕ → List (List ℕ) → List LineText
 counted_lines number end [] = []
 counted_lines number end (part ∷ parts) =
-    record { number = counted number 1; end = counted end (length part); bytes = part_text part } ∷ counted_lines (counted number 1) (counted end (length part)) parts
+    record { number = counted number 1; end = counted end (length part); bytes = part_text part }
+    ∷ counted_lines (counted number 1) (counted end (length part)) parts
 
 -- the lines of the bytes that were not cut yet: before the first line a byte order mark is dropped
 abbrev pub lines_at : Stage → ℕ → ℕ → List ℕ → List LineText

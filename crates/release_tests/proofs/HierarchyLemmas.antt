@@ -12,7 +12,8 @@ pub record HasLists (index : Hierarchy) (concept : ℕ) : Type 0 where
   pub parents : concept < length index.parents
   pub children : concept < length index.children
 
-pub concept_has_lists : (release : Release) (index : Hierarchy) (concept : ℕ) → index ≡ hierarchy_of release → concept < length release.concepts → HasLists index concept
+pub concept_has_lists : (release : Release) (index : Hierarchy) (concept : ℕ) → index ≡ hierarchy_of release
+    → concept < length release.concepts → HasLists index concept
 concept_has_lists release index concept is below =
     subst (λ (index : Hierarchy). HasLists index concept) (sym is) (record {
       ancestors = listed (λ a b. reaches release.isa (id a) (id b));

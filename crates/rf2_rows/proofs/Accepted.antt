@@ -26,13 +26,22 @@ few_fields kind line accepted = grind (arith, width_of_line kind line accepted)
 abbrev pub format_at : List Column → ℕ → Format
 format_at columns place = (get_or columns place (column [] (id_format Concept))).format
 
-no_cause_at : (number : ℕ) (columns : List Column) (texts : List (List ℕ)) (place : ℕ) → length texts ≡ length columns → first_column_fault number columns texts ≡ None → place < length columns → cause_of (format_at columns place) (get_or texts place []) ≡ None
+no_cause_at : (number : ℕ) (columns : List Column) (texts : List (List ℕ)) (place : ℕ)
+    → length texts ≡ length columns → first_column_fault number columns texts ≡ None → place < length columns
+    → cause_of (format_at columns place) (get_or texts place []) ≡ None
 no_cause_at number (column ∷ columns) (text ∷ texts) zero width accepted inside = grind arith
-no_cause_at number (column ∷ columns) (text ∷ texts) (suc place) width accepted inside = grind (arith, common_steps, nat_tests, (no_cause_at (number + 1) columns texts place (omega arith) (grind arith) (omega arith)))
+no_cause_at number (column ∷ columns) (text ∷ texts) (suc place) width accepted inside =
+    grind (
+      arith,
+      common_steps,
+      nat_tests,
+      (no_cause_at (number + 1) columns texts place (omega arith) (grind arith) (omega arith)),
+    )
 no_cause_at number _ _ place width accepted inside = absurd (omega arith)
 
 -- and none of their texts has a cause to be refused
-pub accepted_at : (kind : FileKind) (fields : List (List ℕ)) (place : ℕ) → fields_fault kind fields ≡ None → place < length (columns_of kind) → cause_of (format_at (columns_of kind) place) (get_or fields place []) ≡ None
+pub accepted_at : (kind : FileKind) (fields : List (List ℕ)) (place : ℕ) → fields_fault kind fields ≡ None
+    → place < length (columns_of kind) → cause_of (format_at (columns_of kind) place) (get_or fields place []) ≡ None
 accepted_at kind fields place accepted inside = grind (arith, common_steps, nat_tests, eq-eqb, no_cause_at, width_of_fields)
 
 -- the time of an accepted text has eight digits

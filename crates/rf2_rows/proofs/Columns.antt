@@ -19,14 +19,21 @@ texts_by_place fields count same =
     fill_by_all (text_at fields) (texts_of fields) count [] (length-map fields (λ field. field.now) ∙ same) (λ place below. get_or-texts_of fields place)
 
 -- so they are for the fields of each kind, in which `grind` finds them
-pub five_texts : (fields : List (Bor (List ℕ))) → length fields ≡ 5 → texts_of fields ≡ text_at fields 0 ∷ text_at fields 1 ∷ text_at fields 2 ∷ text_at fields 3 ∷ text_at fields 4 ∷ []
+pub five_texts : (fields : List (Bor (List ℕ))) → length fields ≡ 5
+    → texts_of fields ≡ text_at fields 0 ∷ text_at fields 1 ∷ text_at fields 2 ∷ text_at fields 3 ∷ text_at fields 4 ∷ []
 five_texts fields same = texts_by_place fields 5 same
 
-pub six_texts : (fields : List (Bor (List ℕ))) → length fields ≡ 6 → texts_of fields ≡ text_at fields 0 ∷ text_at fields 1 ∷ text_at fields 2 ∷ text_at fields 3 ∷ text_at fields 4 ∷ text_at fields 5 ∷ []
+pub six_texts : (fields : List (Bor (List ℕ))) → length fields ≡ 6
+    → texts_of fields ≡ text_at fields 0 ∷ text_at fields 1 ∷ text_at fields 2 ∷ text_at fields 3 ∷ text_at fields 4
+    ∷ text_at fields 5 ∷ []
 six_texts fields same = texts_by_place fields 6 same
 
-pub nine_texts : (fields : List (Bor (List ℕ))) → length fields ≡ 9 → texts_of fields ≡ text_at fields 0 ∷ text_at fields 1 ∷ text_at fields 2 ∷ text_at fields 3 ∷ text_at fields 4 ∷ text_at fields 5 ∷ text_at fields 6 ∷ text_at fields 7 ∷ text_at fields 8 ∷ []
+pub nine_texts : (fields : List (Bor (List ℕ))) → length fields ≡ 9
+    → texts_of fields ≡ text_at fields 0 ∷ text_at fields 1 ∷ text_at fields 2 ∷ text_at fields 3 ∷ text_at fields 4
+    ∷ text_at fields 5 ∷ text_at fields 6 ∷ text_at fields 7 ∷ text_at fields 8 ∷ []
 nine_texts fields same = texts_by_place fields 9 same
 
-pub ten_texts : (fields : List (Bor (List ℕ))) → length fields ≡ 10 → texts_of fields ≡ text_at fields 0 ∷ text_at fields 1 ∷ text_at fields 2 ∷ text_at fields 3 ∷ text_at fields 4 ∷ text_at fields 5 ∷ text_at fields 6 ∷ text_at fields 7 ∷ text_at fields 8 ∷ text_at fields 9 ∷ []
+pub ten_texts : (fields : List (Bor (List ℕ))) → length fields ≡ 10
+    → texts_of fields ≡ text_at fields 0 ∷ text_at fields 1 ∷ text_at fields 2 ∷ text_at fields 3 ∷ text_at fields 4
+    ∷ text_at fields 5 ∷ text_at fields 6 ∷ text_at fields 7 ∷ text_at fields 8 ∷ text_at fields 9 ∷ []
 ten_texts fields same = texts_by_place fields 10 same

@@ -17,12 +17,26 @@ module _ {X : Type 0} (same : X → X → Bool) where
   -- what a test leaves of distinct items is distinct
   distinct_kept : (test : X → Bool) (ys : List X) → IsDistinct same ys → IsDistinct same (filter test ys)
   distinct_kept test ys apart =
-      IsDistinct-from_apart same (filter test ys) (AllPairs-filter (λ x y. same x y ≡ false) test ys (λ i j d before within. apart_from_distinct same ys i j d apart before within))
+      IsDistinct-from_apart same (filter test ys)
+      (AllPairs-filter (λ x y. same x y ≡ false) test ys
+      (λ i j d before within. apart_from_distinct same ys i j d apart before within))
 
   distinct_once : (xs : List X) → IsDistinct same (distinct same xs)
   unfolding IsDistinct
   distinct_once [] = tt
-  distinct_once (x ∷ xs) = grind (arith, common_steps, nat_tests, All-weaker, IsDistinct-cons, distinct_kept, filter_passes, not-true, recursion_from_All, (distinct_once xs))
+  distinct_once (x ∷ xs) =
+      grind (
+        arith,
+        common_steps,
+        nat_tests,
+        All-weaker,
+        IsDistinct-cons,
+        distinct_kept,
+        filter_passes,
+        not-true,
+        recursion_from_All,
+        (distinct_once xs),
+      )
 
   module _ (is : IsEquivalence same) where
     -- an item that is the same as one that is not the same as x stays beside x

@@ -27,7 +27,8 @@ kinds_of_files = (refl, refl, refl, refl, refl, refl)
 
 headers :
     (header_of Concept ≡ join_with_byte 9 (codes "id" ∷ codes "effectiveTime" ∷ codes "active" ∷ codes "moduleId" ∷ codes "definitionStatusId" ∷ []))
-    × (header_of Member ≡ join_with_byte 9 (codes "id" ∷ codes "effectiveTime" ∷ codes "active" ∷ codes "moduleId" ∷ codes "refsetId" ∷ codes "referencedComponentId" ∷ []))
+    × (header_of Member ≡ join_with_byte 9 (codes "id" ∷ codes "effectiveTime" ∷ codes "active" ∷ codes "moduleId"
+    ∷ codes "refsetId" ∷ codes "referencedComponentId" ∷ []))
 unfolding header_of
 headers = (refl, refl)
 
@@ -38,7 +39,14 @@ line texts = join_with_byte 9 texts
 published : List ℕ
 published = line (codes "100005" ∷ codes "20240101" ∷ codes "1" ∷ codes "900000000000207008" ∷ codes "900000000000074008" ∷ [])
 
-its_row : concept_row published ≡ record { id = 100005; effective_time = Some 20240101; active = true; module_id = 900000000000207008; definition_status_id = 900000000000074008 }
+its_row : concept_row published
+    ≡ record {
+      id = 100005;
+      effective_time = Some 20240101;
+      active = true;
+      module_id = 900000000000207008;
+      definition_status_id = 900000000000074008;
+    }
 unfolding concept_row published
 its_row = refl
 
@@ -54,13 +62,25 @@ faults_of_concepts = (refl, refl, refl, refl, refl)
 
 -- a line of the Description file with this term
 abbrev described : List ℕ → List ℕ
-described term = line (codes "100014" ∷ codes "20240101" ∷ codes "1" ∷ codes "900000000000207008" ∷ codes "100005" ∷ codes "en" ∷ codes "900000000000013009" ∷ term ∷ codes "900000000000448009" ∷ [])
+described term = line (codes "100014" ∷ codes "20240101" ∷ codes "1" ∷ codes "900000000000207008" ∷ codes "100005"
+    ∷ codes "en" ∷ codes "900000000000013009" ∷ term ∷ codes "900000000000448009" ∷ [])
 
 -- its letter é takes two bytes
 meniere : List ℕ
 meniere = codes "M" ++ (195 ∷ 169 ∷ codes "niere")
 
-its_description : description_row (described meniere) ≡ record { id = 100014; effective_time = Some 20240101; active = true; module_id = 900000000000207008; concept_id = 100005; language_code = codes "en"; type_id = 900000000000013009; term = meniere; case_significance_id = 900000000000448009 }
+its_description : description_row (described meniere)
+    ≡ record {
+      id = 100014;
+      effective_time = Some 20240101;
+      active = true;
+      module_id = 900000000000207008;
+      concept_id = 100005;
+      language_code = codes "en";
+      type_id = 900000000000013009;
+      term = meniere;
+      case_significance_id = 900000000000448009;
+    }
 unfolding description_row meniere
 its_description = refl
 
@@ -92,9 +112,22 @@ no_values = (refl, refl, refl, refl, refl)
 
 -- a line of the Relationship concrete values file with this value
 abbrev valued : List ℕ → List ℕ
-valued value = line (codes "100022" ∷ [] ∷ codes "0" ∷ codes "100005" ∷ codes "101009" ∷ value ∷ codes "7" ∷ codes "102002" ∷ codes "103007" ∷ codes "104001" ∷ [])
+valued value = line (codes "100022" ∷ [] ∷ codes "0" ∷ codes "100005" ∷ codes "101009" ∷ value ∷ codes "7"
+    ∷ codes "102002" ∷ codes "103007" ∷ codes "104001" ∷ [])
 
-its_value : concrete_row (valued (codes "#2.5")) ≡ record { id = 100022; effective_time = None; active = false; module_id = 100005; source_id = 101009; value = number_value (pos 2500000000000000000); relationship_group = 7; type_id = 102002; characteristic_type_id = 103007; modifier_id = 104001 }
+its_value : concrete_row (valued (codes "#2.5"))
+    ≡ record {
+      id = 100022;
+      effective_time = None;
+      active = false;
+      module_id = 100005;
+      source_id = 101009;
+      value = number_value (pos 2500000000000000000);
+      relationship_group = 7;
+      type_id = 102002;
+      characteristic_type_id = 103007;
+      modifier_id = 104001;
+    }
 unfolding concrete_row
 its_value = refl
 
@@ -108,7 +141,15 @@ faults_of_values = (refl, refl)
 abbrev listed : List ℕ → List ℕ
 listed id = line (id ∷ codes "20240101" ∷ codes "1" ∷ codes "100005" ∷ codes "101009" ∷ codes "100014" ∷ [])
 
-its_member : member_row (listed (codes "80000a05-C6DB-5a02-9b8a-0b1c2d3e4f50")) ≡ record { id = 128 ∷ 0 ∷ 10 ∷ 5 ∷ 198 ∷ 219 ∷ 90 ∷ 2 ∷ 155 ∷ 138 ∷ 11 ∷ 28 ∷ 45 ∷ 62 ∷ 79 ∷ 80 ∷ []; effective_time = Some 20240101; active = true; module_id = 100005; refset_id = 101009; referenced_component_id = 100014 }
+its_member : member_row (listed (codes "80000a05-C6DB-5a02-9b8a-0b1c2d3e4f50"))
+    ≡ record {
+      id = 128 ∷ 0 ∷ 10 ∷ 5 ∷ 198 ∷ 219 ∷ 90 ∷ 2 ∷ 155 ∷ 138 ∷ 11 ∷ 28 ∷ 45 ∷ 62 ∷ 79 ∷ 80 ∷ [];
+      effective_time = Some 20240101;
+      active = true;
+      module_id = 100005;
+      refset_id = 101009;
+      referenced_component_id = 100014;
+    }
 unfolding member_row by_index
 its_member = refl
 

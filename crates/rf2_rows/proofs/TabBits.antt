@@ -38,15 +38,28 @@ padded_block bytes k = ap (λ zeros. tab_bits (bytes ++ zeros)) (drop-replicate 
 
 module _ (line : List ℕ) where
   pub tabs_in-shifted : (from to k : ℕ) → from + k ≤ to → tabs_in line from to / 2 ^ k ≡ tabs_in line (from + k) to
-  tabs_in-shifted from to k le = grind (arith, (tab_bits-shifted k (take (to - from) (drop from line))), (drop-take k (to - (from + k)) (drop from line)), (drop-drop k from line))
+  tabs_in-shifted from to k le =
+      grind (
+        arith,
+        (tab_bits-shifted k (take (to - from) (drop from line))),
+        (drop-take k (to - (from + k)) (drop from line)),
+        (drop-drop k from line),
+      )
 
   -- behind the end of the line there are none
   pub tabs_in-past : (from to : ℕ) → length line ≤ to → tabs_in line from to ≡ tab_bits (drop from line)
   tabs_in-past from to past = ap tab_bits (take_all (to - from) (drop from line) (omega (arith, length-drop from line)))
 
   -- the tabs of the last 64 bytes, without those before a place
-  pub tabs_in-last : (from : ℕ) → 64 ≤ length line → from < length line → length line < from + 64 → tab_bits (take 64 (drop (length line - 64) line)) / 2 ^ (from + 64 - length line) ≡ tabs_in line from (from + 64)
-  tabs_in-last from long in_line last = grind (arith, (tabs_in-shifted (length line - 64) (length line) (from + 64 - length line)), (tabs_in-past from (length line)), (tabs_in-past from (from + 64)))
+  pub tabs_in-last : (from : ℕ) → 64 ≤ length line → from < length line → length line < from + 64
+      → tab_bits (take 64 (drop (length line - 64) line)) / 2 ^ (from + 64 - length line) ≡ tabs_in line from (from + 64)
+  tabs_in-last from long in_line last =
+      grind (
+        arith,
+        (tabs_in-shifted (length line - 64) (length line) (from + 64 - length line)),
+        (tabs_in-past from (length line)),
+        (tabs_in-past from (from + 64)),
+      )
 
 -- where a bit is set, a tab stands among the bytes
 some_tab : (bytes : List ℕ) → 0 < tab_bits bytes → prefix_len (λ byte. not (byte == 9)) bytes < length bytes
@@ -73,17 +86,33 @@ module _ (line : List ℕ) (from to : ℕ) where
   clear_front : NoTab line from (from + prefix_len (λ byte. not (byte == 9)) (take (to - from) (drop from line)))
   clear_front k above below =
       let bytes = take (to - from) (drop from line) in
-      grind (arith, nat_tests, size, (prefix_len-le-length (λ byte. not (byte == 9)) bytes), (byte_at (k - from)), (prefix_len_passes (λ byte. not (byte == 9)) bytes (k - from) 0))
+      grind (
+        arith,
+        nat_tests,
+        size,
+        (prefix_len-le-length (λ byte. not (byte == 9)) bytes),
+        (byte_at (k - from)),
+        (prefix_len_passes (λ byte. not (byte == 9)) bytes (k - from) 0),
+      )
 
   first_tab : to ≤ from + 64 → 0 < tabs_in line from to → FirstTab line from to (next_tab line from to)
   first_tab few some =
       let bytes = take (to - from) (drop from line) in
-      let counted : count_trailing_zeros 64 (tabs_in line from to) ≡ prefix_len (λ (byte : ℕ). not (byte == 9)) bytes = trailing_mask_l (λ byte. byte == 9) 64 bytes (omega (arith, size)) some in
+      let counted : count_trailing_zeros 64 (tabs_in line from to)
+      ≡ prefix_len (λ (byte : ℕ). not (byte == 9)) bytes =
+      trailing_mask_l (λ byte. byte == 9) 64 bytes (omega (arith, size)) some in
       rw counted (record {
         before = omega (arith, size, some_tab bytes some);
         in_line = omega (arith, size, some_tab bytes some);
         clear = clear_front;
-        is = grind (arith, nat_tests, size, (some_tab bytes some), (byte_at (prefix_len (λ (byte : ℕ). not (byte == 9)) bytes)), (prefix_len_stops (λ (byte : ℕ). not (byte == 9)) bytes 0 (some_tab bytes some)));
+        is = grind (
+          arith,
+          nat_tests,
+          size,
+          (some_tab bytes some),
+          (byte_at (prefix_len (λ (byte : ℕ). not (byte == 9)) bytes)),
+          (prefix_len_stops (λ (byte : ℕ). not (byte == 9)) bytes 0 (some_tab bytes some)),
+        );
       })
 
   -- where no bit is set, there is no tab
@@ -97,13 +126,23 @@ none_left line from place to before none = grind (arith, cases_lt, get_or_past, 
 
 -- the parts that are left behind a place, where a tab or the end of the line is next
 module _ (line : List ℕ) where
-  next_part : (start at : ℕ) → start ≤ at → at < length line → NoTab line start at → eqb (get_or line at 0) 9 ≡ true → parts_from line start ≡ take (at - start) (drop start line) ∷ parts_from line (at + 1)
+  next_part : (start at : ℕ) → start ≤ at → at < length line → NoTab line start at → eqb (get_or line at 0) 9 ≡ true
+      → parts_from line start ≡ take (at - start) (drop start line) ∷ parts_from line (at + 1)
   next_part start at le in_line clear is =
       let count = at - start in
       grind (arith, (parts_cut 9 (drop start line) count), (length-drop start line), (get_or-drop start line), clear, is, (drop-drop (count + 1) start line))
 
   pub last_part : (start : ℕ) → start ≤ length line → NoTab line start (length line) → parts_from line start ≡ take (length line - start) (drop start line) ∷ []
-  last_part start le clear = grind (arith, (slice_split_none (λ byte. byte == 9) (drop start line)), (All-from_get_or (λ byte. (byte == 9) ≡ false) (drop start line) 0), (get_or-drop start line), clear, (length-drop start line), (take_rest line start))
+  last_part start le clear =
+      grind (
+        arith,
+        (slice_split_none (λ byte. byte == 9) (drop start line)),
+        (All-from_get_or (λ byte. (byte == 9) ≡ false) (drop start line) 0),
+        (get_or-drop start line),
+        clear,
+        (length-drop start line),
+        (take_rest line start),
+      )
 
 -- what `grind` takes where the fields of a line are put into a list: of the lowest bit that is left, and of the parts
 pub lowest_tab : (line : List ℕ) (from to : ℕ) → to ≤ from + 64 → 0 < tabs_in line from to
@@ -111,8 +150,18 @@ pub lowest_tab : (line : List ℕ) (from to : ℕ) → to ≤ from + 64 → 0 < 
     × (tabs_in line from to / 2 ^ count_trailing_zeros 64 (tabs_in line from to) / 2 ≡ tabs_in line (next_tab line from to + 1) to)
 lowest_tab line from to few some =
     let tab = first_tab line from to few some in
-    let lane = count_trailing_zeros 64 (tabs_in line from to) in
-    (refl, tab.before, tab.in_line, grind (arith, (div-div-eq-div-mul (tabs_in line from to) (2 ^ lane) 2), (pow-suc 2 lane), (tabs_in-shifted line from to (suc lane)), tab.before))
+    let lane = count_trailing_zeros 64 (tabs_in line from to) in (
+      refl,
+      tab.before,
+      tab.in_line,
+      grind (
+        arith,
+        (div-div-eq-div-mul (tabs_in line from to) (2 ^ lane) 2),
+        (pow-suc 2 lane),
+        (tabs_in-shifted line from to (suc lane)),
+        tab.before,
+      ),
+    )
 
 pub next_field : (line : List ℕ) (start from to : ℕ) → start ≤ from → NoTab line start from → to ≤ from + 64 → 0 < tabs_in line from to
     → take (next_tab line from to - start) (drop start line) ∷ parts_from line (next_tab line from to + 1) ≡ parts_from line start

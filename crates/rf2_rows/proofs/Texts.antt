@@ -20,7 +20,8 @@ pub ruleset utf8_tests = (is_utf8-from_IsUtf8, IsUtf8-from_is_utf8)
 parsed_at_36 : (text : List ℕ) → length text ≡ 36 → parsed text ≡ parsed_hyphenated text
 parsed_at_36 text long = rw long refl
 
-pub not_hyphenated : (text : List ℕ) → length text ≡ 36 → ((id : List ℕ) × (parsed text ≡ Some id) → ⊥) → (length text ≡ length text) × (is_some (parsed_hyphenated text) ≡ false)
+pub not_hyphenated : (text : List ℕ) → length text ≡ 36 → ((id : List ℕ) × (parsed text ≡ Some id) → ⊥)
+    → (length text ≡ length text) × (is_some (parsed_hyphenated text) ≡ false)
 not_hyphenated text long none = (refl, by (parsed_hyphenated text) refl)
   where
     by : (found : Option (List ℕ)) → parsed_hyphenated text ≡ found → is_some found ≡ false
@@ -28,13 +29,18 @@ not_hyphenated text long none = (refl, by (parsed_hyphenated text) refl)
     by (Some id) is = absurd (none (id, parsed_at_36 text long ∙ is))
 
 -- what stands behind the last `/` of a path, or all of it where there is none
-behind_from : (path : List ℕ) (n : ℕ) → n ≤ length path → ((k : ℕ) → n ≤ k → k < length path → (get_or path k 0 == 47) ≡ true → ⊥) → (0 < n → (get_or path (n - 1) 0 == 47) ≡ true) → after_last (λ byte. byte == 47) path ≡ drop n path
+behind_from : (path : List ℕ) (n : ℕ) → n ≤ length path
+    → ((k : ℕ) → n ≤ k → k < length path → (get_or path k 0 == 47) ≡ true → ⊥)
+    → (0 < n → (get_or path (n - 1) 0 == 47) ≡ true) → after_last (λ byte. byte == 47) path ≡ drop n path
 behind_from path n fits none ends = grind (arith, common_steps, nat_tests, false_from_ne_true, not_from_false, not_from_true, suffix_len_is)
 
-pub behind_last : (path : List ℕ) (at : ℕ) → at < length path → (get_or path at 0 == 47) ≡ true → ((k : ℕ) → at + 1 ≤ k → k < length path → (get_or path k 0 == 47) ≡ true → ⊥) → (get_or path at 0 ≡ get_or path at 0) × (after_last (λ byte. byte == 47) path ≡ drop (at + 1) path)
+pub behind_last : (path : List ℕ) (at : ℕ) → at < length path → (get_or path at 0 == 47) ≡ true
+    → ((k : ℕ) → at + 1 ≤ k → k < length path → (get_or path k 0 == 47) ≡ true → ⊥)
+    → (get_or path at 0 ≡ get_or path at 0) × (after_last (λ byte. byte == 47) path ≡ drop (at + 1) path)
 behind_last path at within is none = (refl, behind_from path (at + 1) (omega arith) none (λ some. rw add-sub_cancel is))
 
-pub behind_none : (path : List ℕ) → ((k : ℕ) → 0 ≤ k → k < length path → (get_or path k 0 == 47) ≡ true → ⊥) → (length path ≡ length path) × (after_last (λ byte. byte == 47) path ≡ path)
+pub behind_none : (path : List ℕ) → ((k : ℕ) → 0 ≤ k → k < length path → (get_or path k 0 == 47) ≡ true → ⊥)
+    → (length path ≡ length path) × (after_last (λ byte. byte == 47) path ≡ path)
 behind_none path none = (refl, behind_from path 0 (omega arith) none (λ some. absurd (omega arith)))
 
 pub ruleset names_in_paths = (behind_last, behind_none, between_to_end)
@@ -52,7 +58,8 @@ module _ (word : List ℕ) (some : 0 < length word) where
 
   OccursAt_begins : (text : List ℕ) (k : ℕ) → OccursAt text word k → starts_with nat_eq (drop k text) word ≡ true
   OccursAt_begins text k occurs =
-      (starts_is Decides-eqb (drop k text) word (starts_with nat_eq (drop k text) word) refl).1 (drop (k + length word) text) (at_from_reads 0 text word k occurs.fits occurs.reads)
+      (starts_is Decides-eqb (drop k text) word (starts_with nat_eq (drop k text) word) refl).1
+      (drop (k + length word) text) (at_from_reads 0 text word k occurs.fits occurs.reads)
 
   -- where a text holds the word, it stands somewhere
   holds_begins : (text : List ℕ) → holds word text ≡ true → (k : ℕ) × (starts_with nat_eq (drop k text) word ≡ true)

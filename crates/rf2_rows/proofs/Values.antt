@@ -37,22 +37,29 @@ digits_one_part : (text : List ℕ) → list_all is_ascii_digit text ≡ true �
 digits_one_part text digits = grind (arith, common_steps, nat_tests, digit_in, slice_split_none)
 
 -- the number with a whole part and a fraction
-pub number_with_fraction : (whole behind : List ℕ) → is_number 1 18 whole ≡ true → is_number 1 18 behind ≡ true → number_in (whole ∷ parts_at point behind) ≡ Some (whole_of whole + fraction_of behind)
+pub number_with_fraction : (whole behind : List ℕ) → is_number 1 18 whole ≡ true → is_number 1 18 behind ≡ true
+    → number_in (whole ∷ parts_at point behind) ≡ Some (whole_of whole + fraction_of behind)
 number_with_fraction whole behind one other = grind (arith, common_steps, nat_tests, and_from, and_parts, digits_one_part)
 
 -- there is none where what stands behind the first point is no fraction
-pub number_without_fraction : (whole behind : List ℕ) → is_number 1 18 whole ≡ true → is_number 1 18 behind ≡ false → number_in (whole ∷ parts_at point behind) ≡ None
-number_without_fraction whole behind one no_number = grind (arith, (length-slice_split (λ byte. byte == point) behind), (join_with_byte-slice_split point behind), one, no_number)
+pub number_without_fraction : (whole behind : List ℕ) → is_number 1 18 whole ≡ true → is_number 1 18 behind ≡ false
+    → number_in (whole ∷ parts_at point behind) ≡ None
+number_without_fraction whole behind one no_number =
+    grind (arith, (length-slice_split (λ byte. byte == point) behind), (join_with_byte-slice_split point behind), one, no_number)
 
 -- behind a minus the number is negative
-pub negative_of : (text : List ℕ) → 0 < length text → get_or text 0 0 ≡ 45 → decimal_of text ≡ option_map (λ number. neg_ℤ (pos number)) (unsigned_of (drop 1 text))
+pub negative_of : (text : List ℕ) → 0 < length text → get_or text 0 0 ≡ 45
+    → decimal_of text ≡ option_map (λ number. neg_ℤ (pos number)) (unsigned_of (drop 1 text))
 negative_of x0 some is = grind arith
 
 -- the sum and the negation as the code computes them, in 128 bits
-pub signed_sum : (whole fraction : ℕ) → whole < 10 ^ 18 → fraction < 10 ^ 18 → to_z w128 (of_z w128 (to_z w128 (of_z w128 (to_z w128 (of_z w128 (pos whole)) *ℤ pos (10 ^ 18))) +ℤ to_z w128 (of_z w128 (pos fraction)))) ≡ pos (whole * 10 ^ 18 + fraction)
+pub signed_sum : (whole fraction : ℕ) → whole < 10 ^ 18 → fraction < 10 ^ 18
+    → to_z w128 (of_z w128 (to_z w128 (of_z w128 (to_z w128 (of_z w128 (pos whole)) *ℤ pos (10 ^ 18))) +ℤ to_z w128
+    (of_z w128 (pos fraction)))) ≡ pos (whole * 10 ^ 18 + fraction)
 signed_sum whole fraction small_whole small_fraction = omega (arith, ints)
 
-pub negation : (found : Option ℕ) (number : ℤ) → SFits w128 number → Some number ≡ option_map pos found → Some (to_z w128 (of_z w128 (pos 0 -ℤ to_z w128 (of_z w128 number)))) ≡ option_map (λ size. neg_ℤ (pos size)) found
+pub negation : (found : Option ℕ) (number : ℤ) → SFits w128 number → Some number ≡ option_map pos found
+    → Some (to_z w128 (of_z w128 (pos 0 -ℤ to_z w128 (of_z w128 number)))) ≡ option_map (λ size. neg_ℤ (pos size)) found
 negation x0 number fits same = grind (arith)
 
 -- what `grind` takes where the parts of a number are put together

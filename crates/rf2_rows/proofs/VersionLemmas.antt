@@ -54,9 +54,11 @@ same_values-sym [] [] [] is = is
 same_values-sym (column ∷ columns) (one ∷ ones) (other ∷ others) is = grind (arith, tells, (same_values-sym columns ones others))
 same_values-sym _ _ _ is = absurd (false≢true is)
 
-same_values-trans : (columns : List Column) (ones others thirds : List (List ℕ)) → same_values columns ones others ≡ true → same_values columns others thirds ≡ true → same_values columns ones thirds ≡ true
+same_values-trans : (columns : List Column) (ones others thirds : List (List ℕ))
+    → same_values columns ones others ≡ true → same_values columns others thirds ≡ true → same_values columns ones thirds ≡ true
 same_values-trans [] [] [] thirds is also = also
-same_values-trans (column ∷ columns) (one ∷ ones) (other ∷ others) (third ∷ thirds) is also = grind (arith, tells, (same_values-trans columns ones others thirds))
+same_values-trans (column ∷ columns) (one ∷ ones) (other ∷ others) (third ∷ thirds) is also =
+    grind (arith, tells, (same_values-trans columns ones others thirds))
 same_values-trans (column ∷ columns) (one ∷ ones) (other ∷ others) [] is also = absurd (false≢true also)
 same_values-trans _ _ _ thirds is also = absurd (false≢true is)
 
@@ -70,7 +72,8 @@ pub ruleset accepted_lines = (few_fields, same_row-refl)
 pub same_row-sym : (kind : FileKind) (one other : List ℕ) → IsTrue (same_row kind one other) → IsTrue (same_row kind other one)
 same_row-sym kind one other is = same_values-sym (columns_of kind) (fields_of one) (fields_of other) is
 
-pub same_row-trans : (kind : FileKind) (one other third : List ℕ) → IsTrue (same_row kind one other) → IsTrue (same_row kind other third) → IsTrue (same_row kind one third)
+pub same_row-trans : (kind : FileKind) (one other third : List ℕ) → IsTrue (same_row kind one other)
+    → IsTrue (same_row kind other third) → IsTrue (same_row kind one third)
 same_row-trans kind one other third is also = grind (arith, common_steps, nat_tests, same_values-trans)
 
 -- so being one row is an equivalence

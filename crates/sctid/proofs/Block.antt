@@ -49,7 +49,8 @@ sum_word n a b c d e f g h n_is = omega arith
 -- ten times a word of eight digits, and the same a byte further down, has in each byte the number of a
 -- digit and its right neighbour
 pairs_word : (n a b c d e f g h : ℕ) → a < 10 → n ≡ word (a + 48) (b + 48) (c + 48) (d + 48) (e + 48) (f + 48) (g + 48) (h + 48) →
-    (n - 3472328296227680304) * 10 + (n - 3472328296227680304) / 256 ≡ word (a * 10 + b) (b * 10 + c) (c * 10 + d) (d * 10 + e) (e * 10 + f) (f * 10 + g) (g * 10 + h) (h * 10)
+    (n - 3472328296227680304) * 10 + (n - 3472328296227680304) / 256
+    ≡ word (a * 10 + b) (b * 10 + c) (c * 10 + d) (d * 10 + e) (e * 10 + f) (f * 10 + g) (g * 10 + h) (h * 10)
 pairs_word n a b c d e f g h a_in n_is =
     let right : ℕ = b + 256 * (c + 256 * (d + 256 * (e + 256 * (f + 256 * (g + 256 * h))))) in
     let digits : n - 3472328296227680304 ≡ a + 256 * right = omega arith in
@@ -110,16 +111,20 @@ block_pairs bytes n eight digits n_is =
     let small = are_digits bytes eight digits in
     let lt = λ (i : ℕ) (within : i < 7). pair-lt digit i small within in
     bytes_of_word _ (pair digit 0) (pair digit 1) (pair digit 2) (pair digit 3) (pair digit 4) (pair digit 5) (pair digit 6) (digit 7 * 10)
-    (omega (arith, lt 0 (omega arith))) (omega (arith, lt 1 (omega arith))) (omega (arith, lt 2 (omega arith))) (omega (arith, lt 3 (omega arith))) (omega (arith, lt 4 (omega arith))) (omega (arith, lt 5 (omega arith))) (omega (arith, lt 6 (omega arith))) (omega (arith, small 7 (omega arith)))
+    (omega (arith, lt 0 (omega arith))) (omega (arith, lt 1 (omega arith))) (omega (arith, lt 2 (omega arith)))
+    (omega (arith, lt 3 (omega arith))) (omega (arith, lt 4 (omega arith))) (omega (arith, lt 5 (omega arith)))
+    (omega (arith, lt 6 (omega arith))) (omega (arith, small 7 (omega arith)))
     (pairs_word n (digit 0) (digit 1) (digit 2) (digit 3) (digit 4) (digit 5) (digit 6) (digit 7) (small 0 (omega arith))
-    (sum_word n (digit 0 + 48) (digit 1 + 48) (digit 2 + 48) (digit 3 + 48) (digit 4 + 48) (digit 5 + 48) (digit 6 + 48) (digit 7 + 48) (n_is ∙ ap (from_le_bytes w64) (spelled bytes eight digits))))
+    (sum_word n (digit 0 + 48) (digit 1 + 48) (digit 2 + 48) (digit 3 + 48) (digit 4 + 48) (digit 5 + 48)
+    (digit 6 + 48) (digit 7 + 48) (n_is ∙ ap (from_le_bytes w64) (spelled bytes eight digits))))
 
 value_is : (digit : ℕ) → digit < 10 → digit_value (digit + 48) ≡ digit
 value_is digit is_digit = omega (arith, digit_value_digit (digit + 48) (omega arith, omega arith))
 
 -- the number that eight digits write, by their pairs
 pub block_value : (bytes : List ℕ) → length bytes ≡ 8 → list_all is_ascii_digit bytes ≡ true →
-    digits_value 10 bytes ≡ ((pair (digit_in_text bytes) 0 * 100 + pair (digit_in_text bytes) 2) * 100 + pair (digit_in_text bytes) 4) * 100 + pair (digit_in_text bytes) 6
+    digits_value 10 bytes ≡ ((pair (digit_in_text bytes) 0 * 100 + pair (digit_in_text bytes) 2) * 100
+    + pair (digit_in_text bytes) 4) * 100 + pair (digit_in_text bytes) 6
 block_value bytes eight digits =
     let digit : ℕ → ℕ = digit_in_text bytes in
     let value = λ (i : ℕ) (within : i < 8). value_is (digit i) (are_digits bytes eight digits i within) in
@@ -138,8 +143,10 @@ less digit = omega arith
 text_product : (digit : ℕ → ℕ) → AreDigits digit → check_product (block_text digit) ≡ paired digit
 text_product digit small =
     let lt = λ (place i : ℕ) (within : i < 8). permuted-lt place (digit i) (small i within) in
-    let multiplied = halves (permuted 7 (digit 0)) (permuted 6 (digit 1)) (permuted 5 (digit 2)) (permuted 4 (digit 3)) (permuted 3 (digit 4)) (permuted 2 (digit 5)) (permuted 1 (digit 6)) (permuted 0 (digit 7))
-    (lt 7 0 (omega arith)) (lt 6 1 (omega arith)) (lt 5 2 (omega arith)) (lt 4 3 (omega arith)) (lt 3 4 (omega arith)) (lt 2 5 (omega arith)) (lt 1 6 (omega arith)) (lt 0 7 (omega arith)) in
+    let multiplied = halves (permuted 7 (digit 0)) (permuted 6 (digit 1)) (permuted 5 (digit 2))
+    (permuted 4 (digit 3)) (permuted 3 (digit 4)) (permuted 2 (digit 5)) (permuted 1 (digit 6)) (permuted 0 (digit 7))
+    (lt 7 0 (omega arith)) (lt 6 1 (omega arith)) (lt 5 2 (omega arith)) (lt 4 3 (omega arith))
+    (lt 3 4 (omega arith)) (lt 2 5 (omega arith)) (lt 1 6 (omega arith)) (lt 0 7 (omega arith)) in
     simp less multiplied
 
 pub block_product : (bytes : List ℕ) → length bytes ≡ 8 → list_all is_ascii_digit bytes ≡ true → check_product bytes ≡ paired (digit_in_text bytes)
@@ -149,11 +156,13 @@ block_product bytes eight digits =
 
 -- the two factors of a pair
 pub pair_factors : (digit : ℕ → ℕ) (index i value : ℕ) → AreDigits digit → i < 7 → value ≡ pair digit i →
-    times (permuted (2 * index) (value % 10)) (permuted (2 * index + 1) (value / 10)) ≡ times (permuted (2 * index) (digit (i + 1))) (permuted (2 * index + 1) (digit i))
+    times (permuted (2 * index) (value % 10)) (permuted (2 * index + 1) (value / 10))
+    ≡ times (permuted (2 * index) (digit (i + 1))) (permuted (2 * index + 1) (digit i))
 pair_factors digit index i value small within value_is_pair =
     let ones : value % 10 ≡ digit (i + 1) = omega (arith, small (i + 1) (omega arith)) in
     let tens : value / 10 ≡ digit i = omega (arith, small (i + 1) (omega arith)) in
-    ap (λ d. times (permuted (2 * index) d) (permuted (2 * index + 1) (value / 10))) ones ∙ ap (λ d. times (permuted (2 * index) (digit (i + 1))) (permuted (2 * index + 1) d)) tens
+    ap (λ d. times (permuted (2 * index) d) (permuted (2 * index + 1) (value / 10))) ones
+    ∙ ap (λ d. times (permuted (2 * index) (digit (i + 1))) (permuted (2 * index + 1) d)) tens
 
 -- four pairs' products, each known, are multiplied
 pub four_pairs : (a b c d left right all w x y z : ℕ) → all ≡ times right left → right ≡ times a b → left ≡ times c d → a ≡ w → b ≡ x → c ≡ y → d ≡ z →

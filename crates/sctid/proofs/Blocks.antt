@@ -28,7 +28,8 @@ chunk_at (suc k) (suc i) xs within =
     let next : 8 + 8 * i ≡ 8 * suc i = omega arith in
     chunk_at k i (drop 8 xs) (omega arith) ∙ ap (take 8) (drop-drop (8 * i) 8 xs ∙ ap (λ n. drop n xs) next)
 
-pub block_is : (text : List ℕ) (blocks : List (List ℕ)) (i : ℕ) → i < length text / 8 → blocks ≡ first_chunks 8 (length text / 8) (drop (length text % 8) text) → get_or blocks i [] ≡ block_at text i
+pub block_is : (text : List ℕ) (blocks : List (List ℕ)) (i : ℕ) → i < length text / 8
+    → blocks ≡ first_chunks 8 (length text / 8) (drop (length text % 8) text) → get_or blocks i [] ≡ block_at text i
 block_is text blocks i within blocks_are =
     ap (λ bs. get_or bs i []) blocks_are ∙ chunk_at (length text / 8) i (drop (length text % 8) text) within
 
@@ -56,12 +57,16 @@ so_far-more text i =
 -- a text whose front is none of digits is none
 pub not_digits : (text : List ℕ) (n : ℕ) → list_all is_ascii_digit (take n text) ≡ false → list_all is_ascii_digit text ≡ false
 not_digits text n front =
-    ap (list_all is_ascii_digit) (sym (take-append-drop n text)) ∙ list_all-append is_ascii_digit (take n text) (drop n text) ∙ ap (λ b. b && list_all is_ascii_digit (drop n text)) front
+    ap (list_all is_ascii_digit) (sym (take-append-drop n text))
+    ∙ list_all-append is_ascii_digit (take n text) (drop n text) ∙ ap (λ b. b && list_all is_ascii_digit (drop n text)) front
 
 -- with one more block it is digits where the block is
-pub digits-block : (text : List ℕ) (i : ℕ) → list_all is_ascii_digit (so_far text i) ≡ true → list_all is_ascii_digit (so_far text (i + 1)) ≡ list_all is_ascii_digit (block_at text i)
+pub digits-block : (text : List ℕ) (i : ℕ) → list_all is_ascii_digit (so_far text i) ≡ true
+    → list_all is_ascii_digit (so_far text (i + 1)) ≡ list_all is_ascii_digit (block_at text i)
 digits-block text i front =
-    ap (list_all is_ascii_digit) (so_far-more text i) ∙ list_all-append is_ascii_digit (so_far text i) (block_at text i) ∙ ap (λ b. b && list_all is_ascii_digit (block_at text i)) front
+    ap (list_all is_ascii_digit) (so_far-more text i)
+    ∙ list_all-append is_ascii_digit (so_far text i) (block_at text i)
+    ∙ ap (λ b. b && list_all is_ascii_digit (block_at text i)) front
 
 -- the number goes on from what was read
 value_append : (left right : List ℕ) (n : ℕ) → digits_value_after 10 n (left ++ right) ≡ digits_value_after 10 (digits_value_after 10 n left) right
@@ -82,7 +87,8 @@ value-block text i within digits =
     ∙ ap (λ block. digits_value 10 (so_far text i) * 100000000 + digits_value 10 block) (sym block_is)
 
 -- and the product
-pub product-block : (text : List ℕ) (i : ℕ) → i < length text / 8 → list_all is_ascii_digit (so_far text i) ≡ true → list_all is_ascii_digit (block_at text i) ≡ true →
+pub product-block : (text : List ℕ) (i : ℕ) → i < length text / 8 → list_all is_ascii_digit (so_far text i) ≡ true
+    → list_all is_ascii_digit (block_at text i) ≡ true →
     check_product (so_far text (i + 1)) ≡ times (check_product (block_at text i)) (check_product (so_far text i))
 product-block text i within front digits =
     ap check_product (so_far-more text i) ∙ check_product-block (so_far text i) (block_at text i) front digits (block_long text i within)

@@ -51,10 +51,15 @@ table-times a b a_in b_in =
 
 -- a row of the table of permutations is the row before it, behind one more permutation, and the
 -- first row is also the one after the last
-next_row : (row digit : ℕ) → row < 8 → digit < 10 → slice_index (slice_index_or PERMUTATIONS ((row + 1) % 8) []) digit ≡ slice_index (slice_index_or PERMUTATIONS row []) (slice_index permutation digit)
+next_row : (row digit : ℕ) → row < 8 → digit < 10
+    → slice_index (slice_index_or PERMUTATIONS ((row + 1) % 8) []) digit
+    ≡ slice_index (slice_index_or PERMUTATIONS row []) (slice_index permutation digit)
 next_row row digit row_in is_digit =
-    let all = passes_below_at 8 (λ x. passes_below 10 (λ y. slice_index (slice_index_or PERMUTATIONS ((x + 1) % 8) []) y == slice_index (slice_index_or PERMUTATIONS x []) (slice_index permutation y))) row refl row_in in
-    eqb-true _ _ (passes_below_at 10 (λ y. slice_index (slice_index_or PERMUTATIONS ((row + 1) % 8) []) y == slice_index (slice_index_or PERMUTATIONS row []) (slice_index permutation y)) digit all is_digit)
+    let all = passes_below_at 8 (λ x. passes_below 10 (λ y. slice_index
+    (slice_index_or PERMUTATIONS ((x + 1) % 8) []) y
+    == slice_index (slice_index_or PERMUTATIONS x []) (slice_index permutation y))) row refl row_in in
+    eqb-true _ _ (passes_below_at 10 (λ y. slice_index (slice_index_or PERMUTATIONS ((row + 1) % 8) []) y
+    == slice_index (slice_index_or PERMUTATIONS row []) (slice_index permutation y)) digit all is_digit)
 
 -- the table of permutations has each digit, permuted as its place asks
 pub table-permuted : (place digit : ℕ) → digit < 10 → slice_index (slice_index_or PERMUTATIONS (place % 8) []) digit ≡ permuted place digit
@@ -62,16 +67,23 @@ table-permuted zero digit is_digit =
     eqb-true _ _ (passes_below_at 10 (λ x. slice_index (slice_index_or PERMUTATIONS 0 []) x == x) digit refl is_digit)
 table-permuted (suc place) digit is_digit =
     let row_is : suc place % 8 ≡ (place % 8 + 1) % 8 = omega arith in
-    ap (λ row. slice_index (slice_index_or PERMUTATIONS row []) digit) row_is ∙ next_row (place % 8) digit (omega arith) is_digit ∙ table-permuted place (slice_index permutation digit) (permutation-lt digit is_digit)
+    ap (λ row. slice_index (slice_index_or PERMUTATIONS row []) digit) row_is
+    ∙ next_row (place % 8) digit (omega arith) is_digit
+    ∙ table-permuted place (slice_index permutation digit) (permutation-lt digit is_digit)
 
 -- eight places further to the left a digit is permuted to the same
 pub permuted-eight : (place digit : ℕ) → digit < 10 → permuted (place + 8) digit ≡ permuted place digit
 permuted-eight place digit is_digit =
     let row_is : (place + 8) % 8 ≡ place % 8 = omega arith in
-    sym (table-permuted (place + 8) digit is_digit) ∙ ap (λ row. slice_index (slice_index_or PERMUTATIONS row []) digit) row_is ∙ table-permuted place digit is_digit
+    sym (table-permuted (place + 8) digit is_digit)
+    ∙ ap (λ row. slice_index (slice_index_or PERMUTATIONS row []) digit) row_is ∙ table-permuted place digit is_digit
 
 -- the table of pairs has the products of two digits' factors
-pub table-pair : (index pair : ℕ) → index < 4 → pair < 100 → slice_index (slice_index_or PAIR_PRODUCTS index []) pair ≡ times (permuted (2 * index) (pair % 10)) (permuted (2 * index + 1) (pair / 10))
+pub table-pair : (index pair : ℕ) → index < 4 → pair < 100
+    → slice_index (slice_index_or PAIR_PRODUCTS index []) pair
+    ≡ times (permuted (2 * index) (pair % 10)) (permuted (2 * index + 1) (pair / 10))
 table-pair index pair index_in pair_in =
-    let row = passes_below_at 4 (λ x. passes_below 100 (λ y. slice_index (slice_index_or PAIR_PRODUCTS x []) y == times (permuted (2 * x) (y % 10)) (permuted (2 * x + 1) (y / 10)))) index refl index_in in
-    eqb-true _ _ (passes_below_at 100 (λ y. slice_index (slice_index_or PAIR_PRODUCTS index []) y == times (permuted (2 * index) (y % 10)) (permuted (2 * index + 1) (y / 10))) pair row pair_in)
+    let row = passes_below_at 4 (λ x. passes_below 100 (λ y. slice_index (slice_index_or PAIR_PRODUCTS x []) y
+    == times (permuted (2 * x) (y % 10)) (permuted (2 * x + 1) (y / 10)))) index refl index_in in
+    eqb-true _ _ (passes_below_at 100 (λ y. slice_index (slice_index_or PAIR_PRODUCTS index []) y
+    == times (permuted (2 * index) (y % 10)) (permuted (2 * index + 1) (y / 10))) pair row pair_in)

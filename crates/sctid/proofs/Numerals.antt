@@ -19,12 +19,14 @@ pub numerals : IsNumeralModel (λ ds. list_all is_ascii_digit ds ≡ true) (digi
 numerals = numerals_by_value _ tells_digits
 
 -- one more digit leaves a text of digits
-pub digits_more : (text : List ℕ) (i : ℕ) → i < length text → list_all is_ascii_digit (take i text) ≡ true → is_ascii_digit (get_or text i 0) ≡ true → list_all is_ascii_digit (take (i + 1) text) ≡ true
+pub digits_more : (text : List ℕ) (i : ℕ) → i < length text → list_all is_ascii_digit (take i text) ≡ true
+    → is_ascii_digit (get_or text i 0) ≡ true → list_all is_ascii_digit (take (i + 1) text) ≡ true
 digits_more text i within front digit =
     list_all_more is_ascii_digit text i 0 within ∙ and_from _ _ front digit
 
 -- one more digit is added to ten times the number so far
-pub value_more : (text : List ℕ) (i : ℕ) → i < length text → is_ascii_digit (get_or text i 0) ≡ true → digits_value 10 (take (i + 1) text) ≡ digits_value 10 (take i text) * 10 + (get_or text i 0 - 48)
+pub value_more : (text : List ℕ) (i : ℕ) → i < length text → is_ascii_digit (get_or text i 0) ≡ true
+    → digits_value 10 (take (i + 1) text) ≡ digits_value 10 (take i text) * 10 + (get_or text i 0 - 48)
 value_more text i within digit =
     let ends = and_parts _ _ digit in
     let digit_is = digit_value_digit (get_or text i 0) (leb-true 48 _ ends.0, leb-true _ 57 ends.1) in
@@ -36,7 +38,8 @@ front_small text i k short digits =
     digits_value_short numerals (take i text) k digits (omega (arith, length-take i text))
 
 -- a text of at most 18 digits that does not begin with 0 is the decimal text of the number that it writes
-pub decimal_of_text : (text : List ℕ) → 0 < length text → length text ≤ 18 → list_all is_ascii_digit text ≡ true → get_or text 0 0 ≢ 48 → decimal (digits_value 10 text) ≡ text
+pub decimal_of_text : (text : List ℕ) → 0 < length text → length text ≤ 18 → list_all is_ascii_digit text ≡ true
+    → get_or text 0 0 ≢ 48 → decimal (digits_value 10 text) ≡ text
 decimal_of_text text some short digits first =
     let small : digits_value 10 text < 10 ^ 18 = digits_value_short numerals text 18 digits short in
     decimal-digits_value numerals text digits some (λ zero_first. absurd (first zero_first)) (omega arith)

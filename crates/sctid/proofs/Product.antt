@@ -31,7 +31,8 @@ digits-drop (suc i) [] digits = digits
 digits-drop (suc i) (byte ∷ right) digits = digits-drop i right (and_parts _ _ digits).1
 
 -- taking one more digit from the left puts its factor in front of the product so far
-pub check_product-more : (text : List ℕ) (i place product : ℕ) → i < length text → list_all is_ascii_digit text ≡ true → place + (i + 1) ≡ length text → product < 10 →
+pub check_product-more : (text : List ℕ) (i place product : ℕ) → i < length text
+    → list_all is_ascii_digit text ≡ true → place + (i + 1) ≡ length text → product < 10 →
     check_product text ≡ times (check_product (drop i text)) product →
     check_product text ≡ times (check_product (drop (i + 1) text)) (times (permuted place (get_or text i 0 - 48)) product)
 check_product-more text i place product within digits placed element so_far =
@@ -45,7 +46,9 @@ check_product-more text i place product within digits placed element so_far =
 
 -- in front of eight digits, whose places are a whole round of the permutation, digits have the product
 -- that they have alone
-pub check_product-block : (left right : List ℕ) → list_all is_ascii_digit left ≡ true → list_all is_ascii_digit right ≡ true → length right ≡ 8 → check_product (left ++ right) ≡ times (check_product right) (check_product left)
+pub check_product-block : (left right : List ℕ) → list_all is_ascii_digit left ≡ true
+    → list_all is_ascii_digit right ≡ true → length right ≡ 8
+    → check_product (left ++ right) ≡ times (check_product right) (check_product left)
 check_product-block [] right left_digits right_digits eight = sym (times-zero (check_product right) (check_product-lt right right_digits))
 check_product-block (byte ∷ rest) right left_digits right_digits eight =
     let parts = and_parts _ _ left_digits in
@@ -54,4 +57,5 @@ check_product-block (byte ∷ rest) right left_digits right_digits eight =
     let factor_is = ap (λ place. permuted place (byte - 48)) length_is ∙ permuted-eight (length rest) (byte - 48) is_digit in
     ap (λ p. times p (permuted (length (rest ++ right)) (byte - 48))) (check_product-block rest right parts.1 right_digits eight)
     ∙ ap (times (times (check_product right) (check_product rest))) factor_is
-    ∙ times_assoc (check_product right) (check_product rest) (permuted (length rest) (byte - 48)) (check_product-lt right right_digits) (check_product-lt rest parts.1) (permuted-lt (length rest) (byte - 48) is_digit)
+    ∙ times_assoc (check_product right) (check_product rest) (permuted (length rest) (byte - 48))
+    (check_product-lt right right_digits) (check_product-lt rest parts.1) (permuted-lt (length rest) (byte - 48) is_digit)

@@ -39,29 +39,42 @@ groups_depth-push no_unit_plans part = omega arith
 groups_depth-push (unit_plan_then first rest) part = omega (arith, groups_depth-push rest part)
 
 -- the plans so far, and the next: the step of a loop over the parts
-pub plans_so_far : (parts : List ConceptPlan) (i : ℕ) (part : ConceptPlan) → i < length parts → part ≡ get_or parts i part → plans_of (take (i + 1) parts) ≡ plans_push (plans_of (take i parts)) (plan_of part)
+pub plans_so_far : (parts : List ConceptPlan) (i : ℕ) (part : ConceptPlan) → i < length parts
+    → part ≡ get_or parts i part → plans_of (take (i + 1) parts) ≡ plans_push (plans_of (take i parts)) (plan_of part)
 plans_so_far parts i part within is = rw (take_more parts i part within, ← is) (plans_of-push (take i parts) part)
 
-pub groups_so_far : (parts : List UnitPlan) (i : ℕ) (part : UnitPlan) → i < length parts → part ≡ get_or parts i part → unit_plans_of (take (i + 1) parts) ≡ groups_push (unit_plans_of (take i parts)) (unit_plan_of part)
+pub groups_so_far : (parts : List UnitPlan) (i : ℕ) (part : UnitPlan) → i < length parts → part ≡ get_or parts i part
+    → unit_plans_of (take (i + 1) parts) ≡ groups_push (unit_plans_of (take i parts)) (unit_plan_of part)
 groups_so_far parts i part within is = rw (take_more parts i part within, ← is) (unit_plans_of-push (take i parts) part)
 
 -- the deepest so far, and the next. Both are cut off at a limit
-pub deepest_more : (parts next : Plans) (part : Plan) (deepest depth limit : ℕ) → next ≡ plans_push parts part → deepest ≡ min (plans_depth parts) limit → depth ≡ min (plan_depth part) limit → max deepest depth ≡ min (plans_depth next) limit
+pub deepest_more : (parts next : Plans) (part : Plan) (deepest depth limit : ℕ) → next ≡ plans_push parts part
+    → deepest ≡ min (plans_depth parts) limit → depth ≡ min (plan_depth part) limit
+    → max deepest depth ≡ min (plans_depth next) limit
 deepest_more parts next part deepest depth limit is deepest_is depth_is = rw is (omega (arith, plans_depth-push parts part))
 
-pub deepest_unit_more : (parts next : PlansOfUnits) (part : PlanOfUnits) (deepest depth limit : ℕ) → next ≡ groups_push parts part → deepest ≡ min (groups_depth parts) limit → depth ≡ min (group_depth part) limit → max deepest depth ≡ min (groups_depth next) limit
+pub deepest_unit_more : (parts next : PlansOfUnits) (part : PlanOfUnits) (deepest depth limit : ℕ)
+    → next ≡ groups_push parts part → deepest ≡ min (groups_depth parts) limit → depth ≡ min (group_depth part) limit
+    → max deepest depth ≡ min (groups_depth next) limit
 deepest_unit_more parts next part deepest depth limit is deepest_is depth_is = rw is (omega (arith, groups_depth-push parts part))
 
 -- what was made so far of the plans so far, and the next: the step of a loop that makes a `Vec`
-pub plans_more : (made next_made : List ConceptPlan) (new : ConceptPlan) (parts next : Plans) (part : Plan) → next_made ≡ made ++ new ∷ [] → next ≡ plans_push parts part → plans_of made ≡ parts → plan_of new ≡ part → plans_of next_made ≡ next
+pub plans_more : (made next_made : List ConceptPlan) (new : ConceptPlan) (parts next : Plans) (part : Plan)
+    → next_made ≡ made ++ new ∷ [] → next ≡ plans_push parts part → plans_of made ≡ parts → plan_of new ≡ part
+    → plans_of next_made ≡ next
 plans_more made next_made new parts next part made_is next_is so_far one =
     ap plans_of made_is ∙ plans_of-push made new ∙ ap (λ (plans : Plans). plans_push plans (plan_of new)) so_far ∙ ap (plans_push parts) one ∙ sym next_is
 
-pub groups_more : (made next_made : List UnitPlan) (new : UnitPlan) (parts next : PlansOfUnits) (part : PlanOfUnits) → next_made ≡ made ++ new ∷ [] → next ≡ groups_push parts part → unit_plans_of made ≡ parts → unit_plan_of new ≡ part → unit_plans_of next_made ≡ next
+pub groups_more : (made next_made : List UnitPlan) (new : UnitPlan) (parts next : PlansOfUnits) (part : PlanOfUnits)
+    → next_made ≡ made ++ new ∷ [] → next ≡ groups_push parts part → unit_plans_of made ≡ parts
+    → unit_plan_of new ≡ part → unit_plans_of next_made ≡ next
 groups_more made next_made new parts next part made_is next_is so_far one =
-    ap unit_plans_of made_is ∙ unit_plans_of-push made new ∙ ap (λ (plans : PlansOfUnits). groups_push plans (unit_plan_of new)) so_far ∙ ap (groups_push parts) one ∙ sym next_is
+    ap unit_plans_of made_is ∙ unit_plans_of-push made new
+    ∙ ap (λ (plans : PlansOfUnits). groups_push plans (unit_plan_of new)) so_far ∙ ap (groups_push parts) one ∙ sym next_is
 
 -- values from a start along names, where those of the `Vec` are known
-pub values_made : (start : Box ConceptPlan Global) (names : Vec ConceptPlan Global) (from : Plan) (along : Plans) → plan_of start.value ≡ from → plans_of names.items ≡ along → plan_of (concept_plan.Values start names) ≡ values_plan from along
+pub values_made : (start : Box ConceptPlan Global) (names : Vec ConceptPlan Global) (from : Plan) (along : Plans)
+    → plan_of start.value ≡ from → plans_of names.items ≡ along
+    → plan_of (concept_plan.Values start names) ≡ values_plan from along
 values_made start names from along start_is names_are =
     plan_of-Values start names ∙ ap (λ (plan : Plan). values_plan plan (plans_of names.items)) start_is ∙ ap (values_plan from) names_are

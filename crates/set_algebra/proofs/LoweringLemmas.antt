@@ -22,11 +22,13 @@ in_both false true holds is = absurd (cc (is refl))
 in_both false false holds is = refl
 
 -- one more part of a conjunction, and of a disjunction, of which each part asks for a concept in force
-and_more : (in_force meant holds others rest : Bool) → meant ≡ (in_force && holds) → (in_force && others) ≡ (in_force && rest) → (in_force && (meant && others)) ≡ (in_force && (holds && rest))
+and_more : (in_force meant holds others rest : Bool) → meant ≡ (in_force && holds)
+    → (in_force && others) ≡ (in_force && rest) → (in_force && (meant && others)) ≡ (in_force && (holds && rest))
 and_more true meant holds others rest one more = cc
 and_more false meant holds others rest one more = refl
 
-or_more : (in_force meant holds others rest : Bool) → meant ≡ (in_force && holds) → others ≡ (in_force && rest) → (meant || others) ≡ (in_force && (holds || rest))
+or_more : (in_force meant holds others rest : Bool) → meant ≡ (in_force && holds) → others ≡ (in_force && rest)
+    → (meant || others) ≡ (in_force && (holds || rest))
 or_more true meant holds others rest one more = cc
 or_more false meant holds others rest one more = cc
 
@@ -39,7 +41,8 @@ in_force_if_denoted : (release : Release) (tree : Tree) (concept : ℕ) → deno
 in_force_if_denoted release tree concept holds = (tells_in_force release concept).1 (denotes_concepts_in_force release tree concept holds)
 
 -- the same types and the same values pass
-pairs_alike : (count : Cardinality) (pairs : List Pair) (types other : ℕ → Bool) (values others : Value → Bool) → types ≡ other → values ≡ others → has_pairs count types values pairs ≡ has_pairs count other others pairs
+pairs_alike : (count : Cardinality) (pairs : List Pair) (types other : ℕ → Bool) (values others : Value → Bool)
+    → types ≡ other → values ≡ others → has_pairs count types values pairs ≡ has_pairs count other others pairs
 pairs_alike count pairs types other values others same_types same_values =
     ap (λ (set : ℕ → Bool). has_pairs count set values pairs) same_types ∙ ap (λ (set : Value → Bool). has_pairs count other set pairs) same_values
 
@@ -60,7 +63,8 @@ mutual
   same_meaning release (dotted_tree start names) concept =
       same_along release names (means release (lowered start)) (denotes release start) (fun_ext (same_meaning release start)) concept
   same_meaning release (refined_tree focus refinement) concept =
-      ap (λ (holds : Bool). has_concept release concept && (holds && (means release (lowered_refinement refinement) concept && true))) (same_meaning release focus concept)
+      ap (λ (holds : Bool). has_concept release concept
+      && (holds && (means release (lowered_refinement refinement) concept && true))) (same_meaning release focus concept)
       ∙ ap (λ (holds : Bool). has_concept release concept && (denotes release focus concept && (holds && true))) (same_refinement release refinement concept)
       ∙ in_both (has_concept release concept) (denotes release focus concept) (satisfies release refinement concept) (in_force_if_denoted release focus concept)
 
@@ -76,7 +80,8 @@ mutual
       ap (λ (holds : Bool). holds || some_means release (lowered_trees rest) concept) (same_meaning release first concept)
       ∙ ap (λ (holds : Bool). denotes release first concept || holds) (same_some release rest concept)
 
-  same_along : (release : Release) (names : Trees) (one other : ℕ → Bool) → one ≡ other → (concept : ℕ) → leads release one (lowered_trees names) concept ≡ follows release other names concept
+  same_along : (release : Release) (names : Trees) (one other : ℕ → Bool) → one ≡ other → (concept : ℕ)
+      → leads release one (lowered_trees names) concept ≡ follows release other names concept
   same_along release no_trees one other is concept = ap (λ (set : ℕ → Bool). set concept) is
   same_along release (tree_then name names) one other is concept =
       same_along release names (is_value release one (means release (lowered name))) (is_value release other (denotes release name))
@@ -84,19 +89,25 @@ mutual
       ∙ ap (λ (types : ℕ → Bool). is_value release other types) (fun_ext (same_meaning release name)))
       concept
 
-  same_refinement : (release : Release) (refinement : RefinementTree) (concept : ℕ) → means release (lowered_refinement refinement) concept ≡ (has_concept release concept && satisfies release refinement concept)
+  same_refinement : (release : Release) (refinement : RefinementTree) (concept : ℕ)
+      → means release (lowered_refinement refinement) concept
+      ≡ (has_concept release concept && satisfies release refinement concept)
   same_refinement release (one_refinement attribute) concept = same_attribute release attribute concept
   same_refinement release (group_refinement count set) concept =
       ap (λ (set : List Pair → Bool). has_concept release concept && has_groups release count set concept) (fun_ext (same_set release set))
   same_refinement release (and_refinement parts) concept = same_refinement_all release parts concept
   same_refinement release (or_refinement parts) concept = same_refinement_some release parts concept
 
-  same_refinement_all : (release : Release) (parts : RefinementTrees) (concept : ℕ) → (has_concept release concept && all_mean release (lowered_refinements parts) concept) ≡ (has_concept release concept && satisfies_all release parts concept)
+  same_refinement_all : (release : Release) (parts : RefinementTrees) (concept : ℕ)
+      → (has_concept release concept && all_mean release (lowered_refinements parts) concept)
+      ≡ (has_concept release concept && satisfies_all release parts concept)
   same_refinement_all release no_refinements concept = refl
   same_refinement_all release (refinement_then first rest) concept =
       and_more (has_concept release concept) _ _ _ _ (same_refinement release first concept) (same_refinement_all release rest concept)
 
-  same_refinement_some : (release : Release) (parts : RefinementTrees) (concept : ℕ) → some_means release (lowered_refinements parts) concept ≡ (has_concept release concept && satisfies_some release parts concept)
+  same_refinement_some : (release : Release) (parts : RefinementTrees) (concept : ℕ)
+      → some_means release (lowered_refinements parts) concept
+      ≡ (has_concept release concept && satisfies_some release parts concept)
   same_refinement_some release no_refinements concept = or_none (has_concept release concept)
   same_refinement_some release (refinement_then first rest) concept =
       or_more (has_concept release concept) _ _ _ _ (same_refinement release first concept) (same_refinement_some release rest concept)
@@ -106,24 +117,29 @@ mutual
   same_set release (and_set parts) pairs = same_set_all release parts pairs
   same_set release (or_set parts) pairs = same_set_some release parts pairs
 
-  same_set_all : (release : Release) (parts : AttributeSetTrees) (pairs : List Pair) → all_units_mean release (lowered_sets parts) pairs ≡ has_all release parts pairs
+  same_set_all : (release : Release) (parts : AttributeSetTrees) (pairs : List Pair)
+      → all_units_mean release (lowered_sets parts) pairs ≡ has_all release parts pairs
   same_set_all release no_sets pairs = refl
   same_set_all release (set_then first rest) pairs =
       ap (λ (holds : Bool). holds && all_units_mean release (lowered_sets rest) pairs) (same_set release first pairs)
       ∙ ap (λ (holds : Bool). has_set release first pairs && holds) (same_set_all release rest pairs)
 
-  same_set_some : (release : Release) (parts : AttributeSetTrees) (pairs : List Pair) → some_unit_means release (lowered_sets parts) pairs ≡ has_some release parts pairs
+  same_set_some : (release : Release) (parts : AttributeSetTrees) (pairs : List Pair)
+      → some_unit_means release (lowered_sets parts) pairs ≡ has_some release parts pairs
   same_set_some release no_sets pairs = refl
   same_set_some release (set_then first rest) pairs =
       ap (λ (holds : Bool). holds || some_unit_means release (lowered_sets rest) pairs) (same_set release first pairs)
       ∙ ap (λ (holds : Bool). has_set release first pairs || holds) (same_set_some release rest pairs)
 
-  same_attribute : (release : Release) (attribute : AttributeTree) (concept : ℕ) → means release (lowered_attribute attribute) concept ≡ (has_concept release concept && has_attribute release attribute (counted_pairs release attribute concept))
+  same_attribute : (release : Release) (attribute : AttributeTree) (concept : ℕ)
+      → means release (lowered_attribute attribute) concept
+      ≡ (has_concept release concept && has_attribute release attribute (counted_pairs release attribute concept))
   same_attribute release (attribute_tree count reverse name test) concept =
       ap (λ (holds : Bool). has_concept release concept && holds)
       (pairs_alike count (pairs_of release reverse concept) _ _ _ _ (fun_ext (same_meaning release name)) (fun_ext (same_passes release test)))
 
-  same_in_group : (release : Release) (attribute : AttributeTree) (pairs : List Pair) → unit_means release (lowered_in_group attribute) pairs ≡ has_attribute release attribute pairs
+  same_in_group : (release : Release) (attribute : AttributeTree) (pairs : List Pair)
+      → unit_means release (lowered_in_group attribute) pairs ≡ has_attribute release attribute pairs
   same_in_group release (attribute_tree count reverse name test) pairs =
       pairs_alike count pairs _ _ _ _ (fun_ext (same_meaning release name)) (fun_ext (same_passes release test))
 

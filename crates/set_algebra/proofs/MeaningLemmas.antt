@@ -9,7 +9,9 @@ use Rattle.set_algebra.specs.Meaning.{means, some_means, leads, MeansConceptsInF
 use Rattle.set_algebra.specs.Plan.{Plan, empty_plan, all_plan, one_plan, walk_plan, members_plan, and_plan, or_plan, minus_plan, values_plan, pairs_plan, units_plan, Plans, no_plans, plan_then}
 
 -- the values along types are in force where those of the set are
-leads_in_force : (names : Plans) (release : Release) (set : ℕ → Bool) → ((value : ℕ) → set value ≡ true → has_concept release value ≡ true) → (concept : ℕ) → leads release set names concept ≡ true → has_concept release concept ≡ true
+leads_in_force : (names : Plans) (release : Release) (set : ℕ → Bool)
+    → ((value : ℕ) → set value ≡ true → has_concept release value ≡ true) → (concept : ℕ)
+    → leads release set names concept ≡ true → has_concept release concept ≡ true
 leads_in_force no_plans release set each concept holds = each concept holds
 leads_in_force (plan_then types others) release set each concept holds =
     leads_in_force others release (is_value release set (means release types)) (λ value found. (and_parts (has_concept release value) _ found).0) concept holds

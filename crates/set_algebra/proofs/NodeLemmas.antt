@@ -11,7 +11,8 @@ plans_replaced no_plans number new = refl
 plans_replaced (plan_then first rest) zero new = refl
 plans_replaced (plan_then first rest) (suc number) new = ap (λ (nodes : List Node). concept_node first ∷ nodes) (plans_replaced rest number new)
 
-groups_replaced : (parts : PlansOfUnits) (number : ℕ) (new : PlanOfUnits) → group_nodes (groups_with parts number new) ≡ slice_set (group_nodes parts) number (group_node new)
+groups_replaced : (parts : PlansOfUnits) (number : ℕ) (new : PlanOfUnits)
+    → group_nodes (groups_with parts number new) ≡ slice_set (group_nodes parts) number (group_node new)
 groups_replaced no_unit_plans number new = refl
 groups_replaced (unit_plan_then first rest) zero new = refl
 groups_replaced (unit_plan_then first rest) (suc number) new = ap (λ (nodes : List Node). group_node first ∷ nodes) (groups_replaced rest number new)
@@ -23,7 +24,9 @@ test_replaced (outside_plan operand) zero new = refl
 test_replaced (outside_plan operand) (suc number) new = refl
 test_replaced (number_plan compare value) number new = refl
 
-plan_replaced : (plan : Plan) (number : ℕ) (old new : Plan) → slice_get (plan_children plan) number ≡ Some (concept_node old) → plan_children (plan_with plan number (concept_node new)) ≡ slice_set (plan_children plan) number (concept_node new)
+plan_replaced : (plan : Plan) (number : ℕ) (old new : Plan)
+    → slice_get (plan_children plan) number ≡ Some (concept_node old)
+    → plan_children (plan_with plan number (concept_node new)) ≡ slice_set (plan_children plan) number (concept_node new)
 plan_replaced empty_plan number old new is = absurd (cc)
 plan_replaced all_plan number old new is = absurd (cc)
 plan_replaced (one_plan value) number old new is = absurd (cc)
@@ -39,11 +42,14 @@ plan_replaced (minus_plan first second) (suc (suc number)) old new is = absurd (
 plan_replaced (values_plan start names) zero old new is = refl
 plan_replaced (values_plan start names) (suc number) old new is = ap (λ (nodes : List Node). concept_node start ∷ nodes) (plans_replaced names number new)
 plan_replaced (pairs_plan back count types test) zero old new is = refl
-plan_replaced (pairs_plan back count types test) (suc number) old new is = ap (λ (nodes : List Node). concept_node types ∷ nodes) (test_replaced test number new)
+plan_replaced (pairs_plan back count types test) (suc number) old new is =
+    ap (λ (nodes : List Node). concept_node types ∷ nodes) (test_replaced test number new)
 plan_replaced (units_plan count units) zero old new is = absurd (cc)
 plan_replaced (units_plan count units) (suc number) old new is = absurd (cc)
 
-braces_replaced : (plan : Plan) (number : ℕ) (old new : PlanOfUnits) → slice_get (plan_children plan) number ≡ Some (group_node old) → plan_children (plan_with plan number (group_node new)) ≡ slice_set (plan_children plan) number (group_node new)
+braces_replaced : (plan : Plan) (number : ℕ) (old new : PlanOfUnits)
+    → slice_get (plan_children plan) number ≡ Some (group_node old)
+    → plan_children (plan_with plan number (group_node new)) ≡ slice_set (plan_children plan) number (group_node new)
 braces_replaced empty_plan number old new is = absurd (cc)
 braces_replaced all_plan number old new is = absurd (cc)
 braces_replaced (one_plan value) number old new is = absurd (cc)
@@ -63,7 +69,9 @@ braces_replaced (pairs_plan back count types test) (suc number) old new is = abs
 braces_replaced (units_plan count units) zero old new is = refl
 braces_replaced (units_plan count units) (suc number) old new is = absurd (cc)
 
-unit_plan_replaced : (plan : PlanOfUnits) (number : ℕ) (old new : Plan) → slice_get (group_children plan) number ≡ Some (concept_node old) → group_children (group_with plan number (concept_node new)) ≡ slice_set (group_children plan) number (concept_node new)
+unit_plan_replaced : (plan : PlanOfUnits) (number : ℕ) (old new : Plan)
+    → slice_get (group_children plan) number ≡ Some (concept_node old)
+    → group_children (group_with plan number (concept_node new)) ≡ slice_set (group_children plan) number (concept_node new)
 unit_plan_replaced nothing_unit number old new is = absurd (cc)
 unit_plan_replaced every_unit number old new is = absurd (cc)
 unit_plan_replaced (and_units parts) number old new is = absurd (no_plan_among parts number old is)
@@ -72,9 +80,12 @@ unit_plan_replaced (minus_units first second) zero old new is = absurd (cc)
 unit_plan_replaced (minus_units first second) (suc zero) old new is = absurd (cc)
 unit_plan_replaced (minus_units first second) (suc (suc number)) old new is = absurd (cc)
 unit_plan_replaced (pairs_units count types test) zero old new is = refl
-unit_plan_replaced (pairs_units count types test) (suc number) old new is = ap (λ (nodes : List Node). concept_node types ∷ nodes) (test_replaced test number new)
+unit_plan_replaced (pairs_units count types test) (suc number) old new is =
+    ap (λ (nodes : List Node). concept_node types ∷ nodes) (test_replaced test number new)
 
-group_replaced : (plan : PlanOfUnits) (number : ℕ) (old new : PlanOfUnits) → slice_get (group_children plan) number ≡ Some (group_node old) → group_children (group_with plan number (group_node new)) ≡ slice_set (group_children plan) number (group_node new)
+group_replaced : (plan : PlanOfUnits) (number : ℕ) (old new : PlanOfUnits)
+    → slice_get (group_children plan) number ≡ Some (group_node old)
+    → group_children (group_with plan number (group_node new)) ≡ slice_set (group_children plan) number (group_node new)
 group_replaced nothing_unit number old new is = absurd (cc)
 group_replaced every_unit number old new is = absurd (cc)
 group_replaced (and_units parts) number old new is = groups_replaced parts number new
@@ -96,7 +107,8 @@ replaces_one_child (group_node plan) number (concept_node old) (group_node new) 
 replaces_one_child (group_node plan) number (group_node old) (concept_node new) is sort = absurd sort
 
 -- an item that is set is found
-found_where_set : (nodes : List Node) (number : ℕ) (old new : Node) → slice_get nodes number ≡ Some old → slice_get (slice_set nodes number new) number ≡ Some new
+found_where_set : (nodes : List Node) (number : ℕ) (old new : Node) → slice_get nodes number ≡ Some old
+    → slice_get (slice_set nodes number new) number ≡ Some new
 found_where_set [] number old new is = absurd (cc)
 found_where_set (first ∷ rest) zero old new is = refl
 found_where_set (first ∷ rest) (suc number) old new is = found_where_set rest number old new is
@@ -117,7 +129,10 @@ same_sort_put (number ∷ place) whole old new is sort = same_sort_changed whole
     same_sort_changed (concept_node plan) number change (Some child) = tt
     same_sort_changed (group_node plan) number change (Some child) = tt
 
-found_in : (whole : Node) (number : ℕ) (old new : Node) (find : Node → Option Node) (change : Node → Node) (found : Option Node) → slice_get (children whole) number ≡ found → ((child : Node) → find child ≡ Some old → (find (change child) ≡ Some new) × AreOfOneSort child (change child)) → inside find found ≡ Some old → inside find (slice_get (children (with_changed whole number change found)) number) ≡ Some new
+found_in : (whole : Node) (number : ℕ) (old new : Node) (find : Node → Option Node) (change : Node → Node)
+    (found : Option Node) → slice_get (children whole) number ≡ found
+    → ((child : Node) → find child ≡ Some old → (find (change child) ≡ Some new) × AreOfOneSort child (change child))
+    → inside find found ≡ Some old → inside find (slice_get (children (with_changed whole number change found)) number) ≡ Some new
 found_in whole number old new find change None is each there = absurd (cc)
 found_in whole number old new find change (Some child) is each there =
     let in_child = each child there in
@@ -138,7 +153,8 @@ plans_back no_plans number old is = refl
 plans_back (plan_then first rest) zero old is = let here : first ≡ old = cc in ap (λ (plan : Plan). plan_then plan rest) (sym here)
 plans_back (plan_then first rest) (suc number) old is = ap (plan_then first) (plans_back rest number old is)
 
-groups_back : (parts : PlansOfUnits) (number : ℕ) (old : PlanOfUnits) → slice_get (group_nodes parts) number ≡ Some (group_node old) → groups_with parts number old ≡ parts
+groups_back : (parts : PlansOfUnits) (number : ℕ) (old : PlanOfUnits)
+    → slice_get (group_nodes parts) number ≡ Some (group_node old) → groups_with parts number old ≡ parts
 groups_back no_unit_plans number old is = refl
 groups_back (unit_plan_then first rest) zero old is = let here : first ≡ old = cc in ap (λ (plan : PlanOfUnits). unit_plan_then plan rest) (sym here)
 groups_back (unit_plan_then first rest) (suc number) old is = ap (unit_plan_then first) (groups_back rest number old is)
@@ -202,7 +218,10 @@ child_back : (whole : Node) (number : ℕ) (old : Node) → slice_get (children 
 child_back (concept_node plan) number old is = ap concept_node (plan_back plan number old is)
 child_back (group_node plan) number old is = ap group_node (group_back plan number old is)
 
-back_in : (whole : Node) (number : ℕ) (old : Node) (find : Node → Option Node) (change : Node → Node) (found : Option Node) → slice_get (children whole) number ≡ found → ((child : Node) → find child ≡ Some old → change child ≡ child) → inside find found ≡ Some old → with_changed whole number change found ≡ whole
+back_in : (whole : Node) (number : ℕ) (old : Node) (find : Node → Option Node) (change : Node → Node)
+    (found : Option Node) → slice_get (children whole) number ≡ found
+    → ((child : Node) → find child ≡ Some old → change child ≡ child) → inside find found ≡ Some old
+    → with_changed whole number change found ≡ whole
 back_in whole number old find change None is each there = refl
 back_in whole number old find change (Some child) is each there =
     ap (with_child whole number) (each child there) ∙ child_back whole number child is

@@ -13,50 +13,70 @@ use Rattle.set_algebra.specs.Places.{Node, concept_node, group_node, plan_nodes,
 use Rattle.set_algebra.specs.Plan.{Plan, empty_plan, all_plan, one_plan, walk_plan, members_plan, and_plan, or_plan, minus_plan, values_plan, pairs_plan, units_plan, Plans, no_plans, plan_then, PlanOfUnits, nothing_unit, every_unit, and_units, or_units, minus_units, pairs_units, PlansOfUnits, no_unit_plans, unit_plan_then, TestPlan, within_plan, outside_plan, number_plan}
 
 -- a child that is there and means the same as another
-found_plan : (release : Release) (here child new : Plan) → Some (concept_node here) ≡ Some (concept_node child) → means release child ≡ means release new → means release here ≡ means release new
+found_plan : (release : Release) (here child new : Plan) → Some (concept_node here) ≡ Some (concept_node child)
+    → means release child ≡ means release new → means release here ≡ means release new
 found_plan release here child new is same = let same_child : here ≡ child = cc in ap (means release) same_child ∙ same
 
-found_group : (release : Release) (here child new : PlanOfUnits) → Some (group_node here) ≡ Some (group_node child) → unit_means release child ≡ unit_means release new → unit_means release here ≡ unit_means release new
+found_group : (release : Release) (here child new : PlanOfUnits) → Some (group_node here) ≡ Some (group_node child)
+    → unit_means release child ≡ unit_means release new → unit_means release here ≡ unit_means release new
 found_group release here child new is same = let same_child : here ≡ child = cc in ap (unit_means release) same_child ∙ same
 
 -- in a list of plans
-all_keep : (release : Release) (parts : Plans) (number : ℕ) (child new : Plan) → slice_get (plan_nodes parts) number ≡ Some (concept_node child) → means release child ≡ means release new → all_mean release parts ≡ all_mean release (plans_with parts number new)
+all_keep : (release : Release) (parts : Plans) (number : ℕ) (child new : Plan)
+    → slice_get (plan_nodes parts) number ≡ Some (concept_node child) → means release child ≡ means release new
+    → all_mean release parts ≡ all_mean release (plans_with parts number new)
 all_keep release no_plans number child new is same = absurd (cc)
 all_keep release (plan_then first rest) zero child new is same =
     ap {B = ℕ → Bool} (λ (set : ℕ → Bool) (concept : ℕ). set concept && all_mean release rest concept) (found_plan release first child new is same)
 all_keep release (plan_then first rest) (suc number) child new is same =
     ap {B = ℕ → Bool} (λ (set : ℕ → Bool) (concept : ℕ). means release first concept && set concept) (all_keep release rest number child new is same)
 
-some_keep : (release : Release) (parts : Plans) (number : ℕ) (child new : Plan) → slice_get (plan_nodes parts) number ≡ Some (concept_node child) → means release child ≡ means release new → some_means release parts ≡ some_means release (plans_with parts number new)
+some_keep : (release : Release) (parts : Plans) (number : ℕ) (child new : Plan)
+    → slice_get (plan_nodes parts) number ≡ Some (concept_node child) → means release child ≡ means release new
+    → some_means release parts ≡ some_means release (plans_with parts number new)
 some_keep release no_plans number child new is same = absurd (cc)
 some_keep release (plan_then first rest) zero child new is same =
     ap {B = ℕ → Bool} (λ (set : ℕ → Bool) (concept : ℕ). set concept || some_means release rest concept) (found_plan release first child new is same)
 some_keep release (plan_then first rest) (suc number) child new is same =
     ap {B = ℕ → Bool} (λ (set : ℕ → Bool) (concept : ℕ). means release first concept || set concept) (some_keep release rest number child new is same)
 
-along_keep : (release : Release) (names : Plans) (number : ℕ) (child new : Plan) (set : ℕ → Bool) → slice_get (plan_nodes names) number ≡ Some (concept_node child) → means release child ≡ means release new → leads release set names ≡ leads release set (plans_with names number new)
+along_keep : (release : Release) (names : Plans) (number : ℕ) (child new : Plan) (set : ℕ → Bool)
+    → slice_get (plan_nodes names) number ≡ Some (concept_node child) → means release child ≡ means release new
+    → leads release set names ≡ leads release set (plans_with names number new)
 along_keep release no_plans number child new set is same = absurd (cc)
 along_keep release (plan_then first rest) zero child new set is same =
     ap (λ (types : ℕ → Bool). leads release (is_value release set types) rest) (found_plan release first child new is same)
 along_keep release (plan_then first rest) (suc number) child new set is same =
     along_keep release rest number child new (is_value release set (means release first)) is same
 
-all_groups_keep : (release : Release) (parts : PlansOfUnits) (number : ℕ) (child new : PlanOfUnits) → slice_get (group_nodes parts) number ≡ Some (group_node child) → unit_means release child ≡ unit_means release new → all_units_mean release parts ≡ all_units_mean release (groups_with parts number new)
+all_groups_keep : (release : Release) (parts : PlansOfUnits) (number : ℕ) (child new : PlanOfUnits)
+    → slice_get (group_nodes parts) number ≡ Some (group_node child)
+    → unit_means release child ≡ unit_means release new
+    → all_units_mean release parts ≡ all_units_mean release (groups_with parts number new)
 all_groups_keep release no_unit_plans number child new is same = absurd (cc)
 all_groups_keep release (unit_plan_then first rest) zero child new is same =
-    ap {B = List Pair → Bool} (λ (set : List Pair → Bool) (pairs : List Pair). set pairs && all_units_mean release rest pairs) (found_group release first child new is same)
+    ap {B = List Pair → Bool} (λ (set : List Pair → Bool) (pairs : List Pair). set pairs
+    && all_units_mean release rest pairs) (found_group release first child new is same)
 all_groups_keep release (unit_plan_then first rest) (suc number) child new is same =
-    ap {B = List Pair → Bool} (λ (set : List Pair → Bool) (pairs : List Pair). unit_means release first pairs && set pairs) (all_groups_keep release rest number child new is same)
+    ap {B = List Pair → Bool} (λ (set : List Pair → Bool) (pairs : List Pair). unit_means release first pairs
+    && set pairs) (all_groups_keep release rest number child new is same)
 
-some_groups_keep : (release : Release) (parts : PlansOfUnits) (number : ℕ) (child new : PlanOfUnits) → slice_get (group_nodes parts) number ≡ Some (group_node child) → unit_means release child ≡ unit_means release new → some_unit_means release parts ≡ some_unit_means release (groups_with parts number new)
+some_groups_keep : (release : Release) (parts : PlansOfUnits) (number : ℕ) (child new : PlanOfUnits)
+    → slice_get (group_nodes parts) number ≡ Some (group_node child)
+    → unit_means release child ≡ unit_means release new
+    → some_unit_means release parts ≡ some_unit_means release (groups_with parts number new)
 some_groups_keep release no_unit_plans number child new is same = absurd (cc)
 some_groups_keep release (unit_plan_then first rest) zero child new is same =
-    ap {B = List Pair → Bool} (λ (set : List Pair → Bool) (pairs : List Pair). set pairs || some_unit_means release rest pairs) (found_group release first child new is same)
+    ap {B = List Pair → Bool} (λ (set : List Pair → Bool) (pairs : List Pair). set pairs
+    || some_unit_means release rest pairs) (found_group release first child new is same)
 some_groups_keep release (unit_plan_then first rest) (suc number) child new is same =
-    ap {B = List Pair → Bool} (λ (set : List Pair → Bool) (pairs : List Pair). unit_means release first pairs || set pairs) (some_groups_keep release rest number child new is same)
+    ap {B = List Pair → Bool} (λ (set : List Pair → Bool) (pairs : List Pair). unit_means release first pairs
+    || set pairs) (some_groups_keep release rest number child new is same)
 
 -- in a test
-test_keeps : (release : Release) (test : TestPlan) (number : ℕ) (child new : Plan) → slice_get (test_nodes test) number ≡ Some (concept_node child) → means release child ≡ means release new → value_passes release test ≡ value_passes release (test_with test number new)
+test_keeps : (release : Release) (test : TestPlan) (number : ℕ) (child new : Plan)
+    → slice_get (test_nodes test) number ≡ Some (concept_node child) → means release child ≡ means release new
+    → value_passes release test ≡ value_passes release (test_with test number new)
 test_keeps release (within_plan operand) zero child new is same = ap is_within (found_plan release operand child new is same)
 test_keeps release (within_plan operand) (suc number) child new is same = absurd (cc)
 test_keeps release (outside_plan operand) zero child new is same = ap is_outside (found_plan release operand child new is same)
@@ -64,12 +84,15 @@ test_keeps release (outside_plan operand) (suc number) child new is same = absur
 test_keeps release (number_plan compare value) number child new is same = absurd (cc)
 
 -- a plan of concepts in a plan of concepts
-plan_keeps : (release : Release) (plan : Plan) (number : ℕ) (child new : Plan) → slice_get (plan_children plan) number ≡ Some (concept_node child) → means release child ≡ means release new → means release plan ≡ means release (plan_with plan number (concept_node new))
+plan_keeps : (release : Release) (plan : Plan) (number : ℕ) (child new : Plan)
+    → slice_get (plan_children plan) number ≡ Some (concept_node child) → means release child ≡ means release new
+    → means release plan ≡ means release (plan_with plan number (concept_node new))
 plan_keeps release empty_plan number child new is same = absurd (cc)
 plan_keeps release all_plan number child new is same = absurd (cc)
 plan_keeps release (one_plan value) number child new is same = absurd (cc)
 plan_keeps release (walk_plan operator operand) zero child new is same =
-    ap {B = ℕ → Bool} (λ (set : ℕ → Bool) (concept : ℕ). has_concept release concept && walks release operator set concept) (found_plan release operand child new is same)
+    ap {B = ℕ → Bool} (λ (set : ℕ → Bool) (concept : ℕ). has_concept release concept
+    && walks release operator set concept) (found_plan release operand child new is same)
 plan_keeps release (walk_plan operator operand) (suc number) child new is same = absurd (cc)
 plan_keeps release (members_plan operand) zero child new is same = ap (is_component release) (found_plan release operand child new is same)
 plan_keeps release (members_plan operand) (suc number) child new is same = absurd (cc)
@@ -85,9 +108,13 @@ plan_keeps release (values_plan start names) zero child new is same =
     ap (λ (set : ℕ → Bool). leads release set names) (found_plan release start child new is same)
 plan_keeps release (values_plan start names) (suc number) child new is same = along_keep release names number child new (means release start) is same
 plan_keeps release (pairs_plan back count types test) zero child new is same =
-    ap {B = ℕ → Bool} (λ (set : ℕ → Bool) (concept : ℕ). has_concept release concept && has_pairs count set (value_passes release test) (pairs_of release back concept)) (found_plan release types child new is same)
+    ap {B = ℕ → Bool} (λ (set : ℕ → Bool) (concept : ℕ). has_concept release concept
+    && has_pairs count set (value_passes release test) (pairs_of release back concept))
+    (found_plan release types child new is same)
 plan_keeps release (pairs_plan back count types test) (suc number) child new is same =
-    ap {B = ℕ → Bool} (λ (values : Value → Bool) (concept : ℕ). has_concept release concept && has_pairs count (means release types) values (pairs_of release back concept)) (test_keeps release test number child new is same)
+    ap {B = ℕ → Bool} (λ (values : Value → Bool) (concept : ℕ). has_concept release concept
+    && has_pairs count (means release types) values (pairs_of release back concept))
+    (test_keeps release test number child new is same)
 plan_keeps release (units_plan count units) zero child new is same = absurd (cc)
 plan_keeps release (units_plan count units) (suc number) child new is same = absurd (cc)
 
@@ -104,7 +131,10 @@ no_group_in_test (outside_plan operand) zero child is = absurd (cc)
 no_group_in_test (outside_plan operand) (suc number) child is = absurd (cc)
 no_group_in_test (number_plan compare value) number child is = absurd (cc)
 
-braces_keep : (release : Release) (plan : Plan) (number : ℕ) (child new : PlanOfUnits) → slice_get (plan_children plan) number ≡ Some (group_node child) → unit_means release child ≡ unit_means release new → means release plan ≡ means release (plan_with plan number (group_node new))
+braces_keep : (release : Release) (plan : Plan) (number : ℕ) (child new : PlanOfUnits)
+    → slice_get (plan_children plan) number ≡ Some (group_node child)
+    → unit_means release child ≡ unit_means release new
+    → means release plan ≡ means release (plan_with plan number (group_node new))
 braces_keep release empty_plan number child new is same = absurd (cc)
 braces_keep release all_plan number child new is same = absurd (cc)
 braces_keep release (one_plan value) number child new is same = absurd (cc)
@@ -122,7 +152,8 @@ braces_keep release (values_plan start names) (suc number) child new is same = a
 braces_keep release (pairs_plan back count types test) zero child new is same = absurd (cc)
 braces_keep release (pairs_plan back count types test) (suc number) child new is same = absurd (no_group_in_test test number child is)
 braces_keep release (units_plan count units) zero child new is same =
-    ap {B = ℕ → Bool} (λ (set : List Pair → Bool) (concept : ℕ). has_concept release concept && has_groups release count set concept) (found_group release units child new is same)
+    ap {B = ℕ → Bool} (λ (set : List Pair → Bool) (concept : ℕ). has_concept release concept
+    && has_groups release count set concept) (found_group release units child new is same)
 braces_keep release (units_plan count units) (suc number) child new is same = absurd (cc)
 
 -- a plan of concepts in a plan of groups: the types and the values of its pairs
@@ -131,7 +162,9 @@ no_plan_among no_unit_plans number child is = absurd (cc)
 no_plan_among (unit_plan_then first rest) zero child is = absurd (cc)
 no_plan_among (unit_plan_then first rest) (suc number) child is = no_plan_among rest number child is
 
-group_keeps_plan : (release : Release) (plan : PlanOfUnits) (number : ℕ) (child new : Plan) → slice_get (group_children plan) number ≡ Some (concept_node child) → means release child ≡ means release new → unit_means release plan ≡ unit_means release (group_with plan number (concept_node new))
+group_keeps_plan : (release : Release) (plan : PlanOfUnits) (number : ℕ) (child new : Plan)
+    → slice_get (group_children plan) number ≡ Some (concept_node child) → means release child ≡ means release new
+    → unit_means release plan ≡ unit_means release (group_with plan number (concept_node new))
 group_keeps_plan release nothing_unit number child new is same = absurd (cc)
 group_keeps_plan release every_unit number child new is same = absurd (cc)
 group_keeps_plan release (and_units parts) number child new is same = absurd (no_plan_among parts number child is)
@@ -145,21 +178,28 @@ group_keeps_plan release (pairs_units count types test) (suc number) child new i
     ap (λ (values : Value → Bool). has_pairs count (means release types) values) (test_keeps release test number child new is same)
 
 -- a plan of groups in a plan of groups
-group_keeps : (release : Release) (plan : PlanOfUnits) (number : ℕ) (child new : PlanOfUnits) → slice_get (group_children plan) number ≡ Some (group_node child) → unit_means release child ≡ unit_means release new → unit_means release plan ≡ unit_means release (group_with plan number (group_node new))
+group_keeps : (release : Release) (plan : PlanOfUnits) (number : ℕ) (child new : PlanOfUnits)
+    → slice_get (group_children plan) number ≡ Some (group_node child)
+    → unit_means release child ≡ unit_means release new
+    → unit_means release plan ≡ unit_means release (group_with plan number (group_node new))
 group_keeps release nothing_unit number child new is same = absurd (cc)
 group_keeps release every_unit number child new is same = absurd (cc)
 group_keeps release (and_units parts) number child new is same = all_groups_keep release parts number child new is same
 group_keeps release (or_units parts) number child new is same = some_groups_keep release parts number child new is same
 group_keeps release (minus_units first second) zero child new is same =
-    ap {B = List Pair → Bool} (λ (set : List Pair → Bool) (pairs : List Pair). set pairs && not (unit_means release second pairs)) (found_group release first child new is same)
+    ap {B = List Pair → Bool} (λ (set : List Pair → Bool) (pairs : List Pair). set pairs
+    && not (unit_means release second pairs)) (found_group release first child new is same)
 group_keeps release (minus_units first second) (suc zero) child new is same =
-    ap {B = List Pair → Bool} (λ (set : List Pair → Bool) (pairs : List Pair). unit_means release first pairs && not (set pairs)) (found_group release second child new is same)
+    ap {B = List Pair → Bool} (λ (set : List Pair → Bool) (pairs : List Pair). unit_means release first pairs
+    && not (set pairs)) (found_group release second child new is same)
 group_keeps release (minus_units first second) (suc (suc number)) child new is same = absurd (cc)
 group_keeps release (pairs_units count types test) zero child new is same = absurd (cc)
 group_keeps release (pairs_units count types test) (suc number) child new is same = absurd (no_group_in_test test number child is)
 
 -- a node of either sort in one of either sort
-child_keeps : (release : Release) (whole : Node) (number : ℕ) (child new : Node) → slice_get (children whole) number ≡ Some child → MeanTheSame release child new → MeanTheSame release whole (with_child whole number new)
+child_keeps : (release : Release) (whole : Node) (number : ℕ) (child new : Node)
+    → slice_get (children whole) number ≡ Some child → MeanTheSame release child new
+    → MeanTheSame release whole (with_child whole number new)
 child_keeps release (concept_node plan) number (concept_node child) (concept_node new) is same =
     λ concept. ap (λ (set : ℕ → Bool). set concept) (plan_keeps release plan number child new is (fun_ext same))
 child_keeps release (concept_node plan) number (group_node child) (group_node new) is same =
@@ -174,7 +214,10 @@ child_keeps release (group_node plan) number (concept_node child) (group_node ne
 child_keeps release (group_node plan) number (group_node child) (concept_node new) is same = absurd same
 
 -- the same at a place in a child, if there is one
-changed_keeps : (release : Release) (whole : Node) (number : ℕ) (old : Node) (find : Node → Option Node) (change : Node → Node) (found : Option Node) → slice_get (children whole) number ≡ found → ((child : Node) → find child ≡ Some old → MeanTheSame release child (change child)) → inside find found ≡ Some old → MeanTheSame release whole (with_changed whole number change found)
+changed_keeps : (release : Release) (whole : Node) (number : ℕ) (old : Node) (find : Node → Option Node)
+    (change : Node → Node) (found : Option Node) → slice_get (children whole) number ≡ found
+    → ((child : Node) → find child ≡ Some old → MeanTheSame release child (change child))
+    → inside find found ≡ Some old → MeanTheSame release whole (with_changed whole number change found)
 changed_keeps release whole number old find change None is keeps there = absurd (cc)
 changed_keeps release whole number old find change (Some child) is keeps there =
     child_keeps release whole number child (change child) is (keeps child there)

@@ -25,8 +25,11 @@ plan_of-And parts = ap and_plan (row_of_plans-items (hidden-the_row-ConceptPlan-
 pub plan_of-Or : (parts : Vec ConceptPlan Global) → plan_of (concept_plan.Or parts) ≡ or_plan (plans_of parts.items)
 plan_of-Or parts = ap or_plan (row_of_plans-items (hidden-the_row-ConceptPlan-0 parts) ∙ ap plans_of (items_hidden-the_row-ConceptPlan-0 parts))
 
-pub plan_of-Values : (start : Box ConceptPlan Global) (names : Vec ConceptPlan Global) → plan_of (concept_plan.Values start names) ≡ values_plan (plan_of start.value) (plans_of names.items)
-plan_of-Values start names = ap (values_plan (plan_of start.value)) (row_of_plans-items (hidden-the_row-ConceptPlan-0 names) ∙ ap plans_of (items_hidden-the_row-ConceptPlan-0 names))
+pub plan_of-Values : (start : Box ConceptPlan Global) (names : Vec ConceptPlan Global)
+    → plan_of (concept_plan.Values start names) ≡ values_plan (plan_of start.value) (plans_of names.items)
+plan_of-Values start names =
+    ap (values_plan (plan_of start.value)) (row_of_plans-items (hidden-the_row-ConceptPlan-0 names)
+    ∙ ap plans_of (items_hidden-the_row-ConceptPlan-0 names))
 
 pub unit_plan_of-And : (parts : Vec UnitPlan Global) → unit_plan_of (unit_plan.And parts) ≡ and_units (unit_plans_of parts.items)
 unit_plan_of-And parts = ap and_units (row_of_units-items (hidden-the_row-UnitPlan-1 parts) ∙ ap unit_plans_of (items_hidden-the_row-UnitPlan-1 parts))

@@ -19,9 +19,11 @@ pub same_unit_lengths : (parts others : List UnitPlan) → unit_plans_of parts �
 same_unit_lengths [] [] same = refl
 same_unit_lengths [] (other ∷ others) same = absurd (cc)
 same_unit_lengths (first ∷ rest) [] same = absurd (cc)
-same_unit_lengths (first ∷ rest) (other ∷ others) same = let tails : unit_plans_of rest ≡ unit_plans_of others = cc in ap suc (same_unit_lengths rest others tails)
+same_unit_lengths (first ∷ rest) (other ∷ others) same = let tails : unit_plans_of rest ≡ unit_plans_of others =
+    cc in ap suc (same_unit_lengths rest others tails)
 
-pub same_at : (parts others : List ConceptPlan) (i : ℕ) (part other : ConceptPlan) → i < length parts → part ≡ get_or parts i part → other ≡ get_or others i other → plans_of parts ≡ plans_of others → plan_of part ≡ plan_of other
+pub same_at : (parts others : List ConceptPlan) (i : ℕ) (part other : ConceptPlan) → i < length parts
+    → part ≡ get_or parts i part → other ≡ get_or others i other → plans_of parts ≡ plans_of others → plan_of part ≡ plan_of other
 same_at [] others i part other within is other_is same = absurd (omega arith)
 same_at (first ∷ rest) [] i part other within is other_is same = absurd (cc)
 same_at (first ∷ rest) (other_first ∷ others) zero part other within is other_is same =
@@ -29,7 +31,9 @@ same_at (first ∷ rest) (other_first ∷ others) zero part other within is othe
 same_at (first ∷ rest) (other_first ∷ others) (suc i) part other within is other_is same =
     let tails : plans_of rest ≡ plans_of others = cc in same_at rest others i part other (omega arith) is other_is tails
 
-pub same_unit_at : (parts others : List UnitPlan) (i : ℕ) (part other : UnitPlan) → i < length parts → part ≡ get_or parts i part → other ≡ get_or others i other → unit_plans_of parts ≡ unit_plans_of others → unit_plan_of part ≡ unit_plan_of other
+pub same_unit_at : (parts others : List UnitPlan) (i : ℕ) (part other : UnitPlan) → i < length parts
+    → part ≡ get_or parts i part → other ≡ get_or others i other → unit_plans_of parts ≡ unit_plans_of others
+    → unit_plan_of part ≡ unit_plan_of other
 same_unit_at [] others i part other within is other_is same = absurd (omega arith)
 same_unit_at (first ∷ rest) [] i part other within is other_is same = absurd (cc)
 same_unit_at (first ∷ rest) (other_first ∷ others) zero part other within is other_is same =
@@ -38,14 +42,20 @@ same_unit_at (first ∷ rest) (other_first ∷ others) (suc i) part other within
     let tails : unit_plans_of rest ≡ unit_plans_of others = cc in same_unit_at rest others i part other (omega arith) is other_is tails
 
 -- the same so far, and the next: the step of a loop over two lists
-pub same_more : (parts others : List ConceptPlan) (i : ℕ) (part other : ConceptPlan) → i < length parts → length parts ≡ length others → part ≡ get_or parts i part → other ≡ get_or others i other → plans_of (take i parts) ≡ plans_of (take i others) → plan_of part ≡ plan_of other → plans_of (take (i + 1) parts) ≡ plans_of (take (i + 1) others)
+pub same_more : (parts others : List ConceptPlan) (i : ℕ) (part other : ConceptPlan) → i < length parts
+    → length parts ≡ length others → part ≡ get_or parts i part → other ≡ get_or others i other
+    → plans_of (take i parts) ≡ plans_of (take i others) → plan_of part ≡ plan_of other
+    → plans_of (take (i + 1) parts) ≡ plans_of (take (i + 1) others)
 same_more parts others i part other within long is other_is so_far one =
     plans_so_far parts i part within is
     ∙ ap (λ (plans : Plans). plans_push plans (plan_of part)) so_far
     ∙ ap (plans_push (plans_of (take i others))) one
     ∙ sym (plans_so_far others i other (omega arith) other_is)
 
-pub same_unit_more : (parts others : List UnitPlan) (i : ℕ) (part other : UnitPlan) → i < length parts → length parts ≡ length others → part ≡ get_or parts i part → other ≡ get_or others i other → unit_plans_of (take i parts) ≡ unit_plans_of (take i others) → unit_plan_of part ≡ unit_plan_of other → unit_plans_of (take (i + 1) parts) ≡ unit_plans_of (take (i + 1) others)
+pub same_unit_more : (parts others : List UnitPlan) (i : ℕ) (part other : UnitPlan) → i < length parts
+    → length parts ≡ length others → part ≡ get_or parts i part → other ≡ get_or others i other
+    → unit_plans_of (take i parts) ≡ unit_plans_of (take i others) → unit_plan_of part ≡ unit_plan_of other
+    → unit_plans_of (take (i + 1) parts) ≡ unit_plans_of (take (i + 1) others)
 same_unit_more parts others i part other within long is other_is so_far one =
     groups_so_far parts i part within is
     ∙ ap (λ (plans : PlansOfUnits). groups_push plans (unit_plan_of part)) so_far
@@ -53,17 +63,28 @@ same_unit_more parts others i part other within long is other_is so_far one =
     ∙ sym (groups_so_far others i other (omega arith) other_is)
 
 -- values from equal starts are the same plan exactly where their names are
-values_same : (from from_other : Plan) (names others : Plans) (result : Bool) → from ≡ from_other → (IsTrue result ↔ (names ≡ others)) → IsTrue result ↔ (values_plan from names ≡ values_plan from_other others)
+values_same : (from from_other : Plan) (names others : Plans) (result : Bool) → from ≡ from_other
+    → (IsTrue result ↔ (names ≡ others)) → IsTrue result ↔ (values_plan from names ≡ values_plan from_other others)
 values_same from from_other names others result starts along = (
   λ holds. ap (λ (plan : Plan). values_plan plan names) starts ∙ ap (values_plan from_other) (along.0 holds),
   λ same. let names_are : names ≡ others = cc in along.1 names_are,
 )
 
-pub values_are_same : (one one_other : ConceptPlan) (start start_other : Box ConceptPlan Global) (names others : Vec ConceptPlan Global) (from from_other : ConceptPlan) (along along_other : List ConceptPlan) (result : Bool) → one ≡ concept_plan.Values start names → one_other ≡ concept_plan.Values start_other others → from ≡ start.value → from_other ≡ start_other.value → along ≡ names.items → along_other ≡ others.items → plan_of from ≡ plan_of from_other → (IsTrue result ↔ (plans_of along ≡ plans_of along_other)) → IsTrue result ↔ (plan_of one ≡ plan_of one_other)
-values_are_same one one_other start start_other names others from from_other along along_other result one_is other_is from_is from_other_is along_is along_other_is starts agree =
+pub values_are_same : (one one_other : ConceptPlan) (start start_other : Box ConceptPlan Global)
+    (names others : Vec ConceptPlan Global) (from from_other : ConceptPlan) (along along_other : List ConceptPlan)
+    (result : Bool) → one ≡ concept_plan.Values start names → one_other ≡ concept_plan.Values start_other others
+    → from ≡ start.value → from_other ≡ start_other.value → along ≡ names.items → along_other ≡ others.items
+    → plan_of from ≡ plan_of from_other → (IsTrue result ↔ (plans_of along ≡ plans_of along_other))
+    → IsTrue result ↔ (plan_of one ≡ plan_of one_other)
+values_are_same one one_other start start_other names others from from_other along along_other result one_is other_is
+    from_is from_other_is along_is along_other_is starts agree =
     let this : plan_of one ≡ values_plan (plan_of from) (plans_of along) =
-    ap plan_of one_is ∙ plan_of-Values start names ∙ ap (λ (plan : ConceptPlan). values_plan (plan_of plan) (plans_of names.items)) (sym from_is) ∙ ap (λ (plans : List ConceptPlan). values_plan (plan_of from) (plans_of plans)) (sym along_is) in
+    ap plan_of one_is ∙ plan_of-Values start names
+    ∙ ap (λ (plan : ConceptPlan). values_plan (plan_of plan) (plans_of names.items)) (sym from_is)
+    ∙ ap (λ (plans : List ConceptPlan). values_plan (plan_of from) (plans_of plans)) (sym along_is) in
     let that : plan_of one_other ≡ values_plan (plan_of from_other) (plans_of along_other) =
-    ap plan_of other_is ∙ plan_of-Values start_other others ∙ ap (λ (plan : ConceptPlan). values_plan (plan_of plan) (plans_of others.items)) (sym from_other_is) ∙ ap (λ (plans : List ConceptPlan). values_plan (plan_of from_other) (plans_of plans)) (sym along_other_is) in
+    ap plan_of other_is ∙ plan_of-Values start_other others
+    ∙ ap (λ (plan : ConceptPlan). values_plan (plan_of plan) (plans_of others.items)) (sym from_other_is)
+    ∙ ap (λ (plans : List ConceptPlan). values_plan (plan_of from_other) (plans_of plans)) (sym along_other_is) in
     let same = values_same (plan_of from) (plan_of from_other) (plans_of along) (plans_of along_other) result starts agree in
     (λ holds. this ∙ same.0 holds ∙ sym that, λ equal. same.1 (sym this ∙ equal ∙ that))

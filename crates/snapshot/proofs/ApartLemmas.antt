@@ -46,12 +46,31 @@ apart-later : (rows earlier later : List RowAt) (row : RowAt) (id : ℕ) → con
     → IsAmong rows row → is_superseded rows row ≡ false → IsAmong earlier row → AreAmong rows later
     → AllByRecursion (λ other. nat_eq id other ≡ false) (active_ids (marked (choices rows earlier later) later))
 apart-later rows earlier [] row id listed among latest before all = tt
-apart-later rows earlier (next ∷ later) row id listed among latest before all = grind (arith, common_steps, nat_tests, nat_eq, (apart-later rows (earlier ++ next ∷ []) later row id listed among latest (among-append earlier (next ∷ []) row before) all.1), before, among)
+apart-later rows earlier (next ∷ later) row id listed among latest before all =
+    grind (
+      arith,
+      common_steps,
+      nat_tests,
+      nat_eq,
+      (apart-later rows (earlier ++ next ∷ []) later row id listed among latest
+          (among-append earlier (next ∷ []) row before) all.1),
+      before,
+      among,
+    )
 
 distinct-choices : (rows earlier later : List RowAt) → AreAmong rows later → IsDistinct nat_eq (active_ids (marked (choices rows earlier later) later))
 unfolding IsDistinct
 distinct-choices rows earlier [] all = tt
-distinct-choices rows earlier (row ∷ later) all = grind (arith, common_steps, nat_tests, among-here, apart-later, nat_eq, (distinct-choices rows (earlier ++ row ∷ []) later all.1))
+distinct-choices rows earlier (row ∷ later) all =
+    grind (
+      arith,
+      common_steps,
+      nat_tests,
+      among-here,
+      apart-later,
+      nat_eq,
+      (distinct-choices rows (earlier ++ row ∷ []) later all.1),
+    )
 
 -- no two chosen rows of active concepts have one identifier
 pub active-distinct : (rows : List RowAt) → IsDistinct nat_eq (filter_map concept_listed (map text_of_row (chosen rows)))
@@ -63,5 +82,6 @@ length-picked pick [] = omega arith
 length-picked {X} {Y} pick (item ∷ items) = grind (arith, filter_map, cons_option, (length-picked pick items))
 
 -- what was read of places without a fault is few
-pub AreFew-read : (limits : Limits) (places : List Place) (count : ℕ) (listed : ReleaseLists) → row_total limits ≤ 68000000 → IsReadFrom limits places count listed → AreFew count listed
+pub AreFew-read : (limits : Limits) (places : List Place) (count : ℕ) (listed : ReleaseLists)
+    → row_total limits ≤ 68000000 → IsReadFrom limits places count listed → AreFew count listed
 AreFew-read limits places count listed room read = grind (arith, length-map, length-marked, length-picked)

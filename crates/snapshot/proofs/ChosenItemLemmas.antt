@@ -15,10 +15,12 @@ abbrev pub to_come : {X : Type 0} → Listing → List Listing → List Bool →
 to_come list marks choices place left = items_chosen (in_list list (drop place marks)) (drop place choices) left
 
 open_marks : (marks : List Listing) (place : ℕ) (d : Listing) → place < length marks → drop place marks ≡ get_or marks place d ∷ drop (place + 1) marks
-open_marks marks place d within = let next : suc place ≡ place + 1 = omega arith in rw (drop-cons marks place d) (ap (λ (at : ℕ). get_or marks place d ∷ drop at marks) next)
+open_marks marks place d within = let next : suc place ≡ place + 1 = omega arith in
+    rw (drop-cons marks place d) (ap (λ (at : ℕ). get_or marks place d ∷ drop at marks) next)
 
 open_choices : (choices : List Bool) (place : ℕ) (e : Bool) → place < length choices → drop place choices ≡ get_or choices place e ∷ drop (place + 1) choices
-open_choices choices place e within = let next : suc place ≡ place + 1 = omega arith in rw (drop-cons choices place e) (ap (λ (at : ℕ). get_or choices place e ∷ drop at choices) next)
+open_choices choices place e within = let next : suc place ≡ place + 1 = omega arith in
+    rw (drop-cons choices place e) (ap (λ (at : ℕ). get_or choices place e ∷ drop at choices) next)
 
 module _ {X : Type 0} (list : Listing) where
   passed-step : (mark : Listing) (marks : List Listing) (choice : Bool) (choices : List Bool) (left : List X) → same_listing mark list ≡ false
@@ -42,14 +44,19 @@ module _ {X : Type 0} (list : Listing) where
         ∙ passed-step (get_or marks place d) (drop (place + 1) marks) (get_or choices place e) (drop (place + 1) choices) left other
 
     pub row_listed : (e : Bool) (left : List X) → place < length marks → place < length choices → same_listing (get_or marks place d) list ≡ true
-        → to_come list marks choices place left ≡ marked (get_or choices place e ∷ marked (in_list list (drop (place + 1) marks)) (drop (place + 1) choices)) left
+        → to_come list marks choices place left
+        ≡ marked (get_or choices place e ∷ marked (in_list list (drop (place + 1) marks)) (drop (place + 1) choices)) left
     row_listed e left in_marks in_choices same = grind (arith, common_steps, nat_tests, get_or)
 
     pub choices_ended : (left : List X) → length choices ≤ place → to_come list marks choices place left ≡ []
-    choices_ended left behind = ap (λ (rest : List Bool). items_chosen (in_list list (drop place marks)) rest left) (drop_all place choices behind) ∙ no_choices (in_list list (drop place marks)) left
+    choices_ended left behind =
+        ap (λ (rest : List Bool). items_chosen (in_list list (drop place marks)) rest left)
+        (drop_all place choices behind) ∙ no_choices (in_list list (drop place marks)) left
 
     pub marks_ended : (left : List X) → length marks ≤ place → to_come list marks choices place left ≡ []
-    marks_ended left behind = ap (λ (rest : List Listing). items_chosen (in_list list rest) (drop place choices) left) (drop_all place marks behind) ∙ no_marks (drop place choices) left
+    marks_ended left behind =
+        ap (λ (rest : List Listing). items_chosen (in_list list rest) (drop place choices) left)
+        (drop_all place marks behind) ∙ no_marks (drop place choices) left
 
 -- ---- the lists of the chosen rows
 pub chosen-picked : {X : Type 0} (pick : RowText → Option X) (rows : List RowText) (choices : List Bool)
@@ -57,7 +64,8 @@ pub chosen-picked : {X : Type 0} (pick : RowText → Option X) (rows : List RowT
 chosen-picked {X} pick [] [] = refl
 chosen-picked {X} pick [] (choice ∷ choices) = refl
 chosen-picked {X} pick (row ∷ rows) [] = grind (arith, common_steps, nat_tests)
-chosen-picked {X} pick (row ∷ rows) (choice ∷ choices) = grind (arith, marked, is_some, filter_map, items_chosen, cons_option, cond, (chosen-picked pick rows choices))
+chosen-picked {X} pick (row ∷ rows) (choice ∷ choices) =
+    grind (arith, marked, is_some, filter_map, items_chosen, cons_option, cond, (chosen-picked pick rows choices))
 
 -- ---- what the marked items are, and what holds of them
 pub map-marked : {X Y : Type 0} (f : X → Y) (marks : List Bool) (items : List X) → map f (marked marks items) ≡ marked marks (map f items)

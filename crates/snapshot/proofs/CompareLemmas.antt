@@ -43,7 +43,8 @@ AreKnown uuids rows = All (IsKnown uuids) rows
 any-noted : (uuids : List ℕ) (p : RowAt → Bool) (q : KeyedRow → Bool) (rows : List RowAt) → AreKnown uuids rows
     → ((other : RowAt) → IsKnown uuids other → q (noted_of uuids other) ≡ p other) → list_any q (map (noted_of uuids) rows) ≡ list_any p rows
 any-noted uuids p q [] known same = refl
-any-noted uuids p q (row ∷ rows) known same = grind (arith, same row (known 0 row (omega arith)), (any-noted uuids p q rows (All-tail (IsKnown uuids) row rows known) same))
+any-noted uuids p q (row ∷ rows) known same =
+    grind (arith, same row (known 0 row (omega arith)), (any-noted uuids p q rows (All-tail (IsKnown uuids) row rows known) same))
 
 module _ (uuids : List ℕ) (few : length uuids < 2 ^ 63) where
   tells : (one other : RowAt) → IsKnown uuids one → IsKnown uuids other → ((noted_of uuids one).key == (noted_of uuids other).key) ≡ same_component one other
@@ -54,12 +55,31 @@ module _ (uuids : List ℕ) (few : length uuids < 2 ^ 63) where
   choices-noted rows earlier [] known before behind = refl
   choices-noted rows earlier (row ∷ later) known before behind =
       let all : AreKnown uuids (earlier ++ row ∷ []) = All-push (IsKnown uuids) earlier row before (behind 0 row (omega arith)) in
-      grind (arith, common_steps, nat_tests, any-noted, map-append, tells, behind 0 row (omega arith), (choices-noted rows (earlier ++ row ∷ []) later known all (All-tail (IsKnown uuids) row later behind)))
+      grind (
+        arith,
+        common_steps,
+        nat_tests,
+        any-noted,
+        map-append,
+        tells,
+        behind 0 row (omega arith),
+        (choices-noted rows (earlier ++ row ∷ []) later known all (All-tail (IsKnown uuids) row later behind)),
+      )
 
   -- earlier rows of one key are of its kind
   of_its_kind : (rows : List RowAt) (row : RowAt) → AreKnown uuids rows → IsKnown uuids row → AreOfItsKind (map (noted_of uuids) rows) (noted_of uuids row)
   of_its_kind rows row known own other there same =
-      grind (arith, nat_tests, length-map, there.1, there.2, get_or-map (noted_of uuids) rows there.0 row other, (tells (get_or rows there.0 row) row), known there.0 row, (kind_same (get_or rows there.0 row).kind row.kind))
+      grind (
+        arith,
+        nat_tests,
+        length-map,
+        there.1,
+        there.2,
+        get_or-map (noted_of uuids) rows there.0 row other,
+        (tells (get_or rows there.0 row) row),
+        known there.0 row,
+        (kind_same (get_or rows there.0 row).kind row.kind),
+      )
 
 -- ---- the second pass
 abbrev pub compares : Comparing → Place → Comparing → Type 0
@@ -80,7 +100,8 @@ uuids_after-append uuids (row ∷ front) rows = uuids_after-append (uuids_behind
 known-seen : (uuids : List ℕ) (rows : List RowAt) → AreShort rows → AreKnown (uuids_after uuids rows) rows
 known-seen uuids [] short = All-nil (IsKnown uuids)
 known-seen uuids (row ∷ rows) short =
-    All-cons (IsKnown (uuids_after (uuids_behind uuids (text_of_row row)) rows)) row rows (short.0.0, (met-seen uuids rows (text_of_row row)).0) (known-seen (uuids_behind uuids (text_of_row row)) rows short.1)
+    All-cons (IsKnown (uuids_after (uuids_behind uuids (text_of_row row)) rows)) row rows
+    (short.0.0, (met-seen uuids rows (text_of_row row)).0) (known-seen (uuids_behind uuids (text_of_row row)) rows short.1)
 
 -- the keys are those by all UUIDs
 keys-seen : (uuids : List ℕ) (rows : List RowAt) → keys_behind uuids rows ≡ keys_of (uuids_after uuids rows) rows
@@ -97,9 +118,15 @@ finds : (repeated : List ℕ) (earlier rows : List RowAt) (row : RowAt) → Cove
 finds repeated earlier rows row covers there =
     let some : list_any (λ other. same_component other row) earlier ≡ true = grind (arith, common_steps, nat_tests, any-none) in
     let key = key_in (uuids_after [] earlier) (text_of_row row) in
-    grind (arith, (met-seen (uuids_after [] earlier) rows (text_of_row row)), (uuids_after-append [] earlier (row ∷ rows)), had_contained repeated key (covers key (key-twice earlier rows row some)))
+    grind (
+      arith,
+      (met-seen (uuids_after [] earlier) rows (text_of_row row)),
+      (uuids_after-append [] earlier (row ∷ rows)),
+      had_contained repeated key (covers key (key-twice earlier rows row some)),
+    )
 
-module _ (keyed : Keyed) (repeated : List ℕ) (places : List Place) (seen beyond : List RowAt) (are : AreSeen keyed places seen beyond) (covers : Covers repeated keyed.keys) (few : length keyed.uuids < 2 ^ 63) where
+module _ (keyed : Keyed) (repeated : List ℕ) (places : List Place) (seen beyond : List RowAt)
+    (are : AreSeen keyed places seen beyond) (covers : Covers repeated keyed.keys) (few : length keyed.uuids < 2 ^ 63) where
   abbrev note : RowAt → KeyedRow
   note = noted_of keyed.uuids
 
@@ -139,17 +166,25 @@ module _ (keyed : Keyed) (repeated : List ℕ) (places : List Place) (seen beyon
   Onward compared rows = (earlier : List RowAt) × (ahead : List RowAt) × Ahead compared rows earlier ahead
 
   -- the next row is expected
-  expected : (compared : Comparison) (earlier : List RowAt) (row : RowAt) → compared.uuids ≡ keyed.uuids → HasTaken compared.taken (map note earlier) → IsGiven earlier row
+  expected : (compared : Comparison) (earlier : List RowAt) (row : RowAt) → compared.uuids ≡ keyed.uuids
+      → HasTaken compared.taken (map note earlier) → IsGiven earlier row
       → IsExpected compared (map note earlier) (note row).key row.kind row.text
   expected compared earlier row same before is =
-      record { taken = before; kinds = rw same (of_its_kind keyed.uuids few earlier row is.before is.own); met = rw same is.own.1; accepted = is.accepted; same_key = rw same refl }
+      record {
+        taken = before;
+        kinds = rw same (of_its_kind keyed.uuids few earlier row is.before is.own);
+        met = rw same is.own.1;
+        accepted = is.accepted;
+        same_key = rw same refl;
+      }
 
   clash : (earlier : List RowAt) (row : RowAt) (held : VersionTable) → held.repeated ≡ repeated → IsGiven earlier row
       → clashes held (map note earlier) (note row) ≡ list_any (λ other. conflicts other row) earlier
   clash earlier row held same is = grind (arith, known, any-noted, tells)
 
   -- one place more
-  step : (old middle : Comparison) (at : Option RowAt) (rows earlier ahead : List RowAt) → IsComparedRow old old.left at middle → Ahead old (cons_option at rows) earlier ahead → Onward middle rows
+  step : (old middle : Comparison) (at : Option RowAt) (rows earlier ahead : List RowAt)
+      → IsComparedRow old old.left at middle → Ahead old (cons_option at rows) earlier ahead → Onward middle rows
   step old middle None rows earlier ahead same start = (earlier, ahead, rw same start)
   step old middle (Some row) rows earlier [] moved start = grind (arith, common_steps, nat_tests)
   step old middle (Some row) rows earlier (own ∷ ahead) moved start =
@@ -158,7 +193,8 @@ module _ (keyed : Keyed) (repeated : List ℕ) (places : List Place) (seen beyon
       let taken : IsTaken before (note own).key own.kind own.text middle = grind arith in
       let known = given earlier ahead own start.cut in
       let told : IsExpected before (map note earlier) (note own).key own.kind own.text = expected before earlier own start.uuids start.taken_is known in
-      let apart : list_any (λ other. conflicts other own) earlier ≡ false = grind (arith, clash earlier own old.taken start.repeated_is known, taken.fits (map note earlier) told, start.uuids) in
+      let apart : list_any (λ other. conflicts other own) earlier ≡ false =
+      grind (arith, clash earlier own old.taken start.repeated_is known, taken.fits (map note earlier) told, start.uuids) in
       let grown : HasTaken middle.taken (map note (earlier ++ own ∷ [])) = grind (arith, map-append, taken.taken (map note earlier) told, start.uuids) in
       let goes : Ahead middle rows (earlier ++ own ∷ []) ahead = record {
         rest = start.rest;
@@ -173,7 +209,8 @@ module _ (keyed : Keyed) (repeated : List ℕ) (places : List Place) (seen beyon
       (earlier ++ own ∷ [], ahead, goes)
 
   -- all places before others
-  onward : (old middle : Comparing) (front rest : List Place) (earlier ahead : List RowAt) → TakesAll compares old front middle → Ahead (compared_in old) (rows_of (front ++ rest)) earlier ahead
+  onward : (old middle : Comparing) (front rest : List Place) (earlier ahead : List RowAt)
+      → TakesAll compares old front middle → Ahead (compared_in old) (rows_of (front ++ rest)) earlier ahead
       → Onward (compared_in middle) (rows_of rest)
   onward old middle front rest earlier ahead (taken held) start = (earlier, ahead, start)
   onward old middle front rest earlier ahead (next from to end place others moved later) start =
@@ -183,16 +220,27 @@ module _ (keyed : Keyed) (repeated : List ℕ) (places : List Place) (seen beyon
   -- no row conflicts with an earlier one, none is left, and what is chosen of those that were taken is chosen
   abbrev pub IsChosenFrom : Comparing → Type 0
   IsChosenFrom new = (first_conflict [] seen ≡ None) × ((compared_in new).left ≡ []) × ((chosen : List Bool)
-      → ((rows : List KeyedRow) → HasTaken (compared_in new).taken rows → Covers (compared_in new).taken.repeated (map (λ (row : KeyedRow). row.key) rows) → chosen ≡ by_key.choices rows [] rows)
+      → ((rows : List KeyedRow) → HasTaken (compared_in new).taken rows
+      → Covers (compared_in new).taken.repeated (map (λ (row : KeyedRow). row.key) rows) → chosen ≡ by_key.choices rows [] rows)
       → chosen ≡ choices seen [] seen)
 
   -- the second pass begins
-  module _ (old : Comparing) (uuids : (compared_in old).uuids ≡ keyed.uuids) (left : (compared_in old).left ≡ keyed.keys) (start : VersionTable) (taken_is : (compared_in old).taken ≡ start)
+  module _ (old : Comparing) (uuids : (compared_in old).uuids ≡ keyed.uuids)
+      (left : (compared_in old).left ≡ keyed.keys) (start : VersionTable) (taken_is : (compared_in old).taken ≡ start)
       (repeated_is : start.repeated ≡ repeated) (taken : HasTaken start []) where
     begins : Ahead (compared_in old) (rows_of places) [] seen
     begins =
         let repeated_is : (compared_in old).taken.repeated ≡ repeated = ap (λ (taken : VersionTable). taken.repeated) taken_is ∙ repeated_is in
-        record { rest = beyond; all = are.front; cut = refl; conflict = refl; left = left ∙ keys_are; uuids = uuids; repeated_is = repeated_is; taken_is = rw taken_is taken }
+        record {
+          rest = beyond;
+          all = are.front;
+          cut = refl;
+          conflict = refl;
+          left = left ∙ keys_are;
+          uuids = uuids;
+          repeated_is = repeated_is;
+          taken_is = rw taken_is taken;
+        }
 
     -- it went to the end
     pub compared-all : (new : Comparing) → TakesAll compares old places new → IsChosenFrom new
@@ -201,15 +249,22 @@ module _ (keyed : Keyed) (repeated : List ℕ) (places : List Place) (seen beyon
         by : Onward (compared_in new) [] → IsChosenFrom new
         by (now, [], goes) =
             let all : HasTaken (compared_in new).taken (map note seen) = rw (← goes.cut, append-nil) goes.taken_is in
-            let covered : Covers (compared_in new).taken.repeated (keys_of keyed.uuids seen) = rw goes.repeated_is (subst (Covers repeated) keys_are covers) in
-            (goes.conflict, goes.left, λ chosen are_chosen. are_chosen (map note seen) all covered ∙ choices-noted keyed.uuids few seen [] seen known (All-nil (IsKnown keyed.uuids)) known)
+            let covered : Covers (compared_in new).taken.repeated (keys_of keyed.uuids seen) = rw goes.repeated_is (subst (Covers repeated) keys_are covers) in (
+              goes.conflict,
+              goes.left,
+              λ chosen are_chosen. are_chosen (map note seen) all covered
+                  ∙ choices-noted keyed.uuids few seen [] seen known (All-nil (IsKnown keyed.uuids)) known,
+            )
         by (now, row ∷ rows, goes) = absurd (cc (goes.all))
 
     -- it ended at a row that conflicts with an earlier one, and it is the first
     pub compared-until : (new : Comparing) (fault : LoadFault) → StopsAt compares denies old places new fault → first_conflict [] seen ≡ Some fault
-    compared-until new fault stop = by (row_at stop.place) stop.refused (onward old stop.middle stop.before (stop.place ∷ stop.later) [] seen stop.taken_before (rw (← stop.cut) begins))
+    compared-until new fault stop =
+        by (row_at stop.place) stop.refused (onward old stop.middle stop.before
+        (stop.place ∷ stop.later) [] seen stop.taken_before (rw (← stop.cut) begins))
       where
-        by : (at : Option RowAt) → IsDeniedRow (compared_in stop.middle) (compared_in stop.middle).left at fault → Onward (compared_in stop.middle) (cons_option at (rows_of stop.later)) → first_conflict [] seen ≡ Some fault
+        by : (at : Option RowAt) → IsDeniedRow (compared_in stop.middle) (compared_in stop.middle).left at fault
+            → Onward (compared_in stop.middle) (cons_option at (rows_of stop.later)) → first_conflict [] seen ≡ Some fault
         by None denied at_end = absurd denied
         by (Some row) denied (now, [], goes) = absurd (rw goes.left at denied)
         by (Some row) denied (now, own ∷ rows, goes) =
@@ -223,6 +278,7 @@ module _ (keyed : Keyed) (repeated : List ℕ) (places : List Place) (seen beyon
 -- Comparing the row on a line.
 
 -- the line of a row that is still to come
-pub denied-line : (old : Comparison) (file : ℕ) (kind : FileKind) (line : LineText) (fault : LoadFault) (key : ℕ) (left : List ℕ) → old.left ≡ key ∷ left → 0 < length line.bytes
+pub denied-line : (old : Comparison) (file : ℕ) (kind : FileKind) (line : LineText) (fault : LoadFault) (key : ℕ)
+    (left : List ℕ) → old.left ≡ key ∷ left → 0 < length line.bytes
     → IsRefused (record old { left = left }) file line.number key kind line.bytes fault → IsDenied old (later_line file kind line) fault
 denied-line old file kind line fault key left ahead some refused = grind (arith, common_steps, nat_tests)

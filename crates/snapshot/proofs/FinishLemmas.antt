@@ -32,21 +32,29 @@ length-rising (x ∷ xs) = omega (arith, length-put x (rising xs), length-rising
 -- the contents that numbered concepts and rows stand for
 abbrev contents_by_number : List ℕ → ℕ → List ℕ → List (ℕ × ℕ) → List Attribute → List (ℕ × ℕ) → List Name → ℕ → Contents
 contents_by_number language files concepts isa attributes members names passed = record {
-  release = record { concepts = concepts; isa = map (row_of_numbers concepts) isa; attributes = attributes; members = map (row_of_numbers concepts) members; names = names };
+  release = record {
+    concepts = concepts;
+    isa = map (row_of_numbers concepts) isa;
+    attributes = attributes;
+    members = map (row_of_numbers concepts) members;
+    names = names;
+  };
   language = language;
   files = files;
   passed = passed;
 }
 
 -- where no concept reaches itself, the snapshot is of the contents made of what was listed
-pub finished-Ok : (language : List ℕ) (files count : ℕ) (listed : ReleaseLists) (concepts : List ℕ) (isa : List (ℕ × ℕ)) (attributes : List Attribute) (members : List (ℕ × ℕ)) (names : List Name) (passed : ℕ)
+pub finished-Ok : (language : List ℕ) (files count : ℕ) (listed : ReleaseLists) (concepts : List ℕ)
+    (isa : List (ℕ × ℕ)) (attributes : List Attribute) (members : List (ℕ × ℕ)) (names : List Name) (passed : ℕ)
     → concepts ≡ rising listed.active_concepts → isa ≡ filter_map (numbered_row concepts) listed.isa_ends
     → attributes ≡ attributes_among concepts listed.attributes → members ≡ filter_map (numbered_row concepts) listed.member_ends
     → names ≡ names_among concepts listed.names
     → first_cyclic concepts (rows_among concepts listed.isa_ends) ≡ None
     → passed ≡ count - (length concepts + length isa + length attributes + length members + length names)
     → finished language files count listed ≡ Ok (contents_by_number language files concepts isa attributes members names passed)
-finished-Ok language files count listed concepts isa attributes members names passed rises isa_is attributes_are members_are named acyclic counted = grind (arith, rows_of_numbers, length-map)
+finished-Ok language files count listed concepts isa attributes members names passed rises isa_is attributes_are
+    members_are named acyclic counted = grind (arith, rows_of_numbers, length-map)
 
 -- where one does, the least is the fault
 pub finished-Err : (language : List ℕ) (files count : ℕ) (listed : ReleaseLists) (concepts : List ℕ) (fault : LoadFault)
@@ -63,11 +71,14 @@ pub length-attributes_among : (concepts : List ℕ) (attributes : List Attribute
 length-attributes_among concepts attributes = grind (arith, common_steps, nat_tests, count_by-le-length, length-filter)
 
 -- the values of attributes of some concepts that are concepts are among these
-pub attributes_among-values : (concepts : List ℕ) (attributes : List Attribute) → All (λ (row : Attribute). is_value_among concepts row.value ≡ true) (attributes_among concepts attributes)
+pub attributes_among-values : (concepts : List ℕ) (attributes : List Attribute)
+    → All (λ (row : Attribute). is_value_among concepts row.value ≡ true) (attributes_among concepts attributes)
 attributes_among-values concepts attributes = grind (arith, common_steps, nat_tests, All-weaker, and_parts, filter_passes)
 
 -- the fault that names the least concept that reaches itself is that of the load
-pub least_cycle : (fault : LoadFault) (concepts : List ℕ) → IsStrictlyIncreasing concepts → (ends : List (ℕ × ℕ)) → IsLeastCycle fault concepts (filter_map (numbered_row concepts) ends) → IsCycle fault (first_cyclic concepts (rows_among concepts ends))
+pub least_cycle : (fault : LoadFault) (concepts : List ℕ) → IsStrictlyIncreasing concepts → (ends : List (ℕ × ℕ))
+    → IsLeastCycle fault concepts (filter_map (numbered_row concepts) ends)
+    → IsCycle fault (first_cyclic concepts (rows_among concepts ends))
 least_cycle fault concepts ends h0 h1 h2 = grind (arith, common_steps, nat_tests, common_steps, first_cyclic-Some, nat_tests)
 
 -- a fault that is neither the device's nor that of a file, nor the want of a Concept file

@@ -24,20 +24,29 @@ places_apart : (concepts : List ℕ) → IsStrictlyIncreasing concepts → (i j 
 places_apart concepts rising i j here there apart = search (rules, earlier_below, nat_tests)
 
 -- a row of none of the concepts
-pub first_places-other : (language concepts : List ℕ) (names later : List Name) (row : Name) (places : List (Option ℕ)) → concept_number concepts row.concept ≡ None
+pub first_places-other : (language concepts : List ℕ) (names later : List Name) (row : Name)
+    (places : List (Option ℕ)) → concept_number concepts row.concept ≡ None
     → AreFirstPlaces language concepts names later places → AreFirstPlaces language concepts names (row ∷ later) places
 first_places-other language concepts names later row places none are = grind (arith, fails_before_first)
 
 -- a row of the concept with a number
-pub first_places-own : (language concepts : List ℕ) (names later : List Name) (row : Name) (at number result : ℕ) (places : List (Option ℕ)) → IsStrictlyIncreasing concepts
+pub first_places-own : (language concepts : List ℕ) (names later : List Name) (row : Name) (at number result : ℕ)
+    (places : List (Option ℕ)) → IsStrictlyIncreasing concepts
     → concept_number concepts row.concept ≡ Some number → slice_get names at ≡ Some row → IsFirstOfTwo language names at (get_or places number None) result
     → AreFirstPlaces language concepts names later places → AreFirstPlaces language concepts names (row ∷ later) (set places number (Some result))
-first_places-own language concepts names later row at number result places rising own there first are = grind (arith, position-Some, eqb-true, length-set, cases_eq, get_or-set_same, get_or-set_other, places_apart, option_map)
+first_places-own language concepts names later row at number result places rising own there first are =
+    grind (arith, position-Some, eqb-true, length-set, cases_eq, get_or-set_same, get_or-set_other, places_apart, option_map)
 
 -- the names from a row on are its own and those behind it
 pub names_from : (texts : List ℕ) (rows : List NameRow) (behind : ℕ) (row : NameRow) → 0 < behind → behind ≤ length rows → row ≡ get_or rows (behind - 1) row
     → drop (behind - 1) (map (name_in texts) rows) ≡ name_in texts row ∷ drop behind (map (name_in texts) rows)
-names_from texts rows behind row some within is = grind (arith, (drop-cons (map (name_in texts) rows) (behind - 1) (name_in texts row)), (get_or-map (name_in texts) rows (behind - 1) row), length-map)
+names_from texts rows behind row some within is =
+    grind (
+      arith,
+      (drop-cons (map (name_in texts) rows) (behind - 1) (name_in texts row)),
+      (get_or-map (name_in texts) rows (behind - 1) row),
+      length-map,
+    )
 
 pub name_at : (texts : List ℕ) (rows : List NameRow) (at : ℕ) (row : NameRow) → at < length rows → row ≡ get_or rows at row
     → slice_get (map (name_in texts) rows) at ≡ Some (name_in texts row)
@@ -46,7 +55,12 @@ name_at texts rows at row within is = grind (arith, common_steps, nat_tests, opt
 -- a place is that of a row
 pub first_within : (language : List ℕ) (concept : ℕ) (texts : List ℕ) (rows : List NameRow) (later : List Name) (place : Option ℕ)
     → IsFirstPlace language concept (map (name_in texts) rows) later place → IfSome place (λ at. at < length rows)
-first_within language concept texts rows later place is = grind (arith, (length-map rows (name_in texts)), (place_within (map (name_in texts) rows) place (first_name language (names_of concept later)) is))
+first_within language concept texts rows later place is =
+    grind (
+      arith,
+      (length-map rows (name_in texts)),
+      (place_within (map (name_in texts) rows) place (first_name language (names_of concept later)) is),
+    )
 
 -- the place at the number of a concept
 pub place_read : (language concepts : List ℕ) (id : ℕ) (names later : List Name) (places : List (Option ℕ)) (number : ℕ) (place : Option ℕ)

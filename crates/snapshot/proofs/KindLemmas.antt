@@ -13,11 +13,13 @@ pub kind_same : (one other : FileKind) → same_kind one other ≡ true → one 
 kind_same one other told = grind (arith, nat_tests)
 
 -- one row more
-pub count_of_kind-push : (kind : FileKind) (rows : List RowAt) (row : RowAt) → count_of_kind kind (rows ++ row ∷ []) ≡ count_of_kind kind rows + cond (same_kind row.kind kind) 1 0
+pub count_of_kind-push : (kind : FileKind) (rows : List RowAt) (row : RowAt)
+    → count_of_kind kind (rows ++ row ∷ []) ≡ count_of_kind kind rows + cond (same_kind row.kind kind) 1 0
 count_of_kind-push kind rows row = omega (arith, sum_by-append (λ (other : RowAt). cond (same_kind other.kind kind) 1 0) rows (row ∷ []))
 
 -- rows are those of the five kinds
 pub length-kinds : (rows : List RowAt)
-    → length rows ≡ count_of_kind Concept rows + count_of_kind Description rows + count_of_kind Relationship rows + count_of_kind Concrete rows + count_of_kind Member rows
+    → length rows ≡ count_of_kind Concept rows + count_of_kind Description rows + count_of_kind Relationship rows
+    + count_of_kind Concrete rows + count_of_kind Member rows
 length-kinds [] = refl
 length-kinds (row ∷ rows) = grind (arith, common_steps, nat_tests, sum_by-cons, (length-kinds rows))

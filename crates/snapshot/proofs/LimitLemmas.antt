@@ -18,8 +18,10 @@ use Rattle.snapshot.specs.declared.limits.Limits.{Limits}
 -- the parts of the first bytes of a text and those of the text: the same up to one that reaches the cut in both
 data PartsAgree : ℕ → List (List ℕ) → List (List ℕ) → Type 0 where
   no_part : (left : ℕ) → PartsAgree left [] []
-  same_part : (left later : ℕ) (part : List ℕ) (short long : List (List ℕ)) → left ≡ length part + later → PartsAgree later short long → PartsAgree left (part ∷ short) (part ∷ long)
-  past_cut : (left : ℕ) (front whole : List ℕ) (short long : List (List ℕ)) → left ≤ length front → left ≤ length whole → PartsAgree left (front ∷ short) (whole ∷ long)
+  same_part : (left later : ℕ) (part : List ℕ) (short long : List (List ℕ)) → left ≡ length part + later
+      → PartsAgree later short long → PartsAgree left (part ∷ short) (part ∷ long)
+  past_cut : (left : ℕ) (front whole : List ℕ) (short long : List (List ℕ)) → left ≤ length front
+      → left ≤ length whole → PartsAgree left (front ∷ short) (whole ∷ long)
 
 -- with a byte before them
 parts_onto : (left byte : ℕ) (short long : List (List ℕ)) → PartsAgree left short long → PartsAgree (suc left) (onto_first byte short) (onto_first byte long)
@@ -39,20 +41,24 @@ parts_agree zero (byte ∷ bytes) = elim (cases_eq byte 10) [
   | inr other ↦ rw (false_from_ne_true (eqb byte 10) (λ is. other (eqb-true byte 10 is))) (part_at_cut byte (parts bytes))
 ]
 parts_agree (suc left) (byte ∷ bytes) = elim (cases_eq byte 10) [
-  | inl is ↦ rw (eq-eqb byte 10 is) (same_part (suc (suc left)) (suc left) (byte ∷ []) (parts (take (suc left) bytes)) (parts bytes) (omega arith) (parts_agree left bytes))
-  | inr other ↦ rw (false_from_ne_true (eqb byte 10) (λ is. other (eqb-true byte 10 is))) (parts_onto (suc left) byte (parts (take (suc left) bytes)) (parts bytes) (parts_agree left bytes))
+  | inl is ↦ rw (eq-eqb byte 10 is) (same_part (suc (suc left)) (suc left) (byte ∷ [])
+      (parts (take (suc left) bytes)) (parts bytes) (omega arith) (parts_agree left bytes))
+  | inr other ↦ rw (false_from_ne_true (eqb byte 10) (λ is. other (eqb-true byte 10 is)))
+      (parts_onto (suc left) byte (parts (take (suc left) bytes)) (parts bytes) (parts_agree left bytes))
 ]
 
 -- the lines of a file that is cut and those of the file: the same up to one that ends past the limit in both
 data LinesAgree (limit : ℕ) : List LineText → List LineText → Type 0 where
   no_more : LinesAgree limit [] []
   same_line : (line : LineText) (short long : List LineText) → LinesAgree limit short long → LinesAgree limit (line ∷ short) (line ∷ long)
-  past_limit : (one other : LineText) (short long : List LineText) → one.number ≡ other.number → limit < one.end → limit < other.end → LinesAgree limit (one ∷ short) (other ∷ long)
+  past_limit : (one other : LineText) (short long : List LineText) → one.number ≡ other.number → limit < one.end
+      → limit < other.end → LinesAgree limit (one ∷ short) (other ∷ long)
 
 numbered_agree : (limit number end left : ℕ) (short long : List (List ℕ)) → PartsAgree left short long → end + left ≡ limit + 1
     → LinesAgree limit (numbered number end short) (numbered number end long)
 numbered_agree limit number end left short long (no_part now) is = no_more
-numbered_agree limit number end left short long (same_part now later part xs ys cut agree) is = same_line _ _ _ (numbered_agree limit (number + 1) (end + length part) later xs ys agree (omega arith))
+numbered_agree limit number end left short long (same_part now later part xs ys cut agree) is =
+    same_line _ _ _ (numbered_agree limit (number + 1) (end + length part) later xs ys agree (omega arith))
 numbered_agree limit number end left short long (past_cut now front whole xs ys here there) is = past_limit _ _ _ _ refl (omega arith) (omega arith)
 
 mark_of-le : (has : Bool) → (if has then 3 else 0) ≤ 3
@@ -81,42 +87,61 @@ data PlacesAgree (limits : Limits) : List Place → List Place → Type 0 where
 agree_append : (limits : Limits) (short long others more : List Place) → PlacesAgree limits short long → PlacesAgree limits others more
     → PlacesAgree limits (short ++ others) (long ++ more)
 agree_append limits short long others more no_place behind = behind
-agree_append limits short long others more (same_place place xs ys agree) behind = same_place place (xs ++ others) (ys ++ more) (agree_append limits xs ys others more agree behind)
-agree_append limits short long others more (both_faulty one other xs ys fault here there) behind = both_faulty one other (xs ++ others) (ys ++ more) fault here there
+agree_append limits short long others more (same_place place xs ys agree) behind =
+    same_place place (xs ++ others) (ys ++ more) (agree_append limits xs ys others more agree behind)
+agree_append limits short long others more (both_faulty one other xs ys fault here there) behind =
+    both_faulty one other (xs ++ others) (ys ++ more) fault here there
 
 module _ (limits : Limits) (file : ℕ) (kind : FileKind) where
-  first_too_long : (line : LineText) (number : ℕ) → number ≡ line.number → limits.bytes < line.end → fault_here limits (first_line file kind line) ≡ Some (TooMany file number)
+  first_too_long : (line : LineText) (number : ℕ) → number ≡ line.number → limits.bytes < line.end
+      → fault_here limits (first_line file kind line) ≡ Some (TooMany file number)
   first_too_long line number is long = rw (lt-ltb limits.bytes line.end long, is) refl
 
-  later_too_long : (line : LineText) (number : ℕ) → number ≡ line.number → limits.bytes < line.end → fault_here limits (later_line file kind line) ≡ Some (TooMany file number)
+  later_too_long : (line : LineText) (number : ℕ) → number ≡ line.number → limits.bytes < line.end
+      → fault_here limits (later_line file kind line) ≡ Some (TooMany file number)
   later_too_long line number is long = rw (lt-ltb limits.bytes line.end long, is) refl
 
-  later_agree : (short long : List LineText) → LinesAgree limits.bytes short long → PlacesAgree limits (map (later_line file kind) short) (map (later_line file kind) long)
+  later_agree : (short long : List LineText) → LinesAgree limits.bytes short long
+      → PlacesAgree limits (map (later_line file kind) short) (map (later_line file kind) long)
   later_agree short long no_more = no_place
-  later_agree short long (same_line line xs ys agree) = same_place (later_line file kind line) (map (later_line file kind) xs) (map (later_line file kind) ys) (later_agree xs ys agree)
-  later_agree short long (past_limit one other xs ys is here there) = both_faulty _ _ _ _ (TooMany file one.number) (later_too_long one one.number refl here) (later_too_long other one.number is there)
+  later_agree short long (same_line line xs ys agree) =
+      same_place (later_line file kind line) (map (later_line file kind) xs) (map (later_line file kind) ys)
+      (later_agree xs ys agree)
+  later_agree short long (past_limit one other xs ys is here there) =
+      both_faulty _ _ _ _ (TooMany file one.number) (later_too_long one one.number refl here)
+      (later_too_long other one.number is there)
 
-  kind_agree : (short long : List LineText) → LinesAgree limits.bytes short long → PlacesAgree limits (places_of_lines file kind short) (places_of_lines file kind long)
+  kind_agree : (short long : List LineText) → LinesAgree limits.bytes short long
+      → PlacesAgree limits (places_of_lines file kind short) (places_of_lines file kind long)
   kind_agree short long no_more = same_place (no_line file kind) [] [] no_place
-  kind_agree short long (same_line line xs ys agree) = same_place (first_line file kind line) (map (later_line file kind) xs) (map (later_line file kind) ys) (later_agree xs ys agree)
-  kind_agree short long (past_limit one other xs ys is here there) = both_faulty _ _ _ _ (TooMany file one.number) (first_too_long one one.number refl here) (first_too_long other one.number is there)
+  kind_agree short long (same_line line xs ys agree) =
+      same_place (first_line file kind line) (map (later_line file kind) xs) (map (later_line file kind) ys)
+      (later_agree xs ys agree)
+  kind_agree short long (past_limit one other xs ys is here there) =
+      both_faulty _ _ _ _ (TooMany file one.number) (first_too_long one one.number refl here)
+      (first_too_long other one.number is there)
 
 file_agree : (limits : Limits) (file : ℕ) (kind : Option FileKind) (bytes : List ℕ) → 3 ≤ limits.bytes
     → PlacesAgree limits (places_of_kind file kind (take (limits.bytes + 1) bytes)) (places_of_kind file kind bytes)
 file_agree limits file None bytes room = no_place
-file_agree limits file (Some kind) bytes room = kind_agree limits file kind (lines_of (take (limits.bytes + 1) bytes)) (lines_of bytes) (lines_agree limits.bytes bytes room)
+file_agree limits file (Some kind) bytes room =
+    kind_agree limits file kind (lines_of (take (limits.bytes + 1) bytes)) (lines_of bytes) (lines_agree limits.bytes bytes room)
 
-files_agree : (limits : Limits) (file : ℕ) (files : List FileText) → 3 ≤ limits.bytes → PlacesAgree limits (places_from file (map (cut_file limits.bytes) files)) (places_from file files)
+files_agree : (limits : Limits) (file : ℕ) (files : List FileText) → 3 ≤ limits.bytes
+    → PlacesAgree limits (places_from file (map (cut_file limits.bytes) files)) (places_from file files)
 files_agree limits file [] room = no_place
 files_agree limits file (text ∷ texts) room = grind (arith, common_steps, nat_tests, agree_append, file_agree, (files_agree limits (file + 1) texts room))
 
 -- a place that has a fault by itself has it behind any others
-faulty_first : (limits : Limits) (before later : List Place) (place : Place) (fault : LoadFault) → fault_here limits place ≡ Some fault → first_fault limits before (place ∷ later) ≡ Some fault
+faulty_first : (limits : Limits) (before later : List Place) (place : Place) (fault : LoadFault)
+    → fault_here limits place ≡ Some fault → first_fault limits before (place ∷ later) ≡ Some fault
 faulty_first limits before later place fault here = rw here refl
 
-agree_first_fault : (limits : Limits) (before short long : List Place) → PlacesAgree limits short long → first_fault limits before short ≡ first_fault limits before long
+agree_first_fault : (limits : Limits) (before short long : List Place) → PlacesAgree limits short long
+    → first_fault limits before short ≡ first_fault limits before long
 agree_first_fault limits before short long no_place = refl
-agree_first_fault limits before short long (same_place place xs ys agree) = ap (first_of (fault_at limits before place)) (agree_first_fault limits (before ++ place ∷ []) xs ys agree)
+agree_first_fault limits before short long (same_place place xs ys agree) =
+    ap (first_of (fault_at limits before place)) (agree_first_fault limits (before ++ place ∷ []) xs ys agree)
 agree_first_fault limits before short long (both_faulty one other xs ys fault here there) = grind (arith, common_steps, nat_tests, faulty_first)
 
 later_none : (first later : Option LoadFault) → first_of first later ≡ None → later ≡ None
@@ -124,16 +149,27 @@ later_none x0 later none = grind arith
 
 agree_places : (limits : Limits) (before short long : List Place) → PlacesAgree limits short long → first_fault limits before short ≡ None → short ≡ long
 agree_places limits before short long no_place none = refl
-agree_places limits before short long (same_place place xs ys agree) none = grind (arith, common_steps, nat_tests, later_none, (agree_places limits (before ++ place ∷ []) xs ys agree (later_none (fault_at limits before place) (first_fault limits (before ++ place ∷ []) xs) none)))
+agree_places limits before short long (same_place place xs ys agree) none =
+    grind (
+      arith,
+      common_steps,
+      nat_tests,
+      later_none,
+      (agree_places limits (before ++ place ∷ []) xs ys agree
+          (later_none (fault_at limits before place) (first_fault limits (before ++ place ∷ []) xs) none)),
+    )
 agree_places limits before short long (both_faulty one other xs ys fault here there) none = grind (arith, common_steps, nat_tests, faulty_first)
 
 -- files that are cut one byte past the limit have the first fault of the files
 pub cut_first_fault : (limits : Limits) (files : List FileText) → 3 ≤ limits.bytes
     → first_fault limits [] (places_from 0 (map (cut_file limits.bytes) files)) ≡ first_fault limits [] (places_from 0 files)
-cut_first_fault limits files room = agree_first_fault limits [] (places_from 0 (map (cut_file limits.bytes) files)) (places_from 0 files) (files_agree limits 0 files room)
+cut_first_fault limits files room =
+    agree_first_fault limits [] (places_from 0 (map (cut_file limits.bytes) files)) (places_from 0 files)
+    (files_agree limits 0 files room)
 
 -- and where there is none, they have the places of the files
 pub cut_places : (limits : Limits) (files : List FileText) → 3 ≤ limits.bytes → first_fault limits [] (places_from 0 files) ≡ None
     → places_from 0 (map (cut_file limits.bytes) files) ≡ places_from 0 files
 cut_places limits files room none =
-    agree_places limits [] (places_from 0 (map (cut_file limits.bytes) files)) (places_from 0 files) (files_agree limits 0 files room) (cut_first_fault limits files room ∙ none)
+    agree_places limits [] (places_from 0 (map (cut_file limits.bytes) files)) (places_from 0 files)
+    (files_agree limits 0 files room) (cut_first_fault limits files room ∙ none)

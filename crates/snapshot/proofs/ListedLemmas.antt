@@ -14,7 +14,18 @@ use Rattle.snapshot.specs.inside.FirstPass.{kept_rows}
 listed-more : (kept : RowStore) (front : List RowText) (rows : List RowAt) → kept.listed ≡ listed_of front
     → (kept_rows kept rows).listed ≡ listed_of (front ++ map text_of_row rows)
 listed-more kept front [] same = same ∙ ap (λ (rows : List RowText). listed_of rows) (sym (append-nil front))
-listed-more kept front (row ∷ rows) same = grind (arith, kept_behind, text_of_row, listed_behind, map-append, filter_map-append, listed_of, append_assoc, (listed-more (kept_behind kept row) (front ++ text_of_row row ∷ []) rows))
+listed-more kept front (row ∷ rows) same =
+    grind (
+      arith,
+      kept_behind,
+      text_of_row,
+      listed_behind,
+      map-append,
+      filter_map-append,
+      listed_of,
+      append_assoc,
+      (listed-more (kept_behind kept row) (front ++ text_of_row row ∷ []) rows),
+    )
 
 pub listed-rows : (limits : Limits) (rows : List RowAt) → (kept_rows (nothing_kept limits) rows).listed ≡ listed_of (map text_of_row rows)
 listed-rows limits rows = listed-more (nothing_kept limits) [] rows refl

@@ -32,7 +32,8 @@ use Rattle.snapshot.specs.declared.limits.Limits.{Limits}
 abbrev kept : {X : Type 0} → (X → Bool) → Option X → Option X
 kept keep item = option_and_then (λ x. cond (keep x) (Some x) None) item
 
-kept-listed : {X : Type 0} (keep : X → Bool) (pick listed : RowText → Option X) → ((row : RowAt) → pick (text_of_row row) ≡ kept keep (listed (text_of_row row)))
+kept-listed : {X : Type 0} (keep : X → Bool) (pick listed : RowText → Option X)
+    → ((row : RowAt) → pick (text_of_row row) ≡ kept keep (listed (text_of_row row)))
     → (rows : List RowAt) → filter_map pick (map text_of_row rows) ≡ filter keep (filter_map listed (map text_of_row rows))
 kept-listed keep pick listed same [] = refl
 kept-listed keep pick listed same (row ∷ rows) = grind (arith, same, (kept-listed keep pick listed same rows))
@@ -48,8 +49,10 @@ module _ {Row X : Type 0} (pick : RowText → Option Row) (item : Row → X) whe
   picked test (row ∷ rows) = grind (arith, common_steps, nat_tests, (picked test rows))
 
   -- those that are in force are those listed that are kept
-  in_force : (test listed : Row → Bool) (keep : X → Bool) → ((row : Row) → cond (test row) (Some (item row)) None ≡ kept keep (cond (listed row) (Some (item row)) None))
-      → (rows : List RowAt) → map item (filter test (filter_map pick (map text_of_row rows))) ≡ filter keep (filter_map (λ row. item_of listed (pick row)) (map text_of_row rows))
+  in_force : (test listed : Row → Bool) (keep : X → Bool)
+      → ((row : Row) → cond (test row) (Some (item row)) None ≡ kept keep (cond (listed row) (Some (item row)) None))
+      → (rows : List RowAt) → map item (filter test (filter_map pick (map text_of_row rows)))
+      ≡ filter keep (filter_map (λ row. item_of listed (pick row)) (map text_of_row rows))
   in_force test listed keep same rows = grind (arith, common_steps, nat_tests, kept-listed, picked)
 
 and_false : (b : Bool) → (b && false) ≡ false
@@ -64,13 +67,18 @@ unfolding concrete_row
 concrete_value-among concepts line = value_of-among concepts (text_in Concrete (fields_of line) (codes "value"))
 
 -- the active concepts are those listed
-pub concepts-listed : (rows : List RowText) → map (λ (row : ConceptRow). row.id) (filter (λ (row : ConceptRow). row.active) (concept_rows rows)) ≡ filter_map concept_listed rows
+pub concepts-listed : (rows : List RowText)
+    → map (λ (row : ConceptRow). row.id) (filter (λ (row : ConceptRow). row.active) (concept_rows rows))
+    ≡ filter_map concept_listed rows
 concepts-listed rows = picked concept_in (λ (row : ConceptRow). row.id) (λ (row : ConceptRow). row.active) rows
 
 module _ (concepts : List ℕ) where
   -- the names in force are the active fully specified names of concepts in force
-  names_in_force-is : (rows : List RowAt) → names_in_force concepts (map text_of_row rows) ≡ names_among concepts (filter_map name_listed (map text_of_row rows))
-  names_in_force-is rows = in_force description_in name_on (λ (row : DescriptionText). is_name row && has concepts row.concept_id) is_name (λ (name : Name). has concepts name.concept) (λ row. grind arith) rows
+  names_in_force-is : (rows : List RowAt)
+      → names_in_force concepts (map text_of_row rows) ≡ names_among concepts (filter_map name_listed (map text_of_row rows))
+  names_in_force-is rows =
+      in_force description_in name_on (λ (row : DescriptionText). is_name row && has concepts row.concept_id) is_name
+      (λ (name : Name). has concepts name.concept) (λ row. grind arith) rows
 
   -- the pairs of rows in force are those between concepts in force
   abbrev between : ℕ × ℕ → Bool
@@ -78,10 +86,15 @@ module _ (concepts : List ℕ) where
 
   isa_in_force-is : (rows : List RowAt) → isa_in_force concepts (map text_of_row rows) ≡ rows_among concepts (filter_map isa_listed (map text_of_row rows))
   isa_in_force-is rows =
-      in_force relationship_in (λ (row : RelationshipRow). (row.source_id, row.destination_id)) (λ (row : RelationshipRow). is_in_force concepts row && (row.type_id == is_a)) is_isa between (λ row. grind (arith, and_false)) rows
+      in_force relationship_in (λ (row : RelationshipRow). (row.source_id, row.destination_id))
+      (λ (row : RelationshipRow). is_in_force concepts row && (row.type_id == is_a)) is_isa between
+      (λ row. grind (arith, and_false)) rows
 
-  members_in_force-is : (rows : List RowAt) → members_in_force concepts (map text_of_row rows) ≡ rows_among concepts (filter_map member_listed (map text_of_row rows))
-  members_in_force-is rows = in_force member_in (λ (row : MemberRow). (row.refset_id, row.referenced_component_id)) (is_member_in_force concepts) (λ (row : MemberRow). row.active) between (λ row. grind arith) rows
+  members_in_force-is : (rows : List RowAt)
+      → members_in_force concepts (map text_of_row rows) ≡ rows_among concepts (filter_map member_listed (map text_of_row rows))
+  members_in_force-is rows =
+      in_force member_in (λ (row : MemberRow). (row.refset_id, row.referenced_component_id))
+      (is_member_in_force concepts) (λ (row : MemberRow). row.active) between (λ row. grind arith) rows
 
   -- the attributes in force are those listed of concepts in force
   attributes_in_force-is : (rows : List RowAt)
@@ -90,7 +103,15 @@ module _ (concepts : List ℕ) where
 
 -- the release of rows is made of what is listed of them
 pub release_of-listed : (rows : List RowAt) → release_of (map text_of_row rows) ≡ release_from (listed_of (map text_of_row rows))
-release_of-listed rows = grind (arith, (concepts-listed (map text_of_row rows)), (isa_in_force-is (concepts_in_force (map text_of_row rows)) rows), (attributes_in_force-is (concepts_in_force (map text_of_row rows)) rows), (members_in_force-is (concepts_in_force (map text_of_row rows)) rows), (names_in_force-is (concepts_in_force (map text_of_row rows)) rows))
+release_of-listed rows =
+    grind (
+      arith,
+      (concepts-listed (map text_of_row rows)),
+      (isa_in_force-is (concepts_in_force (map text_of_row rows)) rows),
+      (attributes_in_force-is (concepts_in_force (map text_of_row rows)) rows),
+      (members_in_force-is (concepts_in_force (map text_of_row rows)) rows),
+      (names_in_force-is (concepts_in_force (map text_of_row rows)) rows),
+    )
 
 -- how many files have a kind, and whether one has the kind of concepts
 module _ {Item : Type 0} (file_of : Item → FileText) where
@@ -102,7 +123,8 @@ module _ {Item : Type 0} (file_of : Item → FileText) where
   names_concepts-is (item ∷ items) = ap (λ rest. is_concept_file (file_of item) || rest) (names_concepts-is items)
 
 -- the files of some names
-pub listed-named : {Item : Type 0} (known : List FileText) (name_of : Item → List ℕ) (items : List Item) → map (λ item. text_named known (name_of item)) items ≡ listed known (map name_of items)
+pub listed-named : {Item : Type 0} (known : List FileText) (name_of : Item → List ℕ) (items : List Item)
+    → map (λ item. text_named known (name_of item)) items ≡ listed known (map name_of items)
 listed-named known name_of [] = refl
 listed-named known name_of (item ∷ items) = ap (λ rest. text_named known (name_of item) ∷ rest) (listed-named known name_of items)
 
@@ -129,13 +151,18 @@ load_of-none limits language files none = rw none refl
 
 -- a load of the files of some names, that are cut one byte past the limit
 module _ {Item : Type 0} (known : List FileText) (name_of : Item → List ℕ) (items : List Item) where
-  pub names_concepts-listed : list_any is_concept_file (listed known (map name_of items)) ≡ list_any (λ item. is_concept_kind (file_kind_of (name_of item))) items
-  names_concepts-listed = ap (list_any is_concept_file) (sym (listed-named known name_of items)) ∙ sym (names_concepts-is (λ item. text_named known (name_of item)) items)
+  pub names_concepts-listed : list_any is_concept_file (listed known (map name_of items))
+      ≡ list_any (λ item. is_concept_kind (file_kind_of (name_of item))) items
+  names_concepts-listed = ap (list_any is_concept_file) (sym (listed-named known name_of items))
+      ∙ sym (names_concepts-is (λ item. text_named known (name_of item)) items)
 
   kinds-listed : count_by (λ item. is_some (file_kind_of (name_of item))) items ≡ length (filter has_kind (listed known (map name_of items)))
   kinds-listed = kind_count-is (λ item. text_named known (name_of item)) items ∙ ap (λ texts. length (filter has_kind texts)) (listed-named known name_of items)
 
-pub load_named-is : {Item : Type 0} (limits own : Limits) (language : List ℕ) (known : List FileText) (name_of : Item → List ℕ) (items : List Item) (kinds : ℕ) → own ≡ limits_in_force limits
+pub load_named-is : {Item : Type 0} (limits own : Limits) (language : List ℕ) (known : List FileText)
+    (name_of : Item → List ℕ) (items : List Item) (kinds : ℕ) → own ≡ limits_in_force limits
     → list_any (λ item. is_concept_kind (file_kind_of (name_of item))) items ≡ true → kinds ≡ count_by (λ item. is_some (file_kind_of (name_of item))) items
-    → loaded_from own language kinds (places_from 0 (map (cut_file own.bytes) (listed known (map name_of items)))) ≡ load_of limits language (listed known (map name_of items))
-load_named-is limits own language known name_of items kinds same named counted = grind (arith, load_of-named, names_concepts-listed, kinds-listed, cut_first_fault, cut_places)
+    → loaded_from own language kinds (places_from 0 (map (cut_file own.bytes) (listed known (map name_of items))))
+    ≡ load_of limits language (listed known (map name_of items))
+load_named-is limits own language known name_of items kinds same named counted =
+    grind (arith, load_of-named, names_concepts-listed, kinds-listed, cut_first_fault, cut_places)

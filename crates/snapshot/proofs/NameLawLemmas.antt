@@ -17,7 +17,8 @@ abbrev IsFirst : List ℕ → List Name → Name → Type 0
 IsFirst language rows row = Contains rows row × NoneBefore language rows row
 
 -- the first of one row more
-first_of_more : (language : List ℕ) (row first : Name) (rows : List Name) → IsFirst language rows first → IsFirst language (row ∷ rows) (first_of_two language row (Some first))
+first_of_more : (language : List ℕ) (row first : Name) (rows : List Name) → IsFirst language rows first
+    → IsFirst language (row ∷ rows) (first_of_two language row (Some first))
 first_of_more language row first rows is = by (comes_before language first row) refl
   where
     by : (earlier : Bool) → comes_before language first row ≡ earlier → IsFirst language (row ∷ rows) (cond earlier first row)
@@ -26,11 +27,19 @@ first_of_more language row first rows is = by (comes_before language first row) 
 
 first_of_all : (language : List ℕ) (row : Name) (rows : List Name) → IsFirst language (row ∷ rows) (first_of_two language row (first_name language rows))
 first_of_all language row [] = grind (arith, first_contained, is_in)
-first_of_all language row (next ∷ rows) = first_of_more language row (first_of_two language next (first_name language rows)) (next ∷ rows) (first_of_all language next rows)
+first_of_all language row (next ∷ rows) =
+    first_of_more language row (first_of_two language next (first_name language rows)) (next ∷ rows)
+    (first_of_all language next rows)
 
 some_first : (language : List ℕ) (rows : List Name) (row : Name) → first_name language rows ≡ Some row → IsFirst language rows row
 some_first language [] row found = (cc)
-some_first language (first ∷ rows) row found = grind (arith, (first_of_two language first (first_name language rows)), (first_name language rows), (first_of_all language first rows))
+some_first language (first ∷ rows) row found =
+    grind (
+      arith,
+      (first_of_two language first (first_name language rows)),
+      (first_name language rows),
+      (first_of_all language first rows),
+    )
 
 none_first : (language : List ℕ) (rows : List Name) → first_name language rows ≡ None → rows ≡ []
 none_first language [] none = refl

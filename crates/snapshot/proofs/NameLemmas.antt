@@ -31,7 +31,8 @@ map-filter f test (x ∷ xs) = grind (arith, common_steps, nat_tests, cases_Bool
 abbrev no_row : NameRow
 no_row = record { id = 0; concept = 0; language = no_span; term = no_span }
 
-pub name_at_place : (texts : List ℕ) (rows : List NameRow) (place : ℕ) (default : Name) → place < length rows → get_or (map (name_in texts) rows) place default ≡ name_in texts (get_or rows place no_row)
+pub name_at_place : (texts : List ℕ) (rows : List NameRow) (place : ℕ) (default : Name) → place < length rows
+    → get_or (map (name_in texts) rows) place default ≡ name_in texts (get_or rows place no_row)
 name_at_place texts rows place default within = get_or-map (name_in texts) rows place no_row default within
 
 pub row_at_place : (rows : List NameRow) (place : ℕ) (row : NameRow) → place < length rows → row ≡ get_or rows place row → row ≡ get_or rows place no_row
@@ -44,19 +45,24 @@ pub ruleset rows_chosen = (map-marked)
 
 -- Name rows keep their texts while the buffer and the spans of language codes grow.
 
-pub noted-extends : (names : List Name) (texts grown : List ℕ) (spans : List (Option Span)) → AreNoted names texts spans → Extends texts grown → AreNoted names grown spans
+pub noted-extends : (names : List Name) (texts grown : List ℕ) (spans : List (Option Span))
+    → AreNoted names texts spans → Extends texts grown → AreNoted names grown spans
 noted-extends names texts grown spans noted extends = record {
   each = noted.each;
-  stand = λ place name there. IfSome_then (get_or spans place None) (noted.stand place name there) (λ span stands. stands-extends texts grown extends name.term span stands);
+  stand = λ place name there. IfSome_then (get_or spans place None) (noted.stand place name there)
+      (λ span stands. stands-extends texts grown extends name.term span stands);
 }
 
 -- a span is noted for a row
 pub noted-set : (names : List Name) (texts : List ℕ) (spans : List (Option Span)) (place : ℕ) (name : Name) (span : Span)
     → AreNoted names texts spans → slice_get names place ≡ Some name → StandsAt texts name.term span → AreNoted names texts (set spans place (Some span))
-noted-set names texts spans place name span noted there stands = grind (arith, common_steps, nat_tests, cases_eq, get_or-set_other, get_or-set_same, length-set, slice_get_within)
+noted-set names texts spans place name span noted there stands =
+    grind (arith, common_steps, nat_tests, cases_eq, get_or-set_other, get_or-set_same, length-set, slice_get_within)
 
 -- one row more, while both grow
-module _ (texts grown : List ℕ) (languages more : List Span) (kept items : List KeptName) (row : KeptName) (extends : Extends texts grown) (extends_languages : Extends languages more) (pushed : items ≡ kept ++ row ∷ []) (are : All (IsKept texts languages) kept) where
+module _ (texts grown : List ℕ) (languages more : List Span) (kept items : List KeptName) (row : KeptName)
+    (extends : Extends texts grown) (extends_languages : Extends languages more) (pushed : items ≡ kept ++ row ∷ [])
+    (are : All (IsKept texts languages) kept) where
   pub kept-push : IsKept grown more row → All (IsKept grown more) items
   kept-push is =
       all-push (IsKept texts languages) (IsKept grown more) (λ row kept. record {

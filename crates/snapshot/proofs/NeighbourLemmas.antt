@@ -25,7 +25,8 @@ more_neighbour (x ∷ y ∷ xs) zero within = refl
 more_neighbour (x ∷ y ∷ xs) (suc k) within = grind (arith, nat_tests, more_neighbour (y ∷ xs) k (omega arith))
 
 pub neighbours_more : (xs : List ℕ) (place : ℕ) → 1 ≤ place → place < length xs
-    → equal_neighbours (take (place + 1) xs) ≡ equal_neighbours (take place xs) ++ cond (get_or xs (place - 1) 0 == get_or xs place 0) (get_or xs place 0 ∷ []) []
+    → equal_neighbours (take (place + 1) xs) ≡ equal_neighbours (take place xs)
+    ++ cond (get_or xs (place - 1) 0 == get_or xs place 0) (get_or xs place 0 ∷ []) []
 neighbours_more xs place some within = grind (arith, equal_neighbours, more_neighbour, cond)
 
 -- they are not more than the numbers
@@ -35,7 +36,8 @@ neighbours_few (x ∷ []) = omega arith
 neighbours_few (x ∷ y ∷ xs) = grind (arith, nat_tests, neighbours_few (y ∷ xs))
 
 -- where no number falls, no equal neighbour falls, and none is below the first number
-neighbours_rise : (x : ℕ) (xs : List ℕ) → IsNonDecreasing (x ∷ xs) → AllPairs (λ a b. a ≤ b) (equal_neighbours (x ∷ xs)) × All (λ y. x ≤ y) (equal_neighbours (x ∷ xs))
+neighbours_rise : (x : ℕ) (xs : List ℕ) → IsNonDecreasing (x ∷ xs)
+    → AllPairs (λ a b. a ≤ b) (equal_neighbours (x ∷ xs)) × All (λ y. x ≤ y) (equal_neighbours (x ∷ xs))
 neighbours_rise x [] up = ((λ i j d before within. absurd (omega arith)), All-nil (λ y. x ≤ y))
 neighbours_rise x (y ∷ xs) up =
     let rest = neighbours_rise y xs (λ i j d before within. up (suc i) (suc j) d (omega arith) (omega arith)) in
@@ -87,7 +89,8 @@ rising_once xs up key =
         grind (arith, nat_tests, below, no_neighbour (y ∷ xs) (λ k within. earlier_below (x ∷ y ∷ xs) up (suc k) (suc (k + 1)) (omega arith) (omega arith)))
 
 -- so it does among the equal neighbours of the list before it was sorted
-pub times_again : (keys sorted : List ℕ) → IsPermutation keys sorted → IsSorted nat_cmp sorted → (key : ℕ) → times key (equal_neighbours sorted) ≡ times key keys - 1
+pub times_again : (keys sorted : List ℕ) → IsPermutation keys sorted → IsSorted nat_cmp sorted → (key : ℕ)
+    → times key (equal_neighbours sorted) ≡ times key keys - 1
 times_again keys sorted moved up key =
     omega (
       arith,
@@ -150,12 +153,21 @@ AreBehind seen behind = (key : ℕ) → times key seen ≤ 1 + times key behind
 module _ (keys behind : List ℕ) (i : ℕ) (within : i < length keys) (are : AreBehind (take i keys) behind) where
   -- one more, which is behind
   pub behind_pushed : AreBehind (take (i + 1) keys) (behind ++ get_or keys i 0 ∷ [])
-  behind_pushed key = omega (arith, are key, sum_by_more (λ other. cond (other == key) 1 0) keys i 0 within, sum_by_push (λ other. cond (other == key) 1 0) behind (get_or keys i 0))
+  behind_pushed key = omega (
+    arith,
+    are key,
+    sum_by_more (λ other. cond (other == key) 1 0) keys i 0 within,
+    sum_by_push (λ other. cond (other == key) 1 0) behind (get_or keys i 0),
+  )
 
   -- one more, which is above all that were seen
   pub behind_kept : (highest : ℕ) → All (λ key. key ≤ highest) (take i keys) → highest < get_or keys i 0 → AreBehind (take (i + 1) keys) behind
   behind_kept highest low above key =
-      let none : get_or keys i 0 ≡ key → times key (take i keys) ≡ 0 = λ same. times-none key (take i keys) (λ there. omega (arith, All-contains (λ key. key ≤ highest) (take i keys) key low there)) in
+      let none : get_or keys i 0 ≡ key → times key (take i keys) ≡ 0 =
+      λ same. times-none key (take i keys) (λ there. omega (
+        arith,
+        All-contains (λ key. key ≤ highest) (take i keys) key low there,
+      )) in
       grind (arith, nat_tests, are key, none, sum_by_more (λ other. cond {A = ℕ} (other == key) 1 0) keys i 0 within)
 
 -- one of some numbers is not among those of a list that are none of them

@@ -49,7 +49,9 @@ get_or-place_of concepts id there = grind (arith, common_steps, nat_tests, eqb-t
 
 -- the place of the identifier at a place, among rising concepts
 pub place_of-get_or : (concepts : List ℕ) → IsStrictlyIncreasing concepts → (i : ℕ) → i < length concepts → place_of concepts (get_or concepts i 0) ≡ i
-place_of-get_or concepts rising i within = position_or_len_is (λ other. get_or concepts i 0 == other) concepts i 0 (omega arith) (λ k before. grind (arith, nat_tests, (earlier_below concepts rising k i before within))) (λ _. grind (arith, nat_tests))
+place_of-get_or concepts rising i within =
+    position_or_len_is (λ other. get_or concepts i 0 == other) concepts i 0 (omega arith)
+    (λ k before. grind (arith, nat_tests, (earlier_below concepts rising k i before within))) (λ _. grind (arith, nat_tests))
 
 -- the number of a concept among others is its place
 pub concept_number-has : (concepts : List ℕ) (id : ℕ) → has concepts id ≡ true → concept_number concepts id ≡ Some (place_of concepts id)
@@ -68,7 +70,8 @@ number_at concepts rising id place within is = grind (arith, common_steps, nat_t
 pub number_nowhere : (concepts : List ℕ) → IsStrictlyIncreasing concepts → (id place : ℕ) → place ≤ length concepts
     → ((k : ℕ) → k < place → get_or concepts k 0 < id) → ((k : ℕ) → place ≤ k → k < length concepts → id < get_or concepts k 0)
     → None ≡ concept_number concepts id
-number_nowhere concepts rising id place within above below = grind (arith, (has-between concepts rising id place within), (above (place - 1)), (below place), (place_within concepts id))
+number_nowhere concepts rising id place within above below =
+    grind (arith, (has-between concepts rising id place within), (above (place - 1)), (below place), (place_within concepts id))
 
 -- the rows among concepts by their numbers are the rows by their places
 pub numbered_rows : (concepts : List ℕ) (rows : List (ℕ × ℕ))
@@ -77,7 +80,8 @@ numbered_rows concepts [] = refl
 numbered_rows concepts (row ∷ rows) = grind (arith, nat_tests, numbered_rows concepts rows, place_within concepts row.0, place_within concepts row.1)
 
 -- both ends of each of them are concepts
-ends_among : (concepts : List ℕ) (rows : List (ℕ × ℕ)) → All (λ (row : ℕ × ℕ). (has concepts row.0 ≡ true) × (has concepts row.1 ≡ true)) (rows_among concepts rows)
+ends_among : (concepts : List ℕ) (rows : List (ℕ × ℕ))
+    → All (λ (row : ℕ × ℕ). (has concepts row.0 ≡ true) × (has concepts row.1 ≡ true)) (rows_among concepts rows)
 ends_among concepts rows k d within = grind (arith, common_steps, nat_tests, and_parts, filter_passes)
 
 -- and by the identifiers at these numbers they are the rows again
@@ -130,7 +134,8 @@ module _ (concepts : List ℕ) (rising : IsStrictlyIncreasing concepts) (ends : 
 pub IsWithin-numbered : (concepts : List ℕ) (ends : List (ℕ × ℕ)) → IsWithin (length concepts) (filter_map (numbered_row concepts) ends)
 IsWithin-numbered concepts ends =
     subst (IsWithin (length concepts)) (numbered_rows concepts ends)
-    (All-map (λ (row : ℕ × ℕ). (row.0 < length concepts) × (row.1 < length concepts)) (row_by (place_of concepts)) (rows_among concepts ends) (λ k d within. grind (arith, (ends_among concepts ends k d within), place_below)))
+    (All-map (λ (row : ℕ × ℕ). (row.0 < length concepts) × (row.1 < length concepts)) (row_by (place_of concepts))
+    (rows_among concepts ends) (λ k d within. grind (arith, (ends_among concepts ends k d within), place_below)))
 
 -- there are no more of them than rows
 pub length-numbered : (concepts : List ℕ) (ends : List (ℕ × ℕ)) → length (filter_map (numbered_row concepts) ends) ≤ length ends
@@ -141,6 +146,7 @@ pub numbers_again : (concepts : List ℕ) → IsStrictlyIncreasing concepts → 
     → map (λ (row : ℕ × ℕ). (place_of concepts row.0, place_of concepts row.1)) (map (row_of_numbers concepts) rows) ≡ rows
 numbers_again concepts rises rows within = search (rules, map-map, map_fixed, place_of-get_or)
 
-pub same_numbers : (concepts : List ℕ) → IsStrictlyIncreasing concepts → (rows others : List (ℕ × ℕ)) → IsWithin (length concepts) rows → IsWithin (length concepts) others
+pub same_numbers : (concepts : List ℕ) → IsStrictlyIncreasing concepts → (rows others : List (ℕ × ℕ))
+    → IsWithin (length concepts) rows → IsWithin (length concepts) others
     → map (row_of_numbers concepts) rows ≡ map (row_of_numbers concepts) others → rows ≡ others
 same_numbers concepts rises rows others within near same = grind (arith, (numbers_again concepts rises rows within), (numbers_again concepts rises others near))

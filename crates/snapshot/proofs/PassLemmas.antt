@@ -27,4 +27,12 @@ rows_of-push places place = grind (arith, common_steps, nat_tests, filter_map-ap
 pub first_fault-plain : (limits : Limits) (front places : List Place) (earlier : List RowAt) → earlier ≡ rows_of front → IsPlain limits earlier places
     → first_fault limits front places ≡ first_conflict earlier (rows_of places)
 first_fault-plain limits front [] earlier same plain = refl
-first_fault-plain limits front (place ∷ places) earlier same (plain_next before at others clean rest) = grind (arith, common_steps, rows_of-push, append-nil, (first_fault-plain limits (front ++ place ∷ []) places (earlier ++ option_to_list (row_at place)) (ap (λ (rows : List RowAt). rows ++ option_to_list (row_at place)) same ∙ sym (rows_of-push front place)) rest))
+first_fault-plain limits front (place ∷ places) earlier same (plain_next before at others clean rest) =
+    grind (
+      arith,
+      common_steps,
+      rows_of-push,
+      append-nil,
+      (first_fault-plain limits (front ++ place ∷ []) places (earlier ++ option_to_list (row_at place))
+          (ap (λ (rows : List RowAt). rows ++ option_to_list (row_at place)) same ∙ sym (rows_of-push front place)) rest),
+    )

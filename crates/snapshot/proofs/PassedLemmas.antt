@@ -67,7 +67,8 @@ counts_relationships concepts (of_member row ∷ rows) = counts_relationships co
 
 -- the rows of the kinds are all rows
 all_kinds : (rows : List RowText)
-    → length (concept_rows rows) + length (description_rows rows) + length (relationship_rows rows) + length (concrete_rows rows) + length (member_rows rows) ≡ length rows
+    → length (concept_rows rows) + length (description_rows rows) + length (relationship_rows rows)
+    + length (concrete_rows rows) + length (member_rows rows) ≡ length rows
 all_kinds [] = refl
 all_kinds (of_concept row ∷ rows) = omega (arith, all_kinds rows)
 all_kinds (of_description row ∷ rows) = omega (arith, all_kinds rows)
@@ -76,17 +77,30 @@ all_kinds (of_concrete row ∷ rows) = omega (arith, all_kinds rows)
 all_kinds (of_member row ∷ rows) = omega (arith, all_kinds rows)
 
 -- the rows that are chosen and those that are not are all rows
-choices_split : (rows earlier later : List RowAt) → length (marked (choices rows earlier later) later) + count_by not (choices rows earlier later) ≡ length later
+choices_split : (rows earlier later : List RowAt)
+    → length (marked (choices rows earlier later) later) + count_by not (choices rows earlier later) ≡ length later
 choices_split rows earlier [] = refl
 choices_split rows earlier (row ∷ later) = grind (arith, common_steps, nat_tests, sum_by-append, (choices_split rows (earlier ++ row ∷ []) later))
 
 -- of rows of which no two active concepts have one identifier each is listed or passed over
-listed_or_passed : (rows : List RowText) → IsDistinct nat_eq (map (λ (row : ConceptRow). row.id) (filter (λ (row : ConceptRow). row.active) (concept_rows rows)))
+listed_or_passed : (rows : List RowText)
+    → IsDistinct nat_eq (map (λ (row : ConceptRow). row.id) (filter (λ (row : ConceptRow). row.active) (concept_rows rows)))
     → listed_count (release_of rows) + passed_texts rows ≡ length rows
 listed_or_passed rows apart = grind (arith, common_steps, nat_tests, all_kinds, counts_relationships, length-map, length-rising, split)
 
 pub counts_passed_rows : CountsPassedRows
-counts_passed_rows limits language files places clean = grind (arith, common_steps, nat_tests, active-distinct, choices_split, concepts-listed, length-map, listed_or_passed, nat_eq)
+counts_passed_rows limits language files places clean =
+    grind (arith, common_steps, nat_tests, active-distinct, choices_split, concepts-listed, length-map, listed_or_passed, nat_eq)
 
 pub keeps_rising : KeepsRising
-keeps_rising ids = (rising-rises ids, λ id. grind (arith, (Contains-from_any (λ x y alike. eqb-true x y alike) id ids), (Contains-from_any (λ x y alike. eqb-true x y alike) id (rising ids)), (has-rising ids id), (list_any-from_Contains nat_eq_equiv id ids), (list_any-from_Contains nat_eq_equiv id (rising ids))))
+keeps_rising ids = (
+  rising-rises ids,
+  λ id. grind (
+    arith,
+    (Contains-from_any (λ x y alike. eqb-true x y alike) id ids),
+    (Contains-from_any (λ x y alike. eqb-true x y alike) id (rising ids)),
+    (has-rising ids id),
+    (list_any-from_Contains nat_eq_equiv id ids),
+    (list_any-from_Contains nat_eq_equiv id (rising ids)),
+  ),
+)

@@ -34,7 +34,8 @@ Gives result old new before after = MatchResult result (λ line. GivesNext (opti
 
 -- and, beside what it takes of the file
 pub gives_next : (result : Result (Option Line) SourceFault) (old new : PieceLines) (before after ahead behind : Option (List ℕ))
-    → MatchResult result (λ line. GivesNext (option_map line_text line) old new before after × TakesWithin ahead behind old.held.left new.held.left) (λ _. HasEnded new) → Gives result old new before after
+    → MatchResult result (λ line. GivesNext (option_map line_text line) old new before after
+    × TakesWithin ahead behind old.held.left new.held.left) (λ _. HasEnded new) → Gives result old new before after
 gives_next (Ok line) old new before after ahead behind both = both.0
 gives_next (Err fault) old new before after ahead behind ended = ended
 
@@ -82,25 +83,31 @@ pub gave_none : (result : Result (Option Line) SourceFault) (old new : PieceLine
 gave_none result old new before after rest gives is told = grind (arith, common_steps, nat_tests)
 
 -- the later lines of a file that are left, while some turns are
-pub record LinesLeft {Held : Type 0} (takes : Held → Place → Held → Type 0) (refuses : Held → Place → Held → LoadFault → Type 0) (file : ℕ) (kind : FileKind) (old : Held) (all : List Place) (turns : ℕ) (turn : ℕ) (after : Option (List ℕ)) (lines : PieceLines) (held : Held) : Type 0 where
+pub record LinesLeft {Held : Type 0} (takes : Held → Place → Held → Type 0)
+    (refuses : Held → Place → Held → LoadFault → Type 0) (file : ℕ) (kind : FileKind) (old : Held) (all : List Place)
+    (turns : ℕ) (turn : ℕ) (after : Option (List ℕ)) (lines : PieceLines) (held : Held) : Type 0 where
   pub now : List ℕ
   pub told : after ≡ Some now
   pub within : length (lines_to_come lines now) + turn < turns
   pub leads : Leads takes refuses old all held (map (later_line file kind) (lines_to_come lines now))
 
 module _ {Held : Type 0} (takes : Held → Place → Held → Type 0) (refuses : Held → Place → Held → LoadFault → Type 0) (file : ℕ) (kind : FileKind) where
-  pub LinesLeft-next : (old held new : Held) (all : List Place) (turns turn : ℕ) (before after : Option (List ℕ)) (lines later : PieceLines) (result : Result (Option Line) SourceFault) (line : Line)
+  pub LinesLeft-next : (old held new : Held) (all : List Place) (turns turn : ℕ) (before after : Option (List ℕ))
+      (lines later : PieceLines) (result : Result (Option Line) SourceFault) (line : Line)
       → LinesLeft takes refuses file kind old all turns turn before lines held → Gives result lines later before after → result ≡ Ok (Some line)
       → takes held (later_line file kind (line_text line)) new → LinesLeft takes refuses file kind old all turns (turn + 1) after later new
   LinesLeft-next old held new all turns turn before after lines later result line left gives is step = search (rules, Leads-next, gave_line)
 
-  pub LinesLeft-stop : (old held new : Held) (all : List Place) (turns turn : ℕ) (before after : Option (List ℕ)) (lines later : PieceLines) (result : Result (Option Line) SourceFault) (line : Line) (fault : LoadFault)
+  pub LinesLeft-stop : (old held new : Held) (all : List Place) (turns turn : ℕ) (before after : Option (List ℕ))
+      (lines later : PieceLines) (result : Result (Option Line) SourceFault) (line : Line) (fault : LoadFault)
       → LinesLeft takes refuses file kind old all turns turn before lines held → Gives result lines later before after → result ≡ Ok (Some line)
       → refuses held (later_line file kind (line_text line)) new fault → StopsAt takes refuses old all new fault
   LinesLeft-stop old held new all turns turn before after lines later result line fault left gives is refused = search (rules, Leads-stop, gave_line)
 
-  pub LinesLeft-end : (old held : Held) (all : List Place) (turns turn : ℕ) (before after : Option (List ℕ)) (lines later : PieceLines) (result : Result (Option Line) SourceFault)
-      → LinesLeft takes refuses file kind old all turns turn before lines held → Gives result lines later before after → result ≡ Ok None → TakesAll takes old all held
+  pub LinesLeft-end : (old held : Held) (all : List Place) (turns turn : ℕ) (before after : Option (List ℕ))
+      (lines later : PieceLines) (result : Result (Option Line) SourceFault)
+      → LinesLeft takes refuses file kind old all turns turn before lines held
+      → Gives result lines later before after → result ≡ Ok None → TakesAll takes old all held
   LinesLeft-end old held all turns turn before after lines later result left gives is = grind (arith, common_steps, nat_tests, Leads-end, gave_none)
 
   -- the lines of a file behind its first one, which was taken
@@ -109,7 +116,8 @@ module _ {Held : Type 0} (takes : Held → Place → Held → Type 0) (refuses :
       → (result : Result (Unit {0}) LoadFault) → GoesOver takes refuses later_fails middle (map (later_line file kind) others) result new
       → GoesOver takes refuses fails old (places_of_lines file kind lines) result new
   goes_lines fails later_fails lines first others cut so old middle new step (Ok done) went = search (rules, takes_lines)
-  goes_lines fails later_fails lines first others cut so old middle new step (Err fault) went = grind (arith, (stops_lines takes refuses file kind lines first others cut old middle new fault step), (so fault))
+  goes_lines fails later_fails lines first others cut so old middle new step (Err fault) went =
+      grind (arith, (stops_lines takes refuses file kind lines first others cut old middle new fault step), (so fault))
 
   -- a file without a line
   pub goes_none : (fails : LoadFault → Type 0) (lines : List LineText) → lines ≡ [] → (old new : Held) (result : Result (Unit {0}) LoadFault)
@@ -136,7 +144,8 @@ pub cut_short : (count : ℕ) (bytes : List ℕ) → length bytes < 2 ^ 64 → l
 cut_short count bytes short = omega (arith, length-take count bytes)
 
 -- and the lines to come are those
-pub cut_reachable : (limit left held : ℕ) (rest : Option (List ℕ)) (bytes : List ℕ) → rest ≡ Some bytes → length bytes < 2 ^ 64 → left ≡ min (limit + 1) (2 ^ 64 - 1) → held ≡ left
+pub cut_reachable : (limit left held : ℕ) (rest : Option (List ℕ)) (bytes : List ℕ) → rest ≡ Some bytes
+    → length bytes < 2 ^ 64 → left ≡ min (limit + 1) (2 ^ 64 - 1) → held ≡ left
     → reachable held rest ≡ Some (take (limit + 1) bytes)
 cut_reachable limit left held rest bytes told short is same = grind (arith, (reachable_told held rest bytes told), (cut_bytes limit left bytes short is))
 
@@ -144,26 +153,34 @@ cut_reachable limit left held rest bytes told short is same = grind (arith, (rea
 pub fails_from : (file start old new : ℕ) (fault : LoadFault) → start ≤ old → FailsAt file old new fault → FailsAt file start new fault
 fails_from file start old new fault up failed = grind (arith, inl, inr)
 
-module _ {Held : Type 0} (takes : Held → Place → Held → Type 0) (refuses : Held → Place → Held → LoadFault → Type 0) (file limit : ℕ) (known : List FileText) (name : List ℕ) where
+module _ {Held : Type 0} (takes : Held → Place → Held → Type 0) (refuses : Held → Place → Held → LoadFault → Type 0)
+    (file limit : ℕ) (known : List FileText) (name : List ℕ) where
   -- a file without a kind has no places
   pub takes_unnamed : None ≡ file_kind_of name → (held : Held) → TakesAll takes held (places_of_file file (cut_file limit (text_named known name))) held
   takes_unnamed is held = grind (arith, places_of_kind, unwrap_or, bytes_of, taken)
 
 -- the places of the names from one on are those of its file and those of the names behind it
-pub places_from-listed : {A : Type 0} (limit : ℕ) (known : List FileText) (name_of : A → List ℕ) (i : ℕ) (names : List A) (d : A) (name : List ℕ) → i < length names → name ≡ name_of (get_or names i d)
-    → places_from i (map (cut_file limit) (listed known (map name_of (drop i names)))) ≡ places_of_file i (cut_file limit (text_named known name)) ++ places_from (i + 1) (map (cut_file limit) (listed known (map name_of (drop (i + 1) names))))
+pub places_from-listed : {A : Type 0} (limit : ℕ) (known : List FileText) (name_of : A → List ℕ) (i : ℕ)
+    (names : List A) (d : A) (name : List ℕ) → i < length names → name ≡ name_of (get_or names i d)
+    → places_from i (map (cut_file limit) (listed known (map name_of (drop i names))))
+    ≡ places_of_file i (cut_file limit (text_named known name))
+    ++ places_from (i + 1) (map (cut_file limit) (listed known (map name_of (drop (i + 1) names))))
 places_from-listed limit known name_of i names d name within is = grind (arith, common_steps, nat_tests, drop-cons, get_or)
 
-pub places_from-none : {A : Type 0} (limit : ℕ) (known : List FileText) (name_of : A → List ℕ) (i : ℕ) (names : List A) → length names ≤ i → places_from i (map (cut_file limit) (listed known (map name_of (drop i names)))) ≡ []
-places_from-none limit known name_of i names behind = ap (λ rest. places_from i (map (cut_file limit) (listed known (map name_of rest)))) (drop_all i names behind)
+pub places_from-none : {A : Type 0} (limit : ℕ) (known : List FileText) (name_of : A → List ℕ) (i : ℕ)
+    (names : List A) → length names ≤ i → places_from i (map (cut_file limit) (listed known (map name_of (drop i names)))) ≡ []
+places_from-none limit known name_of i names behind =
+    ap (λ rest. places_from i (map (cut_file limit) (listed known (map name_of rest)))) (drop_all i names behind)
 
 module _ {Held : Type 0} (takes : Held → Place → Held → Type 0) (refuses : Held → Place → Held → LoadFault → Type 0) where
   -- the places of a name more were gone over
   pub leads_name : (fails : LoadFault → Type 0) (old held new : Held) (all here left : List Place) (result : Result (Unit {0}) LoadFault) (done : Unit {0})
-      → Leads takes refuses old all held (here ++ left) → GoesOver takes refuses fails held here result new → result ≡ Ok done → Leads takes refuses old all new left
+      → Leads takes refuses old all held (here ++ left) → GoesOver takes refuses fails held here result new
+      → result ≡ Ok done → Leads takes refuses old all new left
   leads_name fails old held new all here left result done leads went is = grind (arith, common_steps, nat_tests, Leads-on)
 
-  stops_front : (held new : Held) (here left : List Place) (fault : LoadFault) → StopsAt takes refuses held here new fault → StopsAt takes refuses held (here ++ left) new fault
+  stops_front : (held new : Held) (here left : List Place) (fault : LoadFault)
+      → StopsAt takes refuses held here new fault → StopsAt takes refuses held (here ++ left) new fault
   stops_front held new here left fault stop = record {
     before = stop.before;
     place = stop.place;
@@ -175,20 +192,30 @@ module _ {Held : Type 0} (takes : Held → Place → Held → Type 0) (refuses :
   }
 
   went_wrong : (fails : LoadFault → Type 0) (old held new : Held) (all here left : List Place) (fault : LoadFault)
-      → Leads takes refuses old all held (here ++ left) → fails fault ⊎ StopsAt takes refuses held here new fault → fails fault ⊎ StopsAt takes refuses old all new fault
+      → Leads takes refuses old all held (here ++ left) → fails fault ⊎ StopsAt takes refuses held here new fault
+      → fails fault ⊎ StopsAt takes refuses old all new fault
   went_wrong fails old held new all here left fault leads (inl failed) = inl failed
   went_wrong fails old held new all here left fault leads (inr stops) = inr (leads.stops new fault (stops_front held new here left fault stops))
 
   -- the places of a name more were gone over up to a fault
   pub stops_name : (fails : LoadFault → Type 0) (old held new : Held) (all here left : List Place) (result : Result (Unit {0}) LoadFault) (fault : LoadFault)
-      → Leads takes refuses old all held (here ++ left) → GoesOver takes refuses fails held here result new → result ≡ Err fault → fault ≢ Memory → fails fault ⊎ StopsAt takes refuses old all new fault
+      → Leads takes refuses old all held (here ++ left) → GoesOver takes refuses fails held here result new
+      → result ≡ Err fault → fault ≢ Memory → fails fault ⊎ StopsAt takes refuses old all new fault
   stops_name fails old held new all here left result fault leads went is other =
-      went_wrong fails old held new all here left fault leads (subst (λ (answer : Result (Unit {0}) LoadFault). GoesOver takes refuses fails held here answer new) is went other)
+      went_wrong fails old held new all here left fault leads
+      (subst (λ (answer : Result (Unit {0}) LoadFault). GoesOver takes refuses fails held here answer new) is went other)
 
 -- texts that rise have bytes that rise
 sorted_map : {X Y : Type 0} (f : X → Y) (lt : Y → Y → Bool) (xs : List X) → IsSortedBy (λ one other. lt (f one) (f other)) xs → IsSortedBy lt (map f xs)
 sorted_map f lt [] sorted k default low high = absurd (omega arith)
-sorted_map f lt (x ∷ xs) sorted k default low high = grind (arith, (get_or-map f (x ∷ xs) (k + 1) x default), (get_or-map f (x ∷ xs) k x default), (length-map (x ∷ xs) f), (sorted k x low))
+sorted_map f lt (x ∷ xs) sorted k default low high =
+    grind (
+      arith,
+      (get_or-map f (x ∷ xs) (k + 1) x default),
+      (get_or-map f (x ∷ xs) k x default),
+      (length-map (x ∷ xs) f),
+      (sorted k x low),
+    )
 
 -- names of files that were sorted are in order
 pub in_byte_order : (sorted : List (String Global)) → IsSorted string_cmp sorted → IsSorted (slice_cmp nat_cmp) (map string_bytes sorted)
@@ -208,10 +235,12 @@ kind_at name_of [] i d name within is = grind arith
 kind_at name_of (x ∷ xs) zero d name within is = ap (λ one. is_some (file_kind_of one)) (sym is)
 kind_at name_of (x ∷ xs) (suc i) d name within is = kind_at name_of xs i d name (omega arith) is
 
-pub fails_at_read : (reads : ℕ → Bool) (file old new : ℕ) (fault : LoadFault) → (is_device fault ≡ true → FailsAt file old new fault) → (is_device fault ≡ true → reads file ≡ true)
+pub fails_at_read : (reads : ℕ → Bool) (file old new : ℕ) (fault : LoadFault)
+    → (is_device fault ≡ true → FailsAt file old new fault) → (is_device fault ≡ true → reads file ≡ true)
     → FailsAtRead reads fault
 fails_at_read reads file old new fault failed kind = grind (arith, common_steps, nat_tests)
 
-pub fails_at_file : {X : Type 0} (file old middle new : ℕ) (fault : LoadFault) → middle ≡ old → FailsAt file middle new fault ⊎ X → FailsAtFile old new fault ⊎ X
+pub fails_at_file : {X : Type 0} (file old middle new : ℕ) (fault : LoadFault) → middle ≡ old
+    → FailsAt file middle new fault ⊎ X → FailsAtFile old new fault ⊎ X
 fails_at_file file old middle new fault same (inl failed) = inl (file, subst (λ count. FailsAt file count new fault) same failed)
 fails_at_file file old middle new fault same (inr stops) = inr stops

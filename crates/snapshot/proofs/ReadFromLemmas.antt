@@ -27,7 +27,8 @@ module _ (list : Listing) {X : Type 0} (pick : RowText → Option X) (same : (ro
   heres-is [] = refl
   heres-is (row ∷ rows) = (λ i. same row i ∷ heres-is rows i)
 
-  list-chosen : (rows : List RowText) (choices : List Bool) → items_chosen (in_list list (map listing_of rows)) choices (filter_map pick rows) ≡ filter_map pick (marked choices rows)
+  list-chosen : (rows : List RowText) (choices : List Bool)
+      → items_chosen (in_list list (map listing_of rows)) choices (filter_map pick rows) ≡ filter_map pick (marked choices rows)
   list-chosen rows choices = grind (arith, chosen-picked, (heres-is rows))
 
 name-here : (row : RowText) → same_listing (listing_of row) listing.Name ≡ is_some (name_listed row)
@@ -49,14 +50,16 @@ lists-chosen rows choices = grind (arith, attribute-here, isa-here, list-chosen,
 keyed-seen : (limits : Limits) (kept : RowStore) (rows : List RowAt) → kept ≡ kept_rows (nothing_kept limits) rows → kept.keyed.keys ≡ keys_behind [] rows
 keyed-seen limits kept rows same = ap (λ (k : RowStore). k.keyed.keys) same ∙ kept_rows-keys (nothing_kept limits) rows
 
-pub are-seen : (limits : Limits) (places : List Place) (kept : RowStore) (fault : Option LoadFault) → (all : IsSeen limits places kept fault) → AreSeen kept.keyed places all.seen all.beyond
+pub are-seen : (limits : Limits) (places : List Place) (kept : RowStore) (fault : Option LoadFault)
+    → (all : IsSeen limits places kept fault) → AreSeen kept.keyed places all.seen all.beyond
 are-seen limits places kept fault all = search (rules, kept_rows-uuids, keyed-seen)
 
 length-keys : (uuids : List ℕ) (rows : List RowAt) → length (keys_behind uuids rows) ≡ length rows
 length-keys uuids [] = refl
 length-keys uuids (row ∷ rows) = ap suc (length-keys (uuids_behind uuids (text_of_row row)) rows)
 
-pub count-seen : (limits : Limits) (places : List Place) (kept : RowStore) (fault : Option LoadFault) → (all : IsSeen limits places kept fault) → length kept.keyed.keys ≡ length all.seen
+pub count-seen : (limits : Limits) (places : List Place) (kept : RowStore) (fault : Option LoadFault)
+    → (all : IsSeen limits places kept fault) → length kept.keyed.keys ≡ length all.seen
 count-seen limits places kept fault all = ap length (keyed-seen limits kept all.seen all.kept_is) ∙ length-keys [] all.seen
 
 -- where no key stands twice no row conflicts
@@ -78,9 +81,21 @@ read-single limits places kept count all counted few =
 
 -- some rows are chosen
 pub read-chosen : (limits : Limits) (places : List Place) (kept : RowStore) (count : ℕ) (all : IsSeen limits places kept None) → count ≡ length kept.keyed.keys
-    → first_conflict [] all.seen ≡ None → (marks : List Bool) → marks ≡ choices all.seen [] all.seen → (listed : ReleaseLists) → listed ≡ listed_chosen kept.listed marks
+    → first_conflict [] all.seen ≡ None → (marks : List Bool) → marks ≡ choices all.seen [] all.seen
+    → (listed : ReleaseLists) → listed ≡ listed_chosen kept.listed marks
     → IsReadFrom limits places count listed
-read-chosen limits places kept count all counted none marks told listed same = grind (arith, all.first, first_of-none, (count-seen limits places kept None all), (all.whole refl), (all.room refl), listed-rows, lists-chosen, map-marked)
+read-chosen limits places kept count all counted none marks told listed same =
+    grind (
+      arith,
+      all.first,
+      first_of-none,
+      (count-seen limits places kept None all),
+      (all.whole refl),
+      (all.room refl),
+      listed-rows,
+      lists-chosen,
+      map-marked,
+    )
 
 -- the fault at which the first pass ended is the first, where no row conflicts
 pub fault-seen : (limits : Limits) (places : List Place) (kept : RowStore) (fault : LoadFault) (all : IsSeen limits places kept (Some fault))

@@ -19,7 +19,8 @@ pub not_falling : (xs : List ℕ) → IsStrictlyIncreasing xs → (j k : ℕ) �
 not_falling xs rising j k before within = non_decreasing_from_sorted xs (sorted_from_strictly_increasing xs rising) j k 0 before within
 
 -- a number that is above those before a place and below those from it on is not among them
-has-none : (xs : List ℕ) (id i : ℕ) → ((k : ℕ) → k < i → k < length xs → get_or xs k 0 < id) → ((k : ℕ) → i ≤ k → k < length xs → id < get_or xs k 0) → has xs id ≡ false
+has-none : (xs : List ℕ) (id i : ℕ) → ((k : ℕ) → k < i → k < length xs → get_or xs k 0 < id)
+    → ((k : ℕ) → i ≤ k → k < length xs → id < get_or xs k 0) → has xs id ≡ false
 has-none xs id i above below = had_not xs id (λ there.
     let is : get_or xs there.0 0 ≡ id = get_or_default xs there.0 0 id there.1 ∙ there.2 in
     elim (cases_lt there.0 i) [ inl before ↦ omega (arith, is, above there.0 before there.1) | inr behind ↦ omega (arith, is, below there.0 behind there.1) ])
@@ -27,10 +28,12 @@ has-none xs id i above below = had_not xs id (λ there.
 -- a binary search finds a number exactly where it is among them
 pub has-searched : (xs : List ℕ) → IsStrictlyIncreasing xs → (id : ℕ) (r : Result ℕ ℕ) → IsBinarySearchResult (λ y. nat_cmp y id) xs r → is_ok r ≡ has xs id
 has-searched xs rising id (Ok i) found = grind (arith, searched xs id (Ok i) found (not_falling xs rising), list_any_at (nat_eq id) xs i 0, eq-eqb)
-has-searched xs rising id (Err i) found = let at = searched xs id (Err i) found (not_falling xs rising) in sym (has-none xs id i (λ k before within. at.1 k before) at.2)
+has-searched xs rising id (Err i) found = let at = searched xs id (Err i) found (not_falling xs rising) in
+    sym (has-none xs id i (λ k before within. at.1 k before) at.2)
 
 -- a number above the one before a place and below the one at it is not among them
-pub has-between : (xs : List ℕ) → IsStrictlyIncreasing xs → (id i : ℕ) → i ≤ length xs → (0 < i → get_or xs (i - 1) 0 < id) → (i < length xs → id < get_or xs i 0) → has xs id ≡ false
+pub has-between : (xs : List ℕ) → IsStrictlyIncreasing xs → (id i : ℕ) → i ≤ length xs
+    → (0 < i → get_or xs (i - 1) 0 < id) → (i < length xs → id < get_or xs i 0) → has xs id ≡ false
 has-between xs rising id i within above below = has-none xs id i
     (λ k before inside. omega (arith, above (omega arith), not_falling xs rising k (i - 1) (omega arith) (omega arith)))
     (λ k behind inside. omega (arith, below (omega arith), not_falling xs rising i k behind inside))

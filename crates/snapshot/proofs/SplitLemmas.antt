@@ -17,7 +17,8 @@ any_of p xs x there passes = list_any_at p xs there.0 x there.1 (ap p there.2 �
 pub Contains-cut : (before : List KeyedRow) (row : KeyedRow) (behind : List KeyedRow) → Contains (before ++ row ∷ behind) row
 Contains-cut before row behind = Contains-append_right before (row ∷ behind) row (0, omega arith, refl)
 
-module _ (before : List KeyedRow) (row : KeyedRow) (behind before' : List KeyedRow) (row' : KeyedRow) (behind' : List KeyedRow) (same : before ++ row ∷ behind ≡ before' ++ row' ∷ behind') where
+module _ (before : List KeyedRow) (row : KeyedRow) (behind before' : List KeyedRow) (row' : KeyedRow)
+    (behind' : List KeyedRow) (same : before ++ row ∷ behind ≡ before' ++ row' ∷ behind') where
   row_in_rows : get_or (before' ++ row' ∷ behind') (length before) row ≡ row
   row_in_rows = ap (λ (rows : List KeyedRow). get_or rows (length before) row) (sym same) ∙ get_or_at before row behind row (length before) refl
 
@@ -33,4 +34,5 @@ module _ (before : List KeyedRow) (row : KeyedRow) (behind before' : List KeyedR
 pub one_first : (before : List KeyedRow) (row : KeyedRow) (behind before' : List KeyedRow) (row' : KeyedRow) (behind' : List KeyedRow)
     → before ++ row ∷ behind ≡ before' ++ row' ∷ behind' → is_repeated before row ≡ false → is_repeated before' row' ≡ false
     → same_version row row' ≡ true → same_version row' row ≡ true → (row ≡ row') × (length before ≡ length before')
-one_first before row behind before' row' behind' same first first' one other = grind (arith, common_steps, nat_tests, any_of, cases_order, cut_earlier, false≢true, one_at)
+one_first before row behind before' row' behind' same first first' one other =
+    grind (arith, common_steps, nat_tests, any_of, cases_order, cut_earlier, false≢true, one_at)

@@ -51,7 +51,15 @@ has-code repeated row code is = grind (arith, common_steps, nat_tests, eq-eqb, g
 -- two keys are one where their places are
 same_key-place : (repeated : List ℕ) → IsStrictlyIncreasing repeated → (row other : KeyedRow) (code code' : ℕ)
     → (is : IsCodeOf repeated row code) (is' : IsCodeOf repeated other code') → (row.key == other.key) ≡ (is.place == is'.place)
-same_key-place repeated rising row other code code' is is' = grind (arith, nat_tests, (place_of-get_or repeated rising is.place is.within), (place_of-get_or repeated rising is'.place is'.within), is.key, is'.key)
+same_key-place repeated rising row other code code' is is' =
+    grind (
+      arith,
+      nat_tests,
+      (place_of-get_or repeated rising is.place is.within),
+      (place_of-get_or repeated rising is'.place is'.within),
+      is.key,
+      is'.key,
+    )
 
 -- two rows are of one component and time where their codes are one
 pub same_version-code : (repeated : List ℕ) → IsStrictlyIncreasing repeated → (row other : KeyedRow) (code code' : ℕ)
@@ -60,10 +68,18 @@ same_version-code repeated rising row other code code' is is' = rw (same_key-pla
     (grind (arith, nat_tests, is.eight_digits, is'.eight_digits, time_code-small row.time is.eight_digits, time_code-small other.time is'.eight_digits))
 
 -- of one component and with a greater code is a row of the same component with a later time
-pub is_later-version : (repeated : List ℕ) → IsStrictlyIncreasing repeated → (row other : KeyedRow) (code code' : ℕ) → IsCodeOf repeated row code → IsCodeOf repeated other code'
+pub is_later-version : (repeated : List ℕ) → IsStrictlyIncreasing repeated → (row other : KeyedRow) (code code' : ℕ)
+    → IsCodeOf repeated row code → IsCodeOf repeated other code'
     → ((code' / 2 ^ 32 == code / 2 ^ 32) && nat_lt code code') ≡ ((other.key == row.key) && is_later other.time row.time)
 is_later-version repeated rising row other code code' is is' =
-    rw (key_place-code repeated row code is, key_place-code repeated other code' is', same_key-place repeated rising other row code' code is' is, is.is, is'.is) (grind (arith, nat_tests, is.eight_digits, is'.eight_digits))
+    rw (
+      key_place-code repeated row code is,
+      key_place-code repeated other code' is',
+      same_key-place repeated rising other row code' code is' is,
+      is.is,
+      is'.is,
+    )
+    (grind (arith, nat_tests, is.eight_digits, is'.eight_digits))
 
 -- The lines of the first rows of versions stay as the buffer grows.
 
@@ -87,7 +103,8 @@ some_of p xs some = let place = Any-from_list_any p xs some in (place.1, (place.
 firsts-push : (repeated : List ℕ) (earlier later : List KeyedRow) (row : KeyedRow)
     → firsts repeated earlier (later ++ row ∷ []) ≡ firsts repeated earlier later ++ not (has repeated row.key && is_repeated (earlier ++ later) row) ∷ []
 firsts-push repeated earlier [] row = ap (λ (rows : List KeyedRow). not (has repeated row.key && is_repeated rows row) ∷ []) (sym (append-nil earlier))
-firsts-push repeated earlier (first ∷ later) row = grind (arith, common_steps, nat_tests, append_assoc, (firsts-push repeated (earlier ++ first ∷ []) later row))
+firsts-push repeated earlier (first ∷ later) row =
+    grind (arith, common_steps, nat_tests, append_assoc, (firsts-push repeated (earlier ++ first ∷ []) later row))
 
 length-firsts : (repeated : List ℕ) (earlier later : List KeyedRow) → length (firsts repeated earlier later) ≡ length later
 length-firsts repeated earlier [] = refl
@@ -105,9 +122,12 @@ taken_pushed : (taken : VersionTable) (chosen : List Bool) (rows : List KeyedRow
 taken_pushed taken chosen rows row mark are is of before = grind (arith, common_steps, nat_tests, versions-push, All-push, firsts-push)
 
 -- a row whose key is not repeated is taken
-pub taken_skip : (taken : VersionTable) (chosen : List Bool) (rows : List KeyedRow) (row : KeyedRow) → chosen ≡ taken.chosen ++ true ∷ [] → has taken.repeated row.key ≡ false → HasTaken taken rows
+pub taken_skip : (taken : VersionTable) (chosen : List Bool) (rows : List KeyedRow) (row : KeyedRow)
+    → chosen ≡ taken.chosen ++ true ∷ [] → has taken.repeated row.key ≡ false → HasTaken taken rows
     → HasTaken (record taken { chosen = chosen }) (rows ++ row ∷ [])
-taken_skip taken chosen rows row are alone before = taken_pushed taken chosen rows row true are (grind (arith, nat_tests, alone)) (λ repeated. absurd (cc (alone, repeated))) before
+taken_skip taken chosen rows row are alone before =
+    taken_pushed taken chosen rows row true are (grind (arith, nat_tests, alone))
+    (λ repeated. absurd (cc (alone, repeated))) before
 
 module _ (repeated : List ℕ) (rising : IsStrictlyIncreasing repeated) (rows : List KeyedRow) where
   -- a row of a version's code is of one component and time with its first row
@@ -116,7 +136,8 @@ module _ (repeated : List ℕ) (rising : IsStrictlyIncreasing repeated) (rows : 
   first_is_same version is row code = grind (arith, common_steps, nat_tests, eq-eqb, same_version-code)
 
   -- two versions with one code have one first row
-  one_version : (version other : Version) (is : IsVersionAmong repeated rows version) (is' : IsVersionAmong repeated rows other) → version.code ≡ other.code → is.row ≡ is'.row
+  one_version : (version other : Version) (is : IsVersionAmong repeated rows version)
+      (is' : IsVersionAmong repeated rows other) → version.code ≡ other.code → is.row ≡ is'.row
   one_version version other is is' same = grind (arith, common_steps, nat_tests, first_is_same, one_first)
 
   -- the first row of a version is among the rows
@@ -133,7 +154,8 @@ module _ (taken : VersionTable) (rising : IsStrictlyIncreasing taken.repeated) (
       → (version : Version) × Contains taken.versions version × AgreesWith taken.repeated other version × (version.code ≡ code)
   version_before other there code is same =
       let key : other.key ≡ row.key = eqb-true other.key row.key (and_parts (other.key == row.key) _ same).0 in
-      let of = All-contains (IsOfVersion taken.repeated taken.versions) rows other before.agree there (ap (has taken.repeated) key ∙ has-code taken.repeated row code is) in
+      let of = All-contains (IsOfVersion taken.repeated taken.versions) rows other before.agree there
+      (ap (has taken.repeated) key ∙ has-code taken.repeated row code is) in
       (of.0, of.1, of.2, eqb-true of.0.code code (sym (same_version-code taken.repeated rising other row of.0.code code of.2.code is) ∙ same))
 
   module _ (code : ℕ) (is : IsCodeOf taken.repeated row code) where
@@ -142,15 +164,25 @@ module _ (taken : VersionTable) (rising : IsStrictlyIncreasing taken.repeated) (
     new_not_repeated new = false_from_ne_true _ (λ repeated.
         let other = some_of (λ other. same_version other row) rows repeated in
         let of = version_before other.0 other.1 code is other.2 in
-        false≢true (sym new ∙ rw (before.codes, ← of.3) (had_contained (map (λ (version : Version). version.code) taken.versions) of.0.code (contains_map (λ (version : Version). version.code) taken.versions of.0 of.1))))
+        false≢true (sym new ∙ rw (before.codes, ← of.3)
+        (had_contained (map (λ (version : Version). version.code) taken.versions) of.0.code
+        (contains_map (λ (version : Version). version.code) taken.versions of.0 of.1))))
 
     pub new_conflicts : has taken.codes code ≡ false → list_any (λ earlier. conflicts earlier row) rows ≡ false
-    new_conflicts new = any-none (λ other. same_version other row) (λ other. conflicts other row) rows (λ other. and_left (same_version other row) _) (new_not_repeated new)
+    new_conflicts new = any-none (λ other. same_version other row) (λ other. conflicts other row) rows
+        (λ other. and_left (same_version other row) _) (new_not_repeated new)
 
     -- the version at the number of its code
     module _ (number : ℕ) (found : position (λ other. code == other) taken.codes ≡ Some number) (default : Version) where
       placed : (number < length taken.versions) × ((get_or taken.versions number default).code ≡ code)
-      placed = grind (arith, common_steps, nat_tests, position-Some (λ other. code == other) taken.codes number 0 found, before.codes, (get_or-map (λ (version : Version). version.code) taken.versions number default 0))
+      placed = grind (
+        arith,
+        common_steps,
+        nat_tests,
+        position-Some (λ other. code == other) taken.codes number 0 found,
+        before.codes,
+        (get_or-map (λ (version : Version). version.code) taken.versions number default 0),
+      )
 
       pub version_at : IsVersionAmong taken.repeated rows (get_or taken.versions number default)
       version_at = before.versions number default placed.0
@@ -162,10 +194,18 @@ module _ (taken : VersionTable) (rising : IsStrictlyIncreasing taken.repeated) (
       pub version_kind : AreOfItsKind rows row → (get_or taken.versions number default).kind ≡ row.kind
       version_kind kinds =
           let version = get_or taken.versions number default in
-          grind (arith, nat_tests, version_at.kind, (first_is_same taken.repeated rising rows version version_at row row_code), kinds version_at.row (Contains-first taken.repeated rising rows version version_at))
+          grind (
+            arith,
+            nat_tests,
+            version_at.kind,
+            (first_is_same taken.repeated rising rows version version_at row row_code),
+            kinds version_at.row (Contains-first taken.repeated rising rows version version_at),
+          )
 
       -- where the row is the same as the first of its version, it conflicts with none
-      pub same_conflicts : AreOfItsKind rows row → same_row row.kind (get_or taken.versions number default).text row.text ≡ true → list_any (λ earlier. conflicts earlier row) rows ≡ false
+      pub same_conflicts : AreOfItsKind rows row
+          → same_row row.kind (get_or taken.versions number default).text row.text ≡ true
+          → list_any (λ earlier. conflicts earlier row) rows ≡ false
       same_conflicts kinds same = false_from_ne_true _ (λ some.
           let version = get_or taken.versions number default in
           let other = some_of (λ earlier. conflicts earlier row) rows some in
@@ -174,35 +214,77 @@ module _ (taken : VersionTable) (rising : IsStrictlyIncreasing taken.repeated) (
           let among = All-contains (IsVersionAmong taken.repeated rows) taken.versions of.0 before.versions of.1 in
           let kind : other.0.kind ≡ row.kind = kinds other.0 other.1 (eqb-true other.0.key row.key (and_parts (other.0.key == row.key) _ both.0).0) in
           let one = one_version taken.repeated rising rows of.0 version among version_at (of.3 ∙ sym placed.1) in
-          grind (arith, nat_tests, kind, one, among.text, version_at.text, of.2.same, same_row-sym row.kind version.text other.0.text, same_row-trans row.kind other.0.text version.text row.text, same, both.1))
+          grind (
+            arith,
+            nat_tests,
+            kind,
+            one,
+            among.text,
+            version_at.text,
+            of.2.same,
+            same_row-sym row.kind version.text other.0.text,
+            same_row-trans row.kind other.0.text version.text row.text,
+            same,
+            both.1,
+          ))
 
       -- where it is not, it conflicts with that row
-      pub other_conflicts : AreOfItsKind rows row → same_row row.kind (get_or taken.versions number default).text row.text ≡ false → list_any (λ earlier. conflicts earlier row) rows ≡ true
+      pub other_conflicts : AreOfItsKind rows row
+          → same_row row.kind (get_or taken.versions number default).text row.text ≡ false
+          → list_any (λ earlier. conflicts earlier row) rows ≡ true
       other_conflicts kinds apart = grind (arith, common_steps, nat_tests, and_from, any_of, get_or, row_code, version_at, version_kind)
 
       -- and it is taken where it is the same
-      pub taken_again : (chosen : List Bool) → chosen ≡ taken.chosen ++ false ∷ [] → same_row row.kind (get_or taken.versions number default).text row.text ≡ true
+      pub taken_again : (chosen : List Bool) → chosen ≡ taken.chosen ++ false ∷ []
+          → same_row row.kind (get_or taken.versions number default).text row.text ≡ true
           → HasTaken (record taken { chosen = chosen }) (rows ++ row ∷ [])
       taken_again chosen are same =
           let version = get_or taken.versions number default in
-          taken_pushed taken chosen rows row false are (grind (arith, nat_tests, has-code taken.repeated row code is, repeats taken.repeated rising rows version version_at row row_code))
+          taken_pushed taken chosen rows row false are
+          (grind (
+            arith,
+            nat_tests,
+            has-code taken.repeated row code is,
+            repeats taken.repeated rising rows version version_at row row_code,
+          ))
           (λ repeated. (version, Contains-get_or taken.versions number default placed.0, record { code = row_code; same = same })) before
 
     -- the first row of a version is taken
-    pub taken_first : (codes : List ℕ) (versions : List Version) (chosen : List Bool) → has taken.codes code ≡ false → row_fault row.kind row.text ≡ None → codes ≡ keys_behind taken.codes code
-        → versions ≡ taken.versions ++ record { code = code; place = length taken.chosen; kind = row.kind; text = row.text } ∷ [] → chosen ≡ taken.chosen ++ true ∷ []
+    pub taken_first : (codes : List ℕ) (versions : List Version) (chosen : List Bool) → has taken.codes code ≡ false
+        → row_fault row.kind row.text ≡ None → codes ≡ keys_behind taken.codes code
+        → versions ≡ taken.versions
+        ++ record { code = code; place = length taken.chosen; kind = row.kind; text = row.text } ∷ []
+        → chosen ≡ taken.chosen ++ true ∷ []
         → HasTaken (record { repeated = taken.repeated; codes = codes; versions = versions; chosen = chosen }) (rows ++ row ∷ [])
     taken_first codes versions chosen new accepted codes_are versions_are chosen_are =
         let version : Version = record { code = code; place = length taken.chosen; kind = row.kind; text = row.text } in
         let added = taken.versions ++ version ∷ [] in
         record {
           codes = rw (codes_are, new, before.codes, versions_are, map_push (λ (version : Version). version.code) taken.versions version) refl;
-          versions = rw versions_are (All-push (IsVersionAmong taken.repeated (rows ++ row ∷ [])) taken.versions version (versions-push taken.repeated rows row taken.versions before.versions)
-              (record { before = rows; row = row; behind = []; stands = refl; place = ap length before.chosen ∙ length-firsts taken.repeated [] rows; code = is; kind = refl; text = refl; first = new_not_repeated new }));
-          agree = rw versions_are (All-push (IsOfVersion taken.repeated added) rows row (All-weaker (IsOfVersion taken.repeated taken.versions) (IsOfVersion taken.repeated added)
-              (λ other of repeated. let found = of repeated in (found.0, Contains-append_left taken.versions (version ∷ []) found.0 found.1, found.2)) rows before.agree)
+          versions = rw versions_are (All-push (IsVersionAmong taken.repeated (rows ++ row ∷ [])) taken.versions
+              version (versions-push taken.repeated rows row taken.versions before.versions)
+              (record {
+                before = rows;
+                row = row;
+                behind = [];
+                stands = refl;
+                place = ap length before.chosen ∙ length-firsts taken.repeated [] rows;
+                code = is;
+                kind = refl;
+                text = refl;
+                first = new_not_repeated new;
+              }));
+          agree = rw versions_are (All-push (IsOfVersion taken.repeated added) rows row
+              (All-weaker (IsOfVersion taken.repeated taken.versions) (IsOfVersion taken.repeated added)
+              (λ other of repeated. let found = of repeated in
+              (found.0, Contains-append_left taken.versions (version ∷ []) found.0 found.1, found.2)) rows before.agree)
               (λ repeated. (version, Contains-push taken.versions version, record { code = is; same = same_row-refl row.kind row.text accepted })));
-          chosen = rw (chosen_are, before.chosen, firsts-push taken.repeated [] rows row, and_right (has taken.repeated row.key) (is_repeated rows row) (new_not_repeated new)) refl;
+          chosen = rw (
+            chosen_are,
+            before.chosen,
+            firsts-push taken.repeated [] rows row,
+            and_right (has taken.repeated row.key) (is_repeated rows row) (new_not_repeated new),
+          ) refl;
         }
 
 -- The greatest code of each key, and the marks of rows without those of other codes.
@@ -217,14 +299,16 @@ AreLatest latest versions = (code : ℕ) → code / 2 ^ 32 < length latest → n
 
 -- a code that is not greater changes nothing
 pub latest_keeps : (latest : List ℕ) (versions : List Version) (number : ℕ) (default : Version) → number < length versions
-    → AreLatest latest (take number versions) → (code : ℕ) → code ≡ (get_or versions number default).code → code ≤ get_or latest (code / 2 ^ 32) 0 → AreLatest latest (take (number + 1) versions)
+    → AreLatest latest (take number versions) → (code : ℕ) → code ≡ (get_or versions number default).code
+    → code ≤ get_or latest (code / 2 ^ 32) 0 → AreLatest latest (take (number + 1) versions)
 latest_keeps latest versions number default within are code is low other in_latest = grind (arith, common_steps, nat_tests, list_any_more, nat_lt, nat_tests)
 
 -- a greater one takes the place
 pub latest_takes : (latest : List ℕ) (versions : List Version) (number : ℕ) (default : Version) → number < length versions
     → AreLatest latest (take number versions) → (code : ℕ) → code ≡ (get_or versions number default).code
     → code / 2 ^ 32 < length latest → get_or latest (code / 2 ^ 32) 0 < code → AreLatest (set latest (code / 2 ^ 32) code) (take (number + 1) versions)
-latest_takes latest versions number default within are code is in_place high other in_latest = grind (arith, common_steps, nat_tests, common_steps, length-set, list_any_more, nat_lt, nat_tests)
+latest_takes latest versions number default within are code is in_place high other in_latest =
+    grind (arith, common_steps, nat_tests, common_steps, length-set, list_any_more, nat_lt, nat_tests)
 
 -- of some of the versions, at a place stands the first row of one that is not the latest
 abbrev pub is_older_of : List Version → List Version → ℕ → Bool
@@ -235,15 +319,18 @@ abbrev pub AreWithout : List Bool → List Bool → (ℕ → Bool) → Type 0
 AreWithout new old leaves = (place : ℕ) → get_or new place false ≡ (get_or old place false && not (leaves place))
 
 -- one version more, which is the latest
-pub without_keeps : (new old : List Bool) (versions : List Version) (number : ℕ) (default : Version) → number < length versions → AreWithout new old (is_older_of versions (take number versions))
+pub without_keeps : (new old : List Bool) (versions : List Version) (number : ℕ) (default : Version)
+    → number < length versions → AreWithout new old (is_older_of versions (take number versions))
     → is_outdated versions (get_or versions number default).code ≡ false → AreWithout new old (is_older_of versions (take (number + 1) versions))
 without_keeps new old versions number default within are latest place = grind (arith, common_steps, nat_tests, list_any_more, or-false)
 
 -- one that is not
-pub without_more : (new old : List Bool) (versions : List Version) (number : ℕ) (default : Version) → number < length versions → AreWithout new old (is_older_of versions (take number versions))
+pub without_more : (new old : List Bool) (versions : List Version) (number : ℕ) (default : Version)
+    → number < length versions → AreWithout new old (is_older_of versions (take number versions))
     → (at : ℕ) → at ≡ (get_or versions number default).place → at < length new → is_outdated versions (get_or versions number default).code ≡ true
     → AreWithout (set new at false) old (is_older_of versions (take (number + 1) versions))
-without_more new old versions number default within are at is in_marks outdated place = grind (arith, common_steps, nat_tests, and-false, common_steps, list_any_more, nat_tests, or-false, or-true)
+without_more new old versions number default within are at is in_marks outdated place =
+    grind (arith, common_steps, nat_tests, and-false, common_steps, list_any_more, nat_tests, or-false, or-true)
 
 -- marks that are so at each place
 pub without_from : (leaves : ℕ → Bool) (place : ℕ) (new old : List Bool) → length new ≡ length old
@@ -251,7 +338,9 @@ pub without_from : (leaves : ℕ → Bool) (place : ℕ) (new old : List Bool) �
 without_from leaves place [] [] long are = refl
 without_from leaves place [] (was ∷ old) long are = absurd (omega arith)
 without_from leaves place (mark ∷ new) [] long are = absurd (omega arith)
-without_from leaves place (mark ∷ new) (was ∷ old) long are = λ i. are 0 place (omega arith) i ∷ without_from leaves (place + 1) new old (omega arith) (λ k at is. are (suc k) at (omega arith)) i
+without_from leaves place (mark ∷ new) (was ∷ old) long are =
+    λ i. are 0 place (omega arith) i
+    ∷ without_from leaves (place + 1) new old (omega arith) (λ k at is. are (suc k) at (omega arith)) i
 
 -- Which rows are chosen: the first rows of versions without those of versions that are not the latest of their component.
 
@@ -260,7 +349,8 @@ abbrev pub count_of : ℕ → List KeyedRow → ℕ
 count_of key rows = times key (map (λ (row : KeyedRow). row.key) rows)
 
 -- it stands at least once where a row with it passes a test
-with_key : (rows : List KeyedRow) (row : KeyedRow) (test : KeyedRow → Bool) → list_any (λ other. (other.key == row.key) && test other) rows ≡ true → 1 ≤ count_of row.key rows
+with_key : (rows : List KeyedRow) (row : KeyedRow) (test : KeyedRow → Bool)
+    → list_any (λ other. (other.key == row.key) && test other) rows ≡ true → 1 ≤ count_of row.key rows
 with_key [] row test there = absurd (cc)
 with_key (first ∷ rows) row test there = grind (arith, common_steps, nat_tests, sum_by-cons, (with_key rows row test))
 
@@ -273,20 +363,32 @@ module _ (earlier : List KeyedRow) (row : KeyedRow) (later : List KeyedRow) (alo
   alone_repeated = grind (arith, nat_tests, count, alone, (with_key earlier row (λ other. same_time other.time row.time)))
 
   alone_superseded : is_superseded (earlier ++ row ∷ later) row ≡ false
-  alone_superseded = grind (arith, nat_tests, count, alone, list_any-append, is_later-itself row.time, (with_key earlier row (λ other. is_later other.time row.time)), (with_key later row (λ other. is_later other.time row.time)))
+  alone_superseded = grind (
+    arith,
+    nat_tests,
+    count,
+    alone,
+    list_any-append,
+    is_later-itself row.time,
+    (with_key earlier row (λ other. is_later other.time row.time)),
+    (with_key later row (λ other. is_later other.time row.time)),
+  )
 
-module _ (taken : VersionTable) (rising : IsStrictlyIncreasing taken.repeated) (rows : List KeyedRow) (before : HasTaken taken rows) (covers : Covers taken.repeated (map (λ (row : KeyedRow). row.key) rows)) where
+module _ (taken : VersionTable) (rising : IsStrictlyIncreasing taken.repeated) (rows : List KeyedRow)
+    (before : HasTaken taken rows) (covers : Covers taken.repeated (map (λ (row : KeyedRow). row.key) rows)) where
   among : (version : Version) → Contains taken.versions version → IsVersionAmong taken.repeated rows version
   among version there = All-contains (IsVersionAmong taken.repeated rows) taken.versions version before.versions there
 
   -- a version is outdated where its first row is superseded
-  outdated_superseded : (version : Version) (is : IsVersionAmong taken.repeated rows version) → is_outdated taken.versions version.code ≡ true → is_superseded rows is.row ≡ true
+  outdated_superseded : (version : Version) (is : IsVersionAmong taken.repeated rows version)
+      → is_outdated taken.versions version.code ≡ true → is_superseded rows is.row ≡ true
   outdated_superseded version is outdated = grind (arith, common_steps, nat_tests, some_of, among, any_of, Contains-first, is_later-version)
 
   superseded_outdated : (row : KeyedRow) (code : ℕ) → IsCodeOf taken.repeated row code → is_superseded rows row ≡ true → is_outdated taken.versions code ≡ true
   superseded_outdated row code is superseded =
       let later = some_of _ rows superseded in
-      let of = All-contains (IsOfVersion taken.repeated taken.versions) rows later.0 before.agree later.1 (grind (arith, nat_tests, later.2, has-code taken.repeated row code is)) in
+      let of = All-contains (IsOfVersion taken.repeated taken.versions) rows later.0 before.agree later.1
+      (grind (arith, nat_tests, later.2, has-code taken.repeated row code is)) in
       any_of _ taken.versions of.0 of.1 (is_later-version taken.repeated rising row later.0 code of.0.code is of.2.code ∙ later.2)
 
   module _ (earlier : List KeyedRow) (row : KeyedRow) (later : List KeyedRow) (stands : rows ≡ earlier ++ row ∷ later) where
@@ -295,7 +397,8 @@ module _ (taken : VersionTable) (rising : IsStrictlyIncreasing taken.repeated) (
     older_superseded older = grind (arith, common_steps, nat_tests, some_of, among, and_parts, eqb-true, one_at, has-code, outdated_superseded)
 
     -- the first row of a version that is superseded stands at the place of one that is not the latest
-    superseded_older : has taken.repeated row.key ≡ true → is_repeated earlier row ≡ false → is_superseded rows row ≡ true → is_older taken.versions (length earlier) ≡ true
+    superseded_older : has taken.repeated row.key ≡ true → is_repeated earlier row ≡ false
+        → is_superseded rows row ≡ true → is_older taken.versions (length earlier) ≡ true
     superseded_older is_repeated_key first superseded =
         let of = All-contains (IsOfVersion taken.repeated taken.versions) rows row before.agree (rw stands (Contains-cut earlier row later)) is_repeated_key in
         let is = among of.0 of.1 in
@@ -304,12 +407,19 @@ module _ (taken : VersionTable) (rising : IsStrictlyIncreasing taken.repeated) (
         any_of _ taken.versions of.0 of.1 (grind (arith, nat_tests, superseded_outdated row of.0.code of.2.code superseded, is.place, same.1))
 
     -- the mark of a row: where its key is not repeated, no other row has it
-    mark : (not (has taken.repeated row.key && is_repeated earlier row) && not (is_older taken.versions (length earlier))) ≡ not (is_superseded rows row || is_repeated earlier row)
+    mark : (not (has taken.repeated row.key && is_repeated earlier row)
+        && not (is_older taken.versions (length earlier))) ≡ not (is_superseded rows row || is_repeated earlier row)
     mark = grind (arith, common_steps, nat_tests, cases_Bool, older_superseded, superseded_older, not_contained, alone_superseded, alone_repeated)
 
-  marks : (earlier later : List KeyedRow) → rows ≡ earlier ++ later → without (is_older taken.versions) (length earlier) (firsts taken.repeated earlier later) ≡ choices rows earlier later
+  marks : (earlier later : List KeyedRow) → rows ≡ earlier ++ later
+      → without (is_older taken.versions) (length earlier) (firsts taken.repeated earlier later) ≡ choices rows earlier later
   marks earlier [] stands = refl
-  marks earlier (row ∷ later) stands = rw (mark earlier row later stands, ← length_push earlier row, marks (earlier ++ row ∷ []) later (stands ∙ sym (append_assoc earlier (row ∷ []) later))) refl
+  marks earlier (row ∷ later) stands =
+      rw (
+        mark earlier row later stands,
+        ← length_push earlier row,
+        marks (earlier ++ row ∷ []) later (stands ∙ sym (append_assoc earlier (row ∷ []) later)),
+      ) refl
 
   -- the first rows without those of versions that are not the latest are the chosen ones
   pub chosen_are : (chosen : List Bool) → chosen ≡ without (is_older taken.versions) 0 taken.chosen → chosen ≡ choices rows [] rows

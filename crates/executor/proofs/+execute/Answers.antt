@@ -725,7 +725,8 @@ plans::execute_node-returns-in-All-clause-items g t c =
     let may : ℕ → Bool = may_be g.S.ConceptSet.items_of c.args.candidates.now in
     let every : List ℕ = range_with_len 0 (length release.concepts) in
     found_for g.S.ConceptSet.items_of c.every_candidate.result
-    (λ found is. kept_node release may (plan_of c.args.plan.now) every found (all_node release (plan_of c.args.plan.now) every (ap plan_of c.in-All.is) refl) is)
+    (λ found is. kept_node release may (plan_of c.args.plan.now) every found
+    (all_node release (plan_of c.args.plan.now) every (ap plan_of c.in-All.is) refl) is)
     c.every_candidate.ensures.items
 
 pub plans::execute_node-returns-in-One-clause-items : goal.plans::execute_node-returns-in-One-clause-items

@@ -10,7 +10,8 @@ use Rattle.hierarchy.specs.KeyedLists.{list_of}
 abbrev pub components_of : Release → List ℕ → List ℕ
 components_of release refsets =
     let id : ℕ → ℕ = slice_index release.concepts in
-    numbers_where (length release.concepts) (λ number. list_any (λ row. list_any (λ refset. id refset == row.0) refsets && (row.1 == id number)) release.members)
+    numbers_where (length release.concepts)
+    (λ number. list_any (λ row. list_any (λ refset. id refset == row.0) refsets && (row.1 == id number)) release.members)
 
 -- whether a number is in the list of one of some reference sets
 abbrev pub is_in_one_of : List (List ℕ) → List ℕ → ℕ → Bool

@@ -18,10 +18,13 @@ place_of file kind (Later line) = later_line file kind (line_text line)
 -- places are taken in turn, by a relation between what is held before and behind each of them
 pub data TakesAll {Held : Type 0} (takes : Held → Place → Held → Type 0) : Held → List Place → Held → Type 0 where
   taken : (held : Held) → TakesAll takes held [] held
-  next : (old middle new : Held) (place : Place) (places : List Place) → takes old place middle → TakesAll takes middle places new → TakesAll takes old (place ∷ places) new
+  next : (old middle new : Held) (place : Place) (places : List Place) → takes old place middle
+      → TakesAll takes middle places new → TakesAll takes old (place ∷ places) new
 
 -- places are taken in turn up to one that is refused
-pub record StopsAt {Held : Type 0} (takes : Held → Place → Held → Type 0) (refuses : Held → Place → Held → LoadFault → Type 0) (old : Held) (places : List Place) (new : Held) (fault : LoadFault) : Type 0 where
+pub record StopsAt {Held : Type 0} (takes : Held → Place → Held → Type 0)
+    (refuses : Held → Place → Held → LoadFault → Type 0) (old : Held) (places : List Place) (new : Held)
+    (fault : LoadFault) : Type 0 where
   pub before : List Place
   pub place : Place
   pub later : List Place

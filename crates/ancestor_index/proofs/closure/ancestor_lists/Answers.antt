@@ -22,7 +22,8 @@ reordered-requires c = λ concept d within.
     let read : get_or c.as_slice-2.result.now concept d ≡ at.place =
     get_or_default c.as_slice-2.result.now concept d 0 within ∙ ap (λ (xs : List ℕ). get_or xs concept 0) c.as_slice-2.ensures.value ∙ at.told in
     let count : length c.in_ok-by_place.by_place ≡ length order =
-    ap (λ (lists : List (List ℕ)). length lists) (c.in_ok-by_place.ensures c.requires.parents.0 given) ∙ length-map order (λ concept. numbers_where (length order) (reaches c.requires.parents.0 concept)) in
+    ap (λ (lists : List (List ℕ)). length lists) (c.in_ok-by_place.ensures c.requires.parents.0 given)
+    ∙ length-map order (λ concept. numbers_where (length order) (reaches c.requires.parents.0 concept)) in
     omega (arith, read, count, at.within)
 
 pub returns : goal.returns
@@ -30,5 +31,6 @@ returns c = IfOk-weaker c.reordered.result _ _
     (λ (lists : List (List ℕ)) found rows given.
     found
     ∙ ap (map (λ place. list_of c.in_ok-by_place.by_place place)) c.as_slice-2.ensures.value
-    ∙ lists_reordered rows c.args.parents.now c.args.order.now c.in_ok-places.places.items c.in_ok-by_place.by_place given (omega (arith, c.in_ok-places.ensures.len)) c.in_ok-places.ensures.places (c.in_ok-by_place.ensures rows given))
+    ∙ lists_reordered rows c.args.parents.now c.args.order.now c.in_ok-places.places.items c.in_ok-by_place.by_place
+    given (omega (arith, c.in_ok-places.ensures.len)) c.in_ok-places.ensures.places (c.in_ok-by_place.ensures rows given))
     c.reordered.ensures

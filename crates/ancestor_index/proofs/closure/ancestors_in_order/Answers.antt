@@ -31,9 +31,16 @@ join-requires-clause-concepts c = λ i d inside.
     let rows = c.requires.parents.0 in
     let given = c.requires.parents.1 in
     let turn : Turn rows c.args.parents.now order c.args.places.now c.loop-concept.lists c.loop-concept.concept-index =
-    record { given = given; len = c.requires.len; placed = c.requires.places; within = c.loop-concept-test.true; known = c.loop-concept.invariant.known rows given } in
+    record {
+      given = given;
+      len = c.requires.len;
+      placed = c.requires.places;
+      within = c.loop-concept-test.true;
+      known = c.loop-concept.invariant.known rows given;
+    } in
     let own : c.of.result.now ≡ numbers_where (length order) (is_child rows (get_or order c.loop-concept.concept-index 0)) = c.of.ensures ∙ own_parents turn in
-    let placed = parent_placed turn (get_or c.of.result.now i d) (subst (λ (xs : List ℕ). Contains xs (get_or c.of.result.now i d)) own (Contains-get_or c.of.result.now i d inside)) in
+    let placed = parent_placed turn (get_or c.of.result.now i d)
+    (subst (λ (xs : List ℕ). Contains xs (get_or c.of.result.now i d)) own (Contains-get_or c.of.result.now i d inside)) in
     (omega (arith, placed.near, c.requires.len), placed.near, placed.early)
 
 pub join-requires-clause-sorted : goal.join-requires-clause-sorted
@@ -42,7 +49,13 @@ join-requires-clause-sorted c =
     let rows = c.requires.parents.0 in
     let given = c.requires.parents.1 in
     let turn : Turn rows c.args.parents.now order c.args.places.now c.loop-concept.lists c.loop-concept.concept-index =
-    record { given = given; len = c.requires.len; placed = c.requires.places; within = c.loop-concept-test.true; known = c.loop-concept.invariant.known rows given } in
+    record {
+      given = given;
+      len = c.requires.len;
+      placed = c.requires.places;
+      within = c.loop-concept-test.true;
+      known = c.loop-concept.invariant.known rows given;
+    } in
     let own : c.of.result.now ≡ numbers_where (length order) (is_child rows (get_or order c.loop-concept.concept-index 0)) = c.of.ensures ∙ own_parents turn in
     subst (IsRisingBelow (length order)) (sym own) (numbers_where-rising (length order) (is_child rows (get_or order c.loop-concept.concept-index 0)))
 
@@ -72,7 +85,13 @@ loop-concept-preserved c =
       known = λ rows given.
           let concept = get_or order k 0 in
           let turn : Turn rows c.args.parents.now order c.args.places.now c.loop-concept.lists k =
-          record { given = given; len = c.requires.len; placed = c.requires.places; within = c.loop-concept-test.true; known = c.loop-concept.invariant.known rows given } in
+          record {
+            given = given;
+            len = c.requires.len;
+            placed = c.requires.places;
+            within = c.loop-concept-test.true;
+            known = c.loop-concept.invariant.known rows given;
+          } in
           let own : c.of.result.now ≡ numbers_where count (is_child rows concept) = c.of.ensures ∙ own_parents turn in
           let made : c.as_slice-in-loop-concept.result.now ≡ numbers_where count (reaches rows concept) =
           c.as_slice-in-loop-concept.ensures.value
@@ -94,13 +113,17 @@ loop-concept-preserved c =
 pub loop-concept-init : goal.loop-concept-init
 loop-concept-init c = record {
   known = λ rows given. c.in_ok-lists.ensures;
-  rising = subst (AreRisingBelow (length c.args.order.now)) (sym c.in_ok-lists.ensures) (All-nil (λ (list : List ℕ). IsRisingBelow (length c.args.order.now) list));
-  items = subst (AreItemsBelow (length c.args.order.now)) (sym c.in_ok-lists.ensures) (All-nil (λ (items : List ℕ). All (λ item. item < length c.args.order.now) items));
-  wide = subst (λ (lists : List (List ℕ)). AreWide (length c.args.order.now) lists c.in_ok-wide.wide.ends.items c.in_ok-wide.wide.words.items) (sym c.in_ok-lists.ensures)
+  rising = subst (AreRisingBelow (length c.args.order.now)) (sym c.in_ok-lists.ensures)
+      (All-nil (λ (list : List ℕ). IsRisingBelow (length c.args.order.now) list));
+  items = subst (AreItemsBelow (length c.args.order.now)) (sym c.in_ok-lists.ensures)
+      (All-nil (λ (items : List ℕ). All (λ item. item < length c.args.order.now) items));
+  wide = subst (λ (lists : List (List ℕ)). AreWide
+      (length c.args.order.now) lists c.in_ok-wide.wide.ends.items c.in_ok-wide.wide.words.items) (sym c.in_ok-lists.ensures)
       (c.in_ok-wide.ensures (length c.args.order.now));
 }
 
 pub returns : goal.returns
 returns c = λ rows given.
     c.loop-concept.invariant.known rows given
-    ∙ ap (map (λ concept. numbers_where (length c.args.order.now) (reaches rows concept))) (take_all c.loop-concept.concept-index c.args.order.now (omega arith))
+    ∙ ap (map (λ concept. numbers_where (length c.args.order.now) (reaches rows concept)))
+    (take_all c.loop-concept.concept-index c.args.order.now (omega arith))

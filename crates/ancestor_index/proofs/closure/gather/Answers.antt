@@ -11,10 +11,13 @@ loop-concept-preserved g c =
     let before = gathered_by c.args.places.now c.args.lists.now (take c.loop-concept.concept-index c.args.concepts.now) in
     let pushed : AreGathered items_of c.args.count (before ++ concept ∷ []) c.push.new.self.items c.loop-concept.joined =
     subst (λ (list : List ℕ). AreGathered items_of c.args.count (before ++ concept ∷ []) list c.loop-concept.joined) (sym c.in_ok-push.ensures.items)
-    (λ number below. gathered_item before c.loop-concept.list.items concept number (has_joined items_of c.loop-concept.joined number) (c.loop-concept.invariant.gathered number below)) in
+    (λ number below. gathered_item before c.loop-concept.list.items concept number
+    (has_joined items_of c.loop-concept.joined number) (c.loop-concept.invariant.gathered number below)) in
     record {
       gathered = λ number below.
-          ap (λ (all : List ℕ). has_item all number) (gathered_more c.args.places.now c.args.lists.now c.args.concepts.now c.loop-concept.concept-index c.loop-concept-test.true)
+          ap (λ (all : List ℕ). has_item all number)
+          (gathered_more c.args.places.now c.args.lists.now c.args.concepts.now c.loop-concept.concept-index
+          c.loop-concept-test.true)
           ∙ ap (λ (own : List ℕ). has_item ((before ++ concept ∷ []) ++ own) number) (sym c.of.ensures)
           ∙ c.in_ok-joined.ensures.gathered (before ++ concept ∷ []) pushed number below;
       below = c.in_ok-joined.ensures.below;

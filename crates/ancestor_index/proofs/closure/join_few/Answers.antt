@@ -21,7 +21,8 @@ loop-concept-preserved c =
     let near = c.requires.concepts i 0 c.loop-concept-test.true in
     let rises : IsRisingBelow count own = own_rises count (get_or c.args.places.now concept 0) c.args.lists.now own c.requires.rising near.2 c.of-own.ensures in
     let union : c.put_union.new.union.items ≡ all_items count (listed_numbers count (concepts ++ joined)) own =
-    joined_with count (concepts ++ joined) c.as_slice.result.now own c.put_union.new.union.items (c.as_slice.ensures.value ∙ c.loop-concept.invariant) rises c.in_ok-put_union.ensures in
+    joined_with count (concepts ++ joined) c.as_slice.result.now own c.put_union.new.union.items
+    (c.as_slice.ensures.value ∙ c.loop-concept.invariant) rises c.in_ok-put_union.ensures in
     (λ k. (c.swap.ensures.x_after k).items)
     ∙ union
     ∙ listed_more count concepts joined own
@@ -32,5 +33,6 @@ pub returns : goal.returns
 returns c =
     let concepts = c.args.concepts.now in
     c.loop-concept.invariant
-    ∙ ap (λ (all : List ℕ). listed_numbers c.args.count (concepts ++ joined_by c.args.places.now c.args.lists.now all)) (take_all c.loop-concept.concept-index concepts (omega arith))
+    ∙ ap (λ (all : List ℕ). listed_numbers c.args.count
+    (concepts ++ joined_by c.args.places.now c.args.lists.now all)) (take_all c.loop-concept.concept-index concepts (omega arith))
     ∙ joined_listed c.args.count c.args.places.now c.args.lists.now concepts

@@ -13,6 +13,7 @@ add_joined-requires c =
 
 pub returns : goal.returns
 returns c = on_ok_weaker c.add_joined.result
-    (λ joined. joined c.args.count (has_item c.gather.new.list.items) c.in_ok-joined.ensures.bound (c.keep_rising.ensures c.args.count c.in_ok-joined.ensures.below)
+    (λ joined. joined c.args.count (has_item c.gather.new.list.items) c.in_ok-joined.ensures.bound
+    (c.keep_rising.ensures c.args.count c.in_ok-joined.ensures.below)
     ∙ numbers_where-agree c.args.count _ _ (λ number below. sym (c.in_ok-joined.ensures.gathered number below)))
     c.add_joined.ensures

@@ -13,7 +13,9 @@ loop-key-preserved c =
     let below : All (λ number. number < c.args.bound) list = c.requires.items key [] within in
     let gathered : c.extend_from_slice.new.self.items ≡ list = c.in_ok-extend_from_slice.ensures.items ∙ (λ i. c.clear.ensures.items i ++ c.of.ensures i) in
     let made : c.as_slice.result.now ≡ listed_numbers c.args.bound list =
-    c.as_slice.ensures.value ∙ c.keep_rising.ensures c.args.bound (subst (λ (xs : List ℕ). All (λ number. number < c.args.bound) xs) (sym gathered) below) ∙ ap (listed_numbers c.args.bound) gathered in
+    c.as_slice.ensures.value
+    ∙ c.keep_rising.ensures c.args.bound (subst (λ (xs : List ℕ). All (λ number. number < c.args.bound) xs)
+    (sym gathered) below) ∙ ap (listed_numbers c.args.bound) gathered in
     c.in_ok-rising-2.ensures
     ∙ (λ i. c.loop-key.invariant i ++ made i ∷ [])
     ∙ sym (map_more (listed_numbers c.args.bound) lists key [] within)

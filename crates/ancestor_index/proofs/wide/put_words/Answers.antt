@@ -7,7 +7,8 @@ pub returns-clause-kept : goal.returns-clause-kept
 returns-clause-kept c =
     let old = c.args.words.now.items in
     let marks = c.in_ok-marks.marks.items in
-    let grown : c.extend_from_slice.new.self.items ≡ old ++ marks = c.in_ok-extend_from_slice.ensures.items ∙ ap (λ (xs : List ℕ). old ++ xs) c.as_slice.ensures.value in
+    let grown : c.extend_from_slice.new.self.items ≡ old ++ marks = c.in_ok-extend_from_slice.ensures.items
+    ∙ ap (λ (xs : List ℕ). old ++ xs) c.as_slice.ensures.value in
     let wide : IsWide c.args.count c.args.list.now = c.if-not-is_wide.ensures.0 refl in
     subst (λ (words : List ℕ). IsKept c.args.count c.args.list.now words c.len.result) (sym grown)
     (kept_new c.args.count c.args.list.now old marks c.len.result wide c.requires c.in_ok-marks.ensures

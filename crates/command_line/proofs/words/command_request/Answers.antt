@@ -15,7 +15,8 @@ returns-then-eq-clause-asked c =
     let rows : List Row = rows_of found in
     let folders_are = c.folders_of-folders.ensures in
     let name_is : c.in-Some.name.now ≡ codes "query" = search rules in
-    IfOk-weaker c.of_folders.result _ _ (λ request asked. subst (λ (mode : Mode). CommandAsks mode (subcommand_rows_of c.args.matches.now) request) (sym asked.0) (
+    IfOk-weaker c.of_folders.result _ _ (λ request asked. subst
+    (λ (mode : Mode). CommandAsks mode (subcommand_rows_of c.args.matches.now) request) (sym asked.0) (
       rows,
       command_named c.args.matches.now (codes "query") rows (sym c.in-Some.ensures.name ∙ ap (λ (name : Text). Some name) name_is) (sym c.in-Some.ensures.rows),
       (asked.1 ∙ folders_are, subst AreOneToNine folders_are asked.2),
@@ -53,9 +54,12 @@ pub returns-then-eq-clause-refused : goal.returns-then-eq-clause-refused
 returns-then-eq-clause-refused c =
     let rows : List Row = rows_of (found_of c.in-Some.arguments.now) in
     let name_is : c.in-Some.name.now ≡ codes "query" = search rules in
-    let named = command_named c.args.matches.now (codes "query") rows (sym c.in-Some.ensures.name ∙ ap (λ (name : Text). Some name) name_is) (sym c.in-Some.ensures.rows) in
+    let named = command_named c.args.matches.now (codes "query") rows
+    (sym c.in-Some.ensures.name ∙ ap (λ (name : Text). Some name) name_is) (sym c.in-Some.ensures.rows) in
     subst (λ (folders : List Text). IfErr c.of_folders.result (IsFaultOfFolders folders))
-    (c.folders_of-folders.ensures ∙ sym (names_folders (subcommand_rows_of c.args.matches.now) (codes "query") rows named (inl refl))) c.of_folders.ensures.refused
+    (c.folders_of-folders.ensures
+    ∙ sym (names_folders (subcommand_rows_of c.args.matches.now) (codes "query") rows named (inl refl)))
+    c.of_folders.ensures.refused
 
 pub returns-then-eq-2-clause-refused : goal.returns-then-eq-2-clause-refused
 returns-then-eq-2-clause-refused c =

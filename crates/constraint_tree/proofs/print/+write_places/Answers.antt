@@ -11,12 +11,14 @@ nonzero_div-fraction t c = omega (arith, unit_is_some (c.args.places - 1), c.pow
 
 pub overflow_cast-fraction : goal.overflow_cast-fraction
 overflow_cast-fraction t c =
-    let below : c.args.fraction / c.pow-unit.result < 10 = rw c.pow-unit.ensures (first_digit c.args.places c.args.fraction c.if-fraction-eq0.false c.requires.fits) in
+    let below : c.args.fraction / c.pow-unit.result < 10 =
+    rw c.pow-unit.ensures (first_digit c.args.places c.args.fraction c.if-fraction-eq0.false c.requires.fits) in
     search (rules, below)
 
 pub overflow_add-fraction : goal.overflow_add-fraction
 overflow_add-fraction t c =
-    let below : c.args.fraction / c.pow-unit.result < 10 = rw c.pow-unit.ensures (first_digit c.args.places c.args.fraction c.if-fraction-eq0.false c.requires.fits) in
+    let below : c.args.fraction / c.pow-unit.result < 10 =
+    rw c.pow-unit.ensures (first_digit c.args.places c.args.fraction c.if-fraction-eq0.false c.requires.fits) in
     search (rules, below)
 
 pub nonzero_rem-fraction : goal.nonzero_rem-fraction

@@ -70,9 +70,11 @@ loop-at-preserved-in_ok-push c =
     let place : c.loop-at.at + c.in_ok-piece.piece.length ≡ c.loop-at.at + length (bytes_of step.0) = ap (λ n. c.loop-at.at + n) size in
     let items = c.loop-at.tokens.items in
     let spellings : map spelled c.push.new.self.items ≡ map spelled items ++ _ =
-    ap (map spelled) c.in_ok-push.ensures.items ∙ map_push spelled items _ ∙ ap (λ last. map spelled items ++ last) (with_spelled-Some step.0 c.in-Some.kind _ kind slice) in
+    ap (map spelled) c.in_ok-push.ensures.items ∙ map_push spelled items _
+    ∙ ap (λ last. map spelled items ++ last) (with_spelled-Some step.0 c.in-Some.kind _ kind slice) in
     let places : map placed c.push.new.self.items ≡ map placed items ++ _ =
-    ap (map placed) c.in_ok-push.ensures.items ∙ map_push placed items _ ∙ ap (λ last. map placed items ++ last) (with_placed-Some step.0 c.in-Some.kind _ c.loop-at.at _ kind slice place) in
+    ap (map placed) c.in_ok-push.ensures.items ∙ map_push placed items _
+    ∙ ap (λ last. map placed items ++ last) (with_placed-Some step.0 c.in-Some.kind _ c.loop-at.at _ kind slice place) in
     record {
       within = omega (arith, step.2.within, size);
       so_far = so_far_is _ _ _ _ _ _ _ _ size (sym spellings) (sym places) step.2.so_far;

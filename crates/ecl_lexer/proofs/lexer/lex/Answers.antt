@@ -9,7 +9,9 @@ returns-clause-only c =
     only_fault c.args.text.now (λ tokens. map spelled tokens.items) readable c.cut.result c.cut.ensures.found c.cut.ensures.fault
 
 pub returns-clause-whole : goal.returns-clause-whole
-returns-clause-whole c = λ tokens readable is. only_tokens c.args.text.now (λ tokens. map spelled tokens.items) readable c.cut.result c.cut.ensures.fault tokens is
+returns-clause-whole c =
+    λ tokens readable is. only_tokens c.args.text.now
+    (λ tokens. map spelled tokens.items) readable c.cut.result c.cut.ensures.fault tokens is
 
 pub returns-clause-spans : goal.returns-clause-spans
 returns-clause-spans c = answer-FollowOn c.args.text.now (λ tokens. map placed tokens.items) c.cut.result c.cut.ensures.places

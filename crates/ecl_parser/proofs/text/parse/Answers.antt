@@ -15,10 +15,14 @@ pub returns-clause-whole : goal.returns-clause-whole
 returns-clause-whole c =
     let are : AreTokensOf c.args.text.now (map spelled c.as_slice.result.now) =
     subst (λ (tokens : List Token). AreTokensOf c.args.text.now (map spelled tokens)) (sym c.as_slice.ensures.value) c.in-Ok.ensures.found in
-    right_whole c.args.text.now c.tree.result (right_of_tokens c.args.text.now (map spelled c.as_slice.result.now) c.tree.result c.in-Ok.ensures.readable are c.tree.ensures.shallow c.tree.ensures.found c.tree.ensures.fault)
+    right_whole c.args.text.now c.tree.result
+    (right_of_tokens c.args.text.now (map spelled c.as_slice.result.now) c.tree.result c.in-Ok.ensures.readable are
+    c.tree.ensures.shallow c.tree.ensures.found c.tree.ensures.fault)
 
 pub returns-clause-only : goal.returns-clause-only
 returns-clause-only c =
     let are : AreTokensOf c.args.text.now (map spelled c.as_slice.result.now) =
     subst (λ (tokens : List Token). AreTokensOf c.args.text.now (map spelled tokens)) (sym c.as_slice.ensures.value) c.in-Ok.ensures.found in
-    right_only c.args.text.now c.tree.result (right_of_tokens c.args.text.now (map spelled c.as_slice.result.now) c.tree.result c.in-Ok.ensures.readable are c.tree.ensures.shallow c.tree.ensures.found c.tree.ensures.fault)
+    right_only c.args.text.now c.tree.result
+    (right_of_tokens c.args.text.now (map spelled c.as_slice.result.now) c.tree.result c.in-Ok.ensures.readable are
+    c.tree.ensures.shallow c.tree.ensures.found c.tree.ensures.fault)

@@ -45,5 +45,8 @@ returns-clause-bound c =
     let types = plan_of c.args.types.now in
     let test = test_plan_of c.args.test.now in
     c.leaf_limits.ensures.bound
-    ∙ ap (λ (all : ℕ). capped (leaf_bound (leaf_of indexed all c.args.back c.args.count types test c.args.type_count c.args.test_count) c.first_choice-choice.result)) c.concept_count-all.ensures.count
-    ∙ ap (λ (choice : Choice). capped (leaf_bound (leaf_of indexed (length indexed.concepts) c.args.back c.args.count types test c.args.type_count c.args.test_count) choice)) c.first_choice-choice.ensures
+    ∙ ap (λ (all : ℕ). capped (leaf_bound (leaf_of indexed all c.args.back c.args.count types test c.args.type_count
+    c.args.test_count) c.first_choice-choice.result)) c.concept_count-all.ensures.count
+    ∙ ap (λ (choice : Choice). capped (leaf_bound (leaf_of indexed
+    (length indexed.concepts) c.args.back c.args.count types test c.args.type_count c.args.test_count) choice))
+    c.first_choice-choice.ensures

@@ -16,9 +16,11 @@ loop-concept-preserved g c =
     let k = c.loop-concept.concept-index in
     elim c.if-is_led_to.branch [
       | then-is_led_to+in_ok-push w ↦
-          filter_step test c.args.concepts.now c.loop-concept.kept.items c.if-is_led_to.kept.items k true c.loop-concept-test.true c.loop-concept.invariant (sym w.if-is_led_to.true ∙ c.is_led_to.ensures)
+          filter_step test c.args.concepts.now c.loop-concept.kept.items c.if-is_led_to.kept.items k true
+          c.loop-concept-test.true c.loop-concept.invariant (sym w.if-is_led_to.true ∙ c.is_led_to.ensures)
           (ap (λ (kept : Vec ℕ _). kept.items) w.kept-is ∙ w.in_ok-push.ensures.items)
       | else-is_led_to w ↦
-          filter_step test c.args.concepts.now c.loop-concept.kept.items c.if-is_led_to.kept.items k false c.loop-concept-test.true c.loop-concept.invariant (sym w.if-is_led_to.false ∙ c.is_led_to.ensures)
+          filter_step test c.args.concepts.now c.loop-concept.kept.items c.if-is_led_to.kept.items k false
+          c.loop-concept-test.true c.loop-concept.invariant (sym w.if-is_led_to.false ∙ c.is_led_to.ensures)
           (ap (λ (kept : Vec ℕ _). kept.items) w.kept-is ∙ sym (append-nil c.loop-concept.kept.items))
     ]

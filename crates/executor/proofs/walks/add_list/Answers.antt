@@ -34,9 +34,13 @@ returns-in_ok-both-in-Some-clause-joined g c = λ before joined.
     let lists = lists_of c.args.index.now c.args.family in
     let rises = over_rising count c.args.index.now c.requires.over c.args.family c.args.concept c.requires.below in
     let wide : g.S.ConceptSet.items_of c.in_ok-wide-in-Some.wide ≡ list_of lists c.args.concept =
-    c.in_ok-wide-in-Some.ensures.items ∙ words_list count c.bound.result c.in-Some.words.now (list_of lists c.args.concept) c.bound.ensures rises c.in-Some.ensures.some.marked in
-    join_list lists before (g.S.ConceptSet.items_of c.args.found.now) (g.S.ConceptSet.items_of c.in_ok-wide-in-Some.wide) (g.S.ConceptSet.items_of c.in_ok-both-in-Some.both) count c.args.concept
-    (g.met.S.ConceptSet.rising c.args.found.now) (subst (λ (list : List ℕ). IsRisingBelow count list) (sym wide) rises) wide c.in_ok-both-in-Some.ensures.items joined
+    c.in_ok-wide-in-Some.ensures.items
+    ∙ words_list count c.bound.result c.in-Some.words.now
+    (list_of lists c.args.concept) c.bound.ensures rises c.in-Some.ensures.some.marked in
+    join_list lists before (g.S.ConceptSet.items_of c.args.found.now)
+    (g.S.ConceptSet.items_of c.in_ok-wide-in-Some.wide) (g.S.ConceptSet.items_of c.in_ok-both-in-Some.both) count c.args.concept
+    (g.met.S.ConceptSet.rising c.args.found.now)
+    (subst (λ (list : List ℕ). IsRisingBelow count list) (sym wide) rises) wide c.in_ok-both-in-Some.ensures.items joined
 
 pub returns-in-None-clause-joined : goal.returns-in-None-clause-joined
 returns-in-None-clause-joined g c = on_ok_weaker c.add_all.result

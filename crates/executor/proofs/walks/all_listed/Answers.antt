@@ -14,7 +14,8 @@ returns-clause-joined g c =
     let found = c.add_lists-2.new.found in
     let items : List ℕ = numbers_where found.bound (is_set found.words.items) in
     let first = c.in_ok-found.found in
-    let none : AreJoined lists [] (numbers_where first.bound (is_set first.words.items)) = λ n. ap (λ (xs : List ℕ). has_item xs n) c.in_ok-found.ensures.items in
+    let none : AreJoined lists [] (numbers_where first.bound (is_set first.words.items)) =
+    λ n. ap (λ (xs : List ℕ). has_item xs n) c.in_ok-found.ensures.items in
     subst (λ (own : List ℕ). AreJoined lists own items) c.requires.concepts
     (both_joined lists concepts items
     (c.in_ok-short.ensures.joined c.if-not-short.false (with_length lists true concepts) (c.in_ok-long.ensures.joined c.if-not-long.false [] none)))
@@ -27,7 +28,8 @@ add_lists-requires-clause-below g c =
 
 pub add_lists-requires-2-clause-below : goal.add_lists-requires-2-clause-below
 add_lists-requires-2-clause-below g c =
-    subst (λ (count : ℕ). All (λ concept. concept < count) c.args.concepts.now) (sym (c.add_lists.ensures.bound ∙ c.in_ok-found.ensures.bound ∙ c.bound-2.ensures))
+    subst (λ (count : ℕ). All (λ concept. concept < count) c.args.concepts.now)
+    (sym (c.add_lists.ensures.bound ∙ c.in_ok-found.ensures.bound ∙ c.bound-2.ensures))
     (subst (All (λ concept. concept < g.S.ConceptSet.bound_of c.args.operand.now)) (sym c.requires.concepts)
     (all_below (g.S.ConceptSet.bound_of c.args.operand.now) (g.S.ConceptSet.items_of c.args.operand.now) (g.met.S.ConceptSet.rising c.args.operand.now)))
 

@@ -15,9 +15,11 @@ kept_apart-requires-clause-below g c =
 
 pub from_items-requires : goal.from_items-requires
 from_items-requires g c =
-    let test : ℕ → Bool = λ concept. not (list_any (has_item (g.S.ConceptSet.items_of c.args.operand.now)) (list_of (lists_of c.args.index.now c.args.family) concept)) in
+    let test : ℕ → Bool = λ concept. not (list_any (has_item (g.S.ConceptSet.items_of c.args.operand.now))
+    (list_of (lists_of c.args.index.now c.args.family) concept)) in
     let kept : c.as_slice.result.now ≡ filter test (g.S.ConceptSet.items_of c.args.operand.now) =
     c.as_slice.ensures.value ∙ c.in_ok-kept.ensures ∙ ap (filter test) c.requires.concepts in
     subst (λ (bound : ℕ). IsRisingBelow bound c.as_slice.result.now) (sym c.bound.ensures)
     (subst (λ (items : List ℕ). IsRisingBelow (g.S.ConceptSet.bound_of c.args.operand.now) items) (sym kept)
-    (rises_within-filter 0 (g.S.ConceptSet.bound_of c.args.operand.now) test (g.S.ConceptSet.items_of c.args.operand.now) (g.met.S.ConceptSet.rising c.args.operand.now)))
+    (rises_within-filter 0 (g.S.ConceptSet.bound_of c.args.operand.now) test
+    (g.S.ConceptSet.items_of c.args.operand.now) (g.met.S.ConceptSet.rising c.args.operand.now)))

@@ -8,4 +8,5 @@ use Rattle.executor.proofs.walks.kept_by_lists.Given as goal
 
 abbrev pub invariant-loop-concept : goal.invariant-loop-concept
 invariant-loop-concept g l =
-    l.kept.items ≡ filter (λ concept. not (list_any (has_item (g.S.ConceptSet.items_of l.set)) (list_of (lists_of l.index l.family) concept))) (take l.concept-index l.concepts)
+    l.kept.items ≡ filter (λ concept. not (list_any (has_item (g.S.ConceptSet.items_of l.set))
+    (list_of (lists_of l.index l.family) concept))) (take l.concept-index l.concepts)

@@ -11,18 +11,21 @@ words-requires g c = omega (arith, c.requires.below, over_length c.args.count c.
 
 pub from_words-requires : goal.from_words-requires
 from_words-requires g c =
-    subst (λ (count : ℕ). AreWordsBelow count c.in-Some.words.now) (over_length c.args.count c.args.index.now c.requires.over c.args.family) c.in-Some.ensures.some.below
+    subst (λ (count : ℕ). AreWordsBelow count c.in-Some.words.now)
+    (over_length c.args.count c.args.index.now c.requires.over c.args.family) c.in-Some.ensures.some.below
 
 pub list-list-requires : goal.list-list-requires
 list-list-requires g c = omega (arith, c.requires.below, over_length c.args.count c.args.index.now c.requires.over c.args.family)
 
 pub from_items-requires-in-None : goal.from_items-requires-in-None
 from_items-requires-in-None g c =
-    subst (λ (list : List ℕ). IsRisingBelow c.args.count list) (sym c.list-list.ensures) (over_rising c.args.count c.args.index.now c.requires.over c.args.family c.args.concept c.requires.below)
+    subst (λ (list : List ℕ). IsRisingBelow c.args.count list) (sym c.list-list.ensures)
+    (over_rising c.args.count c.args.index.now c.requires.over c.args.family c.args.concept c.requires.below)
 
 pub returns-in-Some-clause-items : goal.returns-in-Some-clause-items
 returns-in-Some-clause-items g c = IfOk-weaker c.from_words.result _ _
-    (λ found items. items ∙ words_joined c.args.count (lists_of c.args.index.now c.args.family) c.args.concept c.in-Some.words.now c.in-Some.ensures.some.marked)
+    (λ found items. items ∙ words_joined c.args.count
+    (lists_of c.args.index.now c.args.family) c.args.concept c.in-Some.words.now c.in-Some.ensures.some.marked)
     c.from_words.ensures.items
 
 pub returns-in-None-clause-items : goal.returns-in-None-clause-items
@@ -30,7 +33,8 @@ returns-in-None-clause-items g c = IfOk-weaker c.from_items-in-None.result _ _
     (λ found items.
     items
     ∙ list_joined c.args.count (lists_of c.args.index.now c.args.family) c.args.concept c.list-list.result.now
-    (subst (λ (list : List ℕ). IsRisingBelow c.args.count list) (sym c.list-list.ensures) (over_rising c.args.count c.args.index.now c.requires.over c.args.family c.args.concept c.requires.below))
+    (subst (λ (list : List ℕ). IsRisingBelow c.args.count list) (sym c.list-list.ensures)
+    (over_rising c.args.count c.args.index.now c.requires.over c.args.family c.args.concept c.requires.below))
     c.list-list.ensures)
     c.from_items-in-None.ensures.items
 

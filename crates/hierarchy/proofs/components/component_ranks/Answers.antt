@@ -8,10 +8,27 @@ pub turned-requires-clause-items : goal.turned-requires-clause-items
 turned-requires-clause-items c = parents_below c.args.count c.args.rows.now c.in_ok-up.up c.requires.within c.in_ok-up.ensures
 
 pub turned-requires-clause-few : goal.turned-requires-clause-few
-turned-requires-clause-few c = omega (arith, ap (λ (xs : List (List ℕ)). length xs) c.in_ok-up.ensures, length-lists_by c.args.count c.args.rows.now, c.ranges.count.fits)
+turned-requires-clause-few c =
+    omega (
+      arith,
+      ap (λ (xs : List (List ℕ)). length xs) c.in_ok-up.ensures,
+      length-lists_by c.args.count c.args.rows.now,
+      c.ranges.count.fits,
+    )
 
 pub finish_order-requires : goal.finish_order-requires
-finish_order-requires c = omega (arith, ap (λ (xs : List (List ℕ)). length xs) c.in_ok-up.ensures, length-lists_by c.args.count c.args.rows.now, c.ranges.count.fits)
+finish_order-requires c =
+    omega (
+      arith,
+      ap (λ (xs : List (List ℕ)). length xs) c.in_ok-up.ensures,
+      length-lists_by c.args.count c.args.rows.now,
+      c.ranges.count.fits,
+    )
 
 pub flood-requires : goal.flood-requires
-flood-requires c = omega (arith, ap (λ (xs : List (List ℕ)). length xs) c.in_ok-down.ensures, length-lists_by c.args.count (turned_from 0 c.in_ok-up.up), c.ranges.count.fits)
+flood-requires c = omega (
+  arith,
+  ap (λ (xs : List (List ℕ)). length xs) c.in_ok-down.ensures,
+  length-lists_by c.args.count (turned_from 0 c.in_ok-up.up),
+  c.ranges.count.fits,
+)

@@ -9,8 +9,12 @@ loop-concept-init c = rw c.in_ok-roots.ensures.items (roots_none c.args.waiting.
 
 pub loop-concept-preserved : goal.loop-concept-preserved
 loop-concept-preserved c = elim c.if-left-eq0.branch [
-  | then-left-eq0+in_ok-push w ↦ rw (w.roots-is, w.in_ok-push.ensures.items) (roots_one c.loop-concept.concept c.args.waiting.now c.loop-concept.roots.items c.loop-concept.invariant w.if-left-eq0.true)
-  | else-left-eq0 w ↦ rw w.roots-is (roots_other c.loop-concept.concept c.args.waiting.now c.loop-concept.roots.items c.loop-concept.invariant w.if-left-eq0.false)
+  | then-left-eq0+in_ok-push w ↦
+      rw (w.roots-is, w.in_ok-push.ensures.items)
+      (roots_one c.loop-concept.concept c.args.waiting.now c.loop-concept.roots.items c.loop-concept.invariant
+      w.if-left-eq0.true)
+  | else-left-eq0 w ↦ rw w.roots-is (roots_other c.loop-concept.concept c.args.waiting.now c.loop-concept.roots.items
+      c.loop-concept.invariant w.if-left-eq0.false)
 ]
 
 pub returns : goal.returns

@@ -3,4 +3,7 @@ use Rattle.idset.proofs.Vectors.{zip2_word_step}
 use Rattle.idset.proofs.kernels.combine_rest.Goals as goal
 
 pub loop-place-preserved : goal.loop-place-preserved
-loop-place-preserved g c = zip2_word_step g.O.WordOperation.of c.args.words.now c.args.others.now c.loop-place.out c.word.result c.loop-place.place (omega arith) c.requires.others (omega (arith, c.loop-place.auto.out)) c.word.ensures c.loop-place.invariant
+loop-place-preserved g c =
+    zip2_word_step g.O.WordOperation.of c.args.words.now c.args.others.now c.loop-place.out c.word.result
+    c.loop-place.place (omega arith) c.requires.others
+    (omega (arith, c.loop-place.auto.out)) c.word.ensures c.loop-place.invariant

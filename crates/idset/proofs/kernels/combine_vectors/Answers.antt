@@ -5,5 +5,7 @@ use Rattle.idset.proofs.kernels.combine_vectors.Goals as goal
 pub loop-place-preserved : goal.loop-place-preserved
 loop-place-preserved g c = record {
   within = omega arith;
-  done = zip2_vector_step g.O.WordOperation.of c.args.words.now c.args.others.now c.loop-place.out c.lanes.result c.loop-place.place (omega arith) c.requires.others (omega (arith, c.loop-place.auto.out)) c.lanes.ensures c.loop-place.invariant.done;
+  done = zip2_vector_step g.O.WordOperation.of c.args.words.now c.args.others.now c.loop-place.out c.lanes.result
+      c.loop-place.place (omega arith) c.requires.others
+      (omega (arith, c.loop-place.auto.out)) c.lanes.ensures c.loop-place.invariant.done;
 }

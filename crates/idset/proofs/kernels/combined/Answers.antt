@@ -4,5 +4,6 @@ use Rattle.idset.proofs.kernels.combined.Goals as goal
 
 pub returns : goal.returns
 returns g c =
-    take_at c.combine.new.out (drop (length c.combine.new.out) c.in_ok-made.made.items) c.in_ok-made.made.len (omega (arith, c.combine.auto.out, c.deref_mut.ensures.len))
+    take_at c.combine.new.out (drop (length c.combine.new.out) c.in_ok-made.made.items) c.in_ok-made.made.len
+    (omega (arith, c.combine.auto.out, c.deref_mut.ensures.len))
     ∙ c.combine.ensures

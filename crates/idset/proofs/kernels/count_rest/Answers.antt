@@ -6,4 +6,13 @@ use Rattle.idset.proofs.kernels.count_rest.Goals as goal
 pub overflow_add-count : goal.overflow_add-count
 overflow_add-count c =
     let words = c.args.words.now in
-    record { fits = omega (arith, c.from-count.ensures, c.loop-place.invariant, sum_by-drop_more count_ones words c.loop-place.place 0 (omega arith), sum_by-take-drop count_ones words c.args.from, count_le words (λ k. (c.type_inv.words k).fits)) }
+    record {
+      fits = omega (
+        arith,
+        c.from-count.ensures,
+        c.loop-place.invariant,
+        sum_by-drop_more count_ones words c.loop-place.place 0 (omega arith),
+        sum_by-take-drop count_ones words c.args.from,
+        count_le words (λ k. (c.type_inv.words k).fits),
+      );
+    }

@@ -10,4 +10,6 @@ overflow_add-count c =
     record { fits = omega (arith, step, sum_by-take-le count_ones words ((c.loop-block.block + 1) * 16), count_le words (λ k. (c.type_inv.words k).fits)) }
 
 pub loop-block-preserved : goal.loop-block-preserved
-loop-block-preserved c = count_vector_step c.args.words.now c.loop-block.block c.loop-block.count c.count_vector-count.result c.loop-block.invariant c.count_vector-count.ensures
+loop-block-preserved c =
+    count_vector_step c.args.words.now c.loop-block.block c.loop-block.count c.count_vector-count.result
+    c.loop-block.invariant c.count_vector-count.ensures

@@ -6,7 +6,15 @@ use Rattle.idset.proofs.kernels.count_words.Goals as goal
 pub overflow_add-result : goal.overflow_add-result
 overflow_add-result c =
     let words = c.args.words.now in
-    record { fits = omega (arith, c.count_vectors.ensures, c.count_rest.ensures, sum_by-take-drop count_ones words (length words / 16 * 16), count_le words (λ k. (c.type_inv.words k).fits)) }
+    record {
+      fits = omega (
+        arith,
+        c.count_vectors.ensures,
+        c.count_rest.ensures,
+        sum_by-take-drop count_ones words (length words / 16 * 16),
+        count_le words (λ k. (c.type_inv.words k).fits),
+      );
+    }
 
 pub returns : goal.returns
 returns c = (λ i. c.count_vectors.ensures i + c.count_rest.ensures i) ∙ sum_by-take-drop count_ones c.args.words.now (length c.args.words.now / 16 * 16)

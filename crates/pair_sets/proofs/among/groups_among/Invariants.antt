@@ -10,5 +10,6 @@ abbrev pub invariant-loop-group : goal.invariant-loop-group
 invariant-loop-group g l = record {
   within : All (λ number. number < length (groups_in l.indexes)) l.kept.items;
   kept : l.kept.items ≡ filter (λ number. lies_in l.count (pairs_among l.indexes true (is_one_of l.indexes.concepts (g.S.ConceptSet.items_of l.types))
-      (passes_of g.S.ConceptSet.items_of l.indexes.concepts l.tested) (rows_of_unit l.indexes (slice_get (groups_in l.indexes) number)))) (take l.group-index l.groups);
+      (passes_of g.S.ConceptSet.items_of l.indexes.concepts l.tested)
+      (rows_of_unit l.indexes (slice_get (groups_in l.indexes) number)))) (take l.group-index l.groups);
 }

@@ -10,7 +10,8 @@ use Rattle.pair_sets.proofs.hits.groups_by_type.Goals as goal
 
 pub loop-id-init : goal.loop-id-init
 loop-id-init g c = record {
-  within = subst (All (λ number. number < length (groups_in c.args.indexes.now))) (sym c.in_ok-hits.ensures.items) (λ k d within. absurd (omega (arith, within)));
+  within = subst (All (λ number. number < length (groups_in c.args.indexes.now))) (sym c.in_ok-hits.ensures.items)
+      (λ k d within. absurd (omega (arith, within)));
   hits =
       let passes : Value → Bool = passes_of g.S.ConceptSet.items_of c.args.indexes.now.concepts c.args.tested.now in
       subst (AreHits (length (groups_in c.args.indexes.now)) (counts_for_group (groups_in c.args.indexes.now) (λ row. passes row.value)) [])
@@ -20,7 +21,8 @@ loop-id-init g c = record {
 
 pub loop-id-preserved : goal.loop-id-preserved
 loop-id-preserved g c = record {
-  within = pushed_below (length (groups_in c.args.indexes.now)) c.loop-id.hits.items c.push_passing.new.hits.items _ c.in_ok-push_passing.ensures c.loop-id.invariant.within
+  within = pushed_below (length (groups_in c.args.indexes.now)) c.loop-id.hits.items c.push_passing.new.hits.items _
+      c.in_ok-push_passing.ensures c.loop-id.invariant.within
       (marks_below _ (length (groups_in c.args.indexes.now)) c.type_columns-columns.result.groups.now c.type_columns-columns.result.values.now
       (group_marks_below (groups_in c.args.indexes.now) _ c.type_columns-columns.result.groups.now c.type_columns-columns.ensures.groups));
   hits =

@@ -8,6 +8,7 @@ use Rattle.pair_sets.proofs.hits.groups_by_type.Given as goal
 abbrev pub invariant-loop-id : goal.invariant-loop-id
 invariant-loop-id g l = record {
   within : All (λ number. number < length (groups_in l.indexes)) l.hits.items;
-  hits : AreHits (length (groups_in l.indexes)) (counts_for_group (groups_in l.indexes) (λ row. passes_of g.S.ConceptSet.items_of l.indexes.concepts l.tested row.value))
+  hits : AreHits (length (groups_in l.indexes))
+      (counts_for_group (groups_in l.indexes) (λ row. passes_of g.S.ConceptSet.items_of l.indexes.concepts l.tested row.value))
       (entries_with_types l.indexes.rows (take l.id-index l.ids)) l.hits.items;
 }

@@ -8,6 +8,7 @@ use Rattle.pair_sets.proofs.hits.groups_by_value.Given as goal
 abbrev pub invariant-loop-value : goal.invariant-loop-value
 invariant-loop-value g l = record {
   within : All (λ number. number < length (groups_in l.indexes)) l.hits.items;
-  hits : AreHits (length (groups_in l.indexes)) (counts_for_group (groups_in l.indexes) (λ row. is_one_of l.indexes.concepts (g.S.ConceptSet.items_of l.types) row.type_id))
+  hits : AreHits (length (groups_in l.indexes))
+      (counts_for_group (groups_in l.indexes) (λ row. is_one_of l.indexes.concepts (g.S.ConceptSet.items_of l.types) row.type_id))
       (entries_with_values l.indexes (take l.value-index l.values)) l.hits.items;
 }

@@ -17,7 +17,9 @@ loop-place-preserved g c =
     let cells = c.args.cells.now in
     let k = c.loop-place.place in
     let mark : Flagged = c.index-marks-place.result in
-    let kept : Flagged → ℕ → Bool = λ mark cell. mark.is_first && passes_of g.S.ConceptSet.items_of indexed.concepts c.args.tested.now (value_of indexed cell) in
+    let kept : Flagged → ℕ → Bool =
+    λ mark cell. mark.is_first
+    && passes_of g.S.ConceptSet.items_of indexed.concepts c.args.tested.now (value_of indexed cell) in
     let number : Flagged → ℕ → ℕ = λ mark cell. mark.number in
     let here : kept (get_or marks k mark) (get_or cells k 0) ≡ c.has_passing.result =
     ap (λ (m : Flagged). kept m (get_or cells k 0)) (sym c.index-marks-place.is) ∙ sym c.has_passing.ensures in
@@ -42,5 +44,7 @@ pub returns : goal.returns
 returns g c =
     c.loop-place.invariant
     ∙ (λ i. c.args.hits.now.items
-    ++ picked (λ mark cell. mark.is_first && passes_of g.S.ConceptSet.items_of c.args.indexes.now.concepts c.args.tested.now (value_of c.args.indexes.now cell)) (λ mark cell. mark.number)
+    ++ picked (λ mark cell. mark.is_first
+    && passes_of g.S.ConceptSet.items_of c.args.indexes.now.concepts c.args.tested.now
+    (value_of c.args.indexes.now cell)) (λ mark cell. mark.number)
     (take_all c.loop-place.place c.args.marks.now (omega arith) i) (take_all c.loop-place.place c.args.cells.now (omega arith) i))

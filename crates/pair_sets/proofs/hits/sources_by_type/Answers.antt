@@ -19,8 +19,10 @@ loop-id-init g c = record {
 
 pub loop-id-preserved : goal.loop-id-preserved
 loop-id-preserved g c = record {
-  within = pushed_below (length c.args.indexes.now.concepts) c.loop-id.hits.items c.push_passing.new.hits.items _ c.in_ok-push_passing.ensures c.loop-id.invariant.within
-      (marks_below _ (length c.args.indexes.now.concepts) c.type_columns-columns.result.sources.now c.type_columns-columns.result.values.now c.type_columns-columns.ensures.sources.within);
+  within = pushed_below (length c.args.indexes.now.concepts) c.loop-id.hits.items c.push_passing.new.hits.items _
+      c.in_ok-push_passing.ensures c.loop-id.invariant.within
+      (marks_below _ (length c.args.indexes.now.concepts) c.type_columns-columns.result.sources.now
+      c.type_columns-columns.result.values.now c.type_columns-columns.ensures.sources.within);
   hits =
       let passes : Value → Bool = passes_of g.S.ConceptSet.items_of c.args.indexes.now.concepts c.args.tested.now in
       let indexed = c.args.indexes.now in

@@ -20,16 +20,20 @@ loop-value-init g c = record {
 
 pub loop-value-preserved : goal.loop-value-preserved
 loop-value-preserved g c = record {
-  within = pushed_below (length c.args.indexes.now.concepts) c.loop-value.hits.items c.push_typed.new.hits.items _ c.in_ok-push_typed.ensures c.loop-value.invariant.within
-      (marks_below _ (length c.args.indexes.now.concepts) c.value_columns-columns.result.sources.now c.value_columns-columns.result.types.now c.value_columns-columns.ensures.sources.within);
+  within = pushed_below (length c.args.indexes.now.concepts) c.loop-value.hits.items c.push_typed.new.hits.items _
+      c.in_ok-push_typed.ensures c.loop-value.invariant.within
+      (marks_below _ (length c.args.indexes.now.concepts) c.value_columns-columns.result.sources.now
+      c.value_columns-columns.result.types.now c.value_columns-columns.ensures.sources.within);
   hits =
       let one : ℕ → Bool = is_one_of c.args.indexes.now.concepts (g.S.ConceptSet.items_of c.args.types.now) in
       let indexed = c.args.indexes.now in
       let columns = c.value_columns-columns in
-      hits_pushed (λ number. entries_with_value indexed.rows (slice_index indexed.concepts number)) c.args.values.now c.loop-value.value-index c.loop-value-test.true
+      hits_pushed (λ number. entries_with_value indexed.rows (slice_index indexed.concepts number)) c.args.values.now
+      c.loop-value.value-index c.loop-value-test.true
       (length indexed.concepts) (counts_for_source indexed.concepts (λ row. one row.type_id))
       c.loop-value.hits.items c.push_typed.new.hits.items _ c.in_ok-push_typed.ensures c.loop-value.invariant.hits
-      (source_hits (λ row. one row.type_id) (is_type_in c.args.indexes.now (g.S.ConceptSet.items_of c.args.types.now)) _ columns.result.sources.now columns.result.types.now
+      (source_hits (λ row. one row.type_id) (is_type_in c.args.indexes.now
+      (g.S.ConceptSet.items_of c.args.types.now)) _ columns.result.sources.now columns.result.types.now
       (types_long indexed _ columns.result.types.now columns.ensures.types)
       (types_told indexed _ columns.result.types.now columns.ensures.types one (is_type_in indexed (g.S.ConceptSet.items_of c.args.types.now))
       (type_tells indexed (g.S.ConceptSet.items_of c.args.types.now)))

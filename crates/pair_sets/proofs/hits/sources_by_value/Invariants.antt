@@ -7,6 +7,7 @@ use Rattle.pair_sets.proofs.hits.sources_by_value.Given as goal
 abbrev pub invariant-loop-value : goal.invariant-loop-value
 invariant-loop-value g l = record {
   within : All (λ number. number < length l.indexes.concepts) l.hits.items;
-  hits : AreHits (length l.indexes.concepts) (counts_for_source l.indexes.concepts (λ row. is_one_of l.indexes.concepts (g.S.ConceptSet.items_of l.types) row.type_id))
+  hits : AreHits (length l.indexes.concepts)
+      (counts_for_source l.indexes.concepts (λ row. is_one_of l.indexes.concepts (g.S.ConceptSet.items_of l.types) row.type_id))
       (entries_with_values l.indexes (take l.value-index l.values)) l.hits.items;
 }

@@ -8,6 +8,8 @@ use Rattle.pair_sets.proofs.hits.values_by_type.Given as goal
 abbrev pub invariant-loop-id : goal.invariant-loop-id
 invariant-loop-id g l = record {
   within : All (λ number. number < length l.indexes.concepts) l.hits.items;
-  hits : AreHits (length l.indexes.concepts) (counts_for_value l.indexes.concepts (λ row. passes_of g.S.ConceptSet.items_of l.indexes.concepts l.tested (concept_value row.source)))
+  hits : AreHits (length l.indexes.concepts)
+      (counts_for_value l.indexes.concepts (λ row. passes_of g.S.ConceptSet.items_of l.indexes.concepts l.tested
+      (concept_value row.source)))
       (entries_with_types l.indexes.rows (take l.id-index l.ids)) l.hits.items;
 }

@@ -9,5 +9,6 @@ returns-clause-items g c =
     let concepts = c.args.indexes.now.concepts in
     IfOk-weaker c.with_pairs_by_value.result _ _
     (λ found found_is.
-    found_is ∙ some_pair_is_value c.args.snapshot.now.release (is_one_of concepts c.args.sources.now) (is_one_of concepts (g.S.ConceptSet.items_of c.args.types.now)))
+    found_is ∙ some_pair_is_value c.args.snapshot.now.release (is_one_of concepts c.args.sources.now)
+    (is_one_of concepts (g.S.ConceptSet.items_of c.args.types.now)))
     c.with_pairs_by_value.ensures.items

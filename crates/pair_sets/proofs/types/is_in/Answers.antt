@@ -13,7 +13,8 @@ returns-in-Some g c =
     let found = concept_number-Some concepts c.args.id c.in-Some.concept (sym c.index_of.ensures ∙ c.in-Some.is) in
     c.has.ensures
     ∙ sym (one_by_number concepts c.concept_count.ensures.rising items
-    (subst (λ (count : ℕ). All (λ item. item < count) items) c.requires (all_below (g.S.ConceptSet.bound_of c.args.set.now) items (g.met.S.ConceptSet.rising c.args.set.now)))
+    (subst (λ (count : ℕ). All (λ item. item < count) items) c.requires
+    (all_below (g.S.ConceptSet.bound_of c.args.set.now) items (g.met.S.ConceptSet.rising c.args.set.now)))
     c.in-Some.concept found.0)
     ∙ ap (is_one_of concepts items) found.1
 
@@ -22,5 +23,6 @@ returns-in-None g c =
     let concepts = c.args.indexes.now.concepts in
     let items = g.S.ConceptSet.items_of c.args.set.now in
     sym (none_by_number concepts items
-    (subst (λ (count : ℕ). All (λ item. item < count) items) c.requires (all_below (g.S.ConceptSet.bound_of c.args.set.now) items (g.met.S.ConceptSet.rising c.args.set.now)))
+    (subst (λ (count : ℕ). All (λ item. item < count) items) c.requires
+    (all_below (g.S.ConceptSet.bound_of c.args.set.now) items (g.met.S.ConceptSet.rising c.args.set.now)))
     c.args.id (sym c.index_of.ensures ∙ c.in-None.is))

@@ -15,5 +15,6 @@ places_of_concepts-requires-clause-below g c =
 pub returns-in_ok-concepts : goal.returns-in_ok-concepts
 returns-in_ok-concepts g c =
     IfOk-weaker c.places_of_concepts.result _ _
-    (λ places are. subst (λ (concepts : List ℕ). ArePlacesOf c.args.indexes.now concepts places.items) (c.as_slice.ensures.value ∙ c.in_ok-concepts.ensures) are)
+    (λ places are. subst (λ (concepts : List ℕ). ArePlacesOf c.args.indexes.now concepts places.items)
+    (c.as_slice.ensures.value ∙ c.in_ok-concepts.ensures) are)
     c.places_of_concepts.ensures

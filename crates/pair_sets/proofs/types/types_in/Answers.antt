@@ -26,7 +26,8 @@ returns g c =
     let types = types_of c.args.indexes.now.rows in
     let one : ℕ → Bool = is_one_of c.args.indexes.now.concepts (g.S.ConceptSet.items_of c.args.set.now) in
     let told : (place : ℕ) → place < length types → is_set c.in_ok-places.places.items place ≡ one (get_or types place 0) =
-    λ place within. c.in_ok-places.ensures.marked place ∙ ap (λ (places : List ℕ). has_item places place) c.as_slice.ensures.value ∙ c.in_ok-numbers.ensures.told place within in
+    λ place within. c.in_ok-places.ensures.marked place
+    ∙ ap (λ (places : List ℕ). has_item places place) c.as_slice.ensures.value ∙ c.in_ok-numbers.ensures.told place within in
     c.in_ok-ids.ensures one
     (λ place within. ap (λ (words : List ℕ). is_set words place) c.deref.ensures.value
     ∙ told place (subst (λ (all : List ℕ). place < length all) c.types-types.ensures within)

@@ -27,7 +27,8 @@ loop-group-preserved c =
       concepts = ap (map (slice_index concepts)) c.in_ok-push.ensures.items
           ∙ map-append (slice_index concepts) c.loop-group.found.items (c.unit_concept.result ∷ [])
           ∙ (λ i. c.loop-group.invariant.concepts i
-          ++ concept_told groups (get_or numbers k 0) (slice_index concepts c.unit_concept.result) (c.requires k 0 c.loop-group-test.true) c.unit_concept.ensures.concept i ∷ [])
+          ++ concept_told groups (get_or numbers k 0) (slice_index concepts c.unit_concept.result)
+          (c.requires k 0 c.loop-group-test.true) c.unit_concept.ensures.concept i ∷ [])
           ∙ sym (map-append concept_at (take k numbers) (get_or numbers k 0 ∷ []))
           ∙ ap (map concept_at) (sym (take_more numbers k 0 c.loop-group-test.true));
     }

@@ -21,7 +21,8 @@ returns-clause-groups g c =
     (λ groups listed.
     owned c.args.indexes.now c.args.snapshot.now.release c.requires.index c.concept_count.ensures.rising
     (g.S.ConceptSet.items_of c.args.concepts.now) c.in_ok-numbers.numbers.items
-    (λ concept group is_item. c.in_ok-numbers.ensures.all concept group (ap (λ (xs : List ℕ). has_item xs concept) (c.as_slice.ensures.value ∙ c.in_ok-own.ensures) ∙ is_item))
+    (λ concept group is_item. c.in_ok-numbers.ensures.all concept group
+    (ap (λ (xs : List ℕ). has_item xs concept) (c.as_slice.ensures.value ∙ c.in_ok-own.ensures) ∙ is_item))
     (g.S.ConceptSet.items_of groups)
     (listed
     ∙ ap (λ (bound : ℕ). numbers_where bound (has_item c.as_slice-2.result.now)) c.group_count.ensures.count
@@ -33,5 +34,6 @@ returns-clause-bound g c =
     IfOk-weaker c.from_numbers.result _ _
     (λ groups bound.
     bound ∙ c.group_count.ensures.count
-    ∙ ap (λ (groups : List ConceptGroup). length groups) (groups_are c.args.indexes.now c.args.snapshot.now.release c.requires.index c.concept_count.ensures.rising))
+    ∙ ap (λ (groups : List ConceptGroup). length groups)
+    (groups_are c.args.indexes.now c.args.snapshot.now.release c.requires.index c.concept_count.ensures.rising))
     c.from_numbers.ensures.bound

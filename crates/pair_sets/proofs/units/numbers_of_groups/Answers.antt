@@ -24,8 +24,12 @@ loop-concept-preserved c =
           ∙ elim (taken_more concepts k concept c.loop-concept-test.true there) [
             | inl before ↦ has_sooner c.loop-concept.found.items more group (c.loop-concept.invariant.all concept group before from below)
             | inr same ↦
-                let first : units.start ≤ group = subst (λ (n : ℕ). n ≤ group) (sym c.units_of-units.ensures.start) (subst (λ (n : ℕ). length (groups_before indexed n) ≤ group) (sym same) from) in
-                let last : group < units.end = subst (λ (n : ℕ). group < n) (sym c.units_of-units.ensures.end) (subst (λ (n : ℕ). group < length (groups_before indexed (n + 1))) (sym same) below) in
+                let first : units.start ≤ group =
+                subst (λ (n : ℕ). n ≤ group) (sym c.units_of-units.ensures.start)
+                (subst (λ (n : ℕ). length (groups_before indexed n) ≤ group) (sym same) from) in
+                let last : group < units.end =
+                subst (λ (n : ℕ). group < n) (sym c.units_of-units.ensures.end)
+                (subst (λ (n : ℕ). group < length (groups_before indexed (n + 1))) (sym same) below) in
                 has_later c.loop-concept.found.items more group (has_range units.start (units.end - units.start) group first (omega (arith, first, last)))
           ];
     }

@@ -18,7 +18,8 @@ concepts_of-requires g c =
 
 pub as_often-requires : goal.as_often-requires
 as_often-requires g c =
-    subst (λ (count : ℕ). All (λ concept. concept < count) c.as_slice-2.result.now) (ap (λ (concepts : List ℕ). length concepts) c.requires.index.concepts ∙ sym c.concept_count-concept_count.ensures.count)
+    subst (λ (count : ℕ). All (λ concept. concept < count) c.as_slice-2.result.now)
+    (ap (λ (concepts : List ℕ). length concepts) c.requires.index.concepts ∙ sym c.concept_count-concept_count.ensures.count)
     (subst (All (λ concept. concept < length c.args.indexes.now.concepts)) (sym c.as_slice-2.ensures.value) c.in_ok-concepts.ensures.within)
 
 pub returns-clause-items : goal.returns-clause-items
@@ -36,6 +37,7 @@ returns-clause-items g c =
     (g.S.ConceptSet.items_of c.args.groups.now) concepts (g.S.ConceptSet.items_of found) below
     ((λ i. map (λ concept. get_or (sym c.requires.index.concepts i) concept 0) (c.as_slice-2.ensures.value i))
     ∙ c.in_ok-concepts.ensures.concepts
-    ∙ (λ i. map (λ k. concept_in (slice_get (groups_are indexed release c.requires.index rising i) k)) ((c.as_slice.ensures.value ∙ c.in_ok-numbers.ensures) i)))
+    ∙ (λ i. map (λ k. concept_in (slice_get (groups_are indexed release c.requires.index rising i) k))
+    ((c.as_slice.ensures.value ∙ c.in_ok-numbers.ensures) i)))
     often)
     c.as_often.ensures.items

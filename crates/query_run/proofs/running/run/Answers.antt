@@ -14,16 +14,19 @@ use Rattle.query_run.proofs.RunLemmas.{WritesFirst_cut, feeds_cut, HasStopped_in
 use Rattle.query_run.proofs.running.run.Goals as goal
 
 -- a read of no byte consumes nothing
-ended : (old mid new : Option (List ℕ)) (read buffer : List ℕ) (count : ℕ) → count ≡ 0 → Consumes old mid read → Consumes mid new (take count buffer) → Consumes old new read
+ended : (old mid new : Option (List ℕ)) (read buffer : List ℕ) (count : ℕ) → count ≡ 0 → Consumes old mid read
+    → Consumes mid new (take count buffer) → Consumes old new read
 ended old mid new read buffer count none first second =
     subst (Consumes old new) (append-nil read) (Consumes-trans old mid new read [] first (subst (λ (n : ℕ). Consumes mid new (take n buffer)) none second))
 
 -- as many lines were answered, seen by what is kept of the last one
-counted : (result : Result ℕ RunFault) (answered more all : ℕ) → more ≡ all → IfOk result (λ count. count ≡ answered + more) → IfOk result (λ count. count ≡ answered + all)
+counted : (result : Result ℕ RunFault) (answered more all : ℕ) → more ≡ all
+    → IfOk result (λ count. count ≡ answered + more) → IfOk result (λ count. count ≡ answered + all)
 counted result answered more all same is = subst (λ (n : ℕ). IfOk result (λ count. count ≡ answered + n)) same is
 
 -- one more read
-next_turn : (before mid after turn : ℕ) → (mid ≡ before + turn) ⊎ (mid ≡ 2 ^ 64 - 1) → after ≡ min (mid + 1) (2 ^ 64 - 1) → (after ≡ before + (turn + 1)) ⊎ (after ≡ 2 ^ 64 - 1)
+next_turn : (before mid after turn : ℕ) → (mid ≡ before + turn) ⊎ (mid ≡ 2 ^ 64 - 1)
+    → after ≡ min (mid + 1) (2 ^ 64 - 1) → (after ≡ before + (turn + 1)) ⊎ (after ≡ 2 ^ 64 - 1)
 next_turn before mid after turn (inl is) counted = elim (cases_lt mid (2 ^ 64 - 1)) [
   | inl less ↦ inl (omega arith)
   | inr more ↦ inr (omega arith)
@@ -58,7 +61,8 @@ returns-in-Err-read-clause-fault g c =
     let mid = g.W.AnswerOutput.written c.loop-turn.output in
     let answered = c.loop-turn.progress.answered in (
       read,
-      Consumes-kept (g.R.QueryInput.remaining c.args.input.now) (g.R.QueryInput.remaining c.loop-turn.input) (g.R.QueryInput.remaining c.read.new.self) read consumed c.in-Err-read.ensures.bytes,
+      Consumes-kept (g.R.QueryInput.remaining c.args.input.now) (g.R.QueryInput.remaining c.loop-turn.input)
+          (g.R.QueryInput.remaining c.read.new.self) read consumed c.in-Err-read.ensures.bytes,
       WritesFirst_cut answers read lines unended cut answered count old mid wrote,
       feeds_cut answers read lines unended cut answered count old mid wrote,
     )
@@ -69,9 +73,13 @@ returns-then-count-eq0-clause-count g c =
     let input_old = g.R.QueryInput.remaining c.args.input.now in
     let input_mid = g.R.QueryInput.remaining c.loop-turn.input in
     let input_new = g.R.QueryInput.remaining c.read.new.self in
-    let all : Consumes input_old input_new read = ended input_old input_mid input_new read c.read.new.buffer c.in-Ok-read.count c.if-count-eq0.true consumed c.in-Ok-read.ensures.bytes.0 in
-    finish_count (g.A.AnswerLine.answers c.args.answerer.now) read lines unended cut c.loop-turn.progress.answered count (g.W.AnswerOutput.written c.args.output.now) (g.W.AnswerOutput.written c.loop-turn.output)
-    wrote input_old input_new (g.W.AnswerOutput.written c.finish.new.output) all c.finish.result (c.in-Ok-read.ensures.bytes.1 c.if-count-eq0.true (omega (arith, c.loop-turn.invariant.room)))
+    let all : Consumes input_old input_new read =
+    ended input_old input_mid input_new read c.read.new.buffer c.in-Ok-read.count c.if-count-eq0.true consumed
+    c.in-Ok-read.ensures.bytes.0 in
+    finish_count (g.A.AnswerLine.answers c.args.answerer.now) read lines unended cut c.loop-turn.progress.answered
+    count (g.W.AnswerOutput.written c.args.output.now) (g.W.AnswerOutput.written c.loop-turn.output)
+    wrote input_old input_new (g.W.AnswerOutput.written c.finish.new.output) all c.finish.result
+    (c.in-Ok-read.ensures.bytes.1 c.if-count-eq0.true (omega (arith, c.loop-turn.invariant.room)))
     (counted c.finish.result c.loop-turn.progress.answered _ _ (last_count unended c.loop-turn.progress.pending.items kept cut.unended) c.finish.ensures.count)
 
 pub returns-then-count-eq0-clause-answers : goal.returns-then-count-eq0-clause-answers
@@ -80,10 +88,16 @@ returns-then-count-eq0-clause-answers g c =
     let input_old = g.R.QueryInput.remaining c.args.input.now in
     let input_mid = g.R.QueryInput.remaining c.loop-turn.input in
     let input_new = g.R.QueryInput.remaining c.read.new.self in
-    let all : Consumes input_old input_new read = ended input_old input_mid input_new read c.read.new.buffer c.in-Ok-read.count c.if-count-eq0.true consumed c.in-Ok-read.ensures.bytes.0 in
-    finish_answers (g.A.AnswerLine.answers c.args.answerer.now) read lines unended cut c.loop-turn.progress.answered count (g.W.AnswerOutput.written c.args.output.now) (g.W.AnswerOutput.written c.loop-turn.output)
-    wrote input_old input_new (g.W.AnswerOutput.written c.finish.new.output) all c.finish.result (c.in-Ok-read.ensures.bytes.1 c.if-count-eq0.true (omega (arith, c.loop-turn.invariant.room)))
-    (on_ok_weaker c.finish.result (last_written (g.A.AnswerLine.answers c.args.answerer.now) (g.met.A.AnswerLine.same_front c.args.answerer.now) unended c.loop-turn.progress.pending.items kept cut.unended _ _) c.finish.ensures.answer)
+    let all : Consumes input_old input_new read =
+    ended input_old input_mid input_new read c.read.new.buffer c.in-Ok-read.count c.if-count-eq0.true consumed
+    c.in-Ok-read.ensures.bytes.0 in
+    finish_answers (g.A.AnswerLine.answers c.args.answerer.now) read lines unended cut c.loop-turn.progress.answered
+    count (g.W.AnswerOutput.written c.args.output.now) (g.W.AnswerOutput.written c.loop-turn.output)
+    wrote input_old input_new (g.W.AnswerOutput.written c.finish.new.output) all c.finish.result
+    (c.in-Ok-read.ensures.bytes.1 c.if-count-eq0.true (omega (arith, c.loop-turn.invariant.room)))
+    (on_ok_weaker c.finish.result (last_written (g.A.AnswerLine.answers c.args.answerer.now)
+    (g.met.A.AnswerLine.same_front c.args.answerer.now) unended c.loop-turn.progress.pending.items kept cut.unended _
+    _) c.finish.ensures.answer)
 
 pub returns-then-count-eq0-clause-fault : goal.returns-then-count-eq0-clause-fault
 returns-then-count-eq0-clause-fault g c =
@@ -91,10 +105,19 @@ returns-then-count-eq0-clause-fault g c =
     let input_old = g.R.QueryInput.remaining c.args.input.now in
     let input_mid = g.R.QueryInput.remaining c.loop-turn.input in
     let input_new = g.R.QueryInput.remaining c.read.new.self in
-    let all : Consumes input_old input_new read = ended input_old input_mid input_new read c.read.new.buffer c.in-Ok-read.count c.if-count-eq0.true consumed c.in-Ok-read.ensures.bytes.0 in
-    finish_fault (g.A.AnswerLine.answers c.args.answerer.now) read lines unended cut c.loop-turn.progress.answered count (g.W.AnswerOutput.written c.args.output.now) (g.W.AnswerOutput.written c.loop-turn.output)
+    let all : Consumes input_old input_new read =
+    ended input_old input_mid input_new read c.read.new.buffer c.in-Ok-read.count c.if-count-eq0.true consumed
+    c.in-Ok-read.ensures.bytes.0 in
+    finish_fault (g.A.AnswerLine.answers c.args.answerer.now) read lines unended cut c.loop-turn.progress.answered
+    count (g.W.AnswerOutput.written c.args.output.now) (g.W.AnswerOutput.written c.loop-turn.output)
     wrote input_old input_new (g.W.AnswerOutput.written c.finish.new.output) all c.finish.result (g.W.AnswerOutput.has_failed c.finish.new.output)
-    (IfErr-weaker c.finish.result _ _ (λ fault left. (left.0, last_leaves (g.A.AnswerLine.answers c.args.answerer.now) (g.met.A.AnswerLine.same_front c.args.answerer.now) unended c.loop-turn.progress.pending.items kept cut.unended fault _ _ left.1)) c.finish.ensures.fault)
+    (IfErr-weaker c.finish.result _ _ (λ fault left. (
+      left.0,
+      last_leaves
+          (g.A.AnswerLine.answers c.args.answerer.now)
+          (g.met.A.AnswerLine.same_front c.args.answerer.now) unended c.loop-turn.progress.pending.items kept cut.unended
+          fault _ _ left.1,
+    )) c.finish.ensures.fault)
 
 pub returns-in-Err-take_piece-clause-fault : goal.returns-in-Err-take_piece-clause-fault
 returns-in-Err-take_piece-clause-fault g c =
@@ -105,8 +128,11 @@ returns-in-Err-take_piece-clause-fault g c =
     let input_new = g.R.QueryInput.remaining c.read.new.self in
     let all : Consumes input_old input_new (read ++ piece) =
     Consumes-trans input_old (g.R.QueryInput.remaining c.loop-turn.input) input_new read piece consumed c.in-Ok-read.ensures.bytes.0 in
-    HasStopped_in (g.A.AnswerLine.answers c.args.answerer.now) read lines unended cut c.loop-turn.progress.answered count (g.W.AnswerOutput.written c.args.output.now) (g.W.AnswerOutput.written c.loop-turn.output) wrote
-    c.in-Err-take_piece.fault (query_lines (unended ++ piece)) further (g.W.AnswerOutput.has_failed c.take_piece.new.output) (read ++ piece) input_old input_new (g.W.AnswerOutput.written c.take_piece.new.output)
+    HasStopped_in (g.A.AnswerLine.answers c.args.answerer.now) read lines unended cut c.loop-turn.progress.answered
+    count (g.W.AnswerOutput.written c.args.output.now) (g.W.AnswerOutput.written c.loop-turn.output) wrote
+    c.in-Err-take_piece.fault (query_lines (unended ++ piece)) further
+    (g.W.AnswerOutput.has_failed c.take_piece.new.output) (read ++ piece) input_old input_new
+    (g.W.AnswerOutput.written c.take_piece.new.output)
     all (cut.goes_on piece) is leaves
 
 pub loop-turn-preserved : goal.loop-turn-preserved
@@ -116,18 +142,29 @@ loop-turn-preserved g c =
     let piece : List ℕ = take c.in-Ok-read.count c.read.new.buffer in record {
       input_sound = search rules;
       output_sound = c.in-Ok-take_piece.ensures.sound;
-      turns = next_turn (g.R.QueryInput.read_count c.args.input.now) (g.R.QueryInput.read_count c.loop-turn.input) (g.R.QueryInput.read_count c.read.new.self) c.loop-turn._turn c.loop-turn.invariant.turns c.read.ensures.counted;
+      turns = next_turn (g.R.QueryInput.read_count c.args.input.now) (g.R.QueryInput.read_count c.loop-turn.input)
+          (g.R.QueryInput.read_count c.read.new.self) c.loop-turn._turn c.loop-turn.invariant.turns c.read.ensures.counted;
       reads = omega (arith, c.read.ensures.counted, c.loop-turn.invariant.reads);
       room = search rules;
       waiting = c.in-Ok-take_piece.ensures.waiting;
-      few = omega (arith, c.in-Ok-take_piece.ensures.few, c.in-Ok-read.ensures.within, c.loop-turn.invariant.few, c.loop-turn.invariant.room, length-take-le c.in-Ok-read.count c.read.new.buffer c.in-Ok-read.ensures.within);
+      few = omega (
+        arith,
+        c.in-Ok-take_piece.ensures.few,
+        c.in-Ok-read.ensures.within,
+        c.loop-turn.invariant.few,
+        c.loop-turn.invariant.room,
+        length-take-le c.in-Ok-read.count c.read.new.buffer c.in-Ok-read.ensures.within,
+      );
       lines = (
         read ++ piece,
         lines ++ more,
-        Consumes-trans (g.R.QueryInput.remaining c.args.input.now) (g.R.QueryInput.remaining c.loop-turn.input) (g.R.QueryInput.remaining c.read.new.self) read piece consumed c.in-Ok-read.ensures.bytes.0,
+        Consumes-trans (g.R.QueryInput.remaining c.args.input.now) (g.R.QueryInput.remaining c.loop-turn.input)
+            (g.R.QueryInput.remaining c.read.new.self) read piece consumed c.in-Ok-read.ensures.bytes.0,
         (behind, IsCutInto-then read lines unended piece more behind cut cut_more, kept_more),
         omega (arith, count, count_more, length-append lines more),
-        answers_then (g.A.AnswerLine.answers c.args.answerer.now) (g.W.AnswerOutput.written c.args.output.now) (g.W.AnswerOutput.written c.loop-turn.output) (g.W.AnswerOutput.written c.take_piece.new.output) lines more wrote wrote_more,
+        answers_then (g.A.AnswerLine.answers c.args.answerer.now) (g.W.AnswerOutput.written c.args.output.now)
+            (g.W.AnswerOutput.written c.loop-turn.output)
+            (g.W.AnswerOutput.written c.take_piece.new.output) lines more wrote wrote_more,
       );
     }
 

@@ -9,7 +9,8 @@ pub returns-in-Explain : goal.returns-in-Explain
 returns-in-Explain g c =
     let before = streams c.args.input.now c.args.output.now c.args.errors.now in
     let after = streams c.explain_and_drop.new.input c.explain_and_drop.new.output c.explain_and_drop.new.errors in
-    subst (λ (mode : Mode). ServesWith g.R.QueryInput g.W.AnswerOutput g.E.AnswerOutput mode (g.Q.QueryEngine.contents c.args.engine) c.explain_and_drop.result before after)
+    subst (λ (mode : Mode). ServesWith g.R.QueryInput g.W.AnswerOutput g.E.AnswerOutput mode
+    (g.Q.QueryEngine.contents c.args.engine) c.explain_and_drop.result before after)
     (sym c.in-Explain.is) c.explain_and_drop.ensures
 
 pub returns-in_default : goal.returns-in_default

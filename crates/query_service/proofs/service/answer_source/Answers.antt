@@ -39,5 +39,7 @@ returns g c =
         });
       },
       refuses_with g.R.QueryInput g.W.AnswerOutput g.E.AnswerOutput task c.in-Err.fault c.refuse.result _ _ _ _ refl
-          (subst (λ (texts : List (String Global)). TellsLoadFault g.E.AnswerOutput (map string_bytes texts) c.in-Err.fault c.refuse.result c.args.errors.now c.refuse.new.errors) c.as_slice.ensures.value c.refuse.ensures),
+          (subst (λ (texts : List (String Global)). TellsLoadFault g.E.AnswerOutput
+          (map string_bytes texts) c.in-Err.fault c.refuse.result c.args.errors.now c.refuse.new.errors)
+          c.as_slice.ensures.value c.refuse.ensures),
     )

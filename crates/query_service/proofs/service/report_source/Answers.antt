@@ -11,7 +11,14 @@ returns-in-Ok-write_all g c =
     let task : Task = record { mode = Check; loaded = Ok contents; names = map string_bytes c.report.new.names.items } in
     let wrote = c.in-Ok-write_all.ensures in (
       task,
-      record { mode_is = refl; loaded = record { loaded = loads; named = c.in-Ok.ensures.named; device = record { failed = tt; calm = c.in-Ok.ensures.calm } } },
+      record {
+        mode_is = refl;
+        loaded = record {
+          loaded = loads;
+          named = c.in-Ok.ensures.named;
+          device = record { failed = tt; calm = c.in-Ok.ensures.calm };
+        };
+      },
       ends_reported g.R.QueryInput g.W.AnswerOutput g.E.AnswerOutput task contents c.as_slice.result.now c.args.input.now
           c.args.output.now c.write_all.new.output c.args.errors.now refl refl (c.as_slice.ensures.value ∙ text) wrote.ok c.requires.input wrote.failure,
     )
@@ -23,7 +30,14 @@ returns-in-Ok g c =
     let task : Task = record { mode = Check; loaded = Ok contents; names = map string_bytes c.report.new.names.items } in
     let wrote = c.in-Err-write_all.ensures in (
       task,
-      record { mode_is = refl; loaded = record { loaded = loads; named = c.in-Ok.ensures.named; device = record { failed = tt; calm = c.in-Ok.ensures.calm } } },
+      record {
+        mode_is = refl;
+        loaded = record {
+          loaded = loads;
+          named = c.in-Ok.ensures.named;
+          device = record { failed = tt; calm = c.in-Ok.ensures.calm };
+        };
+      },
       ends_cut g.R.QueryInput g.W.AnswerOutput g.E.AnswerOutput task contents c.as_slice.result.now c.args.input.now
           c.args.output.now c.write_all.new.output c.args.errors.now c.tell_fault.new.errors c.tell_fault.result refl refl (c.as_slice.ensures.value ∙ text)
           c.tell_fault.ensures.status wrote.err c.requires.input wrote.failure c.tell_fault.ensures.told,
@@ -40,9 +54,15 @@ returns g c =
         loaded = record {
           loaded = c.in-Err.ensures.err;
           named = c.in-Err.ensures.named;
-          device = record { failed = counts_device string_bytes c.report.new.names.items _ _ c.in-Err.fault c.in-Err.ensures.device; calm = c.in-Err.ensures.calm };
+          device = record {
+            failed =
+                counts_device string_bytes c.report.new.names.items _ _ c.in-Err.fault c.in-Err.ensures.device;
+            calm = c.in-Err.ensures.calm;
+          };
         };
       },
       refuses_with g.R.QueryInput g.W.AnswerOutput g.E.AnswerOutput task c.in-Err.fault c.refuse.result _ _ _ _ refl
-          (subst (λ (texts : List (String Global)). TellsLoadFault g.E.AnswerOutput (map string_bytes texts) c.in-Err.fault c.refuse.result c.args.errors.now c.refuse.new.errors) c.as_slice-in-Err.ensures.value c.refuse.ensures),
+          (subst (λ (texts : List (String Global)). TellsLoadFault g.E.AnswerOutput
+          (map string_bytes texts) c.in-Err.fault c.refuse.result c.args.errors.now c.refuse.new.errors)
+          c.as_slice-in-Err.ensures.value c.refuse.ensures),
     )

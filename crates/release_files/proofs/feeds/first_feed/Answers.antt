@@ -11,7 +11,8 @@ returns-then-feeds-ne0 c =
     let place = c.loop-place.place in
     let room : place + 64 ≤ length bytes = omega arith in
     let some : 0 < feed_bits (take 64 (drop place bytes)) = omega (arith, c.feeds_at-feeds.ensures) in
-    let found = block_feed bytes place (count_trailing_zeros 64 c.feeds_at-feeds.result) room c.loop-place.invariant.clear some (ap (count_trailing_zeros 64) c.feeds_at-feeds.ensures) in
+    let found = block_feed bytes place (count_trailing_zeros 64 c.feeds_at-feeds.result) room
+    c.loop-place.invariant.clear some (ap (count_trailing_zeros 64) c.feeds_at-feeds.ensures) in
     (found.within, found.before, found.is)
 
 pub loop-place-preserved : goal.loop-place-preserved
@@ -27,7 +28,8 @@ returns-in-Some c =
     let bytes = c.args.bytes.now in
     let place = c.loop-place.place in
     let told = rw (take_rest bytes place) at c.in-Some.ensures in
-    let found = rest_feed bytes place c.in-Some.at c.loop-place.invariant.within c.loop-place.invariant.clear told.0.high (λ k low. told.0.before k (omega arith) low) told.1 in
+    let found = rest_feed bytes place c.in-Some.at c.loop-place.invariant.within c.loop-place.invariant.clear
+    told.0.high (λ k low. told.0.before k (omega arith) low) told.1 in
     (found.within, found.before, found.is)
 
 pub returns-in-None : goal.returns-in-None

@@ -13,4 +13,6 @@ loop-number-preserved c =
 pub returns : goal.returns
 returns c =
     let end : c.loop-number.number ≡ c.args.bound = omega arith in
-    subst (λ (items : List ℕ). IsRisingBelow c.args.bound items) (sym (c.loop-number.invariant ∙ (λ i. numbers_where (end i) (λ number. eqb (number % c.args.of) 0)))) (numbers_where-rising c.args.bound (λ number. eqb (number % c.args.of) 0))
+    subst (λ (items : List ℕ). IsRisingBelow c.args.bound items)
+    (sym (c.loop-number.invariant ∙ (λ i. numbers_where (end i) (λ number. eqb (number % c.args.of) 0))))
+    (numbers_where-rising c.args.bound (λ number. eqb (number % c.args.of) 0))

@@ -31,24 +31,41 @@ module _ (kind : FileKind) (names : List Named) (are : map format_of names ≡ m
       ∙ get_or-map (λ (column : Column). column.format) (columns_of kind) place (column [] (id_format Concept))
 
   -- the text at a place is accepted in its column
-  accepted_there : (fields : List (Bor (List ℕ))) (place : ℕ) → fields_fault kind (texts_of fields) ≡ None → place < length names → cause_of (format_of (named_at names place)) (text_at fields place) ≡ None
+  accepted_there : (fields : List (Bor (List ℕ))) (place : ℕ) → fields_fault kind (texts_of fields) ≡ None
+      → place < length names → cause_of (format_of (named_at names place)) (text_at fields place) ≡ None
   accepted_there fields place accepted inside =
       rw (named place, ← get_or-texts_of fields place) (accepted_at kind (texts_of fields) place accepted (omega (arith, as_many)))
 
   module _ (ones others : List (Bor (List ℕ))) (accepted : fields_fault kind (texts_of ones) ≡ None) (also : fields_fault kind (texts_of others) ≡ None) where
     -- what the values at a place say of the fields from that place on
-    decides : (place : ℕ) (same : Bool) → place < length names → same ≡ same_value (format_of (named_at names place)) (text_at ones place) (text_at others place) → same_values (drop place (columns_of kind)) (drop place (texts_of ones)) (drop place (texts_of others)) ≡ (same && same_values (drop (place + 1) (columns_of kind)) (drop (place + 1) (texts_of ones)) (drop (place + 1) (texts_of others)))
+    decides : (place : ℕ) (same : Bool) → place < length names
+        → same ≡ same_value (format_of (named_at names place)) (text_at ones place) (text_at others place)
+        → same_values (drop place (columns_of kind)) (drop place (texts_of ones)) (drop place (texts_of others))
+        ≡ (same && same_values (drop (place + 1) (columns_of kind)) (drop (place + 1) (texts_of ones))
+        (drop (place + 1) (texts_of others)))
     decides place same inside is =
         let width = width_of_fields kind (texts_of ones) accepted in
         let width_also = width_of_fields kind (texts_of others) also in
-        rw (drop_more (columns_of kind) place (column [] (id_format Concept)) (omega (arith, as_many)), drop_more (texts_of ones) place [] (omega (arith, as_many)), drop_more (texts_of others) place [] (omega (arith, as_many)), is, named place, get_or-texts_of ones place, get_or-texts_of others place) refl
+        rw (
+          drop_more (columns_of kind) place (column [] (id_format Concept)) (omega (arith, as_many)),
+          drop_more (texts_of ones) place [] (omega (arith, as_many)),
+          drop_more (texts_of others) place [] (omega (arith, as_many)),
+          is,
+          named place,
+          get_or-texts_of ones place,
+          get_or-texts_of others place,
+        ) refl
 
     -- behind the last place nothing is left to differ
     decided : (place : ℕ) → length names ≡ place → same_values (drop place (columns_of kind)) (drop place (texts_of ones)) (drop place (texts_of others)) ≡ true
     decided place all =
         let width = width_of_fields kind (texts_of ones) accepted in
         let width_also = width_of_fields kind (texts_of others) also in
-        rw (drop_all place (columns_of kind) (omega (arith, as_many)), drop_all place (texts_of ones) (omega (arith, as_many)), drop_all place (texts_of others) (omega (arith, as_many))) refl
+        rw (
+          drop_all place (columns_of kind) (omega (arith, as_many)),
+          drop_all place (texts_of ones) (omega (arith, as_many)),
+          drop_all place (texts_of others) (omega (arith, as_many)),
+        ) refl
 
 pub same_value-requires-clause-one : goal.same_value-requires-clause-one
 same_value-requires-clause-one c =
@@ -62,15 +79,20 @@ same_value-requires-clause-other c =
 
 pub returns-then-not-same_value : goal.returns-then-not-same_value
 returns-then-not-same_value c =
-    let step = decides c.args.kind c.formats-format-items.result.now c.formats-format-items.ensures c.args.ones.now c.args.others.now c.requires.one c.requires.other c.loop-place.place c.same_value.result c.loop-place-test.true c.same_value.ensures in
+    let step = decides c.args.kind c.formats-format-items.result.now c.formats-format-items.ensures c.args.ones.now
+    c.args.others.now c.requires.one c.requires.other c.loop-place.place c.same_value.result
+    c.loop-place-test.true c.same_value.ensures in
     sym (c.loop-place.invariant ∙ rw c.if-not-same_value.true at step)
 
 pub loop-place-preserved : goal.loop-place-preserved
 loop-place-preserved c =
-    let step = decides c.args.kind c.formats-format-items.result.now c.formats-format-items.ensures c.args.ones.now c.args.others.now c.requires.one c.requires.other c.loop-place.place c.same_value.result c.loop-place-test.true c.same_value.ensures in
+    let step = decides c.args.kind c.formats-format-items.result.now c.formats-format-items.ensures c.args.ones.now
+    c.args.others.now c.requires.one c.requires.other c.loop-place.place c.same_value.result
+    c.loop-place-test.true c.same_value.ensures in
     c.loop-place.invariant ∙ rw c.if-not-same_value.false at step
 
 pub returns : goal.returns
 returns c =
-    let all = decided c.args.kind c.formats-format-items.result.now c.formats-format-items.ensures c.args.ones.now c.args.others.now c.requires.one c.requires.other c.loop-place.place (omega arith) in
+    let all = decided c.args.kind c.formats-format-items.result.now c.formats-format-items.ensures c.args.ones.now
+    c.args.others.now c.requires.one c.requires.other c.loop-place.place (omega arith) in
     sym (c.loop-place.invariant ∙ all)

@@ -79,5 +79,10 @@ pub returns-clause-small : goal.returns-clause-small
 returns-clause-small c =
     let text = c.args.text.now in
     let i = c.loop-block.block-index in
-    let small : c.loop-block.read.number < 10 ^ 18 = omega (arith, front_small text (length text % 8 + 8 * i) 18 (omega (arith, c.as_rchunks.ensures.back_len)) c.loop-block.invariant.digits) in
+    let small : c.loop-block.read.number < 10 ^ 18 =
+    omega (
+      arith,
+      front_small text (length text % 8 + 8 * i) 18
+          (omega (arith, c.as_rchunks.ensures.back_len)) c.loop-block.invariant.digits,
+    ) in
     small

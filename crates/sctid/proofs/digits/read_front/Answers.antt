@@ -59,4 +59,6 @@ returns-clause-product c =
     let text = c.args.text.now in
     let i = c.loop-byte.byte-index in
     let all : list_all is_ascii_digit text ≡ true = rw (take_all i text c.loop-byte-test.false) at c.loop-byte.invariant.digits in
-    sym (c.loop-byte.invariant.product all ∙ ap (λ p. times p c.loop-byte.product) (at_drop_all check_product text i c.loop-byte-test.false) ∙ zero-times c.loop-byte.product c.loop-byte.invariant.element)
+    sym (c.loop-byte.invariant.product all
+    ∙ ap (λ p. times p c.loop-byte.product) (at_drop_all check_product text i c.loop-byte-test.false)
+    ∙ zero-times c.loop-byte.product c.loop-byte.invariant.element)

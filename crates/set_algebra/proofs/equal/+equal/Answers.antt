@@ -23,7 +23,8 @@ same_each-returns-then-not-same t c = (
   λ same.
       sym c.if-not-same.true
       ∙ c.same.ensures.1
-      (same_at c.args.parts.now c.args.others.now c.loop-i.i c.index-parts-i.result c.index-others-i.result c.loop-i-test.true c.index-parts-i.is c.index-others-i.is same),
+      (same_at c.args.parts.now c.args.others.now c.loop-i.i c.index-parts-i.result c.index-others-i.result
+      c.loop-i-test.true c.index-parts-i.is c.index-others-i.is same),
 )
 
 pub same_each-loop-i-preserved : goal.same_each-loop-i-preserved
@@ -43,7 +44,8 @@ same_each_unit-returns-then-not-same_unit t c = (
   λ same.
       sym c.if-not-same_unit.true
       ∙ c.same_unit.ensures.1
-      (same_unit_at c.args.parts.now c.args.others.now c.loop-i.i c.index-parts-i.result c.index-others-i.result c.loop-i-test.true c.index-parts-i.is c.index-others-i.is same),
+      (same_unit_at c.args.parts.now c.args.others.now c.loop-i.i c.index-parts-i.result c.index-others-i.result
+      c.loop-i-test.true c.index-parts-i.is c.index-others-i.is same),
 )
 
 pub same_each_unit-loop-i-preserved : goal.same_each_unit-loop-i-preserved

@@ -14,7 +14,8 @@ returns-then-count-clause-err g c = if_told _ (g.P.PlaceSource.places c.args.fil
 pub returns-then-is_empty-clause-ok : goal.returns-then-is_empty-clause-ok
 returns-then-is_empty-clause-ok g c = if_told _ (g.P.PlaceSource.places c.args.files.now) (λ places told limits seen.
     read-single limits places (kept_in c.args.rows) (length c.keys-2.result.now) seen (ap length c.keys-2.ensures.keys)
-    (rw (← c.keys-3.ensures.keys) (none_twice c.in_ok-repeated.repeated.items c.keys-3.result.now (grind (arith, nat_tests, c.if-is_empty.ensures)) c.in_ok-repeated.ensures.members)))
+    (rw (← c.keys-3.ensures.keys) (none_twice c.in_ok-repeated.repeated.items c.keys-3.result.now
+    (grind (arith, nat_tests, c.if-is_empty.ensures)) c.in_ok-repeated.ensures.members)))
 
 pub compare-requires-clause-covers : goal.compare-requires-clause-covers
 compare-requires-clause-covers g c = rw (← c.keys-3.ensures.keys) (λ key. (c.in_ok-repeated.ensures.members key).1)
@@ -27,4 +28,6 @@ returns-in-Ok-clause-ok g c = if_told _ (g.P.PlaceSource.places c.args.files.now
 
 pub returns-clause-err : goal.returns-clause-err
 returns-clause-err g c = if_told _ (g.P.PlaceSource.places c.args.files.now) (λ places told other own limits room seen.
-    conflict-seen limits places (kept_in c.args.rows) None c.in-Err.fault seen (at_told _ _ places told c.in-Err.ensures.err other own seen.seen seen.beyond (are-seen limits places (kept_in c.args.rows) None seen)))
+    conflict-seen limits places (kept_in c.args.rows) None c.in-Err.fault seen
+    (at_told _ _ places told c.in-Err.ensures.err other own seen.seen seen.beyond
+    (are-seen limits places (kept_in c.args.rows) None seen)))

@@ -5,7 +5,14 @@ use Rattle.snapshot.proofs.RisingLemmas.{not_falling}
 use Rattle.snapshot.proofs.concepts.number_between.Goals as goal
 
 pub returns-then-found-id : goal.returns-then-found-id
-returns-then-found-id c = grind (arith, common_steps, (number_at c.args.ids.now c.requires.rising c.args.id (c.loop-low.low + (c.loop-low.high - c.loop-low.low) / 2)), c.loop-low-test.true, c.loop-low.invariant.within)
+returns-then-found-id c =
+    grind (
+      arith,
+      common_steps,
+      (number_at c.args.ids.now c.requires.rising c.args.id (c.loop-low.low + (c.loop-low.high - c.loop-low.low) / 2)),
+      c.loop-low-test.true,
+      c.loop-low.invariant.within,
+    )
 
 pub loop-low-preserved-then-found-id-2 : goal.loop-low-preserved-then-found-id-2
 loop-low-preserved-then-found-id-2 c =
@@ -24,4 +31,10 @@ loop-low-preserved c =
     }
 
 pub returns : goal.returns
-returns c = grind (arith, (number_nowhere c.args.ids.now c.requires.rising c.args.id c.loop-low.high c.loop-low.invariant.within), c.loop-low.invariant.above, c.loop-low.invariant.below, c.loop-low-test.false)
+returns c = grind (
+  arith,
+  (number_nowhere c.args.ids.now c.requires.rising c.args.id c.loop-low.high c.loop-low.invariant.within),
+  c.loop-low.invariant.above,
+  c.loop-low.invariant.below,
+  c.loop-low-test.false,
+)

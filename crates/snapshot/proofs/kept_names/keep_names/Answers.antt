@@ -6,7 +6,15 @@ use Rattle.snapshot.proofs.SpanLemmas.{extends-both}
 use Rattle.snapshot.proofs.kept_names.keep_names.Goals as goal
 
 pub keep_name-requires-clause-span : goal.keep_name-requires-clause-span
-keep_name-requires-clause-span c = grind (arith, slice_get-get_or, (c.row.ensures (name_read c.row.result)), ((noted-extends c.args.names.now (string_bytes c.args.texts.now) (string_bytes c.loop-place.texts) c.args.spans.now c.requires.noted c.loop-place.invariant.grown).stand c.loop-place.place (name_read c.row.result)))
+keep_name-requires-clause-span c =
+    grind (
+      arith,
+      slice_get-get_or,
+      (c.row.ensures (name_read c.row.result)),
+      ((noted-extends c.args.names.now (string_bytes c.args.texts.now)
+          (string_bytes c.loop-place.texts) c.args.spans.now c.requires.noted c.loop-place.invariant.grown).stand
+          c.loop-place.place (name_read c.row.result)),
+    )
 
 pub loop-place-preserved : goal.loop-place-preserved
 loop-place-preserved c =
@@ -17,7 +25,12 @@ loop-place-preserved c =
       grown = extends-both (string_bytes c.args.texts.now) texts grown kept.grown added.grown;
       few = omega (arith, kept.few, added.few);
       languages = added.languages;
-      kept = kept-push texts grown c.loop-place.languages.items c.keep_name.new.languages.items c.loop-place.kept.items c.push.new.self.items c.in_ok-keep_name.field-0 added.grown added.more c.in_ok-push.ensures.items kept.kept added.kept;
-      names = names-push texts grown c.loop-place.languages.items c.keep_name.new.languages.items c.loop-place.kept.items c.push.new.self.items c.in_ok-keep_name.field-0 added.grown added.more c.in_ok-push.ensures.items kept.kept
-          kept.languages c.args.names.now c.loop-place.place (name_read c.row.result) kept.names added.name (omega arith) (c.row.ensures (name_read c.row.result));
+      kept = kept-push texts grown c.loop-place.languages.items c.keep_name.new.languages.items
+          c.loop-place.kept.items c.push.new.self.items c.in_ok-keep_name.field-0 added.grown added.more
+          c.in_ok-push.ensures.items kept.kept added.kept;
+      names = names-push texts grown c.loop-place.languages.items c.keep_name.new.languages.items
+          c.loop-place.kept.items c.push.new.self.items c.in_ok-keep_name.field-0 added.grown added.more
+          c.in_ok-push.ensures.items kept.kept
+          kept.languages c.args.names.now c.loop-place.place (name_read c.row.result) kept.names added.name
+          (omega arith) (c.row.ensures (name_read c.row.result));
     }

@@ -13,5 +13,8 @@ range-requires-clause-end_boundary c = grind (arith, common_steps, nat_tests, Is
 
 pub returns : goal.returns
 returns c =
-    let (name, line, long, before, behind, found) = named_line c.args.texts.now c.format.result.now c.args.concept c.args.from c.args.to (c.format.ensures.text ∙ ap decimal c.number.ensures.number) c.requires.rise c.requires.end c.requires.line c.if-to-from.false in
+    let (name, line, long, before, behind, found) =
+    named_line c.args.texts.now c.format.result.now c.args.concept c.args.from c.args.to
+    (c.format.ensures.text ∙ ap decimal c.number.ensures.number) c.requires.rise c.requires.end c.requires.line
+    c.if-to-from.false in
     grind (arith, line, found, c.range.ensures.value, c.format.ensures.text, c.number.ensures.number)

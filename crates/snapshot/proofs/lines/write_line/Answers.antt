@@ -17,8 +17,24 @@ pub returns-in_ok-span-in-Some-clause-noted : goal.returns-in_ok-span-in-Some-cl
 returns-in_ok-span-in-Some-clause-noted c =
     let names = c.args.names.now in
     let name = name_read c.row.result in
-    let kept = noted-extends names (string_bytes c.args.texts.now) (string_bytes c.push_named.new.texts) c.args.spans.now.items c.requires.noted (concept_line (λ _. Some name.term) c.args.concept, c.in_ok-span-in-Some.ensures.line) in
-    noted-set names (string_bytes c.push_named.new.texts) c.args.spans.now.items c.in-Some.place name c.in_ok-span-in-Some.span kept (grind (arith, c.in-Some.is, c.requires.within, (slice_get-get_or names c.in-Some.place name), (c.row.ensures name))) c.in_ok-span-in-Some.ensures.span
+    let kept = noted-extends names (string_bytes c.args.texts.now)
+    (string_bytes c.push_named.new.texts) c.args.spans.now.items c.requires.noted
+    (concept_line (λ _. Some name.term) c.args.concept, c.in_ok-span-in-Some.ensures.line) in
+    noted-set names (string_bytes c.push_named.new.texts) c.args.spans.now.items c.in-Some.place name
+    c.in_ok-span-in-Some.span kept (grind (
+      arith,
+      c.in-Some.is,
+      c.requires.within,
+      (slice_get-get_or names c.in-Some.place name),
+      (c.row.ensures name),
+    )) c.in_ok-span-in-Some.ensures.span
 
 pub returns-in-None-clause-noted : goal.returns-in-None-clause-noted
-returns-in-None-clause-noted c = grind (arith, on_ok_weaker, (noted-extends c.args.names.now (string_bytes c.args.texts.now) (string_bytes c.push_bare.new.texts) c.args.spans.now.items c.requires.noted), c.push_bare.ensures)
+returns-in-None-clause-noted c =
+    grind (
+      arith,
+      on_ok_weaker,
+      (noted-extends c.args.names.now (string_bytes c.args.texts.now)
+          (string_bytes c.push_bare.new.texts) c.args.spans.now.items c.requires.noted),
+      c.push_bare.ensures,
+    )

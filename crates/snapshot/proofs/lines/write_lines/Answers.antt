@@ -10,8 +10,20 @@ loop-number-preserved c =
     let texts_after = string_bytes c.write_line.new.texts in
     let name = option_map (λ (row : Name). row.term) (option_and_then (slice_get c.args.names.now) (get_or c.args.places.now c.loop-number.number None)) in
     let line = concept_line (λ _. name) c.index-concepts-number.result in
-    let pushed = line-pushed c.loop-number.starts.items c.push-in-loop-number.new.self.items texts texts_after line c.len.result c.in_ok-write_line.ensures.line (omega (arith, c.len.ensures, c.write_line.new.texts.bytes.ok.0)) c.in_ok-push-2.ensures.items c.loop-number.invariant.starts in record {
-      starts = starts-pushed c.loop-number.starts.items c.push-in-loop-number.new.self.items texts texts_after line c.len.result c.in_ok-write_line.ensures.line (omega (arith, c.len.ensures, c.write_line.new.texts.bytes.ok.0)) c.in_ok-push-2.ensures.items c.loop-number.invariant.starts;
-      lines = λ language are. grind (arith, pushed, (c.loop-number.invariant.lines language are), (lines-more language c.args.concepts.now c.args.names.now c.args.places.now c.loop-number.number c.index-concepts-number.result name are c.loop-number-test.true c.index-concepts-number.is (λ i. name)));
+    let pushed = line-pushed c.loop-number.starts.items c.push-in-loop-number.new.self.items texts texts_after line
+    c.len.result c.in_ok-write_line.ensures.line
+    (omega (arith, c.len.ensures, c.write_line.new.texts.bytes.ok.0)) c.in_ok-push-2.ensures.items
+    c.loop-number.invariant.starts in record {
+      starts = starts-pushed c.loop-number.starts.items c.push-in-loop-number.new.self.items texts texts_after line
+          c.len.result c.in_ok-write_line.ensures.line
+          (omega (arith, c.len.ensures, c.write_line.new.texts.bytes.ok.0)) c.in_ok-push-2.ensures.items
+          c.loop-number.invariant.starts;
+      lines = λ language are. grind (
+        arith,
+        pushed,
+        (c.loop-number.invariant.lines language are),
+        (lines-more language c.args.concepts.now c.args.names.now c.args.places.now c.loop-number.number
+            c.index-concepts-number.result name are c.loop-number-test.true c.index-concepts-number.is (λ i. name)),
+      );
       noted = c.in_ok-write_line.ensures.noted;
     }

@@ -22,7 +22,9 @@ cycle_fault-requires-clause-few c = grind (arith, common_steps, nat_tests, lengt
 pub returns-in-Some-clause-acyclic : goal.returns-in-Some-clause-acyclic
 returns-in-Some-clause-acyclic c =
     let ordered = rw c.in-Some.is at c.in_ok-order.ensures.order in
-    first_cyclic-None c.args.concepts.now c.len.ensures.rising c.args.ends.now (λ k below chain. ordered_acyclic c.len.result c.as_slice.result.now c.in-Some.order.items ordered k (omega (arith, below, c.len.ensures.count)) (rw (c.as_slice.ensures.value, c.in_ok-isa.ensures) chain))
+    first_cyclic-None c.args.concepts.now c.len.ensures.rising c.args.ends.now
+    (λ k below chain. ordered_acyclic c.len.result c.as_slice.result.now c.in-Some.order.items ordered k
+    (omega (arith, below, c.len.ensures.count)) (rw (c.as_slice.ensures.value, c.in_ok-isa.ensures) chain))
 
 pub returns-in-None-clause-cycle : goal.returns-in-None-clause-cycle
 returns-in-None-clause-cycle c = grind (arith, common_steps, nat_tests, least_cycle)

@@ -11,8 +11,12 @@ pub first_of_two-first-requires-clause-later : goal.first_of_two-first-requires-
 first_of_two-first-requires-clause-later c =
     let names = map (name_in c.args.texts.now) c.args.rows.now in
     let keys = c.args.concepts.now in
-    let read = place_read c.args.language.now keys c.number.result names (drop c.loop-place.place names) c.loop-place.places.items c.in-Some.number c.index-later.result.now c.loop-place.invariant (sym c.index_of.ensures ∙ c.in-Some.is) c.index-later.ensures in
-    first_within c.args.language.now (get_or keys c.in-Some.number 0) c.args.texts.now c.args.rows.now (drop c.loop-place.place names) c.index-later.result.now (grind (arith, read.1, (c.loop-place.invariant.1 c.in-Some.number read.0)))
+    let read = place_read c.args.language.now keys c.number.result names
+    (drop c.loop-place.place names) c.loop-place.places.items c.in-Some.number c.index-later.result.now
+    c.loop-place.invariant (sym c.index_of.ensures ∙ c.in-Some.is) c.index-later.ensures in
+    first_within c.args.language.now (get_or keys c.in-Some.number 0) c.args.texts.now c.args.rows.now
+    (drop c.loop-place.place names) c.index-later.result.now
+    (grind (arith, read.1, (c.loop-place.invariant.1 c.in-Some.number read.0)))
 
 pub loop-place-preserved-in-Some : goal.loop-place-preserved-in-Some
 loop-place-preserved-in-Some c =
@@ -20,14 +24,29 @@ loop-place-preserved-in-Some c =
     let keys = c.args.concepts.now in
     let behind = drop c.loop-place.place names in
     let row = name_in c.args.texts.now c.index-rows-place.result in
-    let own : concept_number keys row.concept ≡ Some c.in-Some.number = grind (arith, c.index-rows-place.is, c.number.ensures.number, c.index_of.ensures, c.in-Some.is) in
-    let read = place_read c.args.language.now keys row.concept names behind c.loop-place.places.items c.in-Some.number c.index-later.result.now c.loop-place.invariant own c.index-later.ensures in
-    subst (λ (some : List Name). AreFirstPlaces c.args.language.now keys names some (set c.loop-place.places.items c.in-Some.number (Some c.first_of_two-first.result)))
+    let own : concept_number keys row.concept ≡ Some c.in-Some.number =
+    grind (arith, c.index-rows-place.is, c.number.ensures.number, c.index_of.ensures, c.in-Some.is) in
+    let read = place_read c.args.language.now keys row.concept names behind c.loop-place.places.items
+    c.in-Some.number c.index-later.result.now c.loop-place.invariant own c.index-later.ensures in
+    subst (λ (some : List Name). AreFirstPlaces c.args.language.now keys names some
+    (set c.loop-place.places.items c.in-Some.number (Some c.first_of_two-first.result)))
     (sym (names_from c.args.texts.now c.args.rows.now c.loop-place.place c.index-rows-place.result c.loop-place-test.true (omega arith) c.index-rows-place.is))
-    (first_places-own c.args.language.now keys names behind row (c.loop-place.place - 1) c.in-Some.number c.first_of_two-first.result c.loop-place.places.items c.len.ensures.rising own
-    (name_at c.args.texts.now c.args.rows.now (c.loop-place.place - 1) c.index-rows-place.result (omega arith) c.index-rows-place.is) (grind (arith, read.1, c.first_of_two-first.ensures)) c.loop-place.invariant)
+    (first_places-own c.args.language.now keys names behind row
+    (c.loop-place.place - 1) c.in-Some.number c.first_of_two-first.result c.loop-place.places.items c.len.ensures.rising own
+    (name_at c.args.texts.now c.args.rows.now (c.loop-place.place - 1) c.index-rows-place.result
+    (omega arith) c.index-rows-place.is) (grind (arith, read.1, c.first_of_two-first.ensures)) c.loop-place.invariant)
 
 pub loop-place-preserved : goal.loop-place-preserved
 loop-place-preserved c =
     let names = map (name_in c.args.texts.now) c.args.rows.now in
-    grind (arith, (names_from c.args.texts.now c.args.rows.now c.loop-place.place c.index-rows-place.result), (first_places-other c.args.language.now c.args.concepts.now names (drop c.loop-place.place names) (name_in c.args.texts.now c.index-rows-place.result) c.loop-place.places.items), c.index-rows-place.is, c.number.ensures.number, c.index_of.ensures, c.in_default.is, c.loop-place.invariant)
+    grind (
+      arith,
+      (names_from c.args.texts.now c.args.rows.now c.loop-place.place c.index-rows-place.result),
+      (first_places-other c.args.language.now c.args.concepts.now names (drop c.loop-place.place names)
+          (name_in c.args.texts.now c.index-rows-place.result) c.loop-place.places.items),
+      c.index-rows-place.is,
+      c.number.ensures.number,
+      c.index_of.ensures,
+      c.in_default.is,
+      c.loop-place.invariant,
+    )

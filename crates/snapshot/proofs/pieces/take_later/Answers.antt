@@ -6,7 +6,9 @@ pub loop-turn-preserved : goal.loop-turn-preserved
 loop-turn-preserved g c = record {
   left = λ rest told few. LinesLeft-next g.T.PlaceTaker.takes g.T.PlaceTaker.refuses c.args.file c.args.kind c.args.taker.now c.loop-turn.taker c.take.new.self
       _ c.args.turns c.loop-turn.turn _ _ c.loop-turn.lines c.next_line.follows.lender-at-none c.next_line.result c.in-Ok-Some.line
-      (c.loop-turn.invariant.left rest told few) (gives_next c.next_line.result _ _ _ _ _ _ c.next_line.follows.holds-at-none) (c.in-Ok-Some.is ∙ ap Ok c.in-Ok-Some.field-0-is) c.in-Ok.ensures.ok;
+      (c.loop-turn.invariant.left rest told few)
+      (gives_next c.next_line.result _ _ _ _ _ _ c.next_line.follows.holds-at-none)
+      (c.in-Ok-Some.is ∙ ap Ok c.in-Ok-Some.field-0-is) c.in-Ok.ensures.ok;
   takes = takes_on _ _ _ _ _ _ c.loop-turn.invariant.takes
       (takes_next c.next_line.result (Some c.in-Ok-Some.line) _ _ _ _ _ _ c.next_line.follows.holds-at-none (c.in-Ok-Some.is ∙ ap Ok c.in-Ok-Some.field-0-is));
   files = c.in-Ok-Some.ensures.files ∙ c.loop-turn.invariant.files;
@@ -17,13 +19,17 @@ pub returns-in-Err-take-clause-goes : goal.returns-in-Err-take-clause-goes
 returns-in-Err-take-clause-goes g c rest told few other =
     inr (LinesLeft-stop g.T.PlaceTaker.takes g.T.PlaceTaker.refuses c.args.file c.args.kind c.args.taker.now c.loop-turn.taker c.take.new.self
     _ c.args.turns c.loop-turn.turn _ _ c.loop-turn.lines c.next_line.follows.lender-at-none c.next_line.result c.in-Ok-Some.line c.in-Err-take.fault
-    (c.loop-turn.invariant.left rest told few) (gives_next c.next_line.result _ _ _ _ _ _ c.next_line.follows.holds-at-none) (c.in-Ok-Some.is ∙ ap Ok c.in-Ok-Some.field-0-is) (c.in-Err-take.ensures.err other))
+    (c.loop-turn.invariant.left rest told few)
+    (gives_next c.next_line.result _ _ _ _ _ _ c.next_line.follows.holds-at-none)
+    (c.in-Ok-Some.is ∙ ap Ok c.in-Ok-Some.field-0-is) (c.in-Err-take.ensures.err other))
 
 pub returns-in-Ok-None-clause-goes : goal.returns-in-Ok-None-clause-goes
 returns-in-Ok-None-clause-goes g c rest told few =
     LinesLeft-end g.T.PlaceTaker.takes g.T.PlaceTaker.refuses c.args.file c.args.kind c.args.taker.now c.loop-turn.taker
     _ c.args.turns c.loop-turn.turn _ _ c.loop-turn.lines c.next_line.follows.lender-at-none c.next_line.result
-    (c.loop-turn.invariant.left rest told few) (gives_next c.next_line.result _ _ _ _ _ _ c.next_line.follows.holds-at-none) (c.in-Ok-None.is ∙ ap Ok c.in-Ok-None.field-0-is)
+    (c.loop-turn.invariant.left rest told few)
+    (gives_next c.next_line.result _ _ _ _ _ _ c.next_line.follows.holds-at-none)
+    (c.in-Ok-None.is ∙ ap Ok c.in-Ok-None.field-0-is)
 
 pub returns-in-Err-take-clause-bounded : goal.returns-in-Err-take-clause-bounded
 returns-in-Err-take-clause-bounded g c other own = takes_most _ _ _ _ c.args.lines.held.left (omega arith)

@@ -5,7 +5,16 @@ use Rattle.snapshot.proofs.TakingLemmas.{Leads-end, Leads-on, places_from-end, p
 use Rattle.snapshot.proofs.places.take_files.Goals as goal
 
 pub loop-file-preserved : goal.loop-file-preserved
-loop-file-preserved g c = grind (arith, (Leads-on g.T.PlaceTaker.takes g.T.PlaceTaker.refuses c.args.taker.now c.loop-file.taker c.take_named.new.taker (places_from 0 (map file_text c.args.files.now))), (places_from-next c.loop-file.file c.args.files.now), c.loop-file-test.true, c.loop-file.invariant, c.in-Ok.ensures.ok)
+loop-file-preserved g c =
+    grind (
+      arith,
+      (Leads-on g.T.PlaceTaker.takes g.T.PlaceTaker.refuses c.args.taker.now c.loop-file.taker
+          c.take_named.new.taker (places_from 0 (map file_text c.args.files.now))),
+      (places_from-next c.loop-file.file c.args.files.now),
+      c.loop-file-test.true,
+      c.loop-file.invariant,
+      c.in-Ok.ensures.ok,
+    )
 
 pub returns-clause-ok : goal.returns-clause-ok
 returns-clause-ok g c = grind (arith, Leads-end, (places_from-end c.loop-file.file c.args.files.now c.loop-file-test.false), c.loop-file.invariant)

@@ -6,4 +6,5 @@ use Rattle.snapshot.proofs.places.take_files.Given as goal
 
 abbrev pub invariant-loop-file : goal.invariant-loop-file
 invariant-loop-file g l =
-    Leads g.T.PlaceTaker.takes g.T.PlaceTaker.refuses l.initial.taker (places_from 0 (map file_text l.files)) l.taker (places_from l.file (map file_text (drop l.file l.files)))
+    Leads g.T.PlaceTaker.takes g.T.PlaceTaker.refuses l.initial.taker (places_from 0 (map file_text l.files)) l.taker
+    (places_from l.file (map file_text (drop l.file l.files)))

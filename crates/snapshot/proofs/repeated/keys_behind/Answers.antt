@@ -18,7 +18,8 @@ loop-key-preserved c =
       })
       | else-key-highest w ↦ rw (w.behind-is, w.highest-is) (record {
         behind = behind_kept keys c.loop-key.behind.items place c.loop-key-test.true seen.behind highest seen.highest w.if-key-highest.false;
-        highest = All-more (λ other. other ≤ key) keys place 0 c.loop-key-test.true (λ k d lt. let low = seen.highest k d lt in omega (arith, low, w.if-key-highest.false)) (omega arith);
+        highest = All-more (λ other. other ≤ key) keys place 0 c.loop-key-test.true
+            (λ k d lt. let low = seen.highest k d lt in omega (arith, low, w.if-key-highest.false)) (omega arith);
       })
     ]
 

@@ -12,7 +12,8 @@ returns c =
     let are = dedup_is nat_eq sorted c.dedup.new.self.items c.dedup.ensures.filtered in record {
       rising = once_rises c.in_ok-repeated.repeated.items sorted c.dedup.new.self.items c.sort_unstable.ensures.permutation c.sort_unstable.ensures.sorted are;
       members = λ key.
-          let once = once_members c.in_ok-repeated.repeated.items sorted c.dedup.new.self.items c.sort_unstable.ensures.permutation c.sort_unstable.ensures.sorted are key in
+          let once = once_members c.in_ok-repeated.repeated.items sorted c.dedup.new.self.items
+          c.sort_unstable.ensures.permutation c.sort_unstable.ensures.sorted are key in
           let again = c.in_ok-repeated.ensures.members key in
           ((λ there. again.0 (once.0 there)), (λ twice. once.1 (again.1 twice)));
       few = omega (arith, c.in_ok-repeated.ensures.few, c.sort_unstable.ensures.len, c.dedup.ensures.bound);

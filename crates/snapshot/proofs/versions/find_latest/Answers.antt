@@ -19,4 +19,11 @@ loop-number-preserved c =
     let within : number < length versions = omega arith in
     let among : code / 2 ^ 32 < length latest = grind (arith, c.requires number no_version, c.code_and_place-code.ensures.code no_version) in
     let takes = latest_takes latest versions number no_version within c.loop-number.invariant.1 code (c.code_and_place-code.ensures.code no_version) among in
-    grind (arith, common_steps, length-set, takes, latest_keeps latest versions number no_version within c.loop-number.invariant.1 code (c.code_and_place-code.ensures.code no_version))
+    grind (
+      arith,
+      common_steps,
+      length-set,
+      takes,
+      latest_keeps latest versions number no_version within c.loop-number.invariant.1 code
+          (c.code_and_place-code.ensures.code no_version),
+    )

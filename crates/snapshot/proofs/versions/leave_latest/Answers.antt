@@ -19,12 +19,25 @@ loop-number-preserved c =
     let number = c.loop-number.number in
     let within : number < length versions = omega arith in
     let at = c.code_and_place-code.ensures in
-    let placed : c.code_and_place-code.result.1 < length chosen = omega (arith, c.requires.places number no_version within, at.place no_version, c.loop-number.invariant.0) in
-    let more = without_more chosen c.args.chosen.now.items versions number no_version within c.loop-number.invariant.1 c.code_and_place-code.result.1 (at.place no_version) placed in
+    let placed : c.code_and_place-code.result.1 < length chosen =
+    omega (arith, c.requires.places number no_version within, at.place no_version, c.loop-number.invariant.0) in
+    let more = without_more chosen c.args.chosen.now.items versions number no_version within
+    c.loop-number.invariant.1 c.code_and_place-code.result.1 (at.place no_version) placed in
     let keeps = without_keeps chosen c.args.chosen.now.items versions number no_version within c.loop-number.invariant.1 in
-    grind (arith, common_steps, nat_tests, length-set, c.requires.latest c.code_and_place-code.result.0, c.requires.keys number no_version, at.code no_version, more, keeps)
+    grind (
+      arith,
+      common_steps,
+      nat_tests,
+      length-set,
+      c.requires.latest c.code_and_place-code.result.0,
+      c.requires.keys number no_version,
+      at.code no_version,
+      more,
+      keeps,
+    )
 
 pub returns : goal.returns
 returns c =
     let are = rw (take_all c.loop-number.number c.args.versions.now (omega arith)) at c.loop-number.invariant.1 in
-    without_from (is_older c.args.versions.now) 0 c.loop-number.chosen.items c.args.chosen.now.items c.loop-number.invariant.0 (λ k at is. rw (is, zero-add k) (are k))
+    without_from (is_older c.args.versions.now) 0 c.loop-number.chosen.items c.args.chosen.now.items
+    c.loop-number.invariant.0 (λ k at is. rw (is, zero-add k) (are k))

@@ -17,5 +17,6 @@ loop-at-preserved g c =
       within = search rules;
       sound = search rules;
       bytes = subst (Appends (g.W.AnswerOutput.written c.args.output.now) (g.W.AnswerOutput.written c.write.new.self)) both
-          (Appends-trans (g.W.AnswerOutput.written c.args.output.now) (g.W.AnswerOutput.written c.loop-at.output) (g.W.AnswerOutput.written c.write.new.self) _ _ c.loop-at.invariant.bytes c.in-Ok.ensures.bytes);
+          (Appends-trans (g.W.AnswerOutput.written c.args.output.now) (g.W.AnswerOutput.written c.loop-at.output)
+          (g.W.AnswerOutput.written c.write.new.self) _ _ c.loop-at.invariant.bytes c.in-Ok.ensures.bytes);
     }

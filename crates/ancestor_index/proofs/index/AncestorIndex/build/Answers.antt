@@ -12,7 +12,9 @@ use Rattle.ancestor_index.proofs.CompleteLemmas.{rising}
 use Rattle.ancestor_index.proofs.index.AncestorIndex.build.Goals as goal
 
 pub linked_lists-requires-clause-within : goal.linked_lists-requires-clause-within
-linked_lists-requires-clause-within c = subst (λ (n : ℕ). IsWithin n c.isa_rows-rows.result.now) (sym c.concept_count-count.ensures.count) c.isa_rows-rows.ensures.within
+linked_lists-requires-clause-within c =
+    subst (λ (n : ℕ). IsWithin n c.isa_rows-rows.result.now)
+    (sym c.concept_count-count.ensures.count) c.isa_rows-rows.ensures.within
 
 pub turned-requires-clause-items : goal.turned-requires-clause-items
 turned-requires-clause-items c =
@@ -21,7 +23,12 @@ turned-requires-clause-items c =
 pub turned-requires-clause-few : goal.turned-requires-clause-few
 turned-requires-clause-few c =
     let fit : c.concept_count-count.result < 2 ^ 32 = c.concept_count-count.type_inv in
-    omega (arith, ap (λ (all : List (List ℕ)). length all) c.in_ok-parents.ensures, length-where c.concept_count-count.result (is_child c.isa_rows-rows.result.now), fit)
+    omega (
+      arith,
+      ap (λ (all : List (List ℕ)). length all) c.in_ok-parents.ensures,
+      length-where c.concept_count-count.result (is_child c.isa_rows-rows.result.now),
+      fit,
+    )
 
 pub ancestor_lists-requires-clause-few : goal.ancestor_lists-requires-clause-few
 ancestor_lists-requires-clause-few c =
@@ -44,7 +51,8 @@ turned_rising-requires-clause-items c =
     let rows = c.isa_rows-rows.result.now in
     let count = c.concept_count-count.result in
     let all = length c.args.snapshot.now.release.concepts in
-    let ancestors = ancestors_told all count rows c.in_ok-parents.parents c.in_ok-ancestors.ancestors c.parents_first.result.now c.concept_count-count.ensures.count c.isa_rows-rows.ensures.within c.in_ok-parents.ensures
+    let ancestors = ancestors_told all count rows c.in_ok-parents.parents c.in_ok-ancestors.ancestors
+    c.parents_first.result.now c.concept_count-count.ensures.count c.isa_rows-rows.ensures.within c.in_ok-parents.ensures
     (c.parents_first.ensures rows c.isa_rows-rows.ensures.rows c.isa_rows-rows.ensures.within) c.in_ok-ancestors.ensures in
     where_below count (reaches rows) c.in_ok-ancestors.ancestors ancestors
 
@@ -54,7 +62,8 @@ turned_rising-requires-clause-few c =
     let rows = c.isa_rows-rows.result.now in
     let count = c.concept_count-count.result in
     let all = length c.args.snapshot.now.release.concepts in
-    let ancestors = ancestors_told all count rows c.in_ok-parents.parents c.in_ok-ancestors.ancestors c.parents_first.result.now c.concept_count-count.ensures.count c.isa_rows-rows.ensures.within c.in_ok-parents.ensures
+    let ancestors = ancestors_told all count rows c.in_ok-parents.parents c.in_ok-ancestors.ancestors
+    c.parents_first.result.now c.concept_count-count.ensures.count c.isa_rows-rows.ensures.within c.in_ok-parents.ensures
     (c.parents_first.ensures rows c.isa_rows-rows.ensures.rows c.isa_rows-rows.ensures.within) c.in_ok-ancestors.ensures in
     omega (arith, ap (λ (lists : List (List ℕ)). length lists) ancestors, length-where count (reaches rows), fit)
 
@@ -63,7 +72,8 @@ turned_rising-requires-clause-rising c =
     let rows = c.isa_rows-rows.result.now in
     let count = c.concept_count-count.result in
     let all = length c.args.snapshot.now.release.concepts in
-    let ancestors = ancestors_told all count rows c.in_ok-parents.parents c.in_ok-ancestors.ancestors c.parents_first.result.now c.concept_count-count.ensures.count c.isa_rows-rows.ensures.within c.in_ok-parents.ensures
+    let ancestors = ancestors_told all count rows c.in_ok-parents.parents c.in_ok-ancestors.ancestors
+    c.parents_first.result.now c.concept_count-count.ensures.count c.isa_rows-rows.ensures.within c.in_ok-parents.ensures
     (c.parents_first.ensures rows c.isa_rows-rows.ensures.rows c.isa_rows-rows.ensures.within) c.in_ok-ancestors.ensures in
     subst (λ (lists : List (List ℕ)). All IsStrictlyIncreasing lists) (sym ancestors) (rising count (reaches rows))
 
@@ -72,31 +82,49 @@ wide_lists-requires-clause-items c =
     let rows = c.isa_rows-rows.result.now in
     let count = c.concept_count-count.result in
     let all = length c.args.snapshot.now.release.concepts in
-    let ancestors = ancestors_told all count rows c.in_ok-parents.parents c.in_ok-ancestors.ancestors c.parents_first.result.now c.concept_count-count.ensures.count c.isa_rows-rows.ensures.within c.in_ok-parents.ensures
+    let ancestors = ancestors_told all count rows c.in_ok-parents.parents c.in_ok-ancestors.ancestors
+    c.parents_first.result.now c.concept_count-count.ensures.count c.isa_rows-rows.ensures.within c.in_ok-parents.ensures
     (c.parents_first.ensures rows c.isa_rows-rows.ensures.rows c.isa_rows-rows.ensures.within) c.in_ok-ancestors.ensures in
-    let descendants : c.in_ok-descendants.descendants ≡ lists_where count (λ concept other. reaches rows other concept) = c.in_ok-descendants.ensures ∙ ap (turned count) ancestors ∙ turned_where count (reaches rows) in
+    let descendants : c.in_ok-descendants.descendants
+    ≡ lists_where count (λ concept other. reaches rows other concept) = c.in_ok-descendants.ensures
+    ∙ ap (turned count) ancestors ∙ turned_where count (reaches rows) in
     where_below count (λ concept other. reaches rows other concept) c.in_ok-descendants.descendants descendants
 
 pub wide_lists-requires-clause-few : goal.wide_lists-requires-clause-few
 wide_lists-requires-clause-few c =
     let fit : c.concept_count-count.result < 2 ^ 32 = c.concept_count-count.type_inv in
-    omega (arith, fit, ap (λ (lists : List (List ℕ)). length lists) c.in_ok-descendants.ensures, length-lists_by c.concept_count-count.result (turned_from 0 c.in_ok-ancestors.ancestors))
+    omega (
+      arith,
+      fit,
+      ap (λ (lists : List (List ℕ)). length lists) c.in_ok-descendants.ensures,
+      length-lists_by c.concept_count-count.result (turned_from 0 c.in_ok-ancestors.ancestors),
+    )
 
 pub invariant_of-result : goal.invariant_of-result
 invariant_of-result c =
     let fit : c.concept_count-count.result < 2 ^ 32 = c.concept_count-count.type_inv in
     let long : length c.in_ok-descendants.descendants ≡ c.concept_count-count.result =
-    ap (λ (lists : List (List ℕ)). length lists) c.in_ok-descendants.ensures ∙ length-lists_by c.concept_count-count.result (turned_from 0 c.in_ok-ancestors.ancestors) in
-    (omega (arith, fit, long), subst (λ (n : ℕ). AreWide n c.in_ok-descendants.descendants c.in_ok-wide.wide.ends.items c.in_ok-wide.wide.words.items) (sym long) c.in_ok-wide.ensures)
+    ap (λ (lists : List (List ℕ)). length lists) c.in_ok-descendants.ensures
+    ∙ length-lists_by c.concept_count-count.result (turned_from 0 c.in_ok-ancestors.ancestors) in (
+      omega (arith, fit, long),
+      subst (λ (n : ℕ). AreWide n c.in_ok-descendants.descendants c.in_ok-wide.wide.ends.items
+          c.in_ok-wide.wide.words.items) (sym long) c.in_ok-wide.ensures,
+    )
 
 pub returns-clause-hierarchy : goal.returns-clause-hierarchy
 returns-clause-hierarchy c =
     let rows = c.isa_rows-rows.result.now in
     let count = c.concept_count-count.result in
     let all = length c.args.snapshot.now.release.concepts in
-    let ancestors = ancestors_told all count rows c.in_ok-parents.parents c.in_ok-ancestors.ancestors c.parents_first.result.now c.concept_count-count.ensures.count c.isa_rows-rows.ensures.within c.in_ok-parents.ensures
+    let ancestors = ancestors_told all count rows c.in_ok-parents.parents c.in_ok-ancestors.ancestors
+    c.parents_first.result.now c.concept_count-count.ensures.count c.isa_rows-rows.ensures.within c.in_ok-parents.ensures
     (c.parents_first.ensures rows c.isa_rows-rows.ensures.rows c.isa_rows-rows.ensures.within) c.in_ok-ancestors.ensures in
-    let children : c.in_ok-children.children ≡ lists_where count (λ concept other. is_child rows other concept) = c.in_ok-children.ensures ∙ ap (turned count) c.in_ok-parents.ensures ∙ turned_where count (is_child rows) in
-    let descendants : c.in_ok-descendants.descendants ≡ lists_where count (λ concept other. reaches rows other concept) = c.in_ok-descendants.ensures ∙ ap (turned count) ancestors ∙ turned_where count (reaches rows) in
-    hierarchy_told c.args.snapshot.now.release rows count c.concept_count-count.ensures.count c.concept_count-count.ensures.rising c.isa_rows-rows.ensures.within c.isa_rows-rows.ensures.rows
-    c.in_ok-ancestors.ancestors c.in_ok-descendants.descendants c.in_ok-parents.parents c.in_ok-children.children ancestors descendants c.in_ok-parents.ensures children
+    let children : c.in_ok-children.children ≡ lists_where count (λ concept other. is_child rows other concept) =
+    c.in_ok-children.ensures ∙ ap (turned count) c.in_ok-parents.ensures ∙ turned_where count (is_child rows) in
+    let descendants : c.in_ok-descendants.descendants
+    ≡ lists_where count (λ concept other. reaches rows other concept) = c.in_ok-descendants.ensures
+    ∙ ap (turned count) ancestors ∙ turned_where count (reaches rows) in
+    hierarchy_told c.args.snapshot.now.release rows count c.concept_count-count.ensures.count
+    c.concept_count-count.ensures.rising c.isa_rows-rows.ensures.within c.isa_rows-rows.ensures.rows
+    c.in_ok-ancestors.ancestors c.in_ok-descendants.descendants c.in_ok-parents.parents c.in_ok-children.children
+    ancestors descendants c.in_ok-parents.ensures children

@@ -9,4 +9,6 @@ returns-in_ok-items-2-clause-items c =
     let theirs = c.args.other.now in
     c.in_ok-items-2.ensures
     ∙ (λ i. common_items (c.deref-else-len.ensures.value i) (c.deref-else-len-2.ensures.value i))
-    ∙ common_items-swap (2 ^ 32) theirs.items.items mine.items.items (rising_fits theirs.bound theirs.items.items theirs.rising theirs.small) (rising_fits mine.bound mine.items.items mine.rising mine.small)
+    ∙ common_items-swap (2 ^ 32) theirs.items.items mine.items.items
+    (rising_fits theirs.bound theirs.items.items theirs.rising theirs.small)
+    (rising_fits mine.bound mine.items.items mine.rising mine.small)

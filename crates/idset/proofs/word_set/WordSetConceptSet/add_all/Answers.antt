@@ -15,7 +15,9 @@ invariant_of-self c =
     let mine = c.args.self.now in
     let made = c.mark_all.new.words in
     let whole = take_at made (drop (length made) mine.words.items) mine.words.len (omega (arith, c.mark_all.auto.words, c.deref_mut.ensures.len)) in
-    let holds = holds_more mine.bound mine.words.items made c.args.items.now mine.held c.requires (c.mark_all.auto.words ∙ ap length c.deref_mut.ensures.value) (λ n. c.mark_all.ensures n ∙ (λ i. is_set (c.deref_mut.ensures.value i) n || has_item c.args.items.now n)) in
+    let holds = holds_more mine.bound mine.words.items made c.args.items.now mine.held c.requires
+    (c.mark_all.auto.words ∙ ap length c.deref_mut.ensures.value)
+    (λ n. c.mark_all.ensures n ∙ (λ i. is_set (c.deref_mut.ensures.value i) n || has_item c.args.items.now n)) in
     record {
       held = subst (λ (words : List ℕ). AreWordsBelow mine.bound words) (sym whole) holds.held;
       small = mine.small;
@@ -27,5 +29,7 @@ returns-clause-items c =
     let mine = c.args.self.now in
     let made = c.mark_all.new.words in
     let whole = take_at made (drop (length made) mine.words.items) mine.words.len (omega (arith, c.mark_all.auto.words, c.deref_mut.ensures.len)) in
-    let holds = holds_more mine.bound mine.words.items made c.args.items.now mine.held c.requires (c.mark_all.auto.words ∙ ap length c.deref_mut.ensures.value) (λ n. c.mark_all.ensures n ∙ (λ i. is_set (c.deref_mut.ensures.value i) n || has_item c.args.items.now n)) in
+    let holds = holds_more mine.bound mine.words.items made c.args.items.now mine.held c.requires
+    (c.mark_all.auto.words ∙ ap length c.deref_mut.ensures.value)
+    (λ n. c.mark_all.ensures n ∙ (λ i. is_set (c.deref_mut.ensures.value i) n || has_item c.args.items.now n)) in
     (λ i. numbers_where mine.bound (is_set (whole i))) ∙ holds.items

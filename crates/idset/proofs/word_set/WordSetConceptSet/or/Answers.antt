@@ -7,13 +7,16 @@ pub or_words-requires : goal.or_words-requires
 or_words-requires c =
     let mine = c.args.self.now in
     let theirs = c.args.other.now in
-    ap length c.deref-2.ensures.value ∙ same_words mine.bound theirs.bound mine.words.items theirs.words.items c.requires mine.held theirs.held ∙ sym (ap length c.deref.ensures.value)
+    ap length c.deref-2.ensures.value
+    ∙ same_words mine.bound theirs.bound mine.words.items theirs.words.items c.requires mine.held theirs.held
+    ∙ sym (ap length c.deref.ensures.value)
 
 pub invariant_of-result : goal.invariant_of-result
 invariant_of-result c =
     let mine = c.args.self.now in
     let theirs = c.args.other.now in
-    let made : c.in_ok-words.words.items ≡ zip2 bit_or mine.words.items theirs.words.items = c.in_ok-words.ensures ∙ (λ i. zip2 bit_or (c.deref.ensures.value i) (c.deref-2.ensures.value i)) in
+    let made : c.in_ok-words.words.items ≡ zip2 bit_or mine.words.items theirs.words.items = c.in_ok-words.ensures
+    ∙ (λ i. zip2 bit_or (c.deref.ensures.value i) (c.deref-2.ensures.value i)) in
     let holds = holds_or mine.bound theirs.bound mine.words.items theirs.words.items c.in_ok-words.words.items c.requires mine.held theirs.held made in
     record { held = holds.held; small = mine.small; rising = holds.rising }
 
@@ -21,5 +24,6 @@ pub returns-clause-items : goal.returns-clause-items
 returns-clause-items c =
     let mine = c.args.self.now in
     let theirs = c.args.other.now in
-    let made : c.in_ok-words.words.items ≡ zip2 bit_or mine.words.items theirs.words.items = c.in_ok-words.ensures ∙ (λ i. zip2 bit_or (c.deref.ensures.value i) (c.deref-2.ensures.value i)) in
+    let made : c.in_ok-words.words.items ≡ zip2 bit_or mine.words.items theirs.words.items = c.in_ok-words.ensures
+    ∙ (λ i. zip2 bit_or (c.deref.ensures.value i) (c.deref-2.ensures.value i)) in
     (holds_or mine.bound theirs.bound mine.words.items theirs.words.items c.in_ok-words.words.items c.requires mine.held theirs.held made).items

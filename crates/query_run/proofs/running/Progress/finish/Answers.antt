@@ -13,7 +13,8 @@ no_line line count empty counted is holds =
     ap query_lines (nil_from_length line (sym counted ∙ eqb-true count 0 (sym is ∙ holds))) ∙ query_lines-nil
 
 -- and others are one
-one_line : (line : List ℕ) (count : ℕ) (empty : Bool) → count ≡ length line → empty ≡ eqb count 0 → empty ≡ false → HasNoFeed line → query_lines line ≡ (line ++ []) ∷ []
+one_line : (line : List ℕ) (count : ℕ) (empty : Bool) → count ≡ length line → empty ≡ eqb count 0 → empty ≡ false
+    → HasNoFeed line → query_lines line ≡ (line ++ []) ∷ []
 one_line line count empty counted is holds clear =
     let some : count ≡ 0 → ⊥ = eqb-false count 0 (sym is ∙ holds) in
     query_lines_pending line clear (omega arith) ∙ ap (λ (text : List ℕ). text ∷ []) (sym (append-nil line))
@@ -29,7 +30,8 @@ returns-then-is_empty-clause-answer g c =
     let pending = c.args.self.now.pending in
     let none = no_line pending.items _ c.is_empty.result pending.ok.0 c.is_empty.ensures c.if-is_empty.true in
     let written = g.W.AnswerOutput.written c.args.output.now in
-    subst (λ (lines : List (List ℕ)). AreWritten (g.A.AnswerLine.answers c.args.answerer.now) lines written written) (sym none) (answers_none (g.A.AnswerLine.answers c.args.answerer.now) written)
+    subst (λ (lines : List (List ℕ)). AreWritten (g.A.AnswerLine.answers c.args.answerer.now) lines written written)
+    (sym none) (answers_none (g.A.AnswerLine.answers c.args.answerer.now) written)
 
 pub returns-in-Ok-clause-count : goal.returns-in-Ok-clause-count
 returns-in-Ok-clause-count g c =
@@ -52,5 +54,6 @@ returns-in-Err-clause-fault g c =
     let old = g.W.AnswerOutput.written c.args.output.now in
     let new = g.W.AnswerOutput.written c.answer_line.new.output in (
       c.in-Err.ensures.fault.0,
-      subst (λ (lines : List (List ℕ)). LeavesWritten (g.A.AnswerLine.answers c.args.answerer.now) lines 0 c.in-Err.fault old new) (sym one) c.in-Err.ensures.fault.1,
+      subst (λ (lines : List (List ℕ)). LeavesWritten
+          (g.A.AnswerLine.answers c.args.answerer.now) lines 0 c.in-Err.fault old new) (sym one) c.in-Err.ensures.fault.1,
     )

@@ -41,8 +41,10 @@ loop-line-preserved g c =
             whole ∙ ap (λ (bytes : List ℕ). before ++ bytes) rest_is ∙ simp append_assoc,
             ([], IsCutInto-ended before lines begun line cut c.in-Some.ensures.1, c.in-Ok.ensures.pending),
             omega (arith, c.in-Ok.ensures.answered, count, length-append lines ((begun ++ line) ∷ [])),
-            answers_then answers (g.W.AnswerOutput.written c.args.output.now) (g.W.AnswerOutput.written c.loop-line.output) (g.W.AnswerOutput.written c.answer_line.new.output)
-                lines ((begun ++ line) ∷ []) wrote (written_kept answers (g.met.A.AnswerLine.same_front c.args.answerer.now) begun kept_now is line _ _ c.in-Ok.ensures.answer),
+            answers_then answers (g.W.AnswerOutput.written c.args.output.now)
+                (g.W.AnswerOutput.written c.loop-line.output) (g.W.AnswerOutput.written c.answer_line.new.output)
+                lines ((begun ++ line) ∷ []) wrote (written_kept answers (g.met.A.AnswerLine.same_front
+                c.args.answerer.now) begun kept_now is line _ _ c.in-Ok.ensures.answer),
           );
     }
 
@@ -61,7 +63,8 @@ returns-in-Err-clause-fault g c unended clear kept =
     let new = g.W.AnswerOutput.written c.answer_line.new.output in
     let here : LeavesWritten answers ((begun ++ line) ∷ query_lines rest) 0 c.in-Err.fault mid new =
     LeavesWritten-more answers ((begun ++ line) ∷ []) (query_lines rest) 0 mid new c.in-Err.fault
-    (leaves_kept answers (g.met.A.AnswerLine.same_front c.args.answerer.now) begun c.loop-line.self.pending.items is line c.in-Err.fault mid new c.in-Err.ensures.fault.1) in (
+    (leaves_kept answers (g.met.A.AnswerLine.same_front c.args.answerer.now) begun c.loop-line.self.pending.items is
+    line c.in-Err.fault mid new c.in-Err.ensures.fault.1) in (
       length lines + 0,
       subst (λ (n : ℕ). IsAnswerFault c.in-Err.fault n (g.W.AnswerOutput.has_failed c.answer_line.new.output)) (omega (arith, count)) c.in-Err.ensures.fault.0,
       subst (λ (found : List (List ℕ)). LeavesWritten answers found (length lines + 0) c.in-Err.fault old new) (sym all)
@@ -94,7 +97,8 @@ returns-in-Err-keep-clause-fault g c unended clear kept =
       (omega (arith, count, c.keep.ensures.answered), c.loop-line.invariant.sound),
       (
         omega (arith, ap length all, length-append lines (query_lines (begun ++ rest))),
-        subst (λ (found : List (List ℕ)). AreWritten (g.A.AnswerLine.answers c.args.answerer.now) found (g.W.AnswerOutput.written c.args.output.now) (g.W.AnswerOutput.written c.loop-line.output))
+        subst (λ (found : List (List ℕ)). AreWritten (g.A.AnswerLine.answers c.args.answerer.now) found
+            (g.W.AnswerOutput.written c.args.output.now) (g.W.AnswerOutput.written c.loop-line.output))
             (sym (ap (take (length lines)) all ∙ take_at lines (query_lines (begun ++ rest)) (length lines) refl)) wrote,
       ),
     )

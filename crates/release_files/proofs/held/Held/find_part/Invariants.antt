@@ -8,7 +8,8 @@ abbrev pub invariant-loop-count : goal.invariant-loop-count
 invariant-loop-count g l = record {
   within : l.searched ≤ length l.self.bytes;
   clear : HasNoFeed (take l.searched l.self.bytes);
-  kept : KeepsBytes (reachable l.fn.self.left (g.S.FileSource.rest l.fn.source)) (reachable l.self.left (g.S.FileSource.rest l.source)) l.fn.self.bytes l.self.bytes;
+  kept : KeepsBytes (reachable l.fn.self.left (g.S.FileSource.rest l.fn.source))
+      (reachable l.self.left (g.S.FileSource.rest l.source)) l.fn.self.bytes l.self.bytes;
   bounded : TakesWithin (g.S.FileSource.rest l.fn.source) (g.S.FileSource.rest l.source) l.fn.self.left l.self.left;
   files : g.S.FileSource.files l.source ≡ g.S.FileSource.files l.fn.source;
   failures : g.S.FileSource.failure_count l.source ≡ g.S.FileSource.failure_count l.fn.source;

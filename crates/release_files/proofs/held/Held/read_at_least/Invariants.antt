@@ -4,7 +4,8 @@ use Rattle.release_files.proofs.held.Held.read_at_least.Given as goal
 
 abbrev pub invariant-loop-self : goal.invariant-loop-self
 invariant-loop-self g l = record {
-  kept : KeepsBytes (reachable l.fn.self.left (g.S.FileSource.rest l.fn.source)) (reachable l.self.left (g.S.FileSource.rest l.source)) l.fn.self.bytes l.self.bytes;
+  kept : KeepsBytes (reachable l.fn.self.left (g.S.FileSource.rest l.fn.source))
+      (reachable l.self.left (g.S.FileSource.rest l.source)) l.fn.self.bytes l.self.bytes;
   bounded : TakesWithin (g.S.FileSource.rest l.fn.source) (g.S.FileSource.rest l.source) l.fn.self.left l.self.left;
   files : g.S.FileSource.files l.source ≡ g.S.FileSource.files l.fn.source;
   failures : g.S.FileSource.failure_count l.source ≡ g.S.FileSource.failure_count l.fn.source;

@@ -16,7 +16,8 @@ returns-clause-piece g c =
     let left_is : inside.left ≡ c.args.self.now.left = ap (λ held. held.left) c.self.view_is in
     rw read_is (grows_reached
     (g.S.FileSource.rest c.args.source.now) (g.S.FileSource.rest c.read_behind.new.source)
-    c.args.self.now.bytes inside.buffer.items moved grown.items read inside.start inside.filled c.in_ok-count.count c.args.self.now.left (inside.left - c.in_ok-count.count) c.min-room.result
+    c.args.self.now.bytes inside.buffer.items moved grown.items read inside.start inside.filled c.in_ok-count.count
+    c.args.self.now.left (inside.left - c.in_ok-count.count) c.min-room.result
     (ap (λ held. held.bytes) (sym c.self.view_is))
     (search rules)
     (omega arith)

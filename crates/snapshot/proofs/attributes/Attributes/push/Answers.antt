@@ -13,9 +13,20 @@ invariant_of-self-in_err-push c =
     (λ row. within-extends _ _ c.in_ok-kept.ensures.grown row.value) c.self.inside.rows.items c.self.invariant)
 
 pub invariant_of-self-2 : goal.invariant_of-self-2
-invariant_of-self-2 c = grind (arith, (all-push (IsPlacedIn c.self.inside.concrete) (IsPlacedIn c.keep_value.new.concrete)), within-extends, c.in_ok-kept.ensures.grown, c.in_ok-push.ensures.items, c.self.invariant, c.in_ok-kept.ensures.within)
+invariant_of-self-2 c = grind (
+  arith,
+  (all-push (IsPlacedIn c.self.inside.concrete)
+      (IsPlacedIn c.keep_value.new.concrete)),
+  within-extends,
+  c.in_ok-kept.ensures.grown,
+  c.in_ok-push.ensures.items,
+  c.self.invariant,
+  c.in_ok-kept.ensures.within,
+)
 
 pub returns : goal.returns
 returns c =
-    let kept = rows-same (attribute_in c.self.inside.concrete) (attribute_in c.keep_value.new.concrete) (IsPlacedIn c.self.inside.concrete) (attribute-extends c.self.inside.concrete c.keep_value.new.concrete c.in_ok-kept.ensures.grown) in
+    let kept = rows-same (attribute_in c.self.inside.concrete) (attribute_in c.keep_value.new.concrete)
+    (IsPlacedIn c.self.inside.concrete) (attribute-extends c.self.inside.concrete c.keep_value.new.concrete
+    c.in_ok-kept.ensures.grown) in
     grind (arith, common_steps, kept, c.self.invariant, c.in_ok-push.ensures.items, c.in_ok-kept.ensures.value)

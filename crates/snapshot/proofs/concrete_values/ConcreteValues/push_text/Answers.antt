@@ -14,7 +14,8 @@ returns-in_err-push-clause-grown c =
     let extends : Extends texts grown = (c.args.text.now, c.in_ok-span.ensures.grown) in (
       [],
       ap (map (concrete_in grown)) c.in_err-push.ensures.items
-          ∙ rows-same (concrete_in texts) (concrete_in grown) (IsPlaced texts) (concrete-extends texts grown extends) c.self.inside.values.items c.self.invariant
+          ∙ rows-same (concrete_in texts) (concrete_in grown) (IsPlaced texts)
+          (concrete-extends texts grown extends) c.self.inside.values.items c.self.invariant
           ∙ c.self.view_is
           ∙ sym (append-nil c.args.self.now),
     )

@@ -10,8 +10,21 @@ returns-then-not-name_concept_file-clause-err g c = grind (arith, common_steps, 
 
 pub returns-clause-ok : goal.returns-clause-ok
 returns-clause-ok g c = if_told _ (g.S.FileSource.files c.args.source.now) (λ known told.
-    grind (arith, (load_named-is c.args.limits c.in_force-limits.result c.args.lang.now known string_bytes c.args.names.now c.named_kind_count-kinds.result c.in_force-limits.ensures (sym c.if-not-name_concept_file.ensures) c.named_kind_count-kinds.ensures), (at_told _ _ _ (ap (option_map _) told) c.load_places.ensures.ok)))
+    grind (
+      arith,
+      (load_named-is c.args.limits c.in_force-limits.result c.args.lang.now known string_bytes
+          c.args.names.now c.named_kind_count-kinds.result c.in_force-limits.ensures
+          (sym c.if-not-name_concept_file.ensures) c.named_kind_count-kinds.ensures),
+      (at_told _ _ _ (ap (option_map _) told) c.load_places.ensures.ok),
+    ))
 
 pub returns-clause-err : goal.returns-clause-err
 returns-clause-err g c = if_told _ (g.S.FileSource.files c.args.source.now) (λ known told.
-    grind (arith, (load_named-is c.args.limits c.in_force-limits.result c.args.lang.now known string_bytes c.args.names.now c.named_kind_count-kinds.result c.in_force-limits.ensures (sym c.if-not-name_concept_file.ensures) c.named_kind_count-kinds.ensures), told, c.load_places.ensures.err))
+    grind (
+      arith,
+      (load_named-is c.args.limits c.in_force-limits.result c.args.lang.now known string_bytes
+          c.args.names.now c.named_kind_count-kinds.result c.in_force-limits.ensures
+          (sym c.if-not-name_concept_file.ensures) c.named_kind_count-kinds.ensures),
+      told,
+      c.load_places.ensures.err,
+    ))

@@ -7,4 +7,10 @@ use Rattle.snapshot.proofs.names.Names.choose.Goals as goal
 use Rattle.std.proofs.Common.{string_bytes, arith}
 
 pub invariant_of-self : goal.invariant_of-self
-invariant_of-self c = grind (arith, c.in_ok-self-inside.ensures, c.as_slice.ensures.value, (All-marked (IsPlaced (string_bytes c.self.inside.texts)) (marked (in_list ListedName c.args.marks.now) c.args.choices.now) c.self.inside.rows.items c.self.invariant))
+invariant_of-self c = grind (
+  arith,
+  c.in_ok-self-inside.ensures,
+  c.as_slice.ensures.value,
+  (All-marked (IsPlaced (string_bytes c.self.inside.texts))
+      (marked (in_list ListedName c.args.marks.now) c.args.choices.now) c.self.inside.rows.items c.self.invariant),
+)

@@ -11,9 +11,22 @@ use Rattle.snapshot.proofs.names.Names.retain_among.Goals as goal
 pub invariant_of-self : goal.invariant_of-self
 invariant_of-self c =
     let left = filter_same _ (λ (row : NameRow). has c.args.concepts.now row.concept) _ (λ x b f' k. search rules) _ _ c.retain.ensures.filtered in
-    grind (arith, left, (All-filter (λ (row : NameRow). has c.args.concepts.now row.concept) (IsPlaced (string_bytes c.self.inside.texts)) c.self.inside.rows.items c.self.invariant))
+    grind (
+      arith,
+      left,
+      (All-filter (λ (row : NameRow). has c.args.concepts.now row.concept)
+          (IsPlaced (string_bytes c.self.inside.texts)) c.self.inside.rows.items c.self.invariant),
+    )
 
 pub returns : goal.returns
 returns c =
-    let left : c.retain.new.self.items ≡ filter (λ (row : NameRow). has c.args.concepts.now row.concept) c.self.inside.rows.items = filter_same _ _ _ (λ x b f' k. search rules) _ _ c.retain.ensures.filtered in
-    grind (arith, left, (map-filter (name_in (string_bytes c.self.inside.texts)) (λ (name : Name). has c.args.concepts.now name.concept) c.self.inside.rows.items), c.self.view_is)
+    let left : c.retain.new.self.items
+    ≡ filter (λ (row : NameRow). has c.args.concepts.now row.concept) c.self.inside.rows.items =
+    filter_same _ _ _ (λ x b f' k. search rules) _ _ c.retain.ensures.filtered in
+    grind (
+      arith,
+      left,
+      (map-filter (name_in (string_bytes c.self.inside.texts))
+          (λ (name : Name). has c.args.concepts.now name.concept) c.self.inside.rows.items),
+      c.self.view_is,
+    )

@@ -8,7 +8,8 @@ use Rattle.snapshot.proofs.versions.Versions.take_version.Goals as goal
 pub returns-then-not-agrees-clause-conflict : goal.returns-then-not-agrees-clause-conflict
 returns-then-not-agrees-clause-conflict c = rw (← c.self.view_is) (λ rows before kinds.
     let is = rw (← c.self.view_is) at c.requires.code in
-    let kind = version_kind (taken_in c.self.inside) c.self.invariant.rising rows before (noted c.args.row.now) c.args.code is c.in-Some.number (sym c.in-Some.ensures.index) no_version kinds in
+    let kind = version_kind (taken_in c.self.inside) c.self.invariant.rising rows before
+    (noted c.args.row.now) c.args.code is c.in-Some.number (sym c.in-Some.ensures.index) no_version kinds in
     sym (ap not (other_conflicts (taken_in c.self.inside) c.self.invariant.rising rows before (noted c.args.row.now) c.args.code is
     c.in-Some.number (sym c.in-Some.ensures.index) no_version kinds (sym (c.if-not-agrees.ensures no_version kind)))))
 
@@ -22,11 +23,15 @@ returns-in_ok-push-in-Some c =
     let agrees = λ (rows : List KeyedRow) (before : HasTaken taken rows) (kinds : AreOfItsKind rows row).
     sym (c.if-not-agrees.ensures no_version (version_kind taken rising rows before row c.args.code is c.in-Some.number found no_version kinds)) in record {
       repeated = search rules;
-      conflict = rw (← c.self.view_is) (λ rows before kinds. sym (ap not (same_conflicts taken rising rows before row c.args.code is c.in-Some.number found no_version kinds (agrees rows before kinds))));
+      conflict = rw (← c.self.view_is) (λ rows before kinds. sym (ap not
+          (same_conflicts taken rising rows before row c.args.code is c.in-Some.number found no_version kinds
+          (agrees rows before kinds))));
       taken = rw (← c.self.view_is) (λ rows before kinds fits.
-          taken_again taken rising rows before row c.args.code is c.in-Some.number found no_version c.push.new.self.items c.in_ok-push-in-Some.ensures.items (agrees rows before kinds));
+          taken_again taken rising rows before row c.args.code is c.in-Some.number found no_version
+          c.push.new.self.items c.in_ok-push-in-Some.ensures.items (agrees rows before kinds));
     }
 
 pub returns-in_ok-add_version-in-None-clause-conflict : goal.returns-in_ok-add_version-in-None-clause-conflict
 returns-in_ok-add_version-in-None-clause-conflict c = rw (← c.self.view_is) (λ rows before kinds.
-    sym (ap not (new_conflicts (taken_in c.self.inside) c.self.invariant.rising rows before (noted c.args.row.now) c.args.code (rw (← c.self.view_is) at c.requires.code) (sym c.in-None.ensures.found))))
+    sym (ap not (new_conflicts (taken_in c.self.inside) c.self.invariant.rising rows before
+    (noted c.args.row.now) c.args.code (rw (← c.self.view_is) at c.requires.code) (sym c.in-None.ensures.found))))
