@@ -116,7 +116,7 @@ fn answer_sample<Q: QueryEngine, R: QueryInput, W: AnswerOutput, E: AnswerOutput
         (streams input.old output.old errors.old) (streams input.new output.new errors.new) }
 {
     match sample_engine::<Q>(alloc) {
-        Ok(engine) => answer_and_drop(alloc, engine, input, output, errors),
+        Ok(engine) => answer_lines(alloc, Mode::Query, engine, input, output, errors),
         Err(fault) => refuse(alloc, fault, &[], errors),
     }
 }
@@ -154,7 +154,7 @@ fn answer_source<Q: QueryEngine, S: FileSource, R: QueryInput, W: AnswerOutput, 
     }
 }
 
-// Answers the query lines of an input over a release, or tells their plans.
+// Answers the query lines of an input over a release, or tells their plans, and lets the release go.
 fn answer_lines<Q: QueryEngine, R: QueryInput, W: AnswerOutput, E: AnswerOutput>(
     alloc: Global,
     mode: Mode,
@@ -170,29 +170,31 @@ fn answer_lines<Q: QueryEngine, R: QueryInput, W: AnswerOutput, E: AnswerOutput>
     ensures { ServesWith R.QueryInput W.AnswerOutput E.AnswerOutput mode (Q.contents engine) result
         (streams input.old output.old errors.old) (streams input.new output.new errors.new) }
 {
-    match mode {
-        Mode::Explain => explain_and_drop(alloc, engine, input, output, errors),
-        _ => answer_and_drop(alloc, engine, input, output, errors),
-    }
+    let status = serve_lines(alloc, mode, &engine, input, output, errors);
+    drop(engine);
+    status
 }
 
-// Answers the query lines of an input over a release, and lets the release go.
-fn answer_and_drop<Q: QueryEngine, R: QueryInput, W: AnswerOutput, E: AnswerOutput>(
+// Answers the query lines of an input over a release, or tells their plans.
+fn serve_lines<Q: QueryEngine, R: QueryInput, W: AnswerOutput, E: AnswerOutput>(
     alloc: Global,
-    engine: Q,
+    mode: Mode,
+    engine: &Q,
     input: &mut R,
     output: &mut W,
     errors: &mut E,
 ) -> Status
+    requires mode { AnswersFiles mode }
     requires input { R.has_failed input.old ≡ false }
     requires output { W.has_failed output.old ≡ false }
     requires errors { E.AnswerOutput.has_failed errors.old ≡ false }
-    ensures { ServesWith R.QueryInput W.AnswerOutput E.AnswerOutput Mode.Query (Q.contents engine) result
+    ensures { ServesWith R.QueryInput W.AnswerOutput E.AnswerOutput mode (Q.contents engine.now) result
         (streams input.old output.old errors.old) (streams input.new output.new errors.new) }
 {
-    let status = answer_all(alloc, &engine, input, output, errors);
-    drop(engine);
-    status
+    match mode {
+        Mode::Explain => explain_all(alloc, engine, input, output, errors),
+        _ => answer_all(alloc, engine, input, output, errors),
+    }
 }
 
 // Answers the query lines of an input over a release.
@@ -232,25 +234,6 @@ fn run_answers<Q: QueryEngine, R: QueryInput, W: AnswerOutput>(
     ensures turns { IfErr result (λ fault. CountsTurns fault (R.read_count input.old) (R.read_count input.new)) }
 {
     run(alloc, engine, input, output)
-}
-
-// Tells the plans of the query lines of an input over a release, and lets the release go.
-fn explain_and_drop<Q: QueryEngine, R: QueryInput, W: AnswerOutput, E: AnswerOutput>(
-    alloc: Global,
-    engine: Q,
-    input: &mut R,
-    output: &mut W,
-    errors: &mut E,
-) -> Status
-    requires input { R.has_failed input.old ≡ false }
-    requires output { W.has_failed output.old ≡ false }
-    requires errors { E.AnswerOutput.has_failed errors.old ≡ false }
-    ensures { ServesWith R.QueryInput W.AnswerOutput E.AnswerOutput Mode.Explain (Q.contents engine) result
-        (streams input.old output.old errors.old) (streams input.new output.new errors.new) }
-{
-    let status = explain_all(alloc, &engine, input, output, errors);
-    drop(engine);
-    status
 }
 
 // Tells the plans of the query lines of an input over a release.

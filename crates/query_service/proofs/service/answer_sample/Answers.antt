@@ -4,7 +4,7 @@ use Rattle.query_service.proofs.service.answer_sample.Goals as goal
 pub returns-in-Ok : goal.returns-in-Ok
 returns-in-Ok g c =
     ends_sample g.R.QueryInput g.W.AnswerOutput g.E.AnswerOutput
-    (g.Q.QueryEngine.contents c.in-Ok.engine) c.answer_and_drop.result _ _ c.in-Ok.ensures.ok c.answer_and_drop.ensures
+    (g.Q.QueryEngine.contents c.in-Ok.engine) c.answer_lines.result _ _ c.in-Ok.ensures.ok c.answer_lines.ensures
 
 pub returns-in-Err : goal.returns-in-Err
 returns-in-Err g c =

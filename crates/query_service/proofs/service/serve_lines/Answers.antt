@@ -3,17 +3,17 @@ use Rattle.query_service.specs.Serve.{ServesWith}
 use Rattle.query_service.specs.Streams.{streams}
 use Rattle.command_line.specs.declared.words.Mode.{Mode}
 use Rattle.query_service.proofs.ServeLemmas.{serves_files}
-use Rattle.query_service.proofs.service.answer_lines.Goals as goal
+use Rattle.query_service.proofs.service.serve_lines.Goals as goal
 
 pub returns-in-Explain : goal.returns-in-Explain
 returns-in-Explain g c =
     let before = streams c.args.input.now c.args.output.now c.args.errors.now in
-    let after = streams c.explain_and_drop.new.input c.explain_and_drop.new.output c.explain_and_drop.new.errors in
+    let after = streams c.explain_all.new.input c.explain_all.new.output c.explain_all.new.errors in
     subst (λ (mode : Mode). ServesWith g.R.QueryInput g.W.AnswerOutput g.E.AnswerOutput mode
-    (g.Q.QueryEngine.contents c.args.engine) c.explain_and_drop.result before after)
-    (sym c.in-Explain.is) c.explain_and_drop.ensures
+    (g.Q.QueryEngine.contents c.args.engine.now) c.explain_all.result before after)
+    (sym c.in-Explain.is) c.explain_all.ensures
 
 pub returns-in_default : goal.returns-in_default
 returns-in_default g c =
-    serves_files g.R.QueryInput g.W.AnswerOutput g.E.AnswerOutput c.args.mode (g.Q.QueryEngine.contents c.args.engine) c.answer_and_drop.result _ _
-    c.requires.mode c.in_default.not-Explain c.answer_and_drop.ensures
+    serves_files g.R.QueryInput g.W.AnswerOutput g.E.AnswerOutput c.args.mode (g.Q.QueryEngine.contents c.args.engine.now) c.answer_all.result _ _
+    c.requires.mode c.in_default.not-Explain c.answer_all.ensures
