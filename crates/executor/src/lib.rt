@@ -15,6 +15,7 @@ mod nodes;
 mod plans;
 mod reached;
 mod reference_sets;
+mod second_part;
 mod unit_plans;
 mod walk_plans;
 mod walk_ways;

@@ -14,21 +14,22 @@ ghost use Rattle.pair_sets.specs.Numbers.{numbers_in};
 ghost use Rattle.pair_sets.specs.Tested.{IsTestBelow, found_for, passes_of};
 ghost use Rattle.pair_sets.specs.Within.{AreBelow, may_be, numbers_within};
 
-use crate::counting::{concept_leaf_limits, minus_reads};
+use crate::counting::concept_leaf_limits;
 use crate::dotted_plans::led_from;
 use crate::found::{members_found, units_found};
 use crate::guesses::{guess_of_groups, rows_of_types};
 use crate::joined_plans::{in_all, in_some};
 use crate::nodes::{every_candidate, no_concept, one_candidate};
+use crate::second_part::second_part;
 use crate::unit_plans::execute_groups;
 use crate::walk_plans::walk_from;
 use constraint_tree::Cardinality;
 use idset::ConceptSet;
 use pair_sets::{
-    Candidates, RowTally, Tested, Visits, count_of_test, extent_to_take, groups_of, none_left,
-    with_pairs_within, without,
+    Candidates, RowTally, Tested, Visits, count_of_test, groups_of, none_left, with_pairs_within,
+    without,
 };
-use planner::{Choice, PhysicalPlan, after_first, first_choice, plan_floor, plan_size, unit_size};
+use planner::{Choice, PhysicalPlan, after_first, first_choice, plan_floor, unit_size};
 use postings::Indexes;
 use set_algebra::{ConceptPlan, UnitPlan, ValueTest};
 use snapshot::Snapshot;
@@ -237,15 +238,19 @@ fn in_first_alone<S: ConceptSet>(
             let left: S = execute_within(
                 alloc, first, choices, candidates, snapshot, indexes, visits,
             )?;
-            let rest = plan_floor(first, choices, indexes).rest;
-            let sizes = (
-                plan_size(first, choices, indexes),
-                plan_size(second, rest, indexes),
-            );
-            visits.add(minus_reads(left.count(), sizes));
-            let extent = extent_to_take(alloc, snapshot, indexes, candidates, &left, sizes)?;
-            let still = Candidates::Within(&left, extent);
-            let right: S = execute_within(alloc, second, rest, &still, snapshot, indexes, visits)?;
+            let part = second_part(
+                alloc, first, second, choices, &left, candidates, snapshot, indexes, visits,
+            )?;
+            let still = Candidates::Within(&left, part.extent);
+            let right: S = execute_within(
+                alloc,
+                second,
+                part.choices,
+                &still,
+                snapshot,
+                indexes,
+                visits,
+            )?;
             let found = without(alloc, &left, &right)?;
             Ok(found)
         }

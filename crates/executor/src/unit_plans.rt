@@ -14,17 +14,18 @@ ghost use Rattle.planner.specs.Sizes.{group_size, group_sizes, total};
 ghost use Rattle.executor.specs.inside.Lead.{leads_off_groups, of_lead};
 ghost use Rattle.pair_sets.specs.Within.{AreBelow, groups_within, may_be};
 
-use crate::counting::{group_leaf_limits, minus_reads};
+use crate::counting::group_leaf_limits;
 use crate::guesses::{group_lead_of, rows_of_types, unit_rows_without};
 use crate::nodes::{either, every_candidate_group, no_group};
 use crate::plans::{execute_within, tested_of};
+use crate::second_part::second_unit_part;
 use constraint_tree::Cardinality;
 use idset::ConceptSet;
 use pair_sets::{
-    Candidates, RowTally, Tested, Visits, count_of_test, group_extent_of, group_extent_to_take,
-    groups_with_pairs_within, none_left, without,
+    Candidates, RowTally, Tested, Visits, count_of_test, group_extent_of, groups_with_pairs_within,
+    none_left, without,
 };
-use planner::{Choice, after_first, first_choice, plan_floor, unit_floor, unit_size};
+use planner::{Choice, after_first, first_choice, plan_floor, unit_floor};
 use postings::Indexes;
 use set_algebra::{ConceptPlan, UnitPlan, ValueTest};
 use snapshot::Snapshot;
@@ -126,15 +127,19 @@ fn groups_in_first_alone<S: ConceptSet>(
             let left: S = execute_groups(
                 alloc, first, choices, candidates, snapshot, indexes, visits,
             )?;
-            let rest = unit_floor(first, choices, indexes).rest;
-            let sizes = (
-                unit_size(first, choices, indexes),
-                unit_size(second, rest, indexes),
-            );
-            visits.add(minus_reads(left.count(), sizes));
-            let extent = group_extent_to_take(alloc, snapshot, indexes, candidates, &left, sizes)?;
-            let still = Candidates::Within(&left, extent);
-            let right: S = execute_groups(alloc, second, rest, &still, snapshot, indexes, visits)?;
+            let part = second_unit_part(
+                alloc, first, second, choices, &left, candidates, snapshot, indexes, visits,
+            )?;
+            let still = Candidates::Within(&left, part.extent);
+            let right: S = execute_groups(
+                alloc,
+                second,
+                part.choices,
+                &still,
+                snapshot,
+                indexes,
+                visits,
+            )?;
             let groups = without(alloc, &left, &right)?;
             Ok(groups)
         }

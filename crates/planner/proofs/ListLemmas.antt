@@ -29,6 +29,21 @@ pub put_seam_two : {X : Type 0} (xs ys zs : List X) (free x : X)
 put_seam_two xs ys zs free x =
     ap (λ (all : List _). slice_set all (length xs) x) (append_assoc (xs ++ free ∷ []) ys zs) ∙ put_seam xs (ys ++ zs) free x
 
+-- what a node lists whose place was kept free, once its children have added theirs and its own number is put there
+pub closed_list : (given : List ℕ) {opened grown listed behind all : List ℕ} {at own number : ℕ} → listed ≡ slice_set grown at own
+    → grown ≡ opened ++ behind → opened ≡ given ++ 0 ∷ [] → at ≡ length given → own ≡ number → all ≡ number ∷ behind → listed ≡ given ++ all
+closed_list given {behind = behind} {number = number} listed_is grown_is opened_is at_is own_is all_is =
+    listed_is
+    ∙ (λ i. slice_set ((grown_is ∙ ap (λ (xs : List ℕ). xs ++ behind) opened_is) i) (at_is i) (own_is i))
+    ∙ put_seam given behind 0 number
+    ∙ ap (λ (xs : List ℕ). given ++ xs) (sym all_is)
+
+-- what two children have added
+pub two_behind : (opened first last : List ℕ) {between grown : List ℕ} → grown ≡ between ++ last → between ≡ opened ++ first
+    → grown ≡ opened ++ (first ++ last)
+two_behind opened first last grown_is between_is =
+    grown_is ∙ ap (λ (xs : List ℕ). xs ++ last) between_is ∙ append_assoc opened first last
+
 -- a product of a number that stands still
 pub capped_product : (number count : ℕ) → capped (capped number * count) ≡ capped (count * number)
 capped_product number count = elim (cases_lt number (2 ^ 64)) [

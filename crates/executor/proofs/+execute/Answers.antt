@@ -843,10 +843,10 @@ pub plans::in_first_alone-returns-in_ok-found-in-Minus-clause-items : goal.plans
 plans::in_first_alone-returns-in_ok-found-in-Minus-clause-items g t c =
     let release = c.args.snapshot.now.release in
     let may : ℕ → Bool = may_be g.S.ConceptSet.items_of c.args.candidates.now in
-    minus_node release may (plan_of c.args.plan.now) (plan_of c.deref.result.now) (plan_of c.deref-in-Minus-4.result.now)
+    minus_node release may (plan_of c.args.plan.now) (plan_of c.deref.result.now) (plan_of c.deref-in-Minus-3.result.now)
     (g.S.ConceptSet.items_of c.in_ok-left-in-Minus.left) (g.S.ConceptSet.items_of c.in_ok-right-in-Minus.right)
     (g.S.ConceptSet.items_of c.in_ok-found-in-Minus.found)
-    (ap plan_of c.in-Minus.is ∙ (λ i. minus_plan (plan_of (sym c.deref.ensures i)) (plan_of (sym c.deref-in-Minus-4.ensures i))))
+    (ap plan_of c.in-Minus.is ∙ (λ i. minus_plan (plan_of (sym c.deref.ensures i)) (plan_of (sym c.deref-in-Minus-3.ensures i))))
     c.in_ok-left-in-Minus.ensures.items c.in_ok-right-in-Minus.ensures.items c.in_ok-found-in-Minus.ensures.items
 
 pub dotted_plans::led_from-returns-in_ok-found-in-Values-clause-items : goal.dotted_plans::led_from-returns-in_ok-found-in-Values-clause-items
@@ -929,10 +929,10 @@ pub unit_plans::groups_in_first_alone-returns-in_ok-groups-in-Minus-clause-items
 unit_plans::groups_in_first_alone-returns-in_ok-groups-in-Minus-clause-items g t c =
     let release = c.args.snapshot.now.release in
     let may : ℕ → Bool = may_be g.S.ConceptSet.items_of c.args.candidates.now in
-    minus_groups release may (unit_plan_of c.args.plan.now) (unit_plan_of c.deref.result.now) (unit_plan_of c.deref-in-Minus-4.result.now)
+    minus_groups release may (unit_plan_of c.args.plan.now) (unit_plan_of c.deref.result.now) (unit_plan_of c.deref-in-Minus-3.result.now)
     (g.S.ConceptSet.items_of c.in_ok-left-in-Minus.left) (g.S.ConceptSet.items_of c.in_ok-right-in-Minus.right)
     (g.S.ConceptSet.items_of c.in_ok-groups-in-Minus.groups)
-    (ap unit_plan_of c.in-Minus.is ∙ (λ i. minus_units (unit_plan_of (sym c.deref.ensures i)) (unit_plan_of (sym c.deref-in-Minus-4.ensures i))))
+    (ap unit_plan_of c.in-Minus.is ∙ (λ i. minus_units (unit_plan_of (sym c.deref.ensures i)) (unit_plan_of (sym c.deref-in-Minus-3.ensures i))))
     c.in_ok-left-in-Minus.ensures.items c.in_ok-right-in-Minus.ensures.items c.in_ok-groups-in-Minus.ensures.items
 
 pub unit_plans::groups_with_pairs-returns-in_ok-found-in-Pairs-clause-items : goal.unit_plans::groups_with_pairs-returns-in_ok-found-in-Pairs-clause-items
