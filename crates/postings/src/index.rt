@@ -4,11 +4,12 @@ ghost use Rattle.std.specs.List.Sorted.{IsSorted, IsStrictlyIncreasing};
 ghost use Rattle.std.specs.Ordering.{int_cmp};
 ghost use Rattle.rf2_rows.specs.Release.{Release};
 ghost use Rattle.rf2_rows.specs.Rows.{value_lent};
-ghost use Rattle.snapshot.specs.AttributesBySource.{attribute_of, with_source};
+ghost use Rattle.snapshot.specs.AttributesBySource.{attribute_of, attributes_by_source, with_source};
 ghost use Rattle.hierarchy.specs.KeyedLists.{list_of};
 ghost use Rattle.snapshot.specs.Numbering.{concept_number};
 ghost use Rattle.postings.specs.Entries.{entries_of};
 ghost use Rattle.postings.specs.Groups.{group_of, groups_before, groups_in, rows_of_group};
+ghost use Rattle.postings.specs.inside.RowIndexes.{AreRowIndexes};
 ghost use Rattle.postings.specs.Indexed.{HasListsFor, IsIndexOf, concept_of_type, rows_by_source, rows_by_type, rows_by_value, types_of, value_at, values_of};
 ghost use Rattle.postings.specs.RowColumns.{AreRowCells, AreTypeColumns, AreValueColumns};
 ghost use Rattle.postings.specs.Stats.{stats_in, stats_of};
@@ -70,12 +71,10 @@ impl Indexes {
     pub fn build(alloc: Global, snapshot: &Snapshot) -> Result<Indexes, AllocError>
         ensures { IfOk result (λ indexes. IsIndexOf indexes snapshot.now.release) }
     {
-        let hierarchy = AncestorIndex::build(alloc, snapshot)?;
-        let members = linked_lists(alloc, snapshot.concept_count(), snapshot.member_rows())?;
         let concepts = identifiers(alloc, snapshot)?;
-        let rows = row_indexes(alloc, snapshot)?;
-        let types = rows.types.ids.as_slice();
-        let type_concepts = numbers_of(alloc, types, concepts.as_slice())?;
+        let members = linked_lists(alloc, snapshot.concept_count(), snapshot.member_rows())?;
+        let hierarchy = AncestorIndex::build(alloc, snapshot)?;
+        let (rows, type_concepts) = typed_rows(alloc, snapshot, concepts.as_slice())?;
         Ok(Indexes {
             concepts,
             hierarchy,
@@ -342,6 +341,22 @@ fn identifiers(alloc: Global, snapshot: &Snapshot) -> Result<Vec<SctId>, AllocEr
         concepts.push(snapshot.id_at(concept))?;
     }
     Ok(concepts)
+}
+
+// The attribute rows, and of each type the number of the concept that it is.
+fn typed_rows(
+    alloc: Global,
+    snapshot: &Snapshot,
+    concepts: &[SctId],
+) -> Result<(RowIndexes, Vec<Option<u32>>), AllocError>
+    requires rising { IsStrictlyIncreasing concepts.now }
+    requires few { length concepts.now < 2 ^ 31 }
+    ensures rows { IfOk result (λ made. AreRowIndexes snapshot.now.release.concepts (attributes_by_source snapshot.now.release) made.0) }
+    ensures types { IfOk result (λ made. made.1.items ≡ map (concept_number concepts.now) made.0.types.ids.items) }
+{
+    let rows = row_indexes(alloc, snapshot)?;
+    let type_concepts = numbers_of(alloc, rows.types.ids.as_slice(), concepts)?;
+    Ok((rows, type_concepts))
 }
 
 // The numbers of the concepts with some identifiers, among those in force.

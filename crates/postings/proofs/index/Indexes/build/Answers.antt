@@ -6,12 +6,12 @@ use Rattle.postings.proofs.BuildLemmas.{indexes_of_own, length-members, members_
 use Rattle.postings.proofs.StatsLemmas.{lists_for}
 use Rattle.postings.proofs.index.Indexes.build.Goals as goal
 
-pub numbers_of-requires-clause-rising : goal.numbers_of-requires-clause-rising
-numbers_of-requires-clause-rising c =
+pub typed_rows-requires-clause-rising : goal.typed_rows-requires-clause-rising
+typed_rows-requires-clause-rising c =
     subst (λ (ids : List ℕ). IsStrictlyIncreasing ids) (sym (c.as_slice.ensures.value ∙ c.in_ok-concepts.ensures)) c.concept_count.ensures.rising
 
-pub numbers_of-requires-clause-few : goal.numbers_of-requires-clause-few
-numbers_of-requires-clause-few c =
+pub typed_rows-requires-clause-few : goal.typed_rows-requires-clause-few
+typed_rows-requires-clause-few c =
     subst (λ (ids : List ℕ). length ids < 2 ^ 31) (sym (c.as_slice.ensures.value ∙ c.in_ok-concepts.ensures)) c.concept_count.ensures.few
 
 pub invariant_of-result : goal.invariant_of-result
@@ -21,12 +21,12 @@ invariant_of-result c =
     let same : all ≡ release.concepts = c.in_ok-concepts.ensures in record {
       rising = subst (λ (ids : List ℕ). IsStrictlyIncreasing ids) (sym same) c.concept_count.ensures.rising;
       few = subst (λ (ids : List ℕ). length ids < 2 ^ 31) (sym same) c.concept_count.ensures.few;
-      rows = indexes_of_own release.concepts all (attributes_by_source release) c.in_ok-rows.rows same c.in_ok-rows.ensures;
+      rows = indexes_of_own release.concepts all (attributes_by_source release) c.in_ok-rows.rows same c.in_ok-rows.ensures.rows;
       hierarchy = lists_for all release c.in_ok-hierarchy.hierarchy same c.in_ok-hierarchy.ensures.hierarchy;
       members = length-members release.concepts all c.concept_count.result c.member_rows.result.now c.in_ok-members.members same
           c.concept_count.ensures.count c.in_ok-members.ensures;
-      types = c.in_ok-type_concepts.ensures
-          ∙ (λ i. map (concept_number (c.as_slice.ensures.value i)) (c.as_slice-types.ensures.value i));
+      types = c.in_ok-rows.ensures.types
+          ∙ (λ i. map (concept_number (c.as_slice.ensures.value i)) c.in_ok-rows.rows.types.ids.items);
     }
 
 pub returns : goal.returns
@@ -36,9 +36,9 @@ returns c =
     let same : all ≡ release.concepts = c.in_ok-concepts.ensures in record {
       concepts = same;
       hierarchy = c.in_ok-hierarchy.ensures.hierarchy;
-      rows = rows_told release.concepts all (attributes_by_source release) c.in_ok-rows.rows same c.in_ok-rows.ensures;
+      rows = rows_told release.concepts all (attributes_by_source release) c.in_ok-rows.rows same c.in_ok-rows.ensures.rows;
       members = members_told release.concepts c.concept_count.result c.member_rows.result.now release.members c.in_ok-members.members
           c.concept_count.ensures.rising c.concept_count.ensures.count c.member_rows.ensures.within c.member_rows.ensures.rows
           c.in_ok-members.ensures;
-      values = c.in_ok-rows.ensures.coded.tables;
+      values = c.in_ok-rows.ensures.rows.coded.tables;
     }
