@@ -1,8 +1,9 @@
 use Rattle.std.proofs.Common.{ℕ, ◌≡◌, ◌∙◌, ◌++◌, ◌∷◌, List, ap, drop, length, sym}
 use Rattle.set_algebra.specs.declared.plan.ConceptPlan.{ConceptPlan}
-use Rattle.set_algebra.specs.Plan.{PlanOfUnits, Plan, unit_plan_of, pairs_units, plan_of, plans_of, test_plan_of, values_plan}
+use Rattle.set_algebra.specs.Plan.{Plan, PlanOfUnits, minus_plan, minus_units, pairs_plan, pairs_units, plan_of, plans_of, test_plan_of, unit_plan_of, values_plan}
 use Rattle.set_algebra.specs.declared.choice.Choice.{Choice}
-use Rattle.planner.specs.Leaves.{leaves}
+use Rattle.planner.specs.Leaves.{group_leaves, leaves, test_leaves}
+use Rattle.planner.proofs.ListLemmas.{drop_further, drop_leaf}
 use Rattle.planner.proofs.LoopLemmas.{rest_end, rest_turn}
 use Rattle.planner.proofs.PartLemmas.{values_are, values_behind}
 use Rattle.answer_printer.specs.inside.PlanLines.{before_bound, first_bound, with_bounds}
@@ -76,8 +77,105 @@ write_plan-returns-in-Values t c =
       bounds = written.behind ∙ sym (ap (λ (plan : Plan). drop (length (outline before_bound spaces choices plan)) bounds) is);
     }
 
-pub write_units-returns-clause-text : goal.write_units-returns-clause-text
-write_units-returns-clause-text t c =
+pub write_plan-returns-in-Minus : goal.write_plan-returns-in-Minus
+write_plan-returns-in-Minus t c =
+    let spaces = c.args.spaces.now in
+    let choices = c.args.choices.now in
+    let bounds = c.args.bounds.now in
+    let given = c.args.text.now.items in
+    let one = plan_of c.deref.result.now in
+    let other = plan_of c.deref-in-Minus.result.now in
+    let is : plan_of c.args.plan.now ≡ minus_plan one other =
+    ap plan_of c.in-Minus.is ∙ (λ i. minus_plan (plan_of (sym c.deref.ensures i)) (plan_of (sym c.deref-in-Minus.ensures i))) in
+    let deeper = c.as_slice-inner.ensures.value ∙ c.in_ok-deeper.ensures in
+    let left = c.in_ok-left-in-Minus.ensures in
+    let last = c.in_ok-last-in-Minus.ensures in
+    let first = λ (spaces : List ℕ). outline before_bound spaces choices one in
+    let second = λ (spaces : List ℕ) (choices : List Choice). outline before_bound spaces choices other in
+    let written = two_written given (spaces ++ node_words choices (minus_plan one other)) (first (32 ∷ spaces))
+    (second (32 ∷ spaces) (drop (leaves one) choices)) bounds
+    (c.in_ok-behind.ensures.text ∙ ap (λ (plan : Plan). given ++ bound_line (spaces ++ node_words choices plan) (first_bound bounds)) is)
+    c.in_ok-behind.ensures.behind
+    (left.text ∙ (λ i. c.write_line.new.text.items ++ with_bounds (first (deeper i)) c.in_ok-behind.behind.now))
+    (left.bounds ∙ (λ i. drop (length (first (deeper i))) c.in_ok-behind.behind.now))
+    (last.text ∙ (λ i. c.write_plan.new.text.items ++ with_bounds (second (deeper i) (left.choices i)) c.in_ok-left-in-Minus.left.bounds.now))
+    (last.bounds ∙ (λ i. drop (length (second (deeper i) (left.choices i))) c.in_ok-left-in-Minus.left.bounds.now)) in
+    record {
+      text = written.lines ∙ sym (ap (λ (plan : Plan). given ++ with_bounds (outline before_bound spaces choices plan) bounds) is);
+      choices = last.choices
+          ∙ ap (drop (leaves other)) left.choices
+          ∙ drop_further (leaves other) (leaves one) choices
+          ∙ sym (ap (λ (plan : Plan). drop (leaves plan) choices) is);
+      bounds = written.behind ∙ sym (ap (λ (plan : Plan). drop (length (outline before_bound spaces choices plan)) bounds) is);
+    }
+
+pub write_plan-returns-in-Pairs : goal.write_plan-returns-in-Pairs
+write_plan-returns-in-Pairs t c =
+    let spaces = c.args.spaces.now in
+    let choices = c.args.choices.now in
+    let bounds = c.args.bounds.now in
+    let given = c.args.text.now.items in
+    let types = plan_of c.deref-in-Pairs.result.now in
+    let test = test_plan_of c.in-Pairs.test in
+    let is : plan_of c.args.plan.now ≡ pairs_plan c.in-Pairs.back c.in-Pairs.count types test =
+    ap plan_of c.in-Pairs.is ∙ ap (λ (plan : ConceptPlan). pairs_plan c.in-Pairs.back c.in-Pairs.count (plan_of plan) test) (sym c.deref-in-Pairs.ensures) in
+    let deeper = c.as_slice-inner.ensures.value ∙ c.in_ok-deeper.ensures in
+    let left = c.in_ok-left-in-Pairs.ensures in
+    let last = c.in_ok-last-in-Pairs.ensures in
+    let choices_left = left.choices ∙ ap (drop (leaves types)) c.after_first.ensures in
+    let first = λ (spaces : List ℕ) (choices : List Choice). outline before_bound spaces choices types in
+    let second = λ (spaces : List ℕ) (choices : List Choice). test_outline before_bound spaces choices test in
+    let written = two_written given (spaces ++ node_words choices (pairs_plan c.in-Pairs.back c.in-Pairs.count types test)) (first (32 ∷ spaces) (drop 1 choices))
+    (second (32 ∷ spaces) (drop (leaves types) (drop 1 choices))) bounds
+    (c.in_ok-behind.ensures.text ∙ ap (λ (plan : Plan). given ++ bound_line (spaces ++ node_words choices plan) (first_bound bounds)) is)
+    c.in_ok-behind.ensures.behind
+    (left.text ∙ (λ i. c.write_line.new.text.items ++ with_bounds (first (deeper i) (c.after_first.ensures i)) c.in_ok-behind.behind.now))
+    (left.bounds ∙ (λ i. drop (length (first (deeper i) (c.after_first.ensures i))) c.in_ok-behind.behind.now))
+    (last.text ∙ (λ i. c.write_plan-in-Pairs.new.text.items ++ with_bounds (second (deeper i) (choices_left i)) c.in_ok-left-in-Pairs.left.bounds.now))
+    (last.bounds ∙ (λ i. drop (length (second (deeper i) (choices_left i))) c.in_ok-left-in-Pairs.left.bounds.now)) in
+    record {
+      text = written.lines ∙ sym (ap (λ (plan : Plan). given ++ with_bounds (outline before_bound spaces choices plan) bounds) is);
+      choices = last.choices
+          ∙ ap (drop (test_leaves test)) choices_left
+          ∙ drop_leaf (leaves types) (test_leaves test) choices
+          ∙ sym (ap (λ (plan : Plan). drop (leaves plan) choices) is);
+      bounds = written.behind ∙ sym (ap (λ (plan : Plan). drop (length (outline before_bound spaces choices plan)) bounds) is);
+    }
+
+pub write_units-returns-in-Minus : goal.write_units-returns-in-Minus
+write_units-returns-in-Minus t c =
+    let spaces = c.args.spaces.now in
+    let choices = c.args.choices.now in
+    let bounds = c.args.bounds.now in
+    let given = c.args.text.now.items in
+    let one = unit_plan_of c.deref.result.now in
+    let other = unit_plan_of c.deref-in-Minus.result.now in
+    let is : unit_plan_of c.args.plan.now ≡ minus_units one other =
+    ap unit_plan_of c.in-Minus.is ∙ (λ i. minus_units (unit_plan_of (sym c.deref.ensures i)) (unit_plan_of (sym c.deref-in-Minus.ensures i))) in
+    let deeper = c.as_slice-inner.ensures.value ∙ c.in_ok-deeper.ensures in
+    let left = c.in_ok-left-in-Minus.ensures in
+    let last = c.in_ok-last-in-Minus.ensures in
+    let first = λ (spaces : List ℕ). group_outline before_bound spaces choices one in
+    let second = λ (spaces : List ℕ) (choices : List Choice). group_outline before_bound spaces choices other in
+    let written = two_written given (spaces ++ group_words choices (minus_units one other)) (first (32 ∷ spaces))
+    (second (32 ∷ spaces) (drop (group_leaves one) choices)) bounds
+    (c.in_ok-behind.ensures.text ∙ ap (λ (plan : PlanOfUnits). given ++ bound_line (spaces ++ group_words choices plan) (first_bound bounds)) is)
+    c.in_ok-behind.ensures.behind
+    (left.text ∙ (λ i. c.write_unit_line.new.text.items ++ with_bounds (first (deeper i)) c.in_ok-behind.behind.now))
+    (left.bounds ∙ (λ i. drop (length (first (deeper i))) c.in_ok-behind.behind.now))
+    (last.text ∙ (λ i. c.write_units.new.text.items ++ with_bounds (second (deeper i) (left.choices i)) c.in_ok-left-in-Minus.left.bounds.now))
+    (last.bounds ∙ (λ i. drop (length (second (deeper i) (left.choices i))) c.in_ok-left-in-Minus.left.bounds.now)) in
+    record {
+      text = written.lines ∙ sym (ap (λ (plan : PlanOfUnits). given ++ with_bounds (group_outline before_bound spaces choices plan) bounds) is);
+      choices = last.choices
+          ∙ ap (drop (group_leaves other)) left.choices
+          ∙ drop_further (group_leaves other) (group_leaves one) choices
+          ∙ sym (ap (λ (plan : PlanOfUnits). drop (group_leaves plan) choices) is);
+      bounds = written.behind ∙ sym (ap (λ (plan : PlanOfUnits). drop (length (group_outline before_bound spaces choices plan)) bounds) is);
+    }
+
+pub write_units-returns : goal.write_units-returns
+write_units-returns t c =
     let spaces = c.args.spaces.now in
     let choices = c.args.choices.now in
     let bounds = c.args.bounds.now in
@@ -100,4 +198,11 @@ write_units-returns-clause-text t c =
     (left.bounds ∙ (λ i. drop (length (first (deeper i) (c.after_first.ensures i))) c.in_ok-behind.behind.now))
     (last.text ∙ (λ i. c.write_plan.new.text.items ++ with_bounds (second (deeper i) (choices_left i)) c.in_ok-left-in-Pairs.left.bounds.now))
     (last.bounds ∙ (λ i. drop (length (second (deeper i) (choices_left i))) c.in_ok-left-in-Pairs.left.bounds.now)) in
-    written.lines ∙ sym (ap (λ (plan : PlanOfUnits). given ++ with_bounds (group_outline before_bound spaces choices plan) bounds) is)
+    record {
+      text = written.lines ∙ sym (ap (λ (plan : PlanOfUnits). given ++ with_bounds (group_outline before_bound spaces choices plan) bounds) is);
+      choices = last.choices
+          ∙ ap (drop (test_leaves test)) choices_left
+          ∙ drop_leaf (leaves types) (test_leaves test) choices
+          ∙ sym (ap (λ (plan : PlanOfUnits). drop (group_leaves plan) choices) is);
+      bounds = written.behind ∙ sym (ap (λ (plan : PlanOfUnits). drop (length (group_outline before_bound spaces choices plan)) bounds) is);
+    }
