@@ -17,7 +17,8 @@ use Rattle.snapshot.specs.Numbering.{row_of_numbers}
 use Rattle.hierarchy.specs.ParentsFirst.{IsParentsFirst}
 use Rattle.hierarchy.proofs.CutLemmas.{same_maps}
 use Rattle.hierarchy.proofs.KeyedLemmas.{items_of-append}
-use Rattle.snapshot.proofs.NumberingLemmas.{Reaches-map, contains_map, numbers_again, place_of, place_of-get_or, row_by}
+use Rattle.snapshot.proofs.NumberingLemmas.{Reaches-map, numbers_again, row_by}
+use Rattle.release_rows.proofs.PlaceLemmas.{contains_map, place_of, place_of-get_or}
 use Rattle.hierarchy.proofs.ReleaseLemmas.{contains_had, had_contained}
 use Rattle.hierarchy.proofs.WayLemmas.{contained_items_of, items_of-contained}
 use Rattle.ancestor_index.specs.HierarchyLists.{hierarchy_of, is_child, lists_where}

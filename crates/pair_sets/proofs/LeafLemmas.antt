@@ -20,9 +20,9 @@ use Rattle.idset.proofs.Normal.{numbers_where-agree}
 use Rattle.set_algebra.specs.Meaning.{has_pairs, pairs_of}
 use Rattle.hierarchy.specs.Members.{has}
 use Rattle.snapshot.specs.AttributesBySource.{attributes_by_source}
-use Rattle.snapshot.proofs.NumberingLemmas.{contains_map}
+use Rattle.release_rows.proofs.PlaceLemmas.{contains_map}
 use Rattle.hierarchy.proofs.ReleaseLemmas.{had_contained}
-use Rattle.snapshot.proofs.RisingLemmas.{earlier_below}
+use Rattle.release_rows.proofs.RisingLemmas.{earlier_below}
 use Rattle.postings.specs.Entries.{Entry, entries_of}
 use Rattle.postings.specs.Groups.{ConceptGroup, all_groups, groups_in, is_in_group, pairs_of_group, rows_alone}
 use Rattle.postings.specs.Indexed.{Indexed, IsIndexOf, types_of}

@@ -16,8 +16,8 @@ use Rattle.idset.specs.Sets.{IsRisingBelow}
 use Rattle.idset.proofs.Rising.{rises_from_on, rising_is_where}
 use Rattle.idset.proofs.Normal.{all_items-numbers_where, has_item-numbers_where_any, numbers_where-agree, numbers_where-all, numbers_where-none}
 use Rattle.snapshot.specs.Numbering.{concept_number}
-use Rattle.snapshot.proofs.NumberingLemmas.{place_of}
-use Rattle.snapshot.proofs.RisingLemmas.{earlier_below}
+use Rattle.release_rows.proofs.PlaceLemmas.{place_of}
+use Rattle.release_rows.proofs.RisingLemmas.{earlier_below}
 use Rattle.ancestor_index.proofs.ClosureLemmas.{both_ways}
 use Rattle.pair_sets.specs.Numbers.{numbers_in}
 

@@ -25,8 +25,8 @@ use Rattle.rf2_rows.proofs.DistinctLemmas.{keeps_each_number_once, keeps_each_pa
 use Rattle.rf2_rows.proofs.PairLemmas.{tells_same_pair, tells_same_value}
 use Rattle.snapshot.specs.AttributesBySource.{attributes_by_source}
 use Rattle.hierarchy.specs.Members.{has}
-use Rattle.snapshot.specs.InForce.{rising}
-use Rattle.snapshot.proofs.PassedLemmas.{keeps_rising}
+use Rattle.release_rows.specs.InForce.{rising}
+use Rattle.release_rows.proofs.SortLemmas.{keeps_rising}
 use Rattle.ancestor_index.proofs.ClosureLemmas.{both_ways}
 use Rattle.postings.specs.Entries.{Entry, entries_of, is_alike, is_alike_in_group}
 use Rattle.postings.specs.Groups.{ConceptGroup, GroupKey, all_groups, groups_among, is_in_group, keys_of, numbered, pairs_of_group}

@@ -11,7 +11,7 @@ use Rattle.rf2_rows.specs.Release.{Value}
 use Rattle.rf2_rows.proofs.DistinctLemmas.{keeps_each_number_once}
 use Rattle.idset.specs.Sets.{has_item}
 use Rattle.idset.proofs.Normal.{numbers_where-agree}
-use Rattle.snapshot.specs.InForce.{rising}
+use Rattle.release_rows.specs.InForce.{rising}
 use Rattle.ancestor_index.proofs.ClosureLemmas.{both_ways, item_there, there_item}
 use Rattle.postings.specs.inside.Coded.{code_eq, group_codes, ungrouped_pairs, numbers_of_groups, pair_code, place_in_source, row_coded}
 use Rattle.postings.specs.Groups.{GroupKey, key_of, numbered, ungrouped}

@@ -15,7 +15,7 @@ use Rattle.std.proofs.lemmas.Option.{get_or_from_slice_get, slice_get-get_or, sl
 use Rattle.std.proofs.lemmas.Simd.{map-map}
 use Rattle.rf2_rows.specs.Pairs.{distinct, pair_eq, pair_of, value_eq}
 use Rattle.rf2_rows.specs.Release.{Attribute, Value}
-use Rattle.snapshot.specs.InForce.{rising}
+use Rattle.release_rows.specs.InForce.{rising}
 use Rattle.postings.specs.inside.Coded.{IsBySource, IsCoded, all_group_marks, code_eq, group_codes, group_marks, groups_ahead, has_same_in_group}
 use Rattle.postings.specs.inside.Coded.{has_same_pair, ungrouped_pairs, of_source, pair_code, place_in_source, row_coded}
 use Rattle.postings.specs.Columns.{AreGroups, Flagged}

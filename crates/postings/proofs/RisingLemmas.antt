@@ -7,8 +7,8 @@ use Rattle.std.proofs.lemmas.List.Elements.{All-cons, All-head, All-nil, All-tai
 use Rattle.idset.specs.Sets.{IsRisingBelow, has_item, listed_numbers, rises_within}
 use Rattle.idset.proofs.Rising.{rises_from_on, rises_on, rising_is_where}
 use Rattle.hierarchy.specs.Members.{has}
-use Rattle.snapshot.specs.InForce.{put, rising}
-use Rattle.snapshot.proofs.SortLemmas.{has-rising}
+use Rattle.release_rows.specs.InForce.{put, rising}
+use Rattle.release_rows.proofs.SortLemmas.{has-rising}
 
 -- a number put into a rising list leaves one that rises within the same limits
 rises_within-put : (lowest bound id : ℕ) (xs : List ℕ) → lowest ≤ id → id < bound → rises_within lowest bound xs ≡ true

@@ -16,7 +16,7 @@ use Rattle.std.proofs.lemmas.List.Kept.{Any-dedup, Contains-from_dedup, IsStrict
 use Rattle.std.proofs.lemmas.Map.Keys.{Less-from_sorted}
 use Rattle.std.proofs.lemmas.Option.{slice_get-get_or}
 use Rattle.std.proofs.lemmas.Slice.Eq.{bytes_eq-Decides}
-use Rattle.snapshot.proofs.NumberingLemmas.{contains_map}
+use Rattle.release_rows.proofs.PlaceLemmas.{contains_map}
 use Rattle.postings.specs.RowValues.{text_cmp}
 use Rattle.postings.proofs.ValueLemmas.{from_map}
 

@@ -18,10 +18,10 @@ use Rattle.rf2_rows.specs.Pairs.{value_eq}
 use Rattle.rf2_rows.specs.Release.{Attribute, Value, concept_value, number_value, text_value}
 use Rattle.rf2_rows.proofs.PairLemmas.{tells_same_value}
 use Rattle.snapshot.specs.AttributesBySource.{value_by_identifier}
-use Rattle.snapshot.proofs.NumberingLemmas.{contains_map}
+use Rattle.release_rows.proofs.PlaceLemmas.{contains_map}
 use Rattle.snapshot.specs.ValuesInForce.{is_value_among}
 use Rattle.hierarchy.proofs.ReleaseLemmas.{contains_had}
-use Rattle.snapshot.proofs.RisingLemmas.{earlier_below}
+use Rattle.release_rows.proofs.RisingLemmas.{earlier_below}
 use Rattle.postings.specs.Indexed.{value_at, values_among}
 use Rattle.postings.specs.RowValues.{AreTables, decimals_at, decimals_of, text_cmp, texts_at, texts_of}
 use Rattle.postings.specs.inside.ValueTables.{values_in}

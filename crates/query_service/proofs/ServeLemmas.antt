@@ -6,12 +6,12 @@ use Rattle.std.proofs.lemmas.List.{length-map}
 use Rattle.std.specs.Io.KnownBytes.{Appends}
 use Rattle.snapshot.specs.Contents.{Contents, IsFaultOf, load_of}
 use Rattle.release_files.specs.Source.{FileText}
-use Rattle.snapshot.specs.Limits.{standard_limits}
-use Rattle.snapshot.specs.Pieces.{AreInOrder, FailsToList, listed}
-use Rattle.snapshot.specs.DeviceFaults.{FailsBelow, is_device}
-use Rattle.snapshot.specs.declared.fault.LoadFault.{LoadFault}
-use Rattle.snapshot.specs.declared.fault.LoadFault.TheVariants as load
-use Rattle.snapshot.specs.declared.limits.Limits.{Limits}
+use Rattle.release_rows.specs.Limits.{standard_limits}
+use Rattle.release_rows.specs.Pieces.{AreInOrder, FailsToList, listed}
+use Rattle.release_rows.specs.DeviceFaults.{FailsBelow, is_device}
+use Rattle.release_rows.specs.declared.fault.LoadFault.{LoadFault}
+use Rattle.release_rows.specs.declared.fault.LoadFault.TheVariants as load
+use Rattle.release_rows.specs.declared.limits.Limits.{Limits}
 use Rattle.answer_printer.specs.ReportText.{report_text}
 use Rattle.query_run.specs.Fault.{CountsTurns, HaveFailed}
 use Rattle.query_service.specs.Report.{report_of}

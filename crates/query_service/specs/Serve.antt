@@ -3,11 +3,11 @@ use Rattle.std.specs.Prelude.{ℕ, ◌≡◌, ◌≢◌, ◌⊎◌, ◌<◌, fal
 use Rattle.std.specs.Io.KnownBytes.{Appends, IsAtEnd}
 use Rattle.snapshot.specs.Contents.{Contents, load_of}
 use Rattle.release_files.specs.Source.{FileText}
-use Rattle.snapshot.specs.Limits.{standard_limits}
-use Rattle.snapshot.specs.Pieces.{AreInOrder, FailsToList, IsUnlisted, listed}
-use Rattle.snapshot.specs.DeviceFaults.{FailsBelow, RaisesOnlyAtDevice, is_device}
-use Rattle.snapshot.specs.declared.fault.LoadFault.{LoadFault}
-use Rattle.snapshot.specs.declared.fault.LoadFault.TheVariants as load
+use Rattle.release_rows.specs.Limits.{standard_limits}
+use Rattle.release_rows.specs.Pieces.{AreInOrder, FailsToList, IsUnlisted, listed}
+use Rattle.release_rows.specs.DeviceFaults.{FailsBelow, RaisesOnlyAtDevice, is_device}
+use Rattle.release_rows.specs.declared.fault.LoadFault.{LoadFault}
+use Rattle.release_rows.specs.declared.fault.LoadFault.TheVariants as load
 use Rattle.answer_printer.specs.LoadRefusal.{load_refusal}
 use Rattle.answer_printer.specs.ReportText.{report_text}
 use Rattle.query_run.specs.Fault.{CountsTurns, EndsAt, HaveFailed}

@@ -3,8 +3,8 @@ ghost use Rattle.std.specs.Prelude.{◌≡◌, ◌⊎◌, ℕ, false, IfErr, IfO
 ghost use Rattle.std.specs.Io.KnownBytes.{IsAtEnd};
 ghost use Rattle.release_files.specs.Source.{file_text};
 ghost use Rattle.snapshot.specs.Contents.{Contents, IsFaultOf, load_of};
-ghost use Rattle.snapshot.specs.Pieces.{AreInOrder, FailsAtFiles, IsUnlisted, listed};
-ghost use Rattle.snapshot.specs.DeviceFaults.{RaisesOnlyAtDevice, is_device};
+ghost use Rattle.release_rows.specs.Pieces.{AreInOrder, FailsAtFiles, IsUnlisted, listed};
+ghost use Rattle.release_rows.specs.DeviceFaults.{RaisesOnlyAtDevice, is_device};
 ghost use Rattle.query_run.specs.Fault.{CountsTurns, EndsAt, HaveFailed};
 ghost use Rattle.query_run.specs.Lines.{AreWritten, query_lines};
 ghost use Rattle.query_service.specs.Answer.{IsAnswer};

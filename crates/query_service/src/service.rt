@@ -3,8 +3,8 @@ ghost use Rattle.std.specs.Prelude.{◌≡◌, ◌⊎◌, false, Err, IfErr, IfO
 ghost use Rattle.std.specs.Io.KnownBytes.{IsAtEnd};
 ghost use Rattle.rf2_rows.specs.Parts.{texts_of};
 ghost use Rattle.snapshot.specs.Contents.{Contents, IsFaultOf};
-ghost use Rattle.snapshot.specs.Pieces.{AreInOrder, FailsAtFiles, IsUnlisted};
-ghost use Rattle.snapshot.specs.DeviceFaults.{RaisesOnlyAtDevice};
+ghost use Rattle.release_rows.specs.Pieces.{AreInOrder, FailsAtFiles, IsUnlisted};
+ghost use Rattle.release_rows.specs.DeviceFaults.{RaisesOnlyAtDevice};
 ghost use Rattle.sample_release.specs.SampleContents.{sample_contents};
 ghost use Rattle.answer_printer.specs.LoadRefusal.{load_refusal};
 ghost use Rattle.answer_printer.specs.ReportText.{report_text};

@@ -12,16 +12,16 @@ use Rattle.idset.specs.Sets.{has_item}
 use Rattle.ancestor_index.proofs.ClosureLemmas.{item_there, there_item}
 use Rattle.constraint_tree.specs.Denotation.{denotation, denotes}
 use Rattle.release_files.specs.Source.{FileText}
-use Rattle.snapshot.specs.Contents.{Contents, contents_of, text_of_row, load_of, loaded_from, unless_faulty}
-use Rattle.snapshot.specs.Faults.{first_fault}
-use Rattle.snapshot.specs.Files.{has_kind, is_concept_file, places_from, rows_of}
+use Rattle.snapshot.specs.Contents.{Contents, contents_of, load_of, loaded_from, unless_faulty}
+use Rattle.release_rows.specs.Files.{text_of_row, has_kind, is_concept_file, places_from, rows_of}
+use Rattle.release_rows.specs.Faults.{first_fault}
 use Rattle.rf2_rows.specs.declared.row.ConceptRow.{ConceptRow}
-use Rattle.snapshot.specs.Chosen.{chosen}
-use Rattle.snapshot.specs.InForce.{KeepsRising, concept_rows}
-use Rattle.snapshot.specs.Limits.{limits_in_force, standard_limits}
-use Rattle.snapshot.specs.Pieces.{listed}
-use Rattle.snapshot.specs.declared.fault.LoadFault.{LoadFault}
-use Rattle.snapshot.specs.declared.fault.LoadFault.TheVariants.{NoConceptFile}
+use Rattle.release_rows.specs.Chosen.{chosen}
+use Rattle.release_rows.specs.InForce.{KeepsRising, concept_rows}
+use Rattle.release_rows.specs.Limits.{limits_in_force, standard_limits}
+use Rattle.release_rows.specs.Pieces.{listed}
+use Rattle.release_rows.specs.declared.fault.LoadFault.{LoadFault}
+use Rattle.release_rows.specs.declared.fault.LoadFault.TheVariants.{NoConceptFile}
 use Rattle.command_line.specs.declared.words.Mode.{Mode}
 use Rattle.command_line.specs.declared.words.Mode.TheVariants.{Query}
 use Rattle.query_run.specs.Lines.{AreAnswers, AreWritten, query_lines}

@@ -11,9 +11,9 @@ use Rattle.constraint_tree.specs.Refusal.{IsConstraint, IsRefusalOf}
 use Rattle.constraint_tree.specs.Tree.{Tree}
 use Rattle.release_files.specs.Source.{FileText}
 use Rattle.snapshot.specs.Contents.{Contents, load_of}
-use Rattle.snapshot.specs.Limits.{standard_limits}
+use Rattle.release_rows.specs.Limits.{standard_limits}
 use Rattle.snapshot.specs.Name.{name_of}
-use Rattle.snapshot.specs.Pieces.{AreInOrder, listed}
+use Rattle.release_rows.specs.Pieces.{AreInOrder, listed}
 use Rattle.answer_printer.specs.AnswerText.{answer_text, refusal_text}
 use Rattle.query_run.specs.Lines.{AreAnswers, query_lines}
 use Rattle.query_service.specs.Serve.{EndsWith, IsTask, Task}

@@ -4,7 +4,7 @@
 ghost use Rattle.std.specs.Prelude.{◌≡◌, Ok, codes, map};
 ghost use Rattle.snapshot.specs.Contents.{load_of};
 ghost use Rattle.release_files.specs.Source.{FileText, file_text};
-ghost use Rattle.snapshot.specs.Limits.{standard_limits};
+ghost use Rattle.release_rows.specs.Limits.{standard_limits};
 ghost use Rattle.sample_release.specs.SampleContents.{sample_contents, sample_names};
 
 use release_files::NamedBytes;

@@ -10,14 +10,14 @@ use Rattle.std.specs.List.Sorted.{IsStrictlyIncreasing}
 use Rattle.snapshot.specs.inside.LeastCycle.{IsLeastCycle}
 use Rattle.rf2_rows.specs.Release.{Attribute, Name}
 use Rattle.snapshot.specs.Contents.{Contents, IsFaultOf, first_cyclic, least_cyclic, unless_cyclic}
-use Rattle.snapshot.specs.InForce.{put, rising, rows_among}
-use Rattle.snapshot.specs.inside.RowStore.{IsCycle, attributes_among, contents_from, finished, names_among, release_from}
+use Rattle.release_rows.specs.InForce.{put, rising, rows_among}
+use Rattle.snapshot.specs.inside.Finished.{IsCycle, attributes_among, contents_from, finished, names_among, release_from}
 use Rattle.snapshot.specs.ValuesInForce.{is_value_among}
-use Rattle.snapshot.specs.inside.ReleaseLists.{ReleaseLists}
+use Rattle.release_rows.specs.ReleaseLists.{ReleaseLists}
 use Rattle.snapshot.specs.Numbering.{numbered_row, row_of_numbers}
-use Rattle.snapshot.specs.DeviceFaults.{FailsAtRead, RaisesOnlyAtDevice, file_of, is_device}
-use Rattle.snapshot.specs.declared.fault.LoadFault.{LoadFault}
-use Rattle.snapshot.specs.declared.fault.LoadFault.TheVariants.{Cycle, Memory, NoConceptFile}
+use Rattle.release_rows.specs.DeviceFaults.{FailsAtRead, RaisesOnlyAtDevice, file_of, is_device}
+use Rattle.release_rows.specs.declared.fault.LoadFault.{LoadFault}
+use Rattle.release_rows.specs.declared.fault.LoadFault.TheVariants.{Cycle, Memory, NoConceptFile}
 use Rattle.snapshot.proofs.NumberingLemmas.{first_cyclic-Some, rows_of_numbers}
 
 -- a list does not grow by being brought in rising order

@@ -1,22 +1,19 @@
 -- The row that names each concept, as the rows are gone through from the last to the first.
-use Rattle.std.proofs.Common.{rules, ℕ, ◌≡◌, ◌<◌, ◌≤◌, ◌-◌, ◌==◌, drop, drop-cons, List, ◌∷◌, length, get_or, set, map, Option, None, Some, option_map, IfSome, false, arith, slice_get, eqb-true, get_or-set_same, get_or-set_other, length-set}
+use Rattle.std.proofs.Common.{rules, ℕ, ◌≡◌, ◌<◌, ◌≤◌, ◌-◌, ◌==◌, drop, drop-cons, List, ◌∷◌, length, get_or, set, Option, None, Some, option_map, IfSome, false, arith, slice_get, eqb-true, get_or-set_same, get_or-set_other, length-set}
 use Rattle.std.proofs.lemmas.Grind.{common_steps}
 use Rattle.std.specs.List.Sorted.{IsStrictlyIncreasing}
 use Rattle.std.proofs.lemmas.Bool.{cases_eq}
 use Rattle.std.proofs.lemmas.Bool.Decides.{nat_tests}
-use Rattle.std.proofs.lemmas.List.{length-map, get_or_default}
-use Rattle.std.proofs.Math.ListN.{get_or-map}
-use Rattle.std.proofs.lemmas.Option.{slice_get-map, slice_get_read}
+use Rattle.std.proofs.lemmas.List.{get_or_default}
+use Rattle.std.proofs.lemmas.Option.{slice_get_read}
 use Rattle.std.proofs.lemmas.List.Quantifiers.{position-Some}
 use Rattle.std.proofs.lemmas.List.Sums.{fails_before_first}
 use Rattle.rf2_rows.specs.Release.{Name}
 use Rattle.snapshot.specs.inside.FirstRows.{AreFirstPlaces, IsFirstOfTwo, IsFirstPlace}
 use Rattle.snapshot.specs.Name.{first_name, names_of}
-use Rattle.snapshot.specs.inside.NamesInside.{name_in}
 use Rattle.snapshot.specs.Numbering.{concept_number}
-use Rattle.snapshot.specs.declared.names.NameRow.{NameRow}
 use Rattle.snapshot.proofs.LineLemmas.{place_within}
-use Rattle.snapshot.proofs.RisingLemmas.{earlier_below}
+use Rattle.release_rows.proofs.RisingLemmas.{earlier_below}
 
 -- concepts at two places of a rising list are not one
 places_apart : (concepts : List ℕ) → IsStrictlyIncreasing concepts → (i j : ℕ) → i < length concepts → j < length concepts → (i ≡ j → ⊥)
@@ -38,29 +35,17 @@ first_places-own language concepts names later row at number result places risin
     grind (arith, position-Some, eqb-true, length-set, cases_eq, get_or-set_same, get_or-set_other, places_apart, option_map)
 
 -- the names from a row on are its own and those behind it
-pub names_from : (texts : List ℕ) (rows : List NameRow) (behind : ℕ) (row : NameRow) → 0 < behind → behind ≤ length rows → row ≡ get_or rows (behind - 1) row
-    → drop (behind - 1) (map (name_in texts) rows) ≡ name_in texts row ∷ drop behind (map (name_in texts) rows)
-names_from texts rows behind row some within is =
-    grind (
-      arith,
-      (drop-cons (map (name_in texts) rows) (behind - 1) (name_in texts row)),
-      (get_or-map (name_in texts) rows (behind - 1) row),
-      length-map,
-    )
+pub names_from : (names : List Name) (behind : ℕ) (row : Name) → 0 < behind → behind ≤ length names → row ≡ get_or names (behind - 1) row
+    → drop (behind - 1) names ≡ row ∷ drop behind names
+names_from names behind row some within is = grind (arith, (drop-cons names (behind - 1) row))
 
-pub name_at : (texts : List ℕ) (rows : List NameRow) (at : ℕ) (row : NameRow) → at < length rows → row ≡ get_or rows at row
-    → slice_get (map (name_in texts) rows) at ≡ Some (name_in texts row)
-name_at texts rows at row within is = grind (arith, common_steps, nat_tests, option_map, slice_get-map, slice_get_read)
+pub name_at : (names : List Name) (at : ℕ) (row : Name) → at < length names → row ≡ get_or names at row → slice_get names at ≡ Some row
+name_at names at row within is = grind (arith, common_steps, nat_tests, slice_get_read)
 
 -- a place is that of a row
-pub first_within : (language : List ℕ) (concept : ℕ) (texts : List ℕ) (rows : List NameRow) (later : List Name) (place : Option ℕ)
-    → IsFirstPlace language concept (map (name_in texts) rows) later place → IfSome place (λ at. at < length rows)
-first_within language concept texts rows later place is =
-    grind (
-      arith,
-      (length-map rows (name_in texts)),
-      (place_within (map (name_in texts) rows) place (first_name language (names_of concept later)) is),
-    )
+pub first_within : (language : List ℕ) (concept : ℕ) (names later : List Name) (place : Option ℕ)
+    → IsFirstPlace language concept names later place → IfSome place (λ at. at < length names)
+first_within language concept names later place is = place_within names place (first_name language (names_of concept later)) is
 
 -- the place at the number of a concept
 pub place_read : (language concepts : List ℕ) (id : ℕ) (names later : List Name) (places : List (Option ℕ)) (number : ℕ) (place : Option ℕ)

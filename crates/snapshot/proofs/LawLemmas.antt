@@ -1,7 +1,7 @@
--- What the definitions of a load say in the words of a reader.
+-- The concept that a cycle is refused by, in the words of a reader.
 use Rattle.std.proofs.lemmas.Bool.Decides.{nat_tests}
 use Rattle.std.proofs.lemmas.Grind.{common_steps}
-use Rattle.std.proofs.Common.{ℕ, ◌≡◌, ◌<◌, List, [], ◌∷◌, ◌++◌, length, get_or, Option, None, Some, sym, ◌∙◌, ap, refl, arith, inl, inr, ◌⊎◌, append_assoc, Bool, true, false, Contains, find, append-nil, slice_get}
+use Rattle.std.proofs.Common.{ℕ, ◌≡◌, ◌<◌, List, length, get_or, None, Some, sym, ◌∙◌, ap, arith, Bool, true, false, Contains, find, slice_get}
 use Rattle.std.specs.List.Sorted.{IsStrictlyIncreasing}
 use Rattle.std.proofs.lemmas.Bool.{cases_lt, false_from_ne_true}
 use Rattle.std.proofs.lemmas.List.{get_or_default}
@@ -12,33 +12,9 @@ use Rattle.std.specs.List.{position_or_len}
 use Rattle.hierarchy.specs.Hierarchy.{Reaches, reaches}
 use Rattle.hierarchy.proofs.HierarchyLemmas.{chain_from_test, test_from_chain}
 use Rattle.snapshot.specs.Contents.{NamesLeastCyclic}
-use Rattle.snapshot.specs.Faults.{NamesFirstFault, fault_at, first_fault}
-use Rattle.snapshot.specs.Files.{Place}
-use Rattle.snapshot.specs.declared.fault.LoadFault.{LoadFault}
-use Rattle.snapshot.specs.declared.limits.Limits.{Limits}
 use Rattle.std.proofs.lemmas.List.Elements.{Contains-get_or}
 use Rattle.snapshot.proofs.NumberingLemmas.{find-first, find-none}
-use Rattle.snapshot.proofs.RisingLemmas.{earlier_below, not_falling}
-use Rattle.snapshot.proofs.WentLemmas.{first_fault-append}
-
-option_cases : {X : Type 0} (o : Option X) → (o ≡ None) ⊎ ((x : X) × (o ≡ Some x))
-option_cases None = inl refl
-option_cases (Some x) = inr (x, refl)
-
--- the fault that is found stands at a place, before which none is found
-found_at : (limits : Limits) (seen places : List Place) (fault : LoadFault) → first_fault limits seen places ≡ Some fault
-    → (before : List Place) × (place : Place) × (later : List Place)
-    × (places ≡ before ++ place ∷ later) × (fault_at limits (seen ++ before) place ≡ Some fault) × (first_fault limits seen before ≡ None)
-found_at limits seen [] fault found = (cc)
-found_at limits seen (first ∷ rest) fault found = elim (option_cases (fault_at limits seen first)) [
-  | inl none ↦
-      let tail = found_at limits (seen ++ first ∷ []) rest fault (grind (arith, none)) in
-      (first ∷ tail.0, tail.1, tail.2, grind (arith, tail.3), grind (arith, append_assoc, tail.4), grind (arith, none, tail.5))
-  | inr (other, is) ↦ ([], first, rest, refl, grind (arith, append-nil), refl)
-]
-
-pub names_first_fault : NamesFirstFault
-names_first_fault limits places = grind (arith, first_fault-append, found_at, option_cases)
+use Rattle.release_rows.proofs.RisingLemmas.{earlier_below, not_falling}
 
 -- what is found passes the test, and no item before it does
 find-Some : (test : ℕ → Bool) (xs : List ℕ) (x : ℕ) → find test xs ≡ Some x

@@ -8,12 +8,12 @@ use Rattle.std.specs.List.{onto_first}
 use Rattle.release_files.specs.Lines.{LineText, byte_order_mark, lines_of, mark_length, numbered, parts}
 use Rattle.release_files.specs.Source.{FileText}
 use Rattle.rf2_rows.specs.declared.kind.FileKind.{FileKind}
-use Rattle.snapshot.specs.Faults.{fault_at, fault_here, first_fault, first_of}
-use Rattle.snapshot.specs.Files.{Place, first_line, later_line, no_line, places_from, places_of_kind, places_of_lines}
-use Rattle.snapshot.specs.Pieces.{cut_file}
-use Rattle.snapshot.specs.declared.fault.LoadFault.{LoadFault}
-use Rattle.snapshot.specs.declared.fault.LoadFault.TheVariants.{TooMany}
-use Rattle.snapshot.specs.declared.limits.Limits.{Limits}
+use Rattle.release_rows.specs.Faults.{fault_at, fault_here, first_fault, first_of}
+use Rattle.release_rows.specs.Files.{Place, first_line, later_line, no_line, places_from, places_of_kind, places_of_lines}
+use Rattle.release_rows.specs.Pieces.{cut_file}
+use Rattle.release_rows.specs.declared.fault.LoadFault.{LoadFault}
+use Rattle.release_rows.specs.declared.fault.LoadFault.TheVariants.{TooMany}
+use Rattle.release_rows.specs.declared.limits.Limits.{Limits}
 
 -- the parts of the first bytes of a text and those of the text: the same up to one that reaches the cut in both
 data PartsAgree : ℕ → List (List ℕ) → List (List ℕ) → Type 0 where

@@ -9,7 +9,6 @@ use Rattle.snapshot.specs.inside.FirstRows.{AreFirstPlaces}
 use Rattle.hierarchy.specs.inside.KeyedListsInside.{AreStarts}
 use Rattle.snapshot.specs.Line.{concept_line}
 use Rattle.snapshot.specs.Name.{first_name, name_among, names_of}
-use Rattle.snapshot.proofs.FinishLemmas.{length-names_among}
 use Rattle.hierarchy.proofs.CutLemmas.{below_cut, cut, cut-push, end_within, found, same_maps, slice_range-append, starts-push}
 
 -- the place of the row that comes first is that of a row, and the term there is its term
@@ -60,6 +59,3 @@ line_places starts texts lists number (lines, more, grown, kept) are below = gri
 pub line_among : (name : ℕ → Option (List ℕ)) (concepts : List ℕ) (number : ℕ) → number < length concepts
     → get_or (map (concept_line name) concepts) number [] ≡ concept_line name (get_or concepts number 0)
 line_among name concepts number below = get_or-map (concept_line name) concepts number 0 [] below
-
--- there are no more of the names than there were
-pub ruleset fewer_names = (length-names_among)

@@ -7,19 +7,19 @@ use Rattle.std.proofs.lemmas.Simd.{map-map}
 use Rattle.rf2_rows.specs.Release.{Attribute, concept_value}
 use Rattle.hierarchy.specs.Members.{has}
 use Rattle.snapshot.specs.AttributesBySource.{HasNumbersBelow, IsNumberBelow, by_identifiers, value_by_identifier}
-use Rattle.snapshot.specs.inside.ConcreteValues.{Concrete, a_number, a_text, concrete_value, no_text}
-use Rattle.snapshot.specs.inside.RowStore.{attributes_among}
+use Rattle.release_rows.specs.ConcreteValues.{Concrete, a_number, a_text, concrete_value, no_text}
+use Rattle.snapshot.specs.inside.Finished.{attributes_among}
 use Rattle.snapshot.specs.ValuesInForce.{is_value_among}
 use Rattle.snapshot.specs.inside.NumberedInside.{IsNumbered, IsOwnNumber, IsOwnRow, IsWithinNumbered, row_numbered, value_numbered}
 use Rattle.snapshot.specs.Numbering.{concept_number}
 use Rattle.snapshot.specs.inside.SortedInside.{IsRowPlaced, row_in, sorted_row_in}
-use Rattle.snapshot.specs.inside.Spans.{Extends}
+use Rattle.release_rows.specs.Spans.{Extends}
 use Rattle.snapshot.specs.declared.numbered_attributes.NumberedRow.{NumberedRow}
 use Rattle.snapshot.specs.declared.sorted_attributes.SortedRow.{SortedRow}
 use Rattle.snapshot.specs.declared.value_number.ValueNumber.{ValueNumber}
 use Rattle.snapshot.specs.declared.value_number.ValueNumber.TheVariants.{Concept, Concrete as ConcreteAt}
 use Rattle.snapshot.proofs.NumberingLemmas.{number_has}
-use Rattle.snapshot.proofs.SpanLemmas.{all-push, rows-push, rows-same}
+use Rattle.release_rows.proofs.SpanLemmas.{all-push, rows-push, rows-same}
 
 -- ---- the numbers of values
 -- the number of a concept is its own

@@ -1,9 +1,8 @@
 -- Concepts by their identifiers and by their numbers: rows, chains of rows and cycles are the same.
-use Rattle.std.proofs.Common.{rules, lt-ltb, ℕ, ◌≡◌, ◌≤◌, ◌<◌, ◌==◌, ◌-◌, List, [], ◌∷◌, length, get_or, map, Bool, true, false, ltb, None, Some, ◌∙◌, ap, subst, refl, arith, All, Contains, find, is_some, filter_map, eqb-true, ltb-true}
+use Rattle.std.proofs.Common.{rules, lt-ltb, ℕ, ◌≡◌, ◌≤◌, ◌<◌, ◌-◌, List, [], ◌∷◌, length, get_or, map, Bool, true, false, None, Some, subst, refl, arith, All, find, is_some, filter_map}
 use Rattle.std.proofs.lemmas.Grind.{common_steps}
-use Rattle.std.specs.List.{position_or_len}
 use Rattle.std.specs.List.Sorted.{IsStrictlyIncreasing}
-use Rattle.std.proofs.lemmas.List.Sums.{count_by-le-length, length-filter, position_or_len_is, passes_at_first}
+use Rattle.std.proofs.lemmas.List.Sums.{count_by-le-length, length-filter}
 use Rattle.std.proofs.lemmas.List.Elements.{All-map, filter_passes}
 use Rattle.std.proofs.lemmas.List.Folds.{map_fixed}
 use Rattle.std.proofs.lemmas.List.Recursion.{found_at, found_nowhere}
@@ -12,46 +11,22 @@ use Rattle.std.proofs.lemmas.Bool.{and_parts, false_from_ne_true}
 use Rattle.std.proofs.lemmas.Bool.Decides.{nat_tests}
 use Rattle.hierarchy.specs.Hierarchy.{IsWithin, Reaches, more_rows, one_row, reaches}
 use Rattle.hierarchy.proofs.HierarchyLemmas.{chain_from_test, test_from_chain}
-use Rattle.std.proofs.lemmas.List.{get_or-map, length-map}
+use Rattle.std.proofs.lemmas.List.{length-map}
 use Rattle.snapshot.specs.Contents.{first_cyclic}
 use Rattle.hierarchy.specs.Members.{has}
-use Rattle.snapshot.specs.InForce.{rows_among}
+use Rattle.release_rows.specs.InForce.{rows_among}
 use Rattle.snapshot.specs.Numbering.{concept_number, numbered_row, row_of_numbers}
-use Rattle.snapshot.proofs.RisingLemmas.{earlier_below, has-between}
+use Rattle.release_rows.proofs.PlaceLemmas.{contains_map, get_or-place_of, place_below, place_of, place_of-get_or, place_within}
+use Rattle.release_rows.proofs.RisingLemmas.{has-between}
 
--- the place of an identifier among concepts, or their number where it is not among them
-abbrev pub place_of : List ℕ → ℕ → ℕ
-place_of concepts id = position_or_len (λ other. id == other) concepts
-
+-- the row of what a function gives of both ends
 abbrev pub row_by : (ℕ → ℕ) → ℕ × ℕ → ℕ × ℕ
 row_by f row = (f row.0, f row.1)
-
--- an item of a list, in the list of what a function gives of its items
-pub contains_map : {X Y : Type 0} (f : X → Y) (xs : List X) (x : X) → Contains xs x → Contains (map f xs) (f x)
-contains_map f xs x there = (there.0, rw length-map there.1, get_or-map f xs there.0 x (f x) there.1 ∙ ap f there.2)
 
 -- a chain of rows, each end of which is renamed
 pub Reaches-map : (f : ℕ → ℕ) {rows : List (ℕ × ℕ)} {x y : ℕ} → Reaches rows x y → Reaches (map (row_by f) rows) (f x) (f y)
 Reaches-map f {rows} {x} {y} (one_row there) = one_row (contains_map (row_by f) rows (x, y) there)
 Reaches-map f {rows} {x} {y} (more_rows {parent = parent} there rest) = more_rows (contains_map (row_by f) rows (x, parent) there) (Reaches-map f rest)
-
--- an identifier has a place below the number of concepts exactly where it is among them
-pub place_within : (concepts : List ℕ) (id : ℕ) → ltb (place_of concepts id) (length concepts) ≡ has concepts id
-place_within [] id = refl
-place_within (concept ∷ concepts) id = grind (arith, nat_tests, place_within concepts id)
-
-pub place_below : (concepts : List ℕ) (id : ℕ) → has concepts id ≡ true → place_of concepts id < length concepts
-place_below concepts id there = ltb-true (place_of concepts id) (length concepts) (place_within concepts id ∙ there)
-
--- the identifier at the place of an identifier among concepts is that identifier
-pub get_or-place_of : (concepts : List ℕ) (id : ℕ) → has concepts id ≡ true → get_or concepts (place_of concepts id) 0 ≡ id
-get_or-place_of concepts id there = grind (arith, common_steps, nat_tests, eqb-true, get_or, passes_at_first, place_below)
-
--- the place of the identifier at a place, among rising concepts
-pub place_of-get_or : (concepts : List ℕ) → IsStrictlyIncreasing concepts → (i : ℕ) → i < length concepts → place_of concepts (get_or concepts i 0) ≡ i
-place_of-get_or concepts rising i within =
-    position_or_len_is (λ other. get_or concepts i 0 == other) concepts i 0 (omega arith)
-    (λ k before. grind (arith, nat_tests, (earlier_below concepts rising k i before within))) (λ _. grind (arith, nat_tests))
 
 -- the number of a concept among others is its place
 pub concept_number-has : (concepts : List ℕ) (id : ℕ) → has concepts id ≡ true → concept_number concepts id ≡ Some (place_of concepts id)

@@ -1,26 +1,24 @@
 -- The rows that are in none of a release's lists are as many as the rows less those in its lists.
 use Rattle.std.proofs.lemmas.Bool.Decides.{nat_tests}
 use Rattle.std.proofs.lemmas.Grind.{common_steps}
-use Rattle.std.proofs.Common.{ℕ, suc, ◌≡◌, ◌+◌, ◌&&◌, ◌==◌, List, [], ◌∷◌, ◌++◌, length, map, refl, arith, Bool, false, not, nat_eq, filter, count_by, eqb-true}
+use Rattle.std.proofs.Common.{ℕ, suc, ◌≡◌, ◌+◌, ◌&&◌, ◌==◌, List, [], ◌∷◌, ◌++◌, length, map, refl, arith, Bool, false, not, nat_eq, filter, count_by}
 use Rattle.std.specs.List.{AllByRecursion, IsDistinct}
-use Rattle.std.proofs.lemmas.Cmp.{nat_eq_equiv}
 use Rattle.std.proofs.lemmas.List.{length-map}
 use Rattle.std.proofs.lemmas.List.Sums.{sum_by-append}
-use Rattle.std.proofs.lemmas.Map.Views.{Contains-from_any, list_any-from_Contains}
 use Rattle.rf2_rows.specs.Release.{Attribute}
 use Rattle.rf2_rows.specs.RowTexts.{RowText, of_concept, of_concrete, of_description, of_member, of_relationship}
 use Rattle.rf2_rows.specs.Rows.{ConcreteText}
 use Rattle.rf2_rows.specs.declared.row.ConceptRow.{ConceptRow}
 use Rattle.rf2_rows.specs.declared.row.RelationshipRow.{RelationshipRow}
-use Rattle.snapshot.specs.Chosen.{choices, marked}
-use Rattle.snapshot.specs.Files.{RowAt}
+use Rattle.release_rows.specs.Chosen.{choices, marked}
+use Rattle.release_rows.specs.Files.{RowAt}
 use Rattle.hierarchy.specs.Members.{has}
-use Rattle.snapshot.specs.InForce.{KeepsRising, attributes_in_force, concept_rows, concrete_rows, description_rows, is_concrete_in_force, is_in_force, listed_count, member_rows, put, relationship_rows, release_of, rising}
-use Rattle.snapshot.specs.Metadata.{is_a}
+use Rattle.release_rows.specs.InForce.{attributes_in_force, concept_rows, concrete_rows, description_rows, is_concrete_in_force, is_in_force, listed_count, member_rows, put, relationship_rows, release_of, rising}
+use Rattle.release_rows.specs.Metadata.{is_a}
 use Rattle.snapshot.specs.Passed.{CountsPassedRows, failing, passed_texts}
-use Rattle.snapshot.proofs.ApartLemmas.{active-distinct}
+use Rattle.release_rows.proofs.ApartLemmas.{active-distinct}
 use Rattle.snapshot.proofs.LoadLemmas.{concepts-listed}
-use Rattle.snapshot.proofs.SortLemmas.{has-rising, rising-rises}
+use Rattle.release_rows.proofs.SortLemmas.{has-rising}
 
 -- the rows that pass a test and those that fail it are all rows
 split : {Row : Type 0} (test : Row → Bool) (rows : List Row) → length (filter test rows) + failing test rows ≡ length rows
@@ -91,16 +89,3 @@ listed_or_passed rows apart = grind (arith, common_steps, nat_tests, all_kinds, 
 pub counts_passed_rows : CountsPassedRows
 counts_passed_rows limits language files places clean =
     grind (arith, common_steps, nat_tests, active-distinct, choices_split, concepts-listed, length-map, listed_or_passed, nat_eq)
-
-pub keeps_rising : KeepsRising
-keeps_rising ids = (
-  rising-rises ids,
-  λ id. grind (
-    arith,
-    (Contains-from_any (λ x y alike. eqb-true x y alike) id ids),
-    (Contains-from_any (λ x y alike. eqb-true x y alike) id (rising ids)),
-    (has-rising ids id),
-    (list_any-from_Contains nat_eq_equiv id ids),
-    (list_any-from_Contains nat_eq_equiv id (rising ids)),
-  ),
-)

@@ -7,9 +7,9 @@ use Rattle.std.proofs.lemmas.Option.{slice_get-get_or}
 use Rattle.first_met.specs.FirstMet.{keys_behind}
 use Rattle.first_met.proofs.PlaceLemmas.{behind_all}
 use Rattle.snapshot.specs.inside.SortedInside.{row_in}
-use Rattle.snapshot.specs.inside.Spans.{Extends}
+use Rattle.release_rows.specs.Spans.{Extends}
 use Rattle.snapshot.specs.declared.sorted_attributes.SortedRow.{SortedRow}
-use Rattle.snapshot.proofs.NumberingLemmas.{get_or-place_of, place_below}
+use Rattle.release_rows.proofs.PlaceLemmas.{get_or-place_of, place_below}
 
 -- the place of a key is no further than there are keys
 pub place_near : (keys : List ℕ) (key : ℕ) → position_or_len (nat_eq key) keys ≤ length keys

@@ -5,19 +5,14 @@ use Rattle.std.specs.List.Sorted.{IsStrictlyIncreasing}
 use Rattle.hierarchy.specs.Hierarchy.{Reaches, reaches}
 use Rattle.release_files.specs.Source.{FileText}
 use Rattle.rf2_rows.specs.Release.{Release}
-use Rattle.rf2_rows.specs.RowTexts.{RowText, row_text}
-use Rattle.snapshot.specs.Faults.{first_fault}
-use Rattle.snapshot.specs.Chosen.{chosen}
-use Rattle.snapshot.specs.Files.{Place, RowAt, places_from, rows_of, is_concept_file, has_kind}
-use Rattle.snapshot.specs.InForce.{release_of, listed_count}
-use Rattle.snapshot.specs.Limits.{limits_in_force}
-use Rattle.snapshot.specs.declared.fault.LoadFault.{LoadFault}
-use Rattle.snapshot.specs.declared.fault.LoadFault.TheVariants.{NoConceptFile, Cycle, Memory}
-use Rattle.snapshot.specs.declared.limits.Limits.{Limits}
-
--- what a row says
-abbrev pub text_of_row : RowAt → RowText
-text_of_row row = row_text row.kind row.text
+use Rattle.release_rows.specs.Faults.{first_fault}
+use Rattle.release_rows.specs.Chosen.{chosen}
+use Rattle.release_rows.specs.Files.{Place, places_from, rows_of, text_of_row, is_concept_file, has_kind}
+use Rattle.release_rows.specs.InForce.{release_of, listed_count}
+use Rattle.release_rows.specs.Limits.{limits_in_force}
+use Rattle.release_rows.specs.declared.fault.LoadFault.{LoadFault}
+use Rattle.release_rows.specs.declared.fault.LoadFault.TheVariants.{NoConceptFile, Cycle, Memory}
+use Rattle.release_rows.specs.declared.limits.Limits.{Limits}
 
 -- what a snapshot is of: a release, the language whose names come first, how many files have a kind, and
 -- how many rows are in none of the release's lists

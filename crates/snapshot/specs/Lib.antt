@@ -1,17 +1,8 @@
 pub mod AttributesBySource
-pub mod Chosen
 pub mod Contents
-pub mod DeviceFaults
-pub mod FaultNumbers
-pub mod Faults
-pub mod Files
-pub mod InForce
 pub mod inside
-pub mod Limits
 pub mod Line
-pub mod Metadata
 pub mod Name
 pub mod Numbering
 pub mod Passed
-pub mod Pieces
 pub mod ValuesInForce

@@ -3,14 +3,14 @@ use Rattle.std.specs.Prelude.{◌≡◌, ℕ, ◌+◌, ◌==◌, ◌&&◌, Bool,
 use Rattle.rf2_rows.specs.RowTexts.{RowText}
 use Rattle.rf2_rows.specs.Rows.{ConcreteText, DescriptionText}
 use Rattle.rf2_rows.specs.declared.row.ConceptRow.{ConceptRow}
-use Rattle.snapshot.specs.Chosen.{choices, chosen}
-use Rattle.snapshot.specs.Contents.{contents_of, text_of_row}
-use Rattle.snapshot.specs.Faults.{first_fault}
-use Rattle.snapshot.specs.Files.{Place, RowAt, rows_of}
+use Rattle.release_rows.specs.Chosen.{choices, chosen}
+use Rattle.snapshot.specs.Contents.{contents_of}
+use Rattle.release_rows.specs.Files.{text_of_row, Place, RowAt, rows_of}
+use Rattle.release_rows.specs.Faults.{first_fault}
 use Rattle.hierarchy.specs.Members.{has}
-use Rattle.snapshot.specs.InForce.{concept_rows, concepts_in_force, concrete_rows, description_rows, is_concrete_in_force, is_in_force, is_member_in_force, is_name, member_rows, relationship_rows}
-use Rattle.snapshot.specs.Metadata.{is_a}
-use Rattle.snapshot.specs.declared.limits.Limits.{Limits}
+use Rattle.release_rows.specs.InForce.{concept_rows, concepts_in_force, concrete_rows, description_rows, is_concrete_in_force, is_in_force, is_member_in_force, is_name, member_rows, relationship_rows}
+use Rattle.release_rows.specs.Metadata.{is_a}
+use Rattle.release_rows.specs.declared.limits.Limits.{Limits}
 
 -- how many rows fail a test
 abbrev pub failing : {Row : Type 0} → (Row → Bool) → List Row → ℕ

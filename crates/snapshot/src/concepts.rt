@@ -2,9 +2,9 @@
 ghost use Rattle.std.specs.Prelude.{ℕ, ◌≡◌, ◌≤◌, ◌<◌, ◌^◌, IfOk, length, slice_index};
 ghost use Rattle.std.specs.List.Sorted.{IsStrictlyIncreasing};
 ghost use Rattle.snapshot.specs.inside.Buckets.{AreBucketStarts, IsBucketStart, bucket_count, bucket_of};
-ghost use Rattle.hierarchy.specs.Members.{has};
 ghost use Rattle.snapshot.specs.Numbering.{concept_number};
 
+use release_rows::KnownConcepts;
 use sctid::SctId;
 use std::alloc::{AllocError, Global};
 use std::marker::Model;
@@ -84,11 +84,14 @@ impl Concepts {
         let to = self.starts[bucket + 1] as usize;
         number_between(self.ids.as_slice(), from, to, id)
     }
+}
 
-    /// Whether the concept with an identifier is in force.
-    pub fn has(&self, id: u64) -> bool
-        ensures { result ≡ has self.now id }
-    {
+impl KnownConcepts for Concepts {
+    ghost use Rattle.hierarchy.specs.Members.{has};
+
+    ghost knows = { has };
+
+    fn has(&self, id: u64) -> bool {
         self.index_of(id).is_some()
     }
 }

@@ -2,8 +2,7 @@
 ghost use Rattle.std.specs.Prelude.{◌≡◌, ◌<◌, ◌^◌, ℕ, List, None, Some, true, map, length, slice_index};
 ghost use Rattle.std.specs.List.{slice_get};
 ghost use Rattle.std.specs.List.Sorted.{IsStrictlyIncreasing};
-ghost use Rattle.snapshot.specs.AttributesBySource.{IsNumberBelow, attribute_numbered, attribute_of, attributes_by_source};
-ghost use Rattle.snapshot.specs.AttributesBySource.{by_identifiers, numbered_lent, value_by_identifier, with_source};
+ghost use Rattle.snapshot.specs.AttributesBySource.{IsNumberBelow, attribute_numbered, attribute_of, attributes_by_source, by_identifiers, numbered_lent, value_by_identifier, with_source};
 ghost use Rattle.snapshot.specs.ValuesInForce.{AreValuesInForce, is_value_among};
 ghost use Rattle.snapshot.specs.Line.{concept_line};
 ghost use Rattle.snapshot.specs.Name.{name_of, text_lent};
@@ -136,7 +135,7 @@ impl Snapshot {
 
     /// How many attribute rows are in force: fewer than 2^31, and as many by source. Each value that is
     /// a concept is in force.
-    #[tactic(auto, using(crate::proofs::AttributeLemmas::rows_counted))]
+    #[tactic(auto, using(crate::proofs::SortedLemmas::rows_counted))]
     pub fn attribute_count(&self) -> u32
         ensures count { result ≡ length self.now.release.attributes }
         ensures few { length self.now.release.attributes < 2 ^ 31 }

@@ -1,11 +1,10 @@
 //! Name rows whose texts stand in a buffer that begins with lines.
 ghost use Rattle.std.specs.Prelude.{◌≡◌, ◌≤◌, ◌<◌, ◌+◌, ◌-◌, ◌^◌, [], true, All, IfOk, IfSome, OnOk, length, map, slice_index_or, string_bytes};
 ghost use Rattle.snapshot.specs.inside.NamesInLines.{AreNoted, IsKept, name_kept};
-ghost use Rattle.snapshot.specs.inside.NamesInside.{name_read};
-ghost use Rattle.snapshot.specs.inside.Spans.{AreSpansOf, Extends, StandsAt, no_span, text_at};
+ghost use Rattle.release_rows.specs.LentRows.{name_read};
+ghost use Rattle.release_rows.specs.Spans.{AreSpansOf, Extends, StandsAt, no_span, text_at};
 
-use crate::names::{Names, ReadName};
-use crate::spans::{Span, push_text};
+use release_rows::{Names, ReadName, Span, push_text};
 use sctid::SctId;
 use std::alloc::{AllocError, Global};
 

@@ -1,16 +1,8 @@
 //! Laws about the definitions of this crate, in the words of a reader: functions that do nothing, each
 //! with the law as its contract.
-ghost use Rattle.snapshot.specs.Chosen.{ChoosesOne, ChoosesTheLatest};
 ghost use Rattle.snapshot.specs.Contents.{NamesLeastCyclic};
-ghost use Rattle.snapshot.specs.Faults.{NamesFirstFault};
-ghost use Rattle.snapshot.specs.InForce.{KeepsRising};
 ghost use Rattle.snapshot.specs.Name.{NamesFirstRow};
 ghost use Rattle.snapshot.specs.Passed.{CountsPassedRows};
-
-/// The first fault of a list of places is the fault of a place before which no place has any.
-pub fn first_fault_is_the_first()
-    ensures { NamesFirstFault }
-{}
 
 /// The concept that a cycle is refused by reaches itself by a chain of is-a rows, and no lesser one does.
 pub fn cyclic_concept_is_the_least()
@@ -23,20 +15,8 @@ pub fn rows_are_listed_or_passed()
     ensures { CountsPassedRows }
 {}
 
-/// Identifiers in rising order are the same members, each once.
-pub fn rising_keeps_the_members()
-    ensures { KeepsRising }
-{}
-
 /// The name row that names a concept is one of its rows, and none of them comes before it.
 #[tactic(auto, using(crate::proofs::NameLawLemmas::names_first_row))]
 pub fn naming_row_comes_first()
     ensures { NamesFirstRow }
-{}
-
-/// Of the component of each row exactly one row is chosen, and none of the rows of this component is later.
-#[tactic(auto, using(crate::proofs::LatestLemmas::chosen_latest, crate::proofs::LatestLemmas::chosen_once))]
-pub fn latest_rows_are_chosen()
-    ensures latest { ChoosesTheLatest }
-    ensures one { ChoosesOne }
 {}

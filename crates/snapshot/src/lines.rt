@@ -4,19 +4,19 @@ ghost use Rattle.std.specs.Prelude.{◌≡◌, ◌≤◌, ◌<◌, ◌+◌, ◌^
 ghost use Rattle.std.specs.List.{slice_get};
 ghost use Rattle.rf2_rows.specs.Release.{Name};
 ghost use Rattle.snapshot.specs.inside.FirstRows.{AreFirstPlaces};
-ghost use Rattle.snapshot.specs.inside.RowStore.{names_among};
+ghost use Rattle.snapshot.specs.inside.Finished.{names_among};
 ghost use Rattle.snapshot.specs.inside.NamesInLines.{AreNoted};
 ghost use Rattle.hierarchy.specs.KeyedLists.{list_of};
 ghost use Rattle.hierarchy.specs.inside.KeyedListsInside.{AreStarts};
 ghost use Rattle.snapshot.specs.Line.{concept_line};
 ghost use Rattle.snapshot.specs.inside.LinesInside.{lines_between};
 ghost use Rattle.snapshot.specs.Name.{name_among, text_lent};
-ghost use Rattle.snapshot.specs.inside.Spans.{StandsAt};
+ghost use Rattle.release_rows.specs.Spans.{StandsAt};
 
 use crate::concepts::Concepts;
 use crate::kept_names::{KeptName, keep_names};
-use crate::names::Names;
-use crate::spans::{Span, push_text};
+use crate::naming::first_places;
+use release_rows::{Names, Span, push_text};
 use sctid::SctId;
 use std::alloc::{AllocError, Global};
 use std::marker::Model;
@@ -83,7 +83,6 @@ impl ConceptLines {
 }
 
 /// The lines of concepts, with their names in a language, and of name rows those of the concepts.
-#[tactic(auto, using(crate::proofs::LineLemmas::fewer_names))]
 pub fn lines_among(
     alloc: Global,
     concepts: &Concepts,
@@ -95,7 +94,7 @@ pub fn lines_among(
     ensures lines { IfOk result (λ lines. lines.lines ≡ map (concept_line (name_among language.now lines.names)) concepts.now) }
 {
     names.retain_among(concepts);
-    let places = names.first_places(alloc, concepts, language)?;
+    let places = first_places(alloc, &names, concepts, language)?;
     lines_by_place(alloc, concepts.ids(), &names, places.as_slice())
 }
 

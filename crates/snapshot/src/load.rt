@@ -6,14 +6,14 @@ ghost use Rattle.std.specs.List.Sorted.{IsSorted, IsStrictlyIncreasing};
 ghost use Rattle.std.specs.Ordering.{nat_cmp};
 ghost use Rattle.snapshot.specs.Contents.{IsFaultOf, first_cyclic, load_of, loaded_from};
 ghost use Rattle.release_files.specs.Source.{file_text};
-ghost use Rattle.snapshot.specs.Files.{has_kind as has_kind_of, is_concept_file as is_concept_file_of, is_concept_kind, name_concepts};
-ghost use Rattle.snapshot.specs.Pieces.{AreInOrder, FailsAtFiles, IsUnlisted, ListsNames, has_kind_at, listed, listing_fault};
-ghost use Rattle.snapshot.specs.DeviceFaults.{FailsAtRead, FailsOnlyBelow, FileIs, RaisesOnlyAtDevice, is_device};
+ghost use Rattle.release_rows.specs.Files.{has_kind as has_kind_of, is_concept_file, is_concept_kind, name_concepts};
+ghost use Rattle.release_rows.specs.Pieces.{AreInOrder, FailsAtFiles, IsUnlisted, has_kind_at, listed};
+ghost use Rattle.release_rows.specs.DeviceFaults.{FailsAtRead, FailsOnlyBelow, FileIs, RaisesOnlyAtDevice, is_device};
 ghost use Rattle.rf2_rows.specs.Files.{file_kind_of};
-ghost use Rattle.snapshot.specs.InForce.{rising as rising_of, rows_among};
-ghost use Rattle.snapshot.specs.inside.RowStore.{AreFew, attributes_among, names_among, IsCycle, finished};
-ghost use Rattle.snapshot.specs.Limits.{row_total};
-ghost use Rattle.snapshot.specs.inside.ListsInside.{listed_in};
+ghost use Rattle.release_rows.specs.InForce.{rising as rising_of, rows_among};
+ghost use Rattle.release_rows.specs.ReadRows.{AreFew, read_in};
+ghost use Rattle.snapshot.specs.inside.Finished.{attributes_among, names_among, IsCycle, finished};
+ghost use Rattle.release_rows.specs.Limits.{row_total};
 ghost use Rattle.snapshot.specs.Line.{concept_line};
 ghost use Rattle.snapshot.specs.Name.{name_among};
 ghost use Rattle.hierarchy.specs.Hierarchy.{IsWithin, Reaches};
@@ -22,22 +22,18 @@ ghost use Rattle.hierarchy.specs.ParentsFirst.{IsParentsFirst};
 ghost use Rattle.snapshot.specs.inside.LeastCycle.{IsLeastCycle};
 ghost use Rattle.snapshot.specs.inside.Sorted.{IsSortedBySource, in_file_order};
 
-use crate::attributes::Attributes;
-use crate::choosing::{ReadRows, TOO_MANY_ROWS, read_rows};
 use crate::concepts::Concepts;
-use crate::fault::LoadFault;
 use crate::held_release::Snapshot;
-use crate::limits::Limits;
 use crate::lines::{ConceptLines, lines_among};
-use crate::names::Names;
 use crate::numbered_attributes::number_attributes;
 use crate::numbering::number_rows;
-use crate::pieces::PiecePlaces;
-use crate::places::{MemoryPlaces, PlaceSource};
-use crate::row_lists::RowLists;
 use crate::sorted_attributes::{SortedAttributes, sort_by_source};
 use hierarchy::{least_cyclic, parents_first};
-use release_files::{FileSource, NamedBytes, SourceFault};
+use release_files::{FileSource, NamedBytes};
+use release_rows::{
+    Attributes, Limits, LoadFault, MemoryPlaces, Names, PiecePlaces, PlaceSource, ReadRows,
+    RowLists, TOO_MANY_ROWS, list_names, read_rows,
+};
 use rf2_rows::{FileKind, file_kind};
 use sctid::SctId;
 use std::alloc::{AllocError, Global};
@@ -57,7 +53,7 @@ impl Snapshot {
     ) -> Result<Snapshot, LoadFault>
         ensures ok { IfOk result (λ snapshot. load_of limits lang.now (map file_text files.now) ≡ Ok snapshot) }
         ensures err { IfErr result (λ fault. IsFaultOf fault (load_of limits lang.now (map file_text files.now))) }
-        ensures unnamed { (result ≡ Err LoadFault.NoConceptFile) ↔ (list_any (λ file. is_concept_file_of (file_text file)) files.now ≡ false) }
+        ensures unnamed { (result ≡ Err LoadFault.NoConceptFile) ↔ (list_any (λ file. is_concept_file (file_text file)) files.now ≡ false) }
         ensures named { IfErr result (FileIs (λ file. file < length files.now)) }
     {
         if !has_concept_file(files) {
@@ -141,33 +137,6 @@ impl Snapshot {
     }
 }
 
-/// Leaves in `names` the names of the files that a source lists, in their byte order: the order in
-/// which `Snapshot::load_named` is to read them. Where the source fails, or memory is refused, there
-/// are none.
-pub fn list_names<S: FileSource>(source: &mut S, names: &mut Vec<String>) -> Result<(), LoadFault>
-    ensures listed { ListsNames (S.files source.old) result (map string_bytes names.new.items) (S.failure_count source.old) (S.failure_count source.new) }
-    ensures rising { IsSorted (slice_cmp nat_cmp) (map string_bytes names.new.items) }
-    ensures files { S.files source.new ≡ S.files source.old }
-{
-    names.clear();
-    match source.list() {
-        Ok(listed) => *names = listed,
-        Err(fault) => return Err(listing_fault(fault)),
-    }
-    names.sort_unstable();
-    Ok(())
-}
-
-// What a fault of a source that was to list its files is to a load.
-fn listing_fault(fault: SourceFault) -> LoadFault
-    ensures { result ≡ listing_fault fault }
-{
-    match fault {
-        SourceFault::Device => LoadFault::Device { file: None },
-        SourceFault::Memory => LoadFault::Memory,
-    }
-}
-
 // Loads files that are gone over place by place, so many of which have a kind.
 fn load_places<P: PlaceSource>(
     alloc: Global,
@@ -204,56 +173,44 @@ fn load_places<P: PlaceSource>(
 
 // Whether a file of the list has the name of a Concept file.
 fn has_concept_file(files: &[NamedBytes<'_>]) -> bool
-    ensures { result ≡ list_any (λ file. is_concept_file_of (file_text file)) files.now }
+    ensures { result ≡ list_any (λ file. is_concept_file (file_text file)) files.now }
 {
-    files.iter().any(is_concept_file)
-}
-
-fn is_concept_file(file: &NamedBytes<'_>) -> bool
-    ensures { result ≡ is_concept_file_of (file_text file.now) }
-{
-    matches!(file_kind(file.name), Some(FileKind::Concept))
+    files.iter().any(|file| is_concept_name(file.name))
 }
 
 // How many files have a kind.
 fn kind_count(files: &[NamedBytes<'_>]) -> u64
     ensures { result ≡ count_by (λ file. has_kind_of (file_text file)) files.now }
 {
-    files.iter().filter(|file| has_kind(file)).count() as u64
-}
-
-fn has_kind(file: &NamedBytes<'_>) -> bool
-    ensures { result ≡ has_kind_of (file_text file.now) }
-{
-    file_kind(file.name).is_some()
+    files.iter().filter(|file| has_kind(file.name)).count() as u64
 }
 
 // Whether one of the names is that of a Concept file.
 fn name_concept_file(names: &[String]) -> bool
     ensures { result ≡ name_concepts string_bytes names.now }
 {
-    names.iter().any(names_concept_file)
-}
-
-// Whether a name is that of a Concept file.
-fn names_concept_file(name: &String) -> bool
-    ensures { result ≡ is_concept_kind (file_kind_of (string_bytes name.now)) }
-{
-    matches!(file_kind(name.as_str()), Some(FileKind::Concept))
+    names.iter().any(|name| is_concept_name(name.as_str()))
 }
 
 // How many of the names are those of files of some kind.
 fn named_kind_count(names: &[String]) -> u64
     ensures { result ≡ count_by (λ name. is_some (file_kind_of (string_bytes name))) names.now }
 {
-    names.iter().filter(|name| names_kind(name)).count() as u64
+    names.iter().filter(|name| has_kind(name.as_str())).count() as u64
+}
+
+// Whether a name is that of a Concept file.
+fn is_concept_name(name: &str) -> bool
+    ensures { result ≡ is_concept_kind (file_kind_of name.now) }
+{
+    matches!(file_kind(name), Some(FileKind::Concept))
 }
 
 // Whether a name is that of a file of some kind.
-fn names_kind(name: &String) -> bool
-    ensures { result ≡ is_some (file_kind_of (string_bytes name.now)) }
+fn has_kind(name: &str) -> bool
+    ensures { result ≡ is_some (file_kind_of name.now) }
 {
-    file_kind(name.as_str()).is_some()
+    file_kind(name).is_some()
 }
 
 // Numbers the concepts in force in rising order, and the is-a rows between them.
@@ -263,9 +220,9 @@ fn finish(
     language: String,
     files: u64,
 ) -> Result<Snapshot, LoadFault>
-    requires { AreFew read.count (listed_in read.lists) }
-    ensures ok { IfOk result (λ snapshot. finished (string_bytes language) files read.count (listed_in read.lists) ≡ Ok snapshot) }
-    ensures err { IfErr result (λ fault. IsFaultOf fault (finished (string_bytes language) files read.count (listed_in read.lists))) }
+    requires { AreFew read.count (read_in read.lists) }
+    ensures ok { IfOk result (λ snapshot. finished (string_bytes language) files read.count (read_in read.lists) ≡ Ok snapshot) }
+    ensures err { IfErr result (λ fault. IsFaultOf fault (finished (string_bytes language) files read.count (read_in read.lists))) }
 {
     let ReadRows { lists, count } = read;
     let RowLists {

@@ -3,15 +3,14 @@ ghost use Rattle.std.specs.Prelude.{◌≡◌, ◌≤◌, ◌<◌, ◌+◌, ◌^
 ghost use Rattle.rf2_rows.specs.Release.{Attribute, concept_value};
 ghost use Rattle.rf2_rows.specs.Rows.{value_lent};
 ghost use Rattle.snapshot.specs.AttributesBySource.{by_identifiers};
-ghost use Rattle.snapshot.specs.inside.ConcreteValues.{Concrete};
-ghost use Rattle.snapshot.specs.inside.RowStore.{attributes_among};
+ghost use Rattle.release_rows.specs.ConcreteValues.{Concrete};
+ghost use Rattle.snapshot.specs.inside.Finished.{attributes_among};
 ghost use Rattle.snapshot.specs.inside.NumberedInside.{AreNumbered, IsNumberOf, numbered_in};
-ghost use Rattle.snapshot.specs.inside.Spans.{Extends};
+ghost use Rattle.release_rows.specs.Spans.{Extends};
 
-use crate::attributes::Attributes;
 use crate::concepts::Concepts;
-use crate::concrete_values::ConcreteValues;
 use crate::value_number::PackedNumber;
+use release_rows::{Attributes, ConcreteValues};
 use rf2_rows::Value;
 use sctid::SctId;
 use std::alloc::{AllocError, Global};

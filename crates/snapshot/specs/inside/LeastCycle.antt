@@ -1,8 +1,8 @@
 -- The fault of a release whose hierarchy has a cycle, by the numbers of concepts.
 use Rattle.std.specs.Prelude.{ℕ, ◌≡◌, ◌<◌, List, length, slice_index}
 use Rattle.hierarchy.specs.Hierarchy.{Reaches}
-use Rattle.snapshot.specs.declared.fault.LoadFault.{LoadFault}
-use Rattle.snapshot.specs.declared.fault.LoadFault.TheVariants.{Cycle, Memory}
+use Rattle.release_rows.specs.declared.fault.LoadFault.{LoadFault}
+use Rattle.release_rows.specs.declared.fault.LoadFault.TheVariants.{Cycle, Memory}
 
 -- a fault that names, of concepts by their identifiers, the least that reaches itself by rows of their numbers, or the
 -- want of memory

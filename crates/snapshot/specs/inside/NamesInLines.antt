@@ -3,8 +3,8 @@ use Rattle.std.specs.Prelude.{ℕ, ◌≡◌, ◌<◌, ◌+◌, List, length, sl
 use Rattle.std.specs.List.{slice_get}
 use Rattle.rf2_rows.specs.Release.{Name}
 use Rattle.snapshot.specs.declared.kept_names.KeptName.{KeptName}
-use Rattle.snapshot.specs.inside.Spans.{IsSpanOf, StandsAt, no_span, text_at}
-use Rattle.snapshot.specs.declared.spans.Span.{Span}
+use Rattle.release_rows.specs.Spans.{IsSpanOf, StandsAt, no_span, text_at}
+use Rattle.release_rows.specs.declared.spans.Span.{Span}
 
 -- where the term of a kept row stands
 abbrev pub term_span : KeptName → Span

@@ -1,7 +1,7 @@
 use Rattle.std.proofs.Common.{arith, string_bytes}
 use Rattle.std.proofs.lemmas.Grind.{common_steps}
-use Rattle.snapshot.specs.inside.Spans.{IsSpanOf}
-use Rattle.snapshot.proofs.SpanLemmas.{all-push, span-extends}
+use Rattle.release_rows.specs.Spans.{IsSpanOf}
+use Rattle.release_rows.proofs.SpanLemmas.{all-push, span-extends}
 use Rattle.snapshot.proofs.kept_names.keep_language.Goals as goal
 
 pub returns-clause-grown : goal.returns-clause-grown

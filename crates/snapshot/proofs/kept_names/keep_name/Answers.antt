@@ -1,7 +1,7 @@
 -- What the language code adds stays while the term is added behind it.
 use Rattle.std.proofs.Common.{◌+◌, ◌≡◌, ◌∙◌, arith, get_or, string_bytes}
-use Rattle.snapshot.specs.inside.Spans.{no_span, text_at}
-use Rattle.snapshot.proofs.SpanLemmas.{extends-both, span-extends, text-extends}
+use Rattle.release_rows.specs.Spans.{no_span, text_at}
+use Rattle.release_rows.proofs.SpanLemmas.{extends-both, span-extends, text-extends}
 use Rattle.snapshot.proofs.kept_names.keep_name.Goals as goal
 
 pub returns-clause-grown : goal.returns-clause-grown

@@ -1,8 +1,8 @@
 use Rattle.std.proofs.Common.{arith, string_bytes}
 use Rattle.std.proofs.lemmas.Option.{slice_get-get_or}
-use Rattle.snapshot.specs.inside.NamesInside.{name_read}
-use Rattle.snapshot.proofs.NameLemmas.{kept-push, names-push, noted-extends}
-use Rattle.snapshot.proofs.SpanLemmas.{extends-both}
+use Rattle.release_rows.specs.LentRows.{name_read}
+use Rattle.snapshot.proofs.KeptNameLemmas.{kept-push, names-push, noted-extends}
+use Rattle.release_rows.proofs.SpanLemmas.{extends-both}
 use Rattle.snapshot.proofs.kept_names.keep_names.Goals as goal
 
 pub keep_name-requires-clause-span : goal.keep_name-requires-clause-span

@@ -1,7 +1,7 @@
 -- The rows so far are kept, and the texts before them still stand.
 use Rattle.std.proofs.Common.{◌≡◌, ◌≤◌, All, length, map, take, string_bytes}
 use Rattle.snapshot.specs.inside.NamesInLines.{IsKept, name_kept}
-use Rattle.snapshot.specs.inside.Spans.{AreSpansOf, Extends}
+use Rattle.release_rows.specs.Spans.{AreSpansOf, Extends}
 use Rattle.snapshot.proofs.kept_names.keep_names.Given as goal
 
 abbrev pub invariant-loop-place : goal.invariant-loop-place

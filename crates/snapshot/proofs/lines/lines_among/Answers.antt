@@ -1,6 +1,26 @@
+use Rattle.std.proofs.Common.{List, ap, arith, length}
+use Rattle.rf2_rows.specs.Release.{Name}
+use Rattle.snapshot.proofs.FinishLemmas.{length-names_among}
 use Rattle.snapshot.proofs.LineLemmas.{places_within}
 use Rattle.snapshot.proofs.lines.lines_among.Goals as goal
-use Rattle.std.proofs.Common.{arith}
+
+pub first_places-requires : goal.first_places-requires
+first_places-requires c =
+    omega (
+      arith,
+      ap (λ (names : List Name). length names) c.retain_among.ensures,
+      length-names_among c.args.concepts.now c.args.names,
+      c.requires,
+    )
+
+pub lines_by_place-requires-clause-few : goal.lines_by_place-requires-clause-few
+lines_by_place-requires-clause-few c =
+    omega (
+      arith,
+      ap (λ (names : List Name). length names) c.retain_among.ensures,
+      length-names_among c.args.concepts.now c.args.names,
+      c.requires,
+    )
 
 pub lines_by_place-requires-clause-within : goal.lines_by_place-requires-clause-within
 lines_by_place-requires-clause-within c =

@@ -2,8 +2,8 @@ use Rattle.std.proofs.Common.{Some, string_bytes, arith}
 use Rattle.std.proofs.lemmas.Option.{slice_get-get_or}
 use Rattle.std.proofs.lemmas.Result.{on_ok_weaker}
 use Rattle.snapshot.specs.Line.{concept_line}
-use Rattle.snapshot.specs.inside.NamesInside.{name_read}
-use Rattle.snapshot.proofs.NameLemmas.{noted-extends, noted-set}
+use Rattle.release_rows.specs.LentRows.{name_read}
+use Rattle.snapshot.proofs.KeptNameLemmas.{noted-extends, noted-set}
 use Rattle.snapshot.proofs.lines.write_line.Goals as goal
 
 pub returns-in_ok-span-in-Some-clause-line : goal.returns-in_ok-span-in-Some-clause-line

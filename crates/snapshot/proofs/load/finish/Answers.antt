@@ -1,7 +1,7 @@
 use Rattle.std.proofs.lemmas.Bool.Decides.{nat_tests}
 use Rattle.std.proofs.lemmas.Grind.{common_steps}
 use Rattle.std.proofs.Common.{ℕ, ◌<◌, ◌^◌, List, ap, arith, length, string_bytes}
-use Rattle.snapshot.specs.inside.ListsInside.{listed_in}
+use Rattle.release_rows.specs.ReadRows.{read_in}
 use Rattle.snapshot.specs.inside.Sorted.{in_file_order}
 use Rattle.snapshot.proofs.FinishLemmas.{attributes_among-values, finished-Ok, finished-Err, length-attributes_among, length-rising}
 use Rattle.snapshot.proofs.NumberingLemmas.{IsWithin-numbered, length-numbered}
@@ -41,7 +41,7 @@ invariant_of-result c =
 
 pub returns-in_ok-lists-in-Ok-clause-ok : goal.returns-in_ok-lists-in-Ok-clause-ok
 returns-in_ok-lists-in-Ok-clause-ok c =
-    let listed = listed_in c.args.read.lists in
+    let listed = read_in c.args.read.lists in
     let concepts = c.in_ok-concepts.concepts in
     let lists = c.in_ok-lists-in-Ok.lists in
     finished-Ok (string_bytes c.args.language) c.args.files c.args.read.count listed concepts c.in-Ok.hierarchy.isa.items
@@ -53,6 +53,6 @@ returns-in_ok-lists-in-Ok-clause-ok c =
 
 pub returns-in-Err-clause-err : goal.returns-in-Err-clause-err
 returns-in-Err-clause-err c =
-    finished-Err (string_bytes c.args.language) c.args.files c.args.read.count (listed_in c.args.read.lists) c.in_ok-concepts.concepts
+    finished-Err (string_bytes c.args.language) c.args.files c.args.read.count (read_in c.args.read.lists) c.in_ok-concepts.concepts
     c.in-Err.fault (grind (arith, c.in_ok-concepts.ensures, c.rising.ensures.rising))
     (grind (arith, c.in-Err.ensures.cycle, c.as_slice.ensures.value))

@@ -1,8 +1,8 @@
-use Rattle.snapshot.specs.inside.ListsInside.{listed_in}
-use Rattle.snapshot.proofs.ApartLemmas.{AreFew-read}
+use Rattle.release_rows.specs.ReadRows.{read_in}
+use Rattle.release_rows.proofs.ApartLemmas.{AreFew-read}
 use Rattle.snapshot.proofs.LoadLemmas.{loaded_from-read}
 use Rattle.snapshot.proofs.FinishLemmas.{finished-own, raised_by_none}
-use Rattle.snapshot.proofs.TakingLemmas.{at_told, if_err, if_told}
+use Rattle.release_rows.proofs.TakingLemmas.{at_told, if_err, if_told}
 use Rattle.snapshot.proofs.load.load_places.Goals as goal
 use Rattle.std.proofs.Common.{◌∙◌, arith, string_bytes, sym}
 use Rattle.std.proofs.lemmas.Bool.{false≢true}
@@ -14,7 +14,7 @@ returns-then-not-are_few-clause-err g c =
       arith,
       c.if-not-are_few.true,
       c.are_few.ensures.told,
-      (AreFew-read c.args.limits places c.in-Ok.read.count (listed_in c.in-Ok.read.lists) c.requires.total
+      (AreFew-read c.args.limits places c.in-Ok.read.count (read_in c.in-Ok.read.lists) c.requires.total
           (at_told _ _ places told c.in-Ok.ensures.ok)),
     ))
 
@@ -24,7 +24,7 @@ returns-in_ok-language-in-Ok-clause-ok g c = if_told _ (g.P.PlaceSource.places c
       arith,
       c.in_ok-language-in-Ok.ensures.ok,
       (loaded_from-read c.args.limits c.args.lang.now c.args.kinds places c.in-Ok.read.count
-          (listed_in c.in-Ok.read.lists) (at_told _ _ places told c.in-Ok.ensures.ok)),
+          (read_in c.in-Ok.read.lists) (at_told _ _ places told c.in-Ok.ensures.ok)),
       c.finish.ensures.ok,
     ))
 
@@ -34,7 +34,7 @@ returns-in_ok-language-in-Ok-clause-err g c = if_told _ (g.P.PlaceSource.places 
       arith,
       c.in_ok-language-in-Ok.ensures.ok,
       (loaded_from-read c.args.limits c.args.lang.now c.args.kinds places c.in-Ok.read.count
-          (listed_in c.in-Ok.read.lists) (at_told _ _ places told c.in-Ok.ensures.ok)),
+          (read_in c.in-Ok.read.lists) (at_told _ _ places told c.in-Ok.ensures.ok)),
       c.finish.ensures.err,
     ))
 
@@ -42,7 +42,7 @@ returns-in_ok-language-in-Ok-clause-err g c = if_told _ (g.P.PlaceSource.places 
 pub returns-in_ok-language-in-Ok-clause-device : goal.returns-in_ok-language-in-Ok-clause-device
 returns-in_ok-language-in-Ok-clause-device g c =
     let own = finished-own (string_bytes c.in_ok-language-in-Ok.language) c.args.kinds c.in-Ok.read.count
-    (listed_in c.in-Ok.read.lists) in
+    (read_in c.in-Ok.read.lists) in
     if_err _ _ c.finish.result (λ fault said device. absurd (false≢true (sym (own fault said).own ∙ device)))
     c.finish.ensures.err
 
@@ -52,18 +52,18 @@ returns-in_ok-language-in-Ok-clause-calm g c = raised_by_none c.finish.result c.
 pub returns-in_ok-language-in-Ok-clause-kind : goal.returns-in_ok-language-in-Ok-clause-kind
 returns-in_ok-language-in-Ok-clause-kind g c =
     let own = finished-own (string_bytes c.in_ok-language-in-Ok.language) c.args.kinds c.in-Ok.read.count
-    (listed_in c.in-Ok.read.lists) in
+    (read_in c.in-Ok.read.lists) in
     let reads = g.P.PlaceSource.is_read c.args.files.now in
     if_err _ _ c.finish.result (λ fault said. (own fault said).kind reads) c.finish.ensures.err
 
 pub returns-in_ok-language-in-Ok-clause-named : goal.returns-in_ok-language-in-Ok-clause-named
 returns-in_ok-language-in-Ok-clause-named g c =
     let own = finished-own (string_bytes c.in_ok-language-in-Ok.language) c.args.kinds c.in-Ok.read.count
-    (listed_in c.in-Ok.read.lists) in
+    (read_in c.in-Ok.read.lists) in
     if_err _ _ c.finish.result (λ fault said. rw (own fault said).named tt) c.finish.ensures.err
 
 pub returns-in_ok-language-in-Ok-clause-found : goal.returns-in_ok-language-in-Ok-clause-found
 returns-in_ok-language-in-Ok-clause-found g c =
     let own = finished-own (string_bytes c.in_ok-language-in-Ok.language) c.args.kinds c.in-Ok.read.count
-    (listed_in c.in-Ok.read.lists) in
+    (read_in c.in-Ok.read.lists) in
     if_err _ _ c.finish.result (λ fault said. (own fault said).found) c.finish.ensures.err

@@ -1,6 +1,6 @@
 use Rattle.std.proofs.Common.{◌++◌, ◌∷◌, [], ◌∙◌, List, ap, arith, get_or, sym}
 use Rattle.rf2_rows.specs.Release.{Attribute, concept_value}
-use Rattle.snapshot.specs.inside.RowStore.{attributes_among}
+use Rattle.snapshot.specs.inside.Finished.{attributes_among}
 use Rattle.snapshot.proofs.NumberedLemmas.{among_more}
 use Rattle.snapshot.proofs.numbered_attributes.number_attributes.Goals as goal
 

@@ -1,7 +1,7 @@
 -- The rows so far are numbered.
 use Rattle.std.proofs.Common.{◌≡◌, ◌≤◌, length, map, take}
 use Rattle.snapshot.specs.AttributesBySource.{by_identifiers}
-use Rattle.snapshot.specs.inside.RowStore.{attributes_among}
+use Rattle.snapshot.specs.inside.Finished.{attributes_among}
 use Rattle.snapshot.specs.inside.NumberedInside.{AreNumbered, numbered_in}
 use Rattle.snapshot.proofs.numbered_attributes.number_attributes.Given as goal
 

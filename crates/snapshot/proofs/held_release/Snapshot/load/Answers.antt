@@ -1,9 +1,9 @@
 use Rattle.std.proofs.Common.{◌≡◌, arith, map}
 use Rattle.release_files.specs.Source.{file_text}
 use Rattle.snapshot.specs.Contents.{load_of, loaded_from}
-use Rattle.snapshot.specs.Files.{places_from}
+use Rattle.release_rows.specs.Files.{places_from}
 use Rattle.snapshot.proofs.LoadLemmas.{kind_count-is, load_of-named, load_of-none, names_concepts-is}
-use Rattle.snapshot.proofs.TakingLemmas.{if_both, no_device}
+use Rattle.release_rows.proofs.TakingLemmas.{if_both, no_device}
 use Rattle.snapshot.proofs.held_release.Snapshot.load.Goals as goal
 use Rattle.std.proofs.lemmas.Grind.{common_steps}
 use Rattle.std.proofs.lemmas.Bool.Decides.{nat_tests}

@@ -1,7 +1,7 @@
 use Rattle.std.proofs.Common.{◌≡◌, ◌∙◌, Global, List, Ok, String, map, string_bytes, subst, IfOk}
 use Rattle.snapshot.specs.Contents.{load_of}
-use Rattle.snapshot.specs.Pieces.{listed}
-use Rattle.snapshot.proofs.TakingLemmas.{at_told, if_told}
+use Rattle.release_rows.specs.Pieces.{listed}
+use Rattle.release_rows.proofs.TakingLemmas.{at_told, if_told}
 use Rattle.snapshot.proofs.held_release.Snapshot.load_from.Goals as goal
 
 pub returns-in-Ok-clause-ok : goal.returns-in-Ok-clause-ok

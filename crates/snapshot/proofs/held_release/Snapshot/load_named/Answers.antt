@@ -2,7 +2,7 @@ use Rattle.std.proofs.Common.{arith, ap, string_bytes, sym, option_map}
 use Rattle.std.proofs.lemmas.Bool.Decides.{nat_tests}
 use Rattle.std.proofs.lemmas.Grind.{common_steps}
 use Rattle.snapshot.proofs.LoadLemmas.{load_named-is, load_of-none, names_concepts-listed}
-use Rattle.snapshot.proofs.TakingLemmas.{at_told, if_told}
+use Rattle.release_rows.proofs.TakingLemmas.{at_told, if_told}
 use Rattle.snapshot.proofs.held_release.Snapshot.load_named.Goals as goal
 
 pub returns-then-not-name_concept_file-clause-err : goal.returns-then-not-name_concept_file-clause-err

@@ -2,8 +2,8 @@ use Rattle.std.proofs.Common.{◌≡◌, ◌++◌, ◌∷◌, [], ◌∙◌, Lis
 use Rattle.hierarchy.specs.Members.{has}
 use Rattle.rf2_rows.specs.Release.{Attribute}
 use Rattle.snapshot.specs.AttributesBySource.{by_identifiers}
-use Rattle.snapshot.specs.inside.AttributesInside.{attribute_read}
-use Rattle.snapshot.specs.inside.RowStore.{attributes_among}
+use Rattle.release_rows.specs.LentRows.{attribute_read}
+use Rattle.snapshot.specs.inside.Finished.{attributes_among}
 use Rattle.snapshot.specs.inside.NumberedInside.{IsNumberOf, IsOwnRow, numbered_in}
 use Rattle.snapshot.specs.Numbering.{concept_number}
 use Rattle.snapshot.proofs.NumberedLemmas.{all_numbered-push, own_row, row_added, row_left_out, source_left_out, value_left_out}

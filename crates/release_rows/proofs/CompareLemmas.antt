@@ -1,0 +1,284 @@
+-- What comparing rows by their keys says of the rows.
+use Rattle.std.proofs.lemmas.Bool.Decides.{nat_tests}
+use Rattle.std.proofs.lemmas.Grind.{common_steps}
+use Rattle.std.proofs.Common.{All, ℕ, ◌≡◌, ◌^◌, ◌<◌, ◌∙◌, ◌==◌, List, [], ◌∷◌, ◌++◌, length, get_or, true, false, Bool, Option, None, Some, append_assoc, ap, arith, map, refl, sym, subst, append-nil}
+use Rattle.std.specs.List.{cons_option, list_any}
+use Rattle.std.proofs.lemmas.List.{get_or-map, length-map, map-append}
+use Rattle.std.proofs.lemmas.List.Elements.{All-cons, All-nil, All-push, All-tail}
+use Rattle.rf2_rows.specs.Rows.{row_fault}
+use Rattle.release_rows.specs.Chosen.{choices, conflicts, same_component}
+use Rattle.release_rows.specs.inside.Comparison.{Comparison, IsCompared, IsComparedRow, IsDenied, IsDeniedRow, IsExpected, IsRefused, IsTaken, clashes, compared_in, noted_of}
+use Rattle.release_rows.specs.declared.comparing.Comparing.{Comparing}
+use Rattle.release_rows.specs.Files.{text_of_row, Place, RowAt, row_at, rows_of, later_line}
+use Rattle.hierarchy.specs.Members.{has}
+use Rattle.release_rows.specs.inside.Keys.{IsMet, IsShort, Keyed, key_in, uuids_behind}
+use Rattle.release_rows.specs.inside.KeyedRows.{AreOfItsKind, Covers, KeyedRow}
+use Rattle.release_rows.specs.inside.VersionTable.{HasTaken, VersionTable}
+use Rattle.release_rows.specs.Traversal.{StopsAt, TakesAll, next, taken}
+use Rattle.release_rows.specs.declared.fault.LoadFault.{LoadFault}
+use Rattle.release_rows.specs.inside.FirstPass.{AreSeen, AreShort, first_conflict, keys_behind, uuids_after}
+use Rattle.hierarchy.proofs.ReleaseLemmas.{had_contained}
+use Rattle.release_rows.proofs.PlaceLemmas.{get_or-place_of, place_below, place_of}
+use Rattle.release_rows.proofs.SingleLemmas.{any-none, key-twice, met-seen}
+use Rattle.release_rows.proofs.KindLemmas.{kind_same}
+use Rattle.rf2_rows.specs.declared.kind.FileKind.{FileKind}
+use Rattle.release_files.specs.Lines.{LineText}
+use Rattle.release_rows.specs.inside.KeyedRows as by_key
+
+-- ---- keys tell components
+-- UUIDs that were met are below the number of them, and at their own places
+pos-apart : (n m : ℕ) (uuids : List ℕ) → has uuids n ≡ true → has uuids m ≡ true → place_of uuids n ≡ place_of uuids m → n ≡ m
+pos-apart n m uuids there other same = sym (get_or-place_of uuids n there) ∙ ap (λ (place : ℕ). get_or uuids place 0) same ∙ get_or-place_of uuids m other
+
+-- a row whose key is known by the UUIDs that were met
+abbrev pub IsKnown : List ℕ → RowAt → Type 0
+IsKnown uuids row = IsShort (text_of_row row) × IsMet uuids (text_of_row row)
+
+-- ---- rows whose keys are known
+abbrev pub AreKnown : List ℕ → List RowAt → Type 0
+AreKnown uuids rows = All (IsKnown uuids) rows
+
+-- tests of noted rows are tests of the rows
+any-noted : (uuids : List ℕ) (p : RowAt → Bool) (q : KeyedRow → Bool) (rows : List RowAt) → AreKnown uuids rows
+    → ((other : RowAt) → IsKnown uuids other → q (noted_of uuids other) ≡ p other) → list_any q (map (noted_of uuids) rows) ≡ list_any p rows
+any-noted uuids p q [] known same = refl
+any-noted uuids p q (row ∷ rows) known same =
+    grind (arith, same row (known 0 row (omega arith)), (any-noted uuids p q rows (All-tail (IsKnown uuids) row rows known) same))
+
+module _ (uuids : List ℕ) (few : length uuids < 2 ^ 63) where
+  tells : (one other : RowAt) → IsKnown uuids one → IsKnown uuids other → ((noted_of uuids one).key == (noted_of uuids other).key) ≡ same_component one other
+  tells one other known known' = grind (arith, nat_tests, place_below, pos-apart)
+
+  choices-noted : (rows earlier later : List RowAt) → AreKnown uuids rows → AreKnown uuids earlier → AreKnown uuids later
+      → by_key.choices (map (noted_of uuids) rows) (map (noted_of uuids) earlier) (map (noted_of uuids) later) ≡ choices rows earlier later
+  choices-noted rows earlier [] known before behind = refl
+  choices-noted rows earlier (row ∷ later) known before behind =
+      let all : AreKnown uuids (earlier ++ row ∷ []) = All-push (IsKnown uuids) earlier row before (behind 0 row (omega arith)) in
+      grind (
+        arith,
+        common_steps,
+        nat_tests,
+        any-noted,
+        map-append,
+        tells,
+        behind 0 row (omega arith),
+        (choices-noted rows (earlier ++ row ∷ []) later known all (All-tail (IsKnown uuids) row later behind)),
+      )
+
+  -- earlier rows of one key are of its kind
+  of_its_kind : (rows : List RowAt) (row : RowAt) → AreKnown uuids rows → IsKnown uuids row → AreOfItsKind (map (noted_of uuids) rows) (noted_of uuids row)
+  of_its_kind rows row known own other there same =
+      grind (
+        arith,
+        nat_tests,
+        length-map,
+        there.1,
+        there.2,
+        get_or-map (noted_of uuids) rows there.0 row other,
+        (tells (get_or rows there.0 row) row),
+        known there.0 row,
+        (kind_same (get_or rows there.0 row).kind row.kind),
+      )
+
+-- ---- the second pass
+abbrev pub compares : Comparing → Place → Comparing → Type 0
+compares old place new = IsCompared (compared_in old) place (compared_in new)
+
+abbrev pub denies : Comparing → Place → Comparing → LoadFault → Type 0
+denies old place new fault = IsDenied (compared_in old) place fault
+
+-- the keys of rows
+abbrev pub keys_of : List ℕ → List RowAt → List ℕ
+keys_of uuids rows = map (λ (row : KeyedRow). row.key) (map (noted_of uuids) rows)
+
+-- ---- what was seen
+uuids_after-append : (uuids : List ℕ) (front rows : List RowAt) → uuids_after uuids (front ++ rows) ≡ uuids_after (uuids_after uuids front) rows
+uuids_after-append uuids [] rows = refl
+uuids_after-append uuids (row ∷ front) rows = uuids_after-append (uuids_behind uuids (text_of_row row)) front rows
+
+known-seen : (uuids : List ℕ) (rows : List RowAt) → AreShort rows → AreKnown (uuids_after uuids rows) rows
+known-seen uuids [] short = All-nil (IsKnown uuids)
+known-seen uuids (row ∷ rows) short =
+    All-cons (IsKnown (uuids_after (uuids_behind uuids (text_of_row row)) rows)) row rows
+    (short.0.0, (met-seen uuids rows (text_of_row row)).0) (known-seen (uuids_behind uuids (text_of_row row)) rows short.1)
+
+-- the keys are those by all UUIDs
+keys-seen : (uuids : List ℕ) (rows : List RowAt) → keys_behind uuids rows ≡ keys_of (uuids_after uuids rows) rows
+keys-seen uuids [] = refl
+keys-seen uuids (row ∷ rows) = grind (arith, (met-seen uuids rows (text_of_row row)), (keys-seen (uuids_behind uuids (text_of_row row)) rows))
+
+accepted-at : (earlier rows : List RowAt) (row : RowAt) → AreShort (earlier ++ row ∷ rows) → row_fault row.kind row.text ≡ None
+accepted-at [] rows row short = short.0.1
+accepted-at (first ∷ earlier) rows row short = accepted-at earlier rows row short.1
+
+-- a row that conflicts with an earlier one has a key that is repeated
+finds : (repeated : List ℕ) (earlier rows : List RowAt) (row : RowAt) → Covers repeated (keys_behind [] (earlier ++ row ∷ rows))
+    → list_any (λ other. conflicts other row) earlier ≡ true → has repeated (noted_of (uuids_after [] (earlier ++ row ∷ rows)) row).key ≡ true
+finds repeated earlier rows row covers there =
+    let some : list_any (λ other. same_component other row) earlier ≡ true = grind (arith, common_steps, nat_tests, any-none) in
+    let key = key_in (uuids_after [] earlier) (text_of_row row) in
+    grind (
+      arith,
+      (met-seen (uuids_after [] earlier) rows (text_of_row row)),
+      (uuids_after-append [] earlier (row ∷ rows)),
+      had_contained repeated key (covers key (key-twice earlier rows row some)),
+    )
+
+module _ (keyed : Keyed) (repeated : List ℕ) (places : List Place) (seen beyond : List RowAt)
+    (are : AreSeen keyed places seen beyond) (covers : Covers repeated keyed.keys) (few : length keyed.uuids < 2 ^ 63) where
+  abbrev note : RowAt → KeyedRow
+  note = noted_of keyed.uuids
+
+  known : AreKnown keyed.uuids seen
+  known = rw are.uuids (known-seen [] seen are.short)
+
+  keys_are : keyed.keys ≡ keys_of keyed.uuids seen
+  keys_are = are.keys ∙ rw are.uuids (keys-seen [] seen)
+
+  -- what is known of a row that was seen
+  record IsGiven (earlier : List RowAt) (row : RowAt) : Type 0 where
+    pub before : AreKnown keyed.uuids earlier
+    pub own : IsKnown keyed.uuids row
+    pub accepted : row_fault row.kind row.text ≡ None
+    pub found : list_any (λ other. conflicts other row) earlier ≡ true → has repeated (note row).key ≡ true
+
+  given : (earlier rows : List RowAt) (row : RowAt) → earlier ++ row ∷ rows ≡ seen → IsGiven earlier row
+  given earlier rows row cut = record {
+    before = λ k d within. grind (arith, common_steps, cut, known k d);
+    own = grind (arith, common_steps, cut, known (length earlier) row);
+    accepted = accepted-at earlier rows row (rw cut are.short);
+    found = rw are.uuids (rw (← cut) (finds repeated earlier rows row (rw (cut, ← are.keys) covers)));
+  }
+
+  -- the rows that were compared, and those that are still to come
+  record Ahead (compared : Comparison) (rows earlier ahead : List RowAt) : Type 0 where
+    pub rest : List RowAt
+    pub all : rows ≡ ahead ++ rest
+    pub cut : earlier ++ ahead ≡ seen
+    pub conflict : first_conflict [] seen ≡ first_conflict earlier ahead
+    pub left : compared.left ≡ keys_of keyed.uuids ahead
+    pub uuids : compared.uuids ≡ keyed.uuids
+    pub repeated_is : compared.taken.repeated ≡ repeated
+    pub taken_is : HasTaken compared.taken (map note earlier)
+
+  abbrev Onward : Comparison → List RowAt → Type 0
+  Onward compared rows = (earlier : List RowAt) × (ahead : List RowAt) × Ahead compared rows earlier ahead
+
+  -- the next row is expected
+  expected : (compared : Comparison) (earlier : List RowAt) (row : RowAt) → compared.uuids ≡ keyed.uuids
+      → HasTaken compared.taken (map note earlier) → IsGiven earlier row
+      → IsExpected compared (map note earlier) (note row).key row.kind row.text
+  expected compared earlier row same before is =
+      record {
+        taken = before;
+        kinds = rw same (of_its_kind keyed.uuids few earlier row is.before is.own);
+        met = rw same is.own.1;
+        accepted = is.accepted;
+        same_key = rw same refl;
+      }
+
+  clash : (earlier : List RowAt) (row : RowAt) (held : VersionTable) → held.repeated ≡ repeated → IsGiven earlier row
+      → clashes held (map note earlier) (note row) ≡ list_any (λ other. conflicts other row) earlier
+  clash earlier row held same is = grind (arith, known, any-noted, tells)
+
+  -- one place more
+  step : (old middle : Comparison) (at : Option RowAt) (rows earlier ahead : List RowAt)
+      → IsComparedRow old old.left at middle → Ahead old (cons_option at rows) earlier ahead → Onward middle rows
+  step old middle None rows earlier ahead same start = (earlier, ahead, rw same start)
+  step old middle (Some row) rows earlier [] moved start = grind (arith, common_steps, nat_tests)
+  step old middle (Some row) rows earlier (own ∷ ahead) moved start =
+      let is : row ≡ own = cc (start.all) in
+      let before : Comparison = record old { left = keys_of keyed.uuids ahead } in
+      let taken : IsTaken before (note own).key own.kind own.text middle = grind arith in
+      let known = given earlier ahead own start.cut in
+      let told : IsExpected before (map note earlier) (note own).key own.kind own.text = expected before earlier own start.uuids start.taken_is known in
+      let apart : list_any (λ other. conflicts other own) earlier ≡ false =
+      grind (arith, clash earlier own old.taken start.repeated_is known, taken.fits (map note earlier) told, start.uuids) in
+      let grown : HasTaken middle.taken (map note (earlier ++ own ∷ [])) = grind (arith, map-append, taken.taken (map note earlier) told, start.uuids) in
+      let goes : Ahead middle rows (earlier ++ own ∷ []) ahead = record {
+        rest = start.rest;
+        all = cc (start.all);
+        cut = append_assoc earlier (own ∷ []) ahead ∙ start.cut;
+        conflict = grind (arith, start.conflict, apart);
+        left = taken.left;
+        uuids = taken.uuids ∙ start.uuids;
+        repeated_is = taken.repeated ∙ start.repeated_is;
+        taken_is = grown;
+      } in
+      (earlier ++ own ∷ [], ahead, goes)
+
+  -- all places before others
+  onward : (old middle : Comparing) (front rest : List Place) (earlier ahead : List RowAt)
+      → TakesAll compares old front middle → Ahead (compared_in old) (rows_of (front ++ rest)) earlier ahead
+      → Onward (compared_in middle) (rows_of rest)
+  onward old middle front rest earlier ahead (taken held) start = (earlier, ahead, start)
+  onward old middle front rest earlier ahead (next from to end place others moved later) start =
+      let one = step (compared_in from) (compared_in to) (row_at place) (rows_of (others ++ rest)) earlier ahead moved start in
+      onward to end others rest one.0 one.1 later one.2
+
+  -- no row conflicts with an earlier one, none is left, and what is chosen of those that were taken is chosen
+  abbrev pub IsChosenFrom : Comparing → Type 0
+  IsChosenFrom new = (first_conflict [] seen ≡ None) × ((compared_in new).left ≡ []) × ((chosen : List Bool)
+      → ((rows : List KeyedRow) → HasTaken (compared_in new).taken rows
+      → Covers (compared_in new).taken.repeated (map (λ (row : KeyedRow). row.key) rows) → chosen ≡ by_key.choices rows [] rows)
+      → chosen ≡ choices seen [] seen)
+
+  -- the second pass begins
+  module _ (old : Comparing) (uuids : (compared_in old).uuids ≡ keyed.uuids)
+      (left : (compared_in old).left ≡ keyed.keys) (start : VersionTable) (taken_is : (compared_in old).taken ≡ start)
+      (repeated_is : start.repeated ≡ repeated) (taken : HasTaken start []) where
+    begins : Ahead (compared_in old) (rows_of places) [] seen
+    begins =
+        let repeated_is : (compared_in old).taken.repeated ≡ repeated = ap (λ (taken : VersionTable). taken.repeated) taken_is ∙ repeated_is in
+        record {
+          rest = beyond;
+          all = are.front;
+          cut = refl;
+          conflict = refl;
+          left = left ∙ keys_are;
+          uuids = uuids;
+          repeated_is = repeated_is;
+          taken_is = rw taken_is taken;
+        }
+
+    -- it went to the end
+    pub compared-all : (new : Comparing) → TakesAll compares old places new → IsChosenFrom new
+    compared-all new went = by (onward old new places [] [] seen went (rw append-nil begins))
+      where
+        by : Onward (compared_in new) [] → IsChosenFrom new
+        by (now, [], goes) =
+            let all : HasTaken (compared_in new).taken (map note seen) = rw (← goes.cut, append-nil) goes.taken_is in
+            let covered : Covers (compared_in new).taken.repeated (keys_of keyed.uuids seen) =
+            rw goes.repeated_is (subst (Covers repeated) keys_are covers) in (
+              goes.conflict,
+              goes.left,
+              λ chosen are_chosen. are_chosen (map note seen) all covered
+                  ∙ choices-noted keyed.uuids few seen [] seen known (All-nil (IsKnown keyed.uuids)) known,
+            )
+        by (now, row ∷ rows, goes) = absurd (cc (goes.all))
+
+    -- it ended at a row that conflicts with an earlier one, and it is the first
+    pub compared-until : (new : Comparing) (fault : LoadFault) → StopsAt compares denies old places new fault → first_conflict [] seen ≡ Some fault
+    compared-until new fault stop =
+        by (row_at stop.place) stop.refused (onward old stop.middle stop.before
+        (stop.place ∷ stop.later) [] seen stop.taken_before (rw (← stop.cut) begins))
+      where
+        by : (at : Option RowAt) → IsDeniedRow (compared_in stop.middle) (compared_in stop.middle).left at fault
+            → Onward (compared_in stop.middle) (cons_option at (rows_of stop.later)) → first_conflict [] seen ≡ Some fault
+        by None denied at_end = absurd denied
+        by (Some row) denied (now, [], goes) = absurd (rw goes.left at denied)
+        by (Some row) denied (now, own ∷ rows, goes) =
+            let is : row ≡ own = cc (goes.all) in
+            let before : Comparison = record (compared_in stop.middle) { left = keys_of keyed.uuids rows } in
+            let known = given now rows own goes.cut in
+            let refused : IsRefused before own.file own.line (note own).key own.kind own.text fault = grind (arith, compared_in) in
+            let both = refused (map note now) (expected before now own goes.uuids goes.taken_is known) in
+            grind (arith, both, goes.conflict, goes.uuids, clash now own before.taken goes.repeated_is known)
+
+-- Comparing the row on a line.
+
+-- the line of a row that is still to come
+pub denied-line : (old : Comparison) (file : ℕ) (kind : FileKind) (line : LineText) (fault : LoadFault) (key : ℕ)
+    (left : List ℕ) → old.left ≡ key ∷ left → 0 < length line.bytes
+    → IsRefused (record old { left = left }) file line.number key kind line.bytes fault → IsDenied old (later_line file kind line) fault
+denied-line old file kind line fault key left ahead some refused = grind (arith, common_steps, nat_tests)

@@ -1,0 +1,24 @@
+pub mod ApartLemmas
+pub mod AttributeLemmas
+mod ChosenItemLemmas
+mod CompareLemmas
+mod ConcreteLemmas
+pub mod FirstFaultLemmas
+pub mod KindLemmas
+pub mod LatestLemmas
+mod ListedLemmas
+pub mod NameLemmas
+pub mod NeighbourLemmas
+mod PassLemmas
+pub mod PiecesLemmas
+pub mod PlaceLemmas
+mod ReadFromLemmas
+mod ReadLineLemmas
+pub mod RisingLemmas
+mod SingleLemmas
+pub mod SortLemmas
+pub mod SpanLemmas
+pub mod SplitLemmas
+pub mod TakingLemmas
+pub mod VersionLemmas
+mod WentLemmas

@@ -1,0 +1,187 @@
+-- In a sorted list a number stands more than once where it equals the one before it.
+use Rattle.std.proofs.lemmas.Grind.{common_steps}
+use Rattle.std.proofs.Common.{ℕ, Bool, false, zero, suc, ◌≡◌, ◌≢◌, ◌<◌, ◌≤◌, ◌+◌, ◌-◌, ◌==◌, ◌↔◌, inl, inr, List, [], ◌∷◌, ◌++◌, length, get_or, take, cond, nat_eq, nat_lt, sym, ◌∙◌, ap, subst, refl, arith, rules, All, AllPairs, Contains, IsPermutation, IsSorted, append-nil, nat_cmp, ltb-false, ltb-true, filter, true, not}
+use Rattle.std.specs.List.{dedup}
+use Rattle.std.specs.List.Sorted.{IsNonDecreasing, IsStrictlyIncreasing}
+use Rattle.std.proofs.lemmas.Bool.{cases_Bool}
+use Rattle.std.proofs.lemmas.Bool.Decides.{nat_tests}
+use Rattle.std.proofs.lemmas.List.Elements.{All-cons, All-nil, All-contains}
+use Rattle.std.proofs.lemmas.List.Kept.{AllPairs-cons, Contains-dedup_nat, Contains-from_dedup}
+use Rattle.std.proofs.lemmas.List.Sorted.{IsNonDecreasingBy-from_sort, IsPermutation-sym, sum_by-IsPermutation, Contains-permutation}
+use Rattle.std.proofs.lemmas.List.Sums.{sum_by-append, sum_by-cons, sum_by_more, sum_by_push}
+use Rattle.std.proofs.lemmas.Map.Keys.{IsStrictlyIncreasing-dedup, non_decreasing_from_sorted, sorted_from_strictly_increasing}
+use Rattle.hierarchy.specs.Members.{has}
+use Rattle.hierarchy.proofs.ReleaseLemmas.{contains_had, had_contained, had_not, times}
+use Rattle.release_rows.specs.inside.Repeated.{equal_neighbours}
+use Rattle.release_rows.proofs.RisingLemmas.{earlier_below}
+use Rattle.std.proofs.lemmas.List.Filters.{sum_by-filter_both}
+
+-- one number more
+more_neighbour : (xs : List ℕ) (k : ℕ) → suc k < length xs
+    → equal_neighbours (take (suc (suc k)) xs) ≡ equal_neighbours (take (suc k) xs) ++ cond (get_or xs k 0 == get_or xs (suc k) 0) (get_or xs (suc k) 0 ∷ []) []
+more_neighbour [] k within = absurd (omega arith)
+more_neighbour (x ∷ []) k within = absurd (omega arith)
+more_neighbour (x ∷ y ∷ xs) zero within = refl
+more_neighbour (x ∷ y ∷ xs) (suc k) within = grind (arith, nat_tests, more_neighbour (y ∷ xs) k (omega arith))
+
+pub neighbours_more : (xs : List ℕ) (place : ℕ) → 1 ≤ place → place < length xs
+    → equal_neighbours (take (place + 1) xs) ≡ equal_neighbours (take place xs)
+    ++ cond (get_or xs (place - 1) 0 == get_or xs place 0) (get_or xs place 0 ∷ []) []
+neighbours_more xs place some within = grind (arith, equal_neighbours, more_neighbour, cond)
+
+-- they are not more than the numbers
+pub neighbours_few : (xs : List ℕ) → length (equal_neighbours xs) ≤ length xs
+neighbours_few [] = omega arith
+neighbours_few (x ∷ []) = omega arith
+neighbours_few (x ∷ y ∷ xs) = grind (arith, nat_tests, neighbours_few (y ∷ xs))
+
+-- where no number falls, no equal neighbour falls, and none is below the first number
+neighbours_rise : (x : ℕ) (xs : List ℕ) → IsNonDecreasing (x ∷ xs)
+    → AllPairs (λ a b. a ≤ b) (equal_neighbours (x ∷ xs)) × All (λ y. x ≤ y) (equal_neighbours (x ∷ xs))
+neighbours_rise x [] up = ((λ i j d before within. absurd (omega arith)), All-nil (λ y. x ≤ y))
+neighbours_rise x (y ∷ xs) up =
+    let rest = neighbours_rise y xs (λ i j d before within. up (suc i) (suc j) d (omega arith) (omega arith)) in
+    let first : x ≤ y = up 0 1 0 (omega arith) (omega arith) in
+    let least : All (λ z. x ≤ z) (equal_neighbours (y ∷ xs)) = λ k d within. omega (arith, rest.1 k d within, first) in
+    grind (arith, nat_tests, AllPairs-cons, All-cons, rest.0, rest.1, least, first)
+
+sorted_neighbours : (xs : List ℕ) → IsNonDecreasing xs → IsSorted nat_cmp (equal_neighbours xs)
+sorted_neighbours [] up = λ k d low within. absurd (omega arith)
+sorted_neighbours (x ∷ xs) up = search (rules, nat_tests, neighbours_rise)
+
+-- a number is in a list where it stands there at least once
+times-has : (key : ℕ) (xs : List ℕ) → has xs key ≡ nat_lt 0 (times key xs)
+times-has key [] = refl
+times-has key (x ∷ xs) = grind (arith, nat_tests, (times-has key xs), (sum_by-cons (λ y. cond (y == key) 1 0) x xs))
+
+pub stands : (key : ℕ) (xs : List ℕ) → 1 ≤ times key xs → Contains xs key
+stands key xs some = grind (arith, nat_tests, (contains_had xs key), (times-has key xs))
+
+pub times-some : (key : ℕ) (xs : List ℕ) → Contains xs key → 1 ≤ times key xs
+times-some key xs there = let some = ltb-true 0 (times key xs) (sym (times-has key xs) ∙ had_contained xs key there) in omega arith
+
+pub times-none : (key : ℕ) (xs : List ℕ) → (Contains xs key → ⊥) → times key xs ≡ 0
+times-none key xs none = let few = ltb-false 0 (times key xs) (sym (times-has key xs) ∙ had_not xs key none) in omega arith
+
+-- where no number falls, each stands once less among the equal neighbours
+times-neighbours : (key : ℕ) (xs : List ℕ) → IsNonDecreasing xs → times key (equal_neighbours xs) ≡ times key xs - 1
+times-neighbours key [] up = refl
+times-neighbours key (x ∷ []) up = grind (arith, nat_tests, sum_by-cons (λ z. cond (z == key) 1 0) x [])
+times-neighbours key (x ∷ y ∷ xs) up =
+    let rest = times-neighbours key (y ∷ xs) (λ i j d before within. up (suc i) (suc j) d (omega arith) (omega arith)) in
+    let whole = sum_by-cons (λ z. cond {A = ℕ} (z == key) 1 0) x (y ∷ xs) in
+    let later = sum_by-cons (λ z. cond {A = ℕ} (z == key) 1 0) y xs in
+    let more = sum_by-cons (λ z. cond {A = ℕ} (z == key) 1 0) y (equal_neighbours (y ∷ xs)) in
+    let none : x ≢ y → x ≡ key → times key (y ∷ xs) ≡ 0 = λ apart is. times-none key (y ∷ xs) (λ there.
+    omega (arith, up 0 1 0 (omega arith) (omega arith), up 1 (suc there.0) key (omega arith) (omega (arith, there.1)), there.2, apart, is)) in
+    grind (arith, nat_tests, rest, whole, later, more, none)
+
+-- no number stands twice in a list whose numbers rise
+pub rising_once : (xs : List ℕ) → IsStrictlyIncreasing xs → (key : ℕ) → times key xs ≤ 1
+rising_once xs up key =
+    omega (arith, times-neighbours key xs (non_decreasing_from_sorted xs (sorted_from_strictly_increasing xs up)), ap (times key) (no_neighbour xs up))
+  where
+    no_neighbour : (xs : List ℕ) → IsStrictlyIncreasing xs → equal_neighbours xs ≡ []
+    no_neighbour [] up = refl
+    no_neighbour (x ∷ []) up = refl
+    no_neighbour (x ∷ y ∷ xs) up =
+        let below : x < y = up 0 (omega arith) in
+        grind (arith, nat_tests, below, no_neighbour (y ∷ xs) (λ k within. earlier_below (x ∷ y ∷ xs) up (suc k) (suc (k + 1)) (omega arith) (omega arith)))
+
+-- so it does among the equal neighbours of the list before it was sorted
+pub times_again : (keys sorted : List ℕ) → IsPermutation keys sorted → IsSorted nat_cmp sorted → (key : ℕ)
+    → times key (equal_neighbours sorted) ≡ times key keys - 1
+times_again keys sorted moved up key =
+    omega (
+      arith,
+      times-neighbours key sorted (IsNonDecreasingBy-from_sort (λ x. x) sorted up),
+      sum_by-IsPermutation (λ other. cond {A = ℕ} (other == key) 1 0) keys sorted moved,
+    )
+
+-- a sorted list, each number of it once, rises and has the numbers that it has
+module _ (keys sorted repeated : List ℕ) (moved : IsPermutation keys sorted) (up : IsSorted nat_cmp sorted) (are : repeated ≡ dedup nat_eq sorted) where
+  pub once_rises : IsStrictlyIncreasing repeated
+  once_rises = rw are (IsStrictlyIncreasing-dedup sorted up)
+
+  pub once_members : (key : ℕ) → Contains repeated key ↔ (1 ≤ times key keys)
+  once_members key = (
+    (λ there. times-some key keys (Contains-permutation sorted keys key (IsPermutation-sym keys sorted moved)
+        (Contains-from_dedup nat_eq sorted key (subst (λ (numbers : List ℕ). Contains numbers key) are there)))),
+    (λ some. subst (λ (numbers : List ℕ). Contains numbers key) (sym are)
+        (Contains-dedup_nat sorted key (Contains-permutation keys sorted key moved (stands key keys some)))),
+  )
+
+-- a number stands on one side of a bound alone
+times-side : (test : ℕ → Bool) (key : ℕ) (keys : List ℕ) → test key ≡ false → times key (filter test keys) ≡ 0
+times-side test key [] other = refl
+times-side test key (x ∷ keys) other = grind (arith, nat_tests, sum_by-cons, times-side test key keys other)
+
+-- both sides have all numbers
+pub length-sides : (test : ℕ → Bool) (keys : List ℕ) → length (filter test keys) + length (filter (λ x. not (test x)) keys) ≡ length keys
+length-sides test [] = refl
+length-sides test (x ∷ keys) = grind (arith, nat_tests, length-sides test keys)
+
+-- so it stands twice where it does so on either side
+pub twice_on_a_side : (bound : ℕ) (keys low high : List ℕ) → ((key : ℕ) → times key low ≡ times key (filter (λ x. nat_lt x bound) keys) - 1)
+    → ((key : ℕ) → times key high ≡ times key (filter (λ x. not (nat_lt x bound)) keys) - 1)
+    → (key : ℕ) → (1 ≤ times key (low ++ high)) ↔ (2 ≤ times key keys)
+twice_on_a_side bound keys low high lows highs key =
+    let both = sum_by-filter_both (λ x. nat_lt x bound) (λ x. not (nat_lt x bound)) (λ x. refl) (λ other. cond {A = ℕ} (other == key) 1 0) keys in
+    let all = sum_by-append (λ other. cond {A = ℕ} (other == key) 1 0) low high in
+    elim (cases_Bool (nat_lt key bound)) [
+      | inl below ↦
+          let none = times-side (λ x. not (nat_lt x bound)) key keys (ap not below) in
+          ((λ some. omega (arith, some, both, all, none, lows key, highs key)), (λ twice. omega (arith, twice, both, all, none, lows key, highs key)))
+      | inr above ↦
+          let none = times-side (λ x. nat_lt x bound) key keys above in
+          ((λ some. omega (arith, some, both, all, none, lows key, highs key)), (λ twice. omega (arith, twice, both, all, none, lows key, highs key)))
+    ]
+
+-- where no number is told, none stands twice
+pub none_twice : (repeated keys : List ℕ) → length repeated ≡ 0 → ((key : ℕ) → Contains repeated key ↔ (2 ≤ times key keys)) → (key : ℕ) → times key keys ≤ 1
+none_twice repeated keys none members key = grind (arith, (members key).1)
+
+-- for the loop over neighbours
+pub ruleset neighbours_by_one = (append-nil, nat_tests, common_steps, neighbours_more)
+
+-- Of equal numbers of a list at most one is above all before it, so that one that stands twice is among those that are not.
+
+-- of each number seen at most one is not behind
+abbrev pub AreBehind : List ℕ → List ℕ → Type 0
+AreBehind seen behind = (key : ℕ) → times key seen ≤ 1 + times key behind
+
+module _ (keys behind : List ℕ) (i : ℕ) (within : i < length keys) (are : AreBehind (take i keys) behind) where
+  -- one more, which is behind
+  pub behind_pushed : AreBehind (take (i + 1) keys) (behind ++ get_or keys i 0 ∷ [])
+  behind_pushed key = omega (
+    arith,
+    are key,
+    sum_by_more (λ other. cond (other == key) 1 0) keys i 0 within,
+    sum_by_push (λ other. cond (other == key) 1 0) behind (get_or keys i 0),
+  )
+
+  -- one more, which is above all that were seen
+  pub behind_kept : (highest : ℕ) → All (λ key. key ≤ highest) (take i keys) → highest < get_or keys i 0 → AreBehind (take (i + 1) keys) behind
+  behind_kept highest low above key =
+      let none : get_or keys i 0 ≡ key → times key (take i keys) ≡ 0 =
+      λ same. times-none key (take i keys) (λ there. omega (
+        arith,
+        All-contains (λ key. key ≤ highest) (take i keys) key low there,
+      )) in
+      grind (arith, nat_tests, are key, none, sum_by_more (λ other. cond {A = ℕ} (other == key) 1 0) keys i 0 within)
+
+-- one of some numbers is not among those of a list that are none of them
+times-left : (others : List ℕ) (key : ℕ) (keys : List ℕ) → has others key ≡ true → times key (filter (λ x. not (has others x)) keys) ≡ 0
+times-left others key [] had = refl
+times-left others key (x ∷ keys) had = grind (arith, nat_tests, sum_by-cons, times-left others key keys had)
+
+-- of a list those stand twice that stand twice among the ones that equal one behind
+pub twice_among : (keys behind sorted others : List ℕ) → AreBehind keys behind → IsPermutation behind sorted → others ≡ dedup nat_eq sorted
+    → (key : ℕ) → (2 ≤ times key (filter (has others) keys)) ↔ (2 ≤ times key keys)
+twice_among keys behind sorted others are moved once key =
+    let both = sum_by-filter_both (has others) (λ x. not (has others x)) (λ x. refl) (λ other. cond {A = ℕ} (other == key) 1 0) keys in (
+      (λ twice. omega (arith, twice, both)),
+      (λ twice.
+          let kept = Contains-dedup_nat sorted key (Contains-permutation behind sorted key moved (stands key behind (omega (arith, twice, are key)))) in
+          omega (arith, twice, both, times-left others key keys (rw once (had_contained (dedup nat_eq sorted) key kept)))),
+    )

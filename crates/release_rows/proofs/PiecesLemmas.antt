@@ -1,0 +1,246 @@
+-- Going over files that are read from a source in pieces.
+use Rattle.std.proofs.Common.{rules, ◌⊎◌, append_assoc, ◌∙◌, sym, Global, String, unwrap_or, take, ◌≡◌, ◌≢◌, inl, inr, ℕ, ◌+◌, ◌-◌, ◌^◌, ◌<◌, ◌≤◌, List, [], ◌∷◌, ◌++◌, length, map, drop, drop-cons, get_or, ap, subst, arith, Option, None, Some, Result, Ok, Err, MatchResult, length-drop, length-take, min, Bool, IfErr, IsPermutation, OnOk, option_map, string_bytes, is_lt, nat_cmp, take_all}
+use Rattle.std.proofs.lemmas.Bool.Decides.{nat_tests}
+use Rattle.std.proofs.lemmas.Grind.{common_steps}
+use Rattle.std.specs.Cmp.Lexicographic.{slice_cmp}
+use Rattle.std.specs.List.Sorted.{IsSorted, IsSortedBy}
+use Rattle.std.specs.String.{string_cmp}
+use Rattle.std.proofs.lemmas.List.{get_or-map, length-map, drop_all}
+use Rattle.std.proofs.lemmas.List.Sorted.{IsPermutation-map}
+use Rattle.release_files.proofs.Parts.{length-lines}
+use Rattle.release_files.specs.Lines.{LineText, line_text, lines_of}
+use Rattle.release_files.specs.PieceLines.{GivesNext, HasEnded, lines_to_come}
+use Rattle.release_files.specs.Source.{FileText, bytes_of}
+use Rattle.release_files.specs.declared.lines.Line.{Line}
+use Rattle.release_files.specs.declared.piece_lines.PieceLines.{PieceLines}
+use Rattle.release_files.specs.declared.source.SourceFault.{SourceFault}
+use Rattle.rf2_rows.specs.declared.kind.FileKind.{FileKind}
+use Rattle.release_rows.specs.Files.{Place, first_line, later_line, no_line, places_from, places_of_file, places_of_kind, places_of_lines}
+use Rattle.rf2_rows.specs.Files.{file_kind_of}
+use Rattle.std.proofs.lemmas.Bool.{cases_lt}
+use Rattle.release_files.specs.Held.{TakesWithin, reachable}
+use Rattle.release_files.proofs.HeldLemmas.{reachable_told}
+use Rattle.std.specs.Prelude.{is_some, true, zero, suc}
+use Rattle.release_rows.specs.Pieces.{has_kind_at, AreInOrder, cut_file, FailsAt, FailsAtFile, GoesOver, listed, text_named}
+use Rattle.release_rows.specs.Traversal.{StopsAt, TakesAll, taken}
+use Rattle.release_rows.specs.DeviceFaults.{FailsAtRead, is_device}
+use Rattle.release_rows.specs.declared.fault.LoadFault.{LoadFault}
+use Rattle.release_rows.specs.declared.fault.LoadFault.TheVariants.{Memory}
+use Rattle.release_rows.proofs.TakingLemmas.{Leads, Leads-end, Leads-next, Leads-on, Leads-stop, stops_lines, stops_none, takes_lines, takes_none}
+
+-- what a call for the next line says
+abbrev pub Gives : Result (Option Line) SourceFault → PieceLines → PieceLines → Option (List ℕ) → Option (List ℕ) → Type 0
+Gives result old new before after = MatchResult result (λ line. GivesNext (option_map line_text line) old new before after) (λ _. HasEnded new)
+
+-- and, beside what it takes of the file
+pub gives_next : (result : Result (Option Line) SourceFault) (old new : PieceLines) (before after ahead behind : Option (List ℕ))
+    → MatchResult result (λ line. GivesNext (option_map line_text line) old new before after
+    × TakesWithin ahead behind old.held.left new.held.left) (λ _. HasEnded new) → Gives result old new before after
+gives_next (Ok line) old new before after ahead behind both = both.0
+gives_next (Err fault) old new before after ahead behind ended = ended
+
+-- and that alone
+pub takes_next : (result : Result (Option Line) SourceFault) (found : Option Line) (old new : PieceLines)
+    → (before after ahead behind : Option (List ℕ))
+    → MatchResult result
+    (λ line. GivesNext (option_map line_text line) old new before after × TakesWithin ahead behind old.held.left new.held.left)
+    (λ _. HasEnded new)
+    → result ≡ Ok found → TakesWithin ahead behind old.held.left new.held.left
+takes_next (Ok line) found old new before after ahead behind both is = both.1
+takes_next (Err fault) found old new before after ahead behind ended is = absurd (cc)
+
+-- what is taken in two turns
+pub takes_on : (first middle last : Option (List ℕ)) (old between new : ℕ) → TakesWithin first middle old between
+    → TakesWithin middle last between new → TakesWithin first last old new
+takes_on None None last old between new one other = omega (arith, one, other)
+takes_on None (Some middle) None old between new one other = absurd other
+takes_on None (Some middle) (Some last) old between new one other = omega (arith, one, other.0)
+takes_on (Some first) None last old between new one other = absurd one
+takes_on (Some first) (Some middle) None old between new one other = absurd other
+takes_on (Some first) (Some middle) (Some last) old between new one other =
+    (omega (arith, one.0, other.0), omega (arith, one.1, other.1))
+
+-- what is taken where no more may be than so many
+pub takes_most : (before after : Option (List ℕ)) (old new most : ℕ) → old ≤ most → TakesWithin before after old new
+    → TakesWithin before after most 0
+takes_most None after old new most few takes = omega arith
+takes_most (Some before) None old new most few takes = absurd takes
+takes_most (Some before) (Some after) old new most few takes = (omega arith, omega (arith, few, takes.1))
+
+-- a line was the first of those to come, and some bytes are left behind it
+pub record GaveLine (line : LineText) (old new : PieceLines) (after : Option (List ℕ)) (rest : List ℕ) : Type 0 where
+  pub now : List ℕ
+  pub told : after ≡ Some now
+  pub cut : lines_to_come old rest ≡ line ∷ lines_to_come new now
+
+pub gave_line : (result : Result (Option Line) SourceFault) (line : Line) (old new : PieceLines) (before after : Option (List ℕ)) (rest : List ℕ)
+    → Gives result old new before after → result ≡ Ok (Some line) → before ≡ Some rest → GaveLine (line_text line) old new after rest
+gave_line result line old new before after rest gives is told = grind (arith)
+
+-- no line was to come
+pub gave_none : (result : Result (Option Line) SourceFault) (old new : PieceLines) (before after : Option (List ℕ)) (rest : List ℕ)
+    → Gives result old new before after → result ≡ Ok None → before ≡ Some rest → lines_to_come old rest ≡ []
+gave_none result old new before after rest gives is told = grind (arith, common_steps, nat_tests)
+
+-- the later lines of a file that are left, while some turns are
+pub record LinesLeft {Held : Type 0} (takes : Held → Place → Held → Type 0)
+    (refuses : Held → Place → Held → LoadFault → Type 0) (file : ℕ) (kind : FileKind) (old : Held) (all : List Place)
+    (turns : ℕ) (turn : ℕ) (after : Option (List ℕ)) (lines : PieceLines) (held : Held) : Type 0 where
+  pub now : List ℕ
+  pub told : after ≡ Some now
+  pub within : length (lines_to_come lines now) + turn < turns
+  pub leads : Leads takes refuses old all held (map (later_line file kind) (lines_to_come lines now))
+
+module _ {Held : Type 0} (takes : Held → Place → Held → Type 0) (refuses : Held → Place → Held → LoadFault → Type 0) (file : ℕ) (kind : FileKind) where
+  pub LinesLeft-next : (old held new : Held) (all : List Place) (turns turn : ℕ) (before after : Option (List ℕ))
+      (lines later : PieceLines) (result : Result (Option Line) SourceFault) (line : Line)
+      → LinesLeft takes refuses file kind old all turns turn before lines held → Gives result lines later before after → result ≡ Ok (Some line)
+      → takes held (later_line file kind (line_text line)) new → LinesLeft takes refuses file kind old all turns (turn + 1) after later new
+  LinesLeft-next old held new all turns turn before after lines later result line left gives is step = search (rules, Leads-next, gave_line)
+
+  pub LinesLeft-stop : (old held new : Held) (all : List Place) (turns turn : ℕ) (before after : Option (List ℕ))
+      (lines later : PieceLines) (result : Result (Option Line) SourceFault) (line : Line) (fault : LoadFault)
+      → LinesLeft takes refuses file kind old all turns turn before lines held → Gives result lines later before after → result ≡ Ok (Some line)
+      → refuses held (later_line file kind (line_text line)) new fault → StopsAt takes refuses old all new fault
+  LinesLeft-stop old held new all turns turn before after lines later result line fault left gives is refused = search (rules, Leads-stop, gave_line)
+
+  pub LinesLeft-end : (old held : Held) (all : List Place) (turns turn : ℕ) (before after : Option (List ℕ))
+      (lines later : PieceLines) (result : Result (Option Line) SourceFault)
+      → LinesLeft takes refuses file kind old all turns turn before lines held
+      → Gives result lines later before after → result ≡ Ok None → TakesAll takes old all held
+  LinesLeft-end old held all turns turn before after lines later result left gives is = grind (arith, common_steps, nat_tests, Leads-end, gave_none)
+
+  -- the lines of a file behind its first one, which was taken
+  pub goes_lines : (fails later_fails : LoadFault → Type 0) (lines : List LineText) (first : LineText) (others : List LineText) → lines ≡ first ∷ others
+      → ((fault : LoadFault) → later_fails fault → fails fault) → (old middle new : Held) → takes old (first_line file kind first) middle
+      → (result : Result (Unit {0}) LoadFault) → GoesOver takes refuses later_fails middle (map (later_line file kind) others) result new
+      → GoesOver takes refuses fails old (places_of_lines file kind lines) result new
+  goes_lines fails later_fails lines first others cut so old middle new step (Ok done) went = search (rules, takes_lines)
+  goes_lines fails later_fails lines first others cut so old middle new step (Err fault) went =
+      grind (arith, (stops_lines takes refuses file kind lines first others cut old middle new fault step), (so fault))
+
+  -- a file without a line
+  pub goes_none : (fails : LoadFault → Type 0) (lines : List LineText) → lines ≡ [] → (old new : Held) (result : Result (Unit {0}) LoadFault)
+      → OnOk result (takes old (no_line file kind) new) → IfErr result (λ fault. fault ≢ Memory → refuses old (no_line file kind) new fault)
+      → GoesOver takes refuses fails old (places_of_lines file kind lines) result new
+  goes_none fails lines cut old new (Ok done) step refused = takes_none takes refuses file kind lines cut old new step
+  goes_none fails lines cut old new (Err fault) step refused = λ other. inr (stops_none takes refuses file kind lines cut old new fault (refused other))
+
+-- a file has no more lines than bytes
+length-lines_of : (bytes : List ℕ) → length (lines_of bytes) ≤ length bytes
+unfolding lines_of
+length-lines_of bytes = grind (arith, common_steps, nat_tests, length-drop, length-lines)
+
+-- so it has fewer behind the first than it may have bytes
+pub few_lines : (limit : ℕ) (bytes : List ℕ) (first : LineText) (others : List LineText) → lines_of (take limit bytes) ≡ first ∷ others → length others < limit
+few_lines limit bytes first others cut =
+    omega (arith, length-lines_of (take limit bytes), length-take limit bytes, ap (λ (lines : List LineText). length lines) cut)
+
+-- the bytes that may be read are those of the file that is cut
+pub cut_bytes : (limit left : ℕ) (bytes : List ℕ) → length bytes < 2 ^ 64 → left ≡ min (limit + 1) (2 ^ 64 - 1) → take left bytes ≡ take (limit + 1) bytes
+cut_bytes limit left bytes short is = grind (arith, cases_lt, take_all)
+
+pub cut_short : (count : ℕ) (bytes : List ℕ) → length bytes < 2 ^ 64 → length (take count bytes) < 2 ^ 64
+cut_short count bytes short = omega (arith, length-take count bytes)
+
+-- and the lines to come are those
+pub cut_reachable : (limit left held : ℕ) (rest : Option (List ℕ)) (bytes : List ℕ) → rest ≡ Some bytes
+    → length bytes < 2 ^ 64 → left ≡ min (limit + 1) (2 ^ 64 - 1) → held ≡ left
+    → reachable held rest ≡ Some (take (limit + 1) bytes)
+cut_reachable limit left held rest bytes told short is same = grind (arith, (reachable_told held rest bytes told), (cut_bytes limit left bytes short is))
+
+-- the device failed at the file, counted from another count
+pub fails_from : (file start old new : ℕ) (fault : LoadFault) → start ≤ old → FailsAt file old new fault → FailsAt file start new fault
+fails_from file start old new fault up failed = grind (arith, inl, inr)
+
+module _ {Held : Type 0} (takes : Held → Place → Held → Type 0) (refuses : Held → Place → Held → LoadFault → Type 0)
+    (file limit : ℕ) (known : List FileText) (name : List ℕ) where
+  -- a file without a kind has no places
+  pub takes_unnamed : None ≡ file_kind_of name → (held : Held) → TakesAll takes held (places_of_file file (cut_file limit (text_named known name))) held
+  takes_unnamed is held = grind (arith, places_of_kind, unwrap_or, bytes_of, taken)
+
+-- the places of the names from one on are those of its file and those of the names behind it
+pub places_from-listed : {A : Type 0} (limit : ℕ) (known : List FileText) (name_of : A → List ℕ) (i : ℕ)
+    (names : List A) (d : A) (name : List ℕ) → i < length names → name ≡ name_of (get_or names i d)
+    → places_from i (map (cut_file limit) (listed known (map name_of (drop i names))))
+    ≡ places_of_file i (cut_file limit (text_named known name))
+    ++ places_from (i + 1) (map (cut_file limit) (listed known (map name_of (drop (i + 1) names))))
+places_from-listed limit known name_of i names d name within is = grind (arith, common_steps, nat_tests, drop-cons, get_or)
+
+pub places_from-none : {A : Type 0} (limit : ℕ) (known : List FileText) (name_of : A → List ℕ) (i : ℕ)
+    (names : List A) → length names ≤ i → places_from i (map (cut_file limit) (listed known (map name_of (drop i names)))) ≡ []
+places_from-none limit known name_of i names behind =
+    ap (λ rest. places_from i (map (cut_file limit) (listed known (map name_of rest)))) (drop_all i names behind)
+
+module _ {Held : Type 0} (takes : Held → Place → Held → Type 0) (refuses : Held → Place → Held → LoadFault → Type 0) where
+  -- the places of a name more were gone over
+  pub leads_name : (fails : LoadFault → Type 0) (old held new : Held) (all here left : List Place) (result : Result (Unit {0}) LoadFault) (done : Unit {0})
+      → Leads takes refuses old all held (here ++ left) → GoesOver takes refuses fails held here result new
+      → result ≡ Ok done → Leads takes refuses old all new left
+  leads_name fails old held new all here left result done leads went is = grind (arith, common_steps, nat_tests, Leads-on)
+
+  stops_front : (held new : Held) (here left : List Place) (fault : LoadFault)
+      → StopsAt takes refuses held here new fault → StopsAt takes refuses held (here ++ left) new fault
+  stops_front held new here left fault stop = record {
+    before = stop.before;
+    place = stop.place;
+    later = stop.later ++ left;
+    middle = stop.middle;
+    cut = ap (λ (all : List Place). all ++ left) stop.cut ∙ append_assoc stop.before (stop.place ∷ stop.later) left;
+    taken_before = stop.taken_before;
+    refused = stop.refused;
+  }
+
+  went_wrong : (fails : LoadFault → Type 0) (old held new : Held) (all here left : List Place) (fault : LoadFault)
+      → Leads takes refuses old all held (here ++ left) → fails fault ⊎ StopsAt takes refuses held here new fault
+      → fails fault ⊎ StopsAt takes refuses old all new fault
+  went_wrong fails old held new all here left fault leads (inl failed) = inl failed
+  went_wrong fails old held new all here left fault leads (inr stops) = inr (leads.stops new fault (stops_front held new here left fault stops))
+
+  -- the places of a name more were gone over up to a fault
+  pub stops_name : (fails : LoadFault → Type 0) (old held new : Held) (all here left : List Place) (result : Result (Unit {0}) LoadFault) (fault : LoadFault)
+      → Leads takes refuses old all held (here ++ left) → GoesOver takes refuses fails held here result new
+      → result ≡ Err fault → fault ≢ Memory → fails fault ⊎ StopsAt takes refuses old all new fault
+  stops_name fails old held new all here left result fault leads went is other =
+      went_wrong fails old held new all here left fault leads
+      (subst (λ (answer : Result (Unit {0}) LoadFault). GoesOver takes refuses fails held here answer new) is went other)
+
+-- texts that rise have bytes that rise
+sorted_map : {X Y : Type 0} (f : X → Y) (lt : Y → Y → Bool) (xs : List X) → IsSortedBy (λ one other. lt (f one) (f other)) xs → IsSortedBy lt (map f xs)
+sorted_map f lt [] sorted k default low high = absurd (omega arith)
+sorted_map f lt (x ∷ xs) sorted k default low high =
+    grind (
+      arith,
+      (get_or-map f (x ∷ xs) (k + 1) x default),
+      (get_or-map f (x ∷ xs) k x default),
+      (length-map (x ∷ xs) f),
+      (sorted k x low),
+    )
+
+-- names of files that were sorted are in order
+pub in_byte_order : (sorted : List (String Global)) → IsSorted string_cmp sorted → IsSorted (slice_cmp nat_cmp) (map string_bytes sorted)
+in_byte_order sorted rising = sorted_map string_bytes (λ one other. is_lt (slice_cmp nat_cmp one other)) sorted rising
+
+pub in_order : (known : List FileText) (listed sorted : List (String Global)) → map string_bytes listed ≡ map (λ (file : FileText). file.name) known
+    → IsPermutation listed sorted → IsSorted string_cmp sorted → AreInOrder known (map string_bytes sorted)
+in_order known listed sorted named moved rising = record {
+  same = subst (λ (names : List (List ℕ)). IsPermutation names (map string_bytes sorted)) named (IsPermutation-map string_bytes listed sorted moved);
+  rising = sorted_map string_bytes (λ one other. is_lt (slice_cmp nat_cmp one other)) sorted rising;
+}
+
+-- the name at a place is that of a file of some kind where its own name is
+pub kind_at : {A : Type 0} (name_of : A → List ℕ) (names : List A) (i : ℕ) (d : A) (name : List ℕ) → i < length names → name ≡ name_of (get_or names i d)
+    → has_kind_at (map name_of names) i ≡ is_some (file_kind_of name)
+kind_at name_of [] i d name within is = grind arith
+kind_at name_of (x ∷ xs) zero d name within is = ap (λ one. is_some (file_kind_of one)) (sym is)
+kind_at name_of (x ∷ xs) (suc i) d name within is = kind_at name_of xs i d name (omega arith) is
+
+pub fails_at_read : (reads : ℕ → Bool) (file old new : ℕ) (fault : LoadFault)
+    → (is_device fault ≡ true → FailsAt file old new fault) → (is_device fault ≡ true → reads file ≡ true)
+    → FailsAtRead reads fault
+fails_at_read reads file old new fault failed kind = grind (arith, common_steps, nat_tests)
+
+pub fails_at_file : {X : Type 0} (file old middle new : ℕ) (fault : LoadFault) → middle ≡ old
+    → FailsAt file middle new fault ⊎ X → FailsAtFile old new fault ⊎ X
+fails_at_file file old middle new fault same (inl failed) = inl (file, subst (λ count. FailsAt file count new fault) same failed)
+fails_at_file file old middle new fault same (inr stops) = inr stops

@@ -1,0 +1,157 @@
+-- Where no key stands twice no row conflicts with another, and each is chosen.
+use Rattle.std.proofs.lemmas.Grind.{common_steps}
+use Rattle.std.proofs.Common.{◌||◌, ℕ, ◌≡◌, ◌≤◌, ◌∙◌, ◌==◌, List, [], ◌∷◌, ◌++◌, true, false, Bool, Option, None, append_assoc, ap, arith, refl, not, cond}
+use Rattle.std.specs.Prelude.{⊤}
+use Rattle.std.specs.List.{list_any, position_or_len}
+use Rattle.std.proofs.lemmas.Bool.{and_left, false_from_ne_true}
+use Rattle.std.proofs.lemmas.List.Sums.{sum_by-cons}
+use Rattle.std.proofs.lemmas.Bool.Decides.{nat_tests}
+use Rattle.std.proofs.lemmas.List.Folds.{list_any-append}
+use Rattle.rf2_rows.specs.RowTexts.{RowText, of_concept, of_concrete, of_description, of_member, of_relationship}
+use Rattle.rf2_rows.specs.Versions.{member_number}
+use Rattle.release_rows.specs.Chosen.{choices, is_later, marked, same_component}
+use Rattle.release_rows.specs.Files.{text_of_row, RowAt}
+use Rattle.hierarchy.specs.Members.{has}
+use Rattle.release_rows.specs.inside.Keys.{IsMet, key_in, uuids_behind}
+use Rattle.release_rows.specs.inside.FirstPass.{first_conflict, keys_behind, uuids_after}
+use Rattle.release_rows.proofs.KindLemmas.{kind_same}
+use Rattle.hierarchy.proofs.ReleaseLemmas.{times, times-append, times-own}
+
+-- a number that was met, or is put behind the others, stays at its place
+pos-kept : (n more : ℕ) (uuids : List ℕ) → (has uuids n || n == more) ≡ true
+    → position_or_len (λ other. n == other) (uuids ++ more ∷ []) ≡ position_or_len (λ other. n == other) uuids
+pos-kept n more [] there = grind (arith, nat_tests, there)
+pos-kept n more (other ∷ uuids) there = grind (arith, nat_tests, has, position_or_len, cond, not, (pos-kept n more uuids))
+
+-- a longer list has a number, at the place that it has or would have in a list
+abbrev StaysIn : ℕ → List ℕ → List ℕ → Type 0
+StaysIn n uuids more = (has more n ≡ true) × (position_or_len (λ other. n == other) more ≡ position_or_len (λ other. n == other) uuids)
+
+-- so it is where a number that is none of them is put behind the others, and behind later rows
+met-own : (n : ℕ) (uuids : List ℕ) → StaysIn n uuids (cond (has uuids n) uuids (uuids ++ n ∷ []))
+met-own n uuids = grind (arith, common_steps, nat_tests, (pos-kept n n uuids), list_any-append)
+
+met-after : (n : ℕ) (uuids : List ℕ) (rows : List RowAt) → has uuids n ≡ true → StaysIn n uuids (uuids_after uuids rows)
+met-after n uuids [] there = (there, refl)
+met-after n uuids (row ∷ rows) there =
+    grind (arith, text_of_row, uuids_behind, pos-kept, list_any-append, (met-after n (uuids_behind uuids (text_of_row row)) rows))
+
+-- behind a row and later ones it is met, and has its key
+pub met-seen : (uuids : List ℕ) (rows : List RowAt) (text : RowText)
+    → IsMet (uuids_after (uuids_behind uuids text) rows) text
+    × (key_in (uuids_after (uuids_behind uuids text) rows) text ≡ key_in uuids text)
+met-seen uuids rows (of_concept row) = (tt, refl)
+met-seen uuids rows (of_description row) = (tt, refl)
+met-seen uuids rows (of_relationship row) = (tt, refl)
+met-seen uuids rows (of_concrete row) = (tt, refl)
+met-seen uuids rows (of_member row) =
+    grind (arith, (met-own (member_number row) uuids), (met-after (member_number row) (uuids_behind uuids (of_member row)) rows))
+
+-- rows of one component have one key
+same-key : (uuids : List ℕ) (one other : RowAt) → same_component one other ≡ true → key_in uuids (text_of_row other) ≡ key_in uuids (text_of_row one)
+same-key uuids one other same = grind (arith, common_steps, nat_tests, (kind_same one.kind other.kind))
+
+-- a later row of one component has the key of the earlier one
+pub key-later : (uuids : List ℕ) (rows : List RowAt) (one other : RowAt) → same_component one other ≡ true
+    → key_in (uuids_after (uuids_behind uuids (text_of_row one)) rows) (text_of_row other) ≡ key_in uuids (text_of_row one)
+key-later uuids rows one other same = same-key _ one other same ∙ (met-seen uuids rows (text_of_row one)).1
+
+-- where an earlier row is of its component, the key of a row is among the earlier ones
+key-among : (uuids : List ℕ) (rows : List RowAt) (row : RowAt) → list_any (λ other. same_component other row) rows ≡ true
+    → 1 ≤ times (key_in (uuids_after uuids rows) (text_of_row row)) (keys_behind uuids rows)
+key-among uuids [] row there = absurd (cc)
+key-among uuids (first ∷ rows) row there =
+    grind (
+      arith,
+      common_steps,
+      nat_tests,
+      sum_by-cons,
+      (key-later uuids rows first row),
+      (key-among (uuids_behind uuids (text_of_row first)) rows row),
+    )
+
+keys_behind-append : (uuids : List ℕ) (front rows : List RowAt)
+    → keys_behind uuids (front ++ rows) ≡ keys_behind uuids front ++ keys_behind (uuids_after uuids front) rows
+keys_behind-append uuids [] rows = refl
+keys_behind-append uuids (row ∷ front) rows =
+    ap (λ (rest : List ℕ). key_in uuids (text_of_row row) ∷ rest)
+    (keys_behind-append (uuids_behind uuids (text_of_row row)) front rows)
+
+-- so it stands twice with its own
+pub key-twice : (earlier rows : List RowAt) (row : RowAt) → list_any (λ other. same_component other row) earlier ≡ true
+    → 2 ≤ times (key_in (uuids_after [] earlier) (text_of_row row)) (keys_behind [] (earlier ++ row ∷ rows))
+key-twice earlier rows row there =
+    let key = key_in (uuids_after [] earlier) (text_of_row row) in
+    let later = keys_behind (uuids_behind (uuids_after [] earlier) (text_of_row row)) rows in
+    let all = ap (times key) (keys_behind-append [] earlier (row ∷ rows)) in
+    omega (
+      arith,
+      key-among [] earlier row there,
+      all,
+      times-append key (keys_behind [] earlier) (key ∷ later),
+      times-append key (key ∷ []) later,
+      times-own (key ∷ []) 0 (omega arith),
+    )
+
+-- no row is of the component of an earlier one
+abbrev pub AreSingle : List RowAt → List RowAt → Type 0
+AreSingle earlier [] = ⊤
+AreSingle earlier (row ∷ rows) = (list_any (λ other. same_component other row) earlier ≡ false) × AreSingle (earlier ++ row ∷ []) rows
+
+-- so it is where no key stands twice
+pub single-keys : (earlier rows : List RowAt) → ((key : ℕ) → times key (keys_behind [] (earlier ++ rows)) ≤ 1) → AreSingle earlier rows
+single-keys earlier [] few = tt
+single-keys earlier (row ∷ rows) few = (
+  false_from_ne_true _ (λ told. absurd (omega (
+    arith,
+    key-twice earlier rows row told,
+    few (key_in (uuids_after [] earlier) (text_of_row row)),
+  ))),
+  single-keys (earlier ++ row ∷ []) rows (simp append_assoc few),
+)
+
+-- ---- what passes no weaker test passes none
+pub any-none : {X : Type 0} (p q : X → Bool) (xs : List X) → ((x : X) → p x ≡ false → q x ≡ false) → list_any p xs ≡ false → list_any q xs ≡ false
+any-none p q [] weaker none = refl
+any-none p q (x ∷ xs) weaker none = grind (arith, list_any, (any-none p q xs weaker))
+
+-- so no row conflicts with an earlier one
+pub no_conflict : (earlier rows : List RowAt) → AreSingle earlier rows → first_conflict earlier rows ≡ None
+no_conflict earlier [] single = refl
+no_conflict earlier (row ∷ rows) single = grind (arith, common_steps, nat_tests, any-none, (no_conflict (earlier ++ row ∷ []) rows single.1))
+
+-- ---- and each is chosen
+pub any-at : {X : Type 0} (p : X → Bool) (xs ys : List X) (x : X) → list_any p (xs ++ x ∷ ys) ≡ false → p x ≡ false
+any-at p xs ys x none = grind (arith, common_steps, nat_tests, list_any-append)
+
+-- a row behind others is of the component of none of them
+apart-later : (earlier more rows : List RowAt) (row : RowAt) → AreSingle (earlier ++ row ∷ more) rows
+    → list_any (λ other. same_component other row) rows ≡ false
+apart-later earlier more [] row single = refl
+apart-later earlier more (next ∷ rows) row single =
+    grind (
+      arith,
+      any-at,
+      same_component,
+      append_assoc,
+      (apart-later earlier (more ++ next ∷ []) rows row (simp append_assoc at single.1)),
+    )
+
+pub is_later-itself : (time : Option ℕ) → is_later time time ≡ false
+is_later-itself x0 = grind arith
+
+pub single-choices : (earlier rows : List RowAt) → AreSingle earlier rows → marked (choices (earlier ++ rows) earlier rows) rows ≡ rows
+single-choices earlier [] single = refl
+single-choices earlier (row ∷ rows) single =
+    grind (
+      arith,
+      common_steps,
+      nat_tests,
+      and_left,
+      list_any-append,
+      any-none,
+      apart-later,
+      append_assoc,
+      is_later-itself,
+      (single-choices (earlier ++ row ∷ []) rows single.1),
+    )

@@ -1,0 +1,140 @@
+-- Going over places one after another, and up to one that is refused.
+use Rattle.std.proofs.lemmas.Bool.Decides.{nat_tests}
+use Rattle.std.proofs.lemmas.Grind.{common_steps}
+use Rattle.std.proofs.Common.{ℕ, ◌≡◌, ◌+◌, ◌<◌, ◌≤◌, List, [], ◌∷◌, ◌++◌, append_assoc, ap, arith, drop, drop-cons, get_or, length, map, refl, subst, sym, ◌^◌, true, false, Option, Some, Result, IfErr, IfOk, IfSome}
+use Rattle.std.proofs.lemmas.List.{drop_all}
+use Rattle.release_files.specs.Source.{file_text}
+use Rattle.release_files.specs.declared.NamedBytes.{NamedBytes}
+use Rattle.release_files.specs.Lines.{LineText}
+use Rattle.rf2_rows.specs.declared.kind.FileKind.{FileKind}
+use Rattle.release_rows.specs.Files.{Place, first_line, later_line, no_line, places_from, places_of_file, places_of_lines}
+use Rattle.std.proofs.lemmas.Bool.{cases_Bool}
+use Rattle.release_rows.specs.Traversal.{StopsAt, TakesAll, next, taken}
+use Rattle.release_rows.specs.DeviceFaults.{FailsBelow, is_device}
+use Rattle.release_rows.specs.declared.fault.LoadFault.{LoadFault}
+
+-- places are taken behind others
+TakesAll-behind : {Held : Type 0} (takes : Held → Place → Held → Type 0) (old middle new : Held) (front places : List Place)
+    → TakesAll takes old front middle → TakesAll takes middle places new → TakesAll takes old (front ++ places) new
+TakesAll-behind takes old middle new front places (taken held) later = later
+TakesAll-behind takes old middle new front places (next from to end place others step rest) later =
+    grind (arith, next, (TakesAll-behind takes to end new others places rest later))
+
+-- a place is refused behind others that are taken
+StopsAt-behind : {Held : Type 0} (takes : Held → Place → Held → Type 0)
+    (refuses : Held → Place → Held → LoadFault → Type 0) (old middle new : Held) (front places : List Place) (fault : LoadFault)
+    → TakesAll takes old front middle → StopsAt takes refuses middle places new fault → StopsAt takes refuses old (front ++ places) new fault
+StopsAt-behind takes refuses old middle new front places fault first stop =
+    grind (
+      arith,
+      (append_assoc front stop.before (stop.place ∷ stop.later)),
+      (TakesAll-behind takes old middle stop.middle front stop.before first stop.taken_before),
+    )
+
+-- from some places to those that are left: what is said of these is said of all
+pub record Leads {Held : Type 0} (takes : Held → Place → Held → Type 0)
+    (refuses : Held → Place → Held → LoadFault → Type 0) (old : Held) (all : List Place) (now : Held)
+    (left : List Place) : Type 0 where
+  pub goes : (new : Held) → TakesAll takes now left new → TakesAll takes old all new
+  pub stops : (new : Held) (fault : LoadFault) → StopsAt takes refuses now left new fault → StopsAt takes refuses old all new fault
+
+module _ {Held : Type 0} (takes : Held → Place → Held → Type 0) (refuses : Held → Place → Held → LoadFault → Type 0) where
+  -- some places more were taken
+  pub Leads-on : (old now later : Held) (all front left : List Place)
+      → Leads takes refuses old all now (front ++ left) → TakesAll takes now front later → Leads takes refuses old all later left
+  Leads-on old now later all front left leads went = grind (arith, common_steps, nat_tests, StopsAt-behind, TakesAll-behind)
+
+  -- one place more was taken
+  pub Leads-next : (old now later : Held) (all left : List Place) (place : Place)
+      → Leads takes refuses old all now (place ∷ left) → takes now place later → Leads takes refuses old all later left
+  Leads-next old now later all left place leads step = Leads-on old now later all (place ∷ []) left leads (next now later later place [] step (taken later))
+
+  -- none is left
+  pub Leads-end : (old now : Held) (all : List Place) → Leads takes refuses old all now [] → TakesAll takes old all now
+  Leads-end old now all leads = leads.goes now (taken now)
+
+  -- the next one is refused
+  pub Leads-stop : (old now new : Held) (all left : List Place) (place : Place) (fault : LoadFault)
+      → Leads takes refuses old all now (place ∷ left) → refuses now place new fault → StopsAt takes refuses old all new fault
+  Leads-stop old now new all left place fault leads refused =
+      leads.stops new fault (record { before = []; place = place; later = left; middle = now; cut = refl; taken_before = taken now; refused = refused })
+
+-- the places of the files from one on are its own and those of the files behind it
+pub places_from-next : (i : ℕ) (files : List NamedBytes) (d : NamedBytes) → i < length files
+    → places_from i (map file_text (drop i files)) ≡ places_of_file i (file_text (get_or files i d)) ++ places_from (i + 1) (map file_text (drop (i + 1) files))
+places_from-next i files d within = grind (arith, common_steps, nat_tests, drop-cons, get_or)
+
+pub if_err : {T E : Type 0} (P Q : E → Type 0) (result : Result T E) → ((fault : E) → P fault → Q fault) → IfErr result P → IfErr result Q
+if_err x0 x1 x2 so said = grind arith
+
+-- the places of a file by its lines: the first line and then the others
+module _ {Held : Type 0} (takes : Held → Place → Held → Type 0) (refuses : Held → Place → Held → LoadFault → Type 0)
+    (file : ℕ) (kind : FileKind) (lines : List LineText) where
+  pub takes_lines : (first : LineText) (others : List LineText) → lines ≡ first ∷ others → (old middle new : Held)
+      → takes old (first_line file kind first) middle
+      → TakesAll takes middle (map (later_line file kind) others) new → TakesAll takes old (places_of_lines file kind lines) new
+  takes_lines first others cut old middle new step rest = grind (arith, places_of_lines, next, first_line, later_line)
+
+  pub stops_lines : (first : LineText) (others : List LineText) → lines ≡ first ∷ others
+      → (old middle new : Held) (fault : LoadFault) → takes old (first_line file kind first) middle
+      → StopsAt takes refuses middle (map (later_line file kind) others) new fault → StopsAt takes refuses old (places_of_lines file kind lines) new fault
+  stops_lines first others cut old middle new fault step rest = grind (arith, places_of_lines, first_line, later_line, next, taken)
+
+  pub stops_first : (first : LineText) (others : List LineText) → lines ≡ first ∷ others → (old new : Held) (fault : LoadFault)
+      → refuses old (first_line file kind first) new fault → StopsAt takes refuses old (places_of_lines file kind lines) new fault
+  stops_first first others cut old new fault refused =
+      rw cut (record {
+        before = [];
+        place = first_line file kind first;
+        later = map (later_line file kind) others;
+        middle = old;
+        cut = refl;
+        taken_before = taken old;
+        refused = refused;
+      })
+
+  pub takes_none : lines ≡ [] → (old new : Held) → takes old (no_line file kind) new → TakesAll takes old (places_of_lines file kind lines) new
+  takes_none cut old new step =
+      subst (λ (all : List LineText). TakesAll takes old (places_of_lines file kind all) new) (sym cut)
+      (next old new new (no_line file kind) [] step (taken new))
+
+  pub stops_none : lines ≡ [] → (old new : Held) (fault : LoadFault) → refuses old (no_line file kind) new fault
+      → StopsAt takes refuses old (places_of_lines file kind lines) new fault
+  stops_none cut old new fault refused =
+      rw cut (record {
+        before = [];
+        place = no_line file kind;
+        later = [];
+        middle = old;
+        cut = refl;
+        taken_before = taken old;
+        refused = refused;
+      })
+
+-- no file is left
+pub places_from-end : (i : ℕ) (files : List NamedBytes) → length files ≤ i → places_from i (map file_text (drop i files)) ≡ []
+places_from-end i files behind = ap (λ (rest : List NamedBytes). places_from i (map file_text rest)) (drop_all i files behind)
+
+pub if_ok : {T E : Type 0} (P Q : T → Type 0) (result : Result T E) → ((found : T) → P found → Q found) → IfOk result P → IfOk result Q
+if_ok x0 x1 x2 so said = grind arith
+
+-- what is said where something is told is said of what is told
+pub if_told : {A : Type 0} (P : A → Type 0) (told : Option A) → ((known : A) → told ≡ Some known → P known) → IfSome told P
+if_told x0 x1 so = grind arith
+
+pub at_told : {A : Type 0} (P : A → Type 0) (told : Option A) (known : A) → told ≡ Some known → IfSome told P → P known
+at_told {A} P told known is said = subst (λ (some : Option A). IfSome some P) is said
+
+-- a failure that was counted later was counted since earlier
+pub fails_since : (count more old middle new : ℕ) (fault : LoadFault) → more ≡ count → old ≤ middle
+    → FailsBelow more middle new fault → FailsBelow count old new fault
+fails_since count more old middle new fault same before failed = grind (arith, common_steps, nat_tests)
+
+-- where no failure is counted none is answered
+pub no_device : (count old : ℕ) (fault : LoadFault) → old + 1 < 2 ^ 64 → (is_device fault ≡ true → FailsBelow count old old fault) → is_device fault ≡ false
+no_device count old fault few fails = grind (arith, common_steps, nat_tests, cases_Bool)
+
+-- two things that are said of a fault
+pub if_both : {T E : Type 0} (P Q R : E → Type 0) (result : Result T E) → ((fault : E) → P fault → Q fault → R fault)
+    → IfErr result P → IfErr result Q → IfErr result R
+if_both x0 x1 x2 x3 so one other = grind arith

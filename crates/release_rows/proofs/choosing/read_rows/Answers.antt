@@ -1,0 +1,40 @@
+use Rattle.std.proofs.Common.{◌∙◌, arith, inl, inr, refl}
+use Rattle.std.proofs.lemmas.Bool.{cases_Bool}
+use Rattle.release_rows.specs.inside.ListsInside.{listed_in}
+use Rattle.release_rows.specs.inside.RowsInside.{kept_in}
+use Rattle.release_rows.specs.DeviceFaults.{is_device}
+use Rattle.release_rows.proofs.ReadFromLemmas.{read_unmarked}
+use Rattle.release_rows.proofs.TakingLemmas.{at_told, fails_since, if_err, if_ok, if_told}
+use Rattle.release_rows.proofs.WentLemmas.{seen-stopped, seen-whole}
+use Rattle.release_rows.proofs.choosing.read_rows.Goals as goal
+
+pub returns-in-Ok-clause-ok : goal.returns-in-Ok-clause-ok
+returns-in-Ok-clause-ok g c = if_told _ (g.P.PlaceSource.places c.args.files.now) (λ places told.
+    if_ok _ _ c.choose_rows.result (λ read said. read_unmarked c.args.limits places read.count (listed_in read.lists) (said c.args.limits
+    (seen-whole c.args.limits c.new-rows.result c.take_places.new.taker places c.new-rows.ensures
+    (at_told _ _ places told c.in-Ok.ensures.ok))))
+    (at_told _ _ places (c.in-Ok.ensures.places ∙ told) c.choose_rows.ensures.ok))
+
+pub returns-in-Ok-clause-err : goal.returns-in-Ok-clause-err
+returns-in-Ok-clause-err g c = if_told _ (g.P.PlaceSource.places c.args.files.now) (λ places told.
+    if_err _ _ c.choose_rows.result (λ fault said other own. said other own c.args.limits c.requires.total
+    (seen-whole c.args.limits c.new-rows.result c.take_places.new.taker places c.new-rows.ensures
+    (at_told _ _ places told c.in-Ok.ensures.ok)))
+    (at_told _ _ places (c.in-Ok.ensures.places ∙ told) c.choose_rows.ensures.err))
+
+pub returns-in-Err-clause-err : goal.returns-in-Err-clause-err
+returns-in-Err-clause-err g c = if_told _ (g.P.PlaceSource.places c.args.files.now) (λ places told other own.
+    at_told _ _ places (c.in-Err.ensures.places ∙ told) (c.first_of_faults.ensures.first other own) c.args.limits
+    (kept_in c.take_places.new.taker) c.requires.total refl
+    (λ known mine. seen-stopped c.args.limits c.new-rows.result c.take_places.new.taker places c.in-Err.fault
+    c.new-rows.ensures (at_told _ _ places told c.in-Err.ensures.err known mine)))
+
+pub returns-in-Err-clause-device : goal.returns-in-Err-clause-device
+returns-in-Err-clause-device g c device = elim (cases_Bool (is_device c.in-Err.fault)) [
+  | inl own ↦ rw ((c.first_of_faults.ensures.stays own).0, (c.first_of_faults.ensures.stays own).1) (c.in-Err.ensures.device own)
+  | inr other ↦
+      fails_since (g.P.PlaceSource.file_count c.args.files.now) (g.P.PlaceSource.file_count c.take_places.new.self)
+      (g.P.PlaceSource.failure_count c.args.files.now) (g.P.PlaceSource.failure_count c.take_places.new.self)
+      (g.P.PlaceSource.failure_count c.first_of_faults.new.files) c.first_of_faults.result c.in-Err.ensures.files
+      (omega (arith, c.in-Err.ensures.failures)) (c.first_of_faults.ensures.device other device)
+]

@@ -1,0 +1,41 @@
+use Rattle.std.proofs.Common.{◌++◌, ◌∷◌, ◌∙◌, [], List, ap, append-nil, map, sym}
+use Rattle.release_rows.specs.inside.ConcreteInside.{IsPlaced, concrete_in}
+use Rattle.release_rows.specs.ConcreteValues.{Concrete, a_text}
+use Rattle.release_rows.specs.Spans.{Extends}
+use Rattle.release_rows.specs.declared.concrete_values.KeptConcrete.TheVariants.{Other}
+use Rattle.release_rows.proofs.ConcreteLemmas.{concrete-extends, placed-extends}
+use Rattle.release_rows.proofs.SpanLemmas.{all-push, rows-push, rows-same}
+use Rattle.release_rows.proofs.concrete_values.ConcreteValues.push_text.Goals as goal
+
+pub returns-in_err-push-clause-grown : goal.returns-in_err-push-clause-grown
+returns-in_err-push-clause-grown c =
+    let texts = c.self.inside.texts.items in
+    let grown = c.push_bytes.new.texts.items in
+    let extends : Extends texts grown = (c.args.text.now, c.in_ok-span.ensures.grown) in (
+      [],
+      ap (map (concrete_in grown)) c.in_err-push.ensures.items
+          ∙ rows-same (concrete_in texts) (concrete_in grown) (IsPlaced texts)
+          (concrete-extends texts grown extends) c.self.inside.values.items c.self.invariant
+          ∙ c.self.view_is
+          ∙ sym (append-nil c.args.self.now),
+    )
+
+pub invariant_of-self-2 : goal.invariant_of-self-2
+invariant_of-self-2 c =
+    let texts = c.self.inside.texts.items in
+    let grown = c.push_bytes.new.texts.items in
+    let extends : Extends texts grown = (c.args.text.now, c.in_ok-span.ensures.grown) in
+    all-push (IsPlaced texts) (IsPlaced grown) (placed-extends texts grown extends) c.self.inside.values.items c.push.new.self.items (Other c.in_ok-span.span)
+    c.in_ok-push.ensures.items c.self.invariant c.in_ok-span.ensures.span.placed
+
+pub returns-clause-grown : goal.returns-clause-grown
+returns-clause-grown c =
+    let texts = c.self.inside.texts.items in
+    let grown = c.push_bytes.new.texts.items in
+    let extends : Extends texts grown = (c.args.text.now, c.in_ok-span.ensures.grown) in
+    let added : List Concrete = a_text c.args.text.now ∷ [] in (
+      added,
+      rows-push (concrete_in texts) (concrete_in grown) (IsPlaced texts) (concrete-extends texts grown extends) c.self.inside.values.items c.push.new.self.items
+          (Other c.in_ok-span.span) (a_text c.args.text.now) c.in_ok-push.ensures.items c.self.invariant (ap a_text c.in_ok-span.ensures.span.same)
+          ∙ ap (λ (values : List Concrete). values ++ added) c.self.view_is,
+    )

@@ -1,0 +1,5 @@
+use Rattle.release_rows.proofs.FirstFaultLemmas.{names_first_fault}
+use Rattle.release_rows.proofs.laws.first_fault_is_the_first.Goals as goal
+
+pub returns : goal.returns
+returns c = names_first_fault

@@ -1,0 +1,16 @@
+use Rattle.release_rows.specs.inside.NamesInside.{IsPlaced}
+use Rattle.release_rows.specs.Chosen.{marked}
+use Rattle.release_rows.specs.inside.ChosenLists.{in_list}
+use Rattle.release_rows.specs.declared.row_lists.Listing.TheVariants.{Name as ListedName}
+use Rattle.release_rows.proofs.ChosenItemLemmas.{All-marked}
+use Rattle.release_rows.proofs.names.Names.choose.Goals as goal
+use Rattle.std.proofs.Common.{string_bytes, arith}
+
+pub invariant_of-self : goal.invariant_of-self
+invariant_of-self c = grind (
+  arith,
+  c.in_ok-self-inside.ensures,
+  c.as_slice.ensures.value,
+  (All-marked (IsPlaced (string_bytes c.self.inside.texts))
+      (marked (in_list ListedName c.args.marks.now) c.args.choices.now) c.self.inside.rows.items c.self.invariant),
+)

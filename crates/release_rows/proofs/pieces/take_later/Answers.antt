@@ -1,0 +1,45 @@
+use Rattle.std.proofs.Common.{None, Ok, Some, ap, arith, inr, ◌∙◌}
+use Rattle.release_rows.proofs.PiecesLemmas.{gives_next, LinesLeft-end, LinesLeft-next, LinesLeft-stop, takes_most, takes_next, takes_on}
+use Rattle.release_rows.proofs.pieces.take_later.Goals as goal
+
+pub loop-turn-preserved : goal.loop-turn-preserved
+loop-turn-preserved g c = record {
+  left = λ rest told few. LinesLeft-next g.T.PlaceTaker.takes g.T.PlaceTaker.refuses c.args.file c.args.kind c.args.taker.now c.loop-turn.taker c.take.new.self
+      _ c.args.turns c.loop-turn.turn _ _ c.loop-turn.lines c.next_line.follows.lender-at-none c.next_line.result c.in-Ok-Some.line
+      (c.loop-turn.invariant.left rest told few)
+      (gives_next c.next_line.result _ _ _ _ _ _ c.next_line.follows.holds-at-none)
+      (c.in-Ok-Some.is ∙ ap Ok c.in-Ok-Some.field-0-is) c.in-Ok.ensures.ok;
+  takes = takes_on _ _ _ _ _ _ c.loop-turn.invariant.takes
+      (takes_next c.next_line.result (Some c.in-Ok-Some.line) _ _ _ _ _ _ c.next_line.follows.holds-at-none (c.in-Ok-Some.is ∙ ap Ok c.in-Ok-Some.field-0-is));
+  files = c.in-Ok-Some.ensures.files ∙ c.loop-turn.invariant.files;
+  failures = c.in-Ok-Some.ensures.failures ∙ c.loop-turn.invariant.failures;
+}
+
+pub returns-in-Err-take-clause-goes : goal.returns-in-Err-take-clause-goes
+returns-in-Err-take-clause-goes g c rest told few other =
+    inr (LinesLeft-stop g.T.PlaceTaker.takes g.T.PlaceTaker.refuses c.args.file c.args.kind c.args.taker.now c.loop-turn.taker c.take.new.self
+    _ c.args.turns c.loop-turn.turn _ _ c.loop-turn.lines c.next_line.follows.lender-at-none c.next_line.result c.in-Ok-Some.line c.in-Err-take.fault
+    (c.loop-turn.invariant.left rest told few)
+    (gives_next c.next_line.result _ _ _ _ _ _ c.next_line.follows.holds-at-none)
+    (c.in-Ok-Some.is ∙ ap Ok c.in-Ok-Some.field-0-is) (c.in-Err-take.ensures.err other))
+
+pub returns-in-Ok-None-clause-goes : goal.returns-in-Ok-None-clause-goes
+returns-in-Ok-None-clause-goes g c rest told few =
+    LinesLeft-end g.T.PlaceTaker.takes g.T.PlaceTaker.refuses c.args.file c.args.kind c.args.taker.now c.loop-turn.taker
+    _ c.args.turns c.loop-turn.turn _ _ c.loop-turn.lines c.next_line.follows.lender-at-none c.next_line.result
+    (c.loop-turn.invariant.left rest told few)
+    (gives_next c.next_line.result _ _ _ _ _ _ c.next_line.follows.holds-at-none)
+    (c.in-Ok-None.is ∙ ap Ok c.in-Ok-None.field-0-is)
+
+pub returns-in-Err-take-clause-bounded : goal.returns-in-Err-take-clause-bounded
+returns-in-Err-take-clause-bounded g c other own = takes_most _ _ _ _ c.args.lines.held.left (omega arith)
+    (takes_on _ _ _ _ _ _ c.loop-turn.invariant.takes
+    (takes_next c.next_line.result (Some c.in-Ok-Some.line) _ _ _ _ _ _ c.next_line.follows.holds-at-none (c.in-Ok-Some.is ∙ ap Ok c.in-Ok-Some.field-0-is)))
+
+pub returns-in-Ok-None-clause-bounded : goal.returns-in-Ok-None-clause-bounded
+returns-in-Ok-None-clause-bounded g c = takes_most _ _ _ _ c.args.lines.held.left (omega arith)
+    (takes_on _ _ _ _ _ _ c.loop-turn.invariant.takes
+    (takes_next c.next_line.result None _ _ _ _ _ _ c.next_line.follows.holds-at-none (c.in-Ok-None.is ∙ ap Ok c.in-Ok-None.field-0-is)))
+
+pub returns-clause-bounded : goal.returns-clause-bounded
+returns-clause-bounded g c other own = takes_most _ _ _ _ c.args.lines.held.left (omega arith) c.loop-turn.invariant.takes

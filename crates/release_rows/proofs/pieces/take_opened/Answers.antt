@@ -1,0 +1,57 @@
+use Rattle.std.proofs.Common.{◌≡◌, ◌∷◌, ◌+◌, take, Ok, ap, arith, ◌∙◌}
+use Rattle.release_files.specs.Lines.{line_text, lines_of}
+use Rattle.release_files.specs.PieceLines.{lines_to_come}
+use Rattle.release_rows.proofs.TakingLemmas.{stops_first}
+use Rattle.release_rows.proofs.PiecesLemmas.{cut_bytes, cut_reachable, cut_short, fails_from, few_lines, gave_line, gave_none, gives_next, goes_lines, goes_none}
+use Rattle.release_rows.proofs.pieces.take_opened.Goals as goal
+
+pub returns-in-Err-take-clause-goes : goal.returns-in-Err-take-clause-goes
+returns-in-Err-take-clause-goes g c bytes told short other =
+    let known = cut_reachable c.args.byte_limit c.saturating_add-limit.result c.within-lines.result.held.left _ bytes
+    told short c.saturating_add-limit.ensures c.within-lines.ensures.left in
+    let gave = gave_line c.next_line.result c.in-Ok-Some.first c.within-lines.result
+    c.next_line.follows.lender-at-none _ _ (take (c.args.byte_limit + 1) bytes)
+    (gives_next c.next_line.result _ _ _ _ _ _ c.next_line.follows.holds-at-none)
+    (c.in-Ok-Some.is ∙ ap Ok c.in-Ok-Some.field-0-is) known in
+    grind (
+      arith,
+      (stops_first g.T.PlaceTaker.takes g.T.PlaceTaker.refuses c.args.file c.args.kind
+          (lines_of (take (c.args.byte_limit + 1) bytes)) (line_text c.in-Ok-Some.first)
+          (lines_to_come c.next_line.follows.lender-at-none gave.now)),
+      (c.within-lines.ensures.lines (take (c.args.byte_limit + 1) bytes)),
+      cut_short,
+      gave.cut,
+      (c.in-Err-take.ensures.err other),
+    )
+
+pub returns-in-Ok-clause-goes : goal.returns-in-Ok-clause-goes
+returns-in-Ok-clause-goes g c bytes told short =
+    let known = cut_reachable c.args.byte_limit c.saturating_add-limit.result c.within-lines.result.held.left _ bytes
+    told short c.saturating_add-limit.ensures c.within-lines.ensures.left in
+    let gave = gave_line c.next_line.result c.in-Ok-Some.first c.within-lines.result
+    c.next_line.follows.lender-at-none _ _ (take (c.args.byte_limit + 1) bytes)
+    (gives_next c.next_line.result _ _ _ _ _ _ c.next_line.follows.holds-at-none)
+    (c.in-Ok-Some.is ∙ ap Ok c.in-Ok-Some.field-0-is) known in
+    let others = lines_to_come c.next_line.follows.lender-at-none gave.now in
+    let cut : lines_of (take (c.args.byte_limit + 1) bytes) ≡ line_text c.in-Ok-Some.first ∷ others =
+    grind (arith, (c.within-lines.ensures.lines (take (c.args.byte_limit + 1) bytes)), cut_short, gave.cut) in
+    goes_lines g.T.PlaceTaker.takes g.T.PlaceTaker.refuses c.args.file c.args.kind _ _
+    (lines_of (take (c.args.byte_limit + 1) bytes)) (line_text c.in-Ok-Some.first) others cut
+    (λ fault failed. fails_from c.args.file _ _ _ fault (omega (arith, c.in-Ok-Some.ensures.failures)) failed)
+    c.args.taker.now c.take.new.self c.take_later.new.taker c.in-Ok.ensures.ok c.take_later.result
+    (c.take_later.ensures.goes gave.now gave.told
+    (few_lines c.saturating_add-limit.result bytes (line_text c.in-Ok-Some.first) others
+    (grind (arith, cut_bytes, short, c.saturating_add-limit.ensures, cut))))
+
+pub returns-in-Ok-None-clause-goes : goal.returns-in-Ok-None-clause-goes
+returns-in-Ok-None-clause-goes g c bytes told short =
+    let known = cut_reachable c.args.byte_limit c.saturating_add-limit.result c.within-lines.result.held.left _ bytes
+    told short c.saturating_add-limit.ensures c.within-lines.ensures.left in
+    let none = gave_none c.next_line.result c.within-lines.result c.next_line.follows.lender-at-none _ _
+    (take (c.args.byte_limit + 1) bytes) (gives_next c.next_line.result _ _ _ _ _ _
+    c.next_line.follows.holds-at-none) (c.in-Ok-None.is ∙ ap Ok c.in-Ok-None.field-0-is) known in
+    goes_none g.T.PlaceTaker.takes g.T.PlaceTaker.refuses c.args.file c.args.kind _
+    (lines_of (take (c.args.byte_limit + 1) bytes))
+    (grind (arith, (c.within-lines.ensures.lines (take (c.args.byte_limit + 1) bytes)), cut_short, none))
+    c.args.taker.now c.take-in-Ok-None.new.self c.take-in-Ok-None.result c.take-in-Ok-None.ensures.ok
+    c.take-in-Ok-None.ensures.err

@@ -1,0 +1,55 @@
+use Rattle.std.proofs.Common.{arith}
+use Rattle.std.proofs.lemmas.Bool.Decides.{nat_tests}
+use Rattle.std.proofs.lemmas.Grind.{common_steps}
+use Rattle.release_files.specs.Lines.{line_text, lines_of}
+use Rattle.release_rows.proofs.TakingLemmas.{if_err, stops_first, stops_lines, stops_none, takes_lines, takes_none}
+use Rattle.release_rows.proofs.places.take_file.Goals as goal
+
+pub returns-in-Err-clause-err : goal.returns-in-Err-clause-err
+returns-in-Err-clause-err g c other =
+    grind (
+      arith,
+      (stops_first g.T.PlaceTaker.takes g.T.PlaceTaker.refuses c.args.file c.args.kind
+          (lines_of c.args.bytes.now) (line_text c.in-Some.first) c.next.new.self),
+      c.new-lines.ensures.lines,
+      c.in-Some.ensures.steps,
+      c.in-Err.ensures.err,
+    )
+
+pub returns-in-Ok-clause-ok : goal.returns-in-Ok-clause-ok
+returns-in-Ok-clause-ok g c =
+    grind (
+      arith,
+      (takes_lines g.T.PlaceTaker.takes g.T.PlaceTaker.refuses c.args.file c.args.kind
+          (lines_of c.args.bytes.now) (line_text c.in-Some.first) c.next.new.self),
+      c.new-lines.ensures.lines,
+      c.in-Some.ensures.steps,
+      c.in-Ok.ensures.ok,
+      c.take_lines.ensures.ok,
+    )
+
+pub returns-in-Ok-clause-err : goal.returns-in-Ok-clause-err
+returns-in-Ok-clause-err g c =
+    grind (
+      arith,
+      (stops_lines g.T.PlaceTaker.takes g.T.PlaceTaker.refuses c.args.file c.args.kind
+          (lines_of c.args.bytes.now) (line_text c.in-Some.first) c.next.new.self),
+      c.new-lines.ensures.lines,
+      c.in-Some.ensures.steps,
+      c.in-Ok.ensures.ok,
+      c.take_lines.ensures.err,
+    )
+
+pub returns-in-None-clause-ok : goal.returns-in-None-clause-ok
+returns-in-None-clause-ok g c =
+    grind (
+      arith,
+      (takes_none g.T.PlaceTaker.takes g.T.PlaceTaker.refuses c.args.file c.args.kind
+          (lines_of c.args.bytes.now)),
+      c.new-lines.ensures.lines,
+      c.in-None.ensures.steps.0,
+      c.take-in-None.ensures.ok,
+    )
+
+pub returns-in-None-clause-err : goal.returns-in-None-clause-err
+returns-in-None-clause-err g c = grind (arith, common_steps, nat_tests, if_err, stops_none)

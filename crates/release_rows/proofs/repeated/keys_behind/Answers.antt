@@ -1,0 +1,27 @@
+use Rattle.std.proofs.Common.{◌≤◌, get_or, arith, take_all}
+use Rattle.std.proofs.lemmas.List.Elements.{All-more}
+use Rattle.release_rows.proofs.NeighbourLemmas.{behind_kept, behind_pushed}
+use Rattle.release_rows.proofs.repeated.keys_behind.Goals as goal
+use Rattle.release_rows.proofs.repeated.keys_behind.Goals.{then-key-highest+in_ok-push, else-key-highest}
+
+pub loop-key-preserved : goal.loop-key-preserved
+loop-key-preserved c =
+    let keys = c.args.keys.now in
+    let place = c.loop-key.key-index in
+    let key = get_or keys place 0 in
+    let highest = c.loop-key.highest in
+    let seen = c.loop-key.invariant in
+    elim c.if-key-highest.branch [
+      | then-key-highest+in_ok-push w ↦ rw (w.behind-is, w.in_ok-push.ensures.items, w.highest-is) (record {
+        behind = behind_pushed keys c.loop-key.behind.items place c.loop-key-test.true seen.behind;
+        highest = All-more (λ key. key ≤ highest) keys place 0 c.loop-key-test.true seen.highest w.if-key-highest.true;
+      })
+      | else-key-highest w ↦ rw (w.behind-is, w.highest-is) (record {
+        behind = behind_kept keys c.loop-key.behind.items place c.loop-key-test.true seen.behind highest seen.highest w.if-key-highest.false;
+        highest = All-more (λ other. other ≤ key) keys place 0 c.loop-key-test.true
+            (λ k d lt. let low = seen.highest k d lt in omega (arith, low, w.if-key-highest.false)) (omega arith);
+      })
+    ]
+
+pub returns : goal.returns
+returns c = rw (take_all c.loop-key.key-index c.args.keys.now (omega arith)) at c.loop-key.invariant.behind

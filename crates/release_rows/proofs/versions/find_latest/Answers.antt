@@ -1,0 +1,29 @@
+use Rattle.std.proofs.Common.{◌<◌, ◌/◌, ◌^◌, length, arith, length-set}
+use Rattle.std.proofs.lemmas.Grind.{common_steps}
+use Rattle.release_rows.proofs.VersionLemmas.{latest_keeps, latest_takes, no_version}
+use Rattle.release_rows.proofs.versions.find_latest.Goals as goal
+use Rattle.release_rows.proofs.versions.find_latest.Goals.{then-index-code, else-index-code}
+
+pub index-requires : goal.index-requires
+index-requires c = grind (arith, c.requires c.loop-number.number no_version, c.code_and_place-code.ensures.code no_version)
+
+pub index_mut-requires : goal.index_mut-requires
+index_mut-requires c = grind (arith, c.requires c.loop-number.number no_version, c.code_and_place-code.ensures.code no_version)
+
+pub loop-number-preserved : goal.loop-number-preserved
+loop-number-preserved c =
+    let latest = c.loop-number.latest.items in
+    let versions = c.args.versions.now in
+    let number = c.loop-number.number in
+    let code = c.code_and_place-code.result.0 in
+    let within : number < length versions = omega arith in
+    let among : code / 2 ^ 32 < length latest = grind (arith, c.requires number no_version, c.code_and_place-code.ensures.code no_version) in
+    let takes = latest_takes latest versions number no_version within c.loop-number.invariant.1 code (c.code_and_place-code.ensures.code no_version) among in
+    grind (
+      arith,
+      common_steps,
+      length-set,
+      takes,
+      latest_keeps latest versions number no_version within c.loop-number.invariant.1 code
+          (c.code_and_place-code.ensures.code no_version),
+    )

@@ -1,0 +1,85 @@
+-- The first fault of a list of files.
+use Rattle.std.specs.Prelude.{◌≡◌, ◌↔◌, ℕ, bytes_eq, count_by, nat_lt, nat_le, if◌then◌else◌, List, [], ◌∷◌, ◌++◌, Option, None, Some, option_and_then, option_map}
+use Rattle.std.specs.List.{list_any}
+use Rattle.rf2_rows.specs.Columns.{header_of}
+use Rattle.rf2_rows.specs.Rows.{row_fault}
+use Rattle.rf2_rows.specs.declared.kind.FileKind.{FileKind}
+use Rattle.release_files.specs.Lines.{LineText}
+use Rattle.release_rows.specs.Chosen.{conflicts, same_kind}
+use Rattle.release_rows.specs.Files.{Place, RowAt, no_line, first_line, later_line, row_at, rows_of}
+use Rattle.release_rows.specs.Limits.{row_limit}
+use Rattle.release_rows.specs.declared.fault.LoadFault.{LoadFault}
+use Rattle.release_rows.specs.declared.fault.LoadFault.TheVariants.{Header, Row, Conflict, TooMany}
+use Rattle.release_rows.specs.declared.limits.Limits.{Limits}
+
+-- the fault of a first line
+abbrev pub fault_of_first : Limits → ℕ → FileKind → LineText → Option LoadFault
+fault_of_first limits file kind line =
+    if nat_lt limits.bytes line.end then Some (TooMany file line.number)
+    else if bytes_eq line.bytes (header_of kind) then None
+    else Some (Header file)
+
+-- the fault of a line behind the header by itself: an empty one has none but its length
+abbrev pub fault_of_text : ℕ → ℕ → FileKind → List ℕ → Option LoadFault
+fault_of_text file line kind [] = None
+fault_of_text file line kind (byte ∷ bytes) = option_map (λ fault. Row file line fault) (row_fault kind (byte ∷ bytes))
+
+-- the fault that stands at a place, whatever stands before it
+abbrev pub fault_here : Limits → Place → Option LoadFault
+fault_here limits (no_line file kind) = Some (Header file)
+fault_here limits (first_line file kind line) = fault_of_first limits file kind line
+fault_here limits (later_line file kind line) =
+    if nat_lt limits.bytes line.end then Some (TooMany file line.number) else fault_of_text file line.number kind line.bytes
+
+-- how many rows are of a kind
+abbrev pub count_of_kind : FileKind → List RowAt → ℕ
+count_of_kind kind rows = count_by (λ row. same_kind row.kind kind) rows
+
+-- a row conflicts with an earlier one
+abbrev pub conflict_behind : List RowAt → RowAt → Option LoadFault
+conflict_behind earlier row = if list_any (λ other. conflicts other row) earlier then Some (Conflict row.file row.line) else None
+
+-- there are as many rows of its kind before it as may be
+abbrev pub crowd_behind : Limits → List RowAt → RowAt → Option LoadFault
+crowd_behind limits earlier row =
+    if nat_le (row_limit limits row.kind) (count_of_kind row.kind earlier) then Some (TooMany row.file row.line) else None
+
+-- a fault, or else a later one
+abbrev pub first_of : Option LoadFault → Option LoadFault → Option LoadFault
+first_of (Some fault) later = Some fault
+first_of None later = later
+
+-- the fault of a row behind the earlier ones
+abbrev pub fault_behind : Limits → List RowAt → RowAt → Option LoadFault
+fault_behind limits earlier row = first_of (conflict_behind earlier row) (crowd_behind limits earlier row)
+
+-- the fault at a place behind others
+abbrev pub fault_at : Limits → List Place → Place → Option LoadFault
+fault_at limits before place =
+    first_of (fault_here limits place) (option_and_then (fault_behind limits (rows_of before)) (row_at place))
+
+-- the fault of the first of the later places that has one
+abbrev pub first_fault : Limits → List Place → List Place → Option LoadFault
+first_fault limits before [] = None
+first_fault limits before (place ∷ later) = first_of (fault_at limits before place) (first_fault limits (before ++ place ∷ []) later)
+
+-- no place has a fault
+abbrev pub HasNoFault : Limits → List Place → Type 0
+HasNoFault limits places =
+    (before : List Place) (place : Place) (later : List Place) → places ≡ before ++ place ∷ later → fault_at limits before place ≡ None
+
+-- a place has the fault, and no place before it has any
+pub record IsFirstFault (limits : Limits) (places : List Place) (fault : LoadFault) : Type 0 where
+  pub before : List Place
+  pub place : Place
+  pub later : List Place
+  pub cut : places ≡ before ++ place ∷ later
+  pub here : fault_at limits before place ≡ Some fault
+  pub none_before : HasNoFault limits before
+
+-- what is called the first fault is the first, and there is none exactly where no place has one
+abbrev pub NamesFirstFault : Type 0
+NamesFirstFault =
+    (limits : Limits) (places : List Place)
+    → ((fault : LoadFault) → (first_fault limits [] places ≡ Some fault) ↔ IsFirstFault limits places fault)
+    × ((first_fault limits [] places ≡ None) ↔ HasNoFault limits places)

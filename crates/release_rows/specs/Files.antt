@@ -1,0 +1,75 @@
+-- The files of a release as one list of places, in the order of the files and their lines.
+use Rattle.std.specs.Prelude.{ℕ, ◌+◌, List, [], ◌∷◌, ◌++◌, map, Option, None, Some, Bool, true, false, is_some}
+use Rattle.std.specs.List.{filter_map, list_any}
+use Rattle.rf2_rows.specs.Files.{file_kind_of}
+use Rattle.rf2_rows.specs.declared.kind.FileKind.{FileKind}
+use Rattle.rf2_rows.specs.RowTexts.{RowText, row_text}
+use Rattle.rf2_rows.specs.declared.kind.FileKind.TheVariants.{Concept}
+use Rattle.release_files.specs.Lines.{LineText, lines_of}
+use Rattle.release_files.specs.Source.{FileText}
+
+-- what is met in a file that has a kind: that it has no line, its first line, or a later one. A file is
+-- named by its place in the list, from 0
+pub data Place : Type 0 where
+  no_line : ℕ → FileKind → Place
+  first_line : ℕ → FileKind → LineText → Place
+  later_line : ℕ → FileKind → LineText → Place
+
+-- the places of a file of a kind, by its lines
+abbrev pub places_of_lines : ℕ → FileKind → List LineText → List Place
+places_of_lines file kind [] = no_line file kind ∷ []
+places_of_lines file kind (line ∷ lines) = first_line file kind line ∷ map (later_line file kind) lines
+
+-- the places of a file: none where it has no kind
+abbrev pub places_of_kind : ℕ → Option FileKind → List ℕ → List Place
+places_of_kind file None bytes = []
+places_of_kind file (Some kind) bytes = places_of_lines file kind (lines_of bytes)
+
+abbrev pub places_of_file : ℕ → FileText → List Place
+places_of_file file text = places_of_kind file (file_kind_of text.name) text.bytes
+
+-- the places of files, of which the first has the place `file` in the list
+abbrev pub places_from : ℕ → List FileText → List Place
+places_from file [] = []
+places_from file (text ∷ texts) = places_of_file file text ++ places_from (file + 1) texts
+
+abbrev pub is_concept_kind : Option FileKind → Bool
+is_concept_kind (Some Concept) = true
+is_concept_kind other = false
+
+-- the file has the name of a Concept file
+abbrev pub is_concept_file : FileText → Bool
+is_concept_file text = is_concept_kind (file_kind_of text.name)
+
+-- one of some items has, by its text, the name of a Concept file
+abbrev pub name_concepts : {X : Type 0} → (X → List ℕ) → List X → Bool
+name_concepts text items = list_any (λ item. is_concept_kind (file_kind_of (text item))) items
+
+-- the file has the name of a file of some kind
+abbrev pub has_kind : FileText → Bool
+has_kind text = is_some (file_kind_of text.name)
+
+-- a row: the place of its file in the list, the number of its line, its kind and its line
+pub record RowAt : Type 0 where
+  pub file : ℕ
+  pub line : ℕ
+  pub kind : FileKind
+  pub text : List ℕ
+
+-- what a row says
+abbrev pub text_of_row : RowAt → RowText
+text_of_row row = row_text row.kind row.text
+
+-- the row on a line behind the header: an empty line has none
+abbrev pub row_on : ℕ → FileKind → ℕ → List ℕ → Option RowAt
+row_on file kind line [] = None
+row_on file kind line (byte ∷ bytes) = Some (record { file = file; line = line; kind = kind; text = byte ∷ bytes })
+
+-- the row at a place
+abbrev pub row_at : Place → Option RowAt
+row_at (later_line file kind line) = row_on file kind line.number line.bytes
+row_at other = None
+
+-- the rows of all kinds, in the order of the files and their lines
+abbrev pub rows_of : List Place → List RowAt
+rows_of places = filter_map row_at places

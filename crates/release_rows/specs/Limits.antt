@@ -1,0 +1,53 @@
+-- How much a load takes in at the most.
+use Rattle.std.specs.Prelude.{ℕ, ◌+◌, ◌-◌, if◌then◌else◌, min, max}
+use Rattle.rf2_rows.specs.declared.kind.FileKind.{FileKind}
+use Rattle.rf2_rows.specs.declared.kind.FileKind.TheVariants.{Concept, Concrete, Description, Member, Relationship}
+use Rattle.release_rows.specs.Chosen.{same_kind}
+use Rattle.release_rows.specs.declared.limits.Limits.{Limits}
+
+-- the limits that a load has by itself
+abbrev pub standard_limits : Limits
+standard_limits = record {
+  concepts = 4000000;
+  descriptions = 20000000;
+  relationships = 20000000;
+  concrete = 4000000;
+  members = 20000000;
+  bytes = 4294967295;
+}
+
+-- the limits that a load keeps to where it is handed others: none above the standard one, and room for a
+-- byte order mark
+abbrev pub limits_in_force : Limits → Limits
+limits_in_force limits = record {
+  concepts = min limits.concepts standard_limits.concepts;
+  descriptions = min limits.descriptions standard_limits.descriptions;
+  relationships = min limits.relationships standard_limits.relationships;
+  concrete = min limits.concrete standard_limits.concrete;
+  members = min limits.members standard_limits.members;
+  bytes = max (min limits.bytes standard_limits.bytes) 3;
+}
+
+-- how many rows of a kind there may be, all files of the kind together
+abbrev pub row_limit : Limits → FileKind → ℕ
+row_limit limits Concept = limits.concepts
+row_limit limits Description = limits.descriptions
+row_limit limits Relationship = limits.relationships
+row_limit limits Concrete = limits.concrete
+row_limit limits Member = limits.members
+
+-- and of all kinds
+abbrev pub row_total : Limits → ℕ
+row_total limits = limits.concepts + limits.descriptions + limits.relationships + limits.concrete + limits.members
+
+-- how many rows may come behind one of a kind
+abbrev pub left_behind : Limits → FileKind → Limits
+left_behind left kind =
+    let one : FileKind → ℕ = λ other. if same_kind kind other then 1 else 0 in
+    record left {
+      concepts = left.concepts - one Concept;
+      descriptions = left.descriptions - one Description;
+      relationships = left.relationships - one Relationship;
+      concrete = left.concrete - one Concrete;
+      members = left.members - one Member;
+    }

@@ -1,0 +1,7 @@
+-- What the rows that the program holds say.
+use Rattle.release_rows.specs.inside.RowStore.{RowStore}
+use Rattle.release_rows.specs.inside.ListsInside.{listed_in}
+use Rattle.release_rows.specs.declared.rows.Rows.{Rows}
+
+abbrev pub kept_in : Rows → RowStore
+kept_in rows = record { keyed = rows.keys; left = rows.left; listed = listed_in rows.lists }

@@ -1,0 +1,253 @@
+//! Reading the rows of a release, and choosing among those of components that have several.
+ghost use Rattle.std.specs.Prelude.{◌≡◌, ◌≢◌, ◌≤◌, ◌<◌, ◌+◌, ◌-◌, ◌^◌, IfErr, IfOk, IfSome, OnOk, false, true, length, min};
+ghost use Rattle.std.specs.List.Sorted.{IsStrictlyIncreasing};
+ghost use Rattle.release_rows.specs.ReadRows.{AreFew, HasFirstFault, IsReadFrom, read_in};
+ghost use Rattle.release_rows.specs.inside.ListsInside.{listed_in};
+ghost use Rattle.release_rows.specs.Limits.{row_total};
+ghost use Rattle.release_rows.specs.inside.KeyedRows.{Covers};
+ghost use Rattle.release_rows.specs.inside.RowsInside.{kept_in};
+ghost use Rattle.release_rows.specs.inside.FirstPass.{AreChoicesAmong, AreChosenOfKept, HaveNoConflict, IsFirstBehind, IsFirstConflict, IsFirstOfKept};
+ghost use Rattle.release_rows.specs.Traversal.{FaultOf, OfFiles};
+ghost use Rattle.release_rows.specs.DeviceFaults.{FailsAtRead, FailsBelow, FailsOnlyBelow, FileIs, RaisesOnlyAtDevice, is_device as is_device_of};
+
+use crate::comparing::Comparing;
+use crate::fault::LoadFault;
+use crate::keys::RowKeys;
+use crate::limits::Limits;
+use crate::places::PlaceSource;
+use crate::repeated::repeated_keys;
+use crate::row_lists::RowLists;
+use crate::rows::Rows;
+use crate::versions::Versions;
+use std::alloc::Global;
+
+// No list of files that is told has more rows within the limits. Of one that is not told nothing is
+// known, so the rows are counted before they are numbered.
+const MOST_ROWS: u64 = 68_000_000;
+
+/// The fault of files that have more rows than that.
+pub const TOO_MANY_ROWS: LoadFault = LoadFault::TooMany { file: 0, line: 0 };
+
+/// What the chosen rows of files are made of, and how many rows there are, chosen or not.
+#[derive(Drop)]
+pub struct ReadRows {
+    /// What the chosen rows are made of.
+    pub lists: RowLists,
+    /// How many rows there are.
+    pub count: u64,
+}
+
+impl ReadRows {
+    /// Whether the rows, and what they are made of, are few enough to number.
+    pub fn are_few(&self) -> bool
+        ensures few { result ≡ true → AreFew self.now.count (read_in self.now.lists) }
+        ensures told { AreFew self.now.count (read_in self.now.lists) → result ≡ true }
+    {
+        let lists = &self.lists;
+        let most = lists
+            .concepts
+            .len()
+            .max(lists.names.len())
+            .max(lists.isa_ends.len())
+            .max(lists.attributes.len())
+            .max(lists.member_ends.len());
+        most as u64 <= self.count && self.count <= MOST_ROWS
+    }
+}
+
+/// Reads the rows of all files that have a kind. Where rows have one key, the files are gone over once
+/// more, so that these rows are compared.
+pub fn read_rows<P: PlaceSource>(
+    alloc: Global,
+    files: &mut P,
+    limits: Limits,
+) -> Result<ReadRows, LoadFault>
+    requires total { row_total limits ≤ 68000000 }
+    requires some { 0 < P.file_count files.old }
+    ensures ok { IfSome (P.places files.old) (λ known. IfOk result (λ read. IsReadFrom limits known read.count (read_in read.lists))) }
+    ensures err { FaultOf (P.places files.old) (HasFirstFault limits) result }
+    ensures device { FailsOnlyBelow (P.file_count files.old) result (P.failure_count files.old) (P.failure_count files.new) }
+    ensures failures { P.failure_count files.old ≤ P.failure_count files.new }
+    ensures calm { RaisesOnlyAtDevice result (P.failure_count files.old) (P.failure_count files.new) }
+    ensures kind { IfErr result (λ fault. FailsAtRead (P.is_read files.old) fault) }
+    ensures named { IfErr result (FileIs (λ file. file < P.file_count files.old)) }
+    ensures found { IfErr result (λ fault. fault ≢ LoadFault.NoConceptFile) }
+    ensures read { P.is_read files.new ≡ P.is_read files.old }
+    ensures told { P.told files.new ≡ P.told files.old }
+    ensures reference { P.reference files.new ≡ P.reference files.old }
+{
+    let mut rows = Rows::new(alloc, limits);
+    match files.take_places(&mut rows) {
+        Ok(()) => choose_rows(alloc, files, rows),
+        Err(fault) => Err(first_of_faults(alloc, files, &rows.keys, fault)),
+    }
+}
+
+// The first fault where the first pass over the files ended at one: a row that was read may conflict
+// with an earlier one. Where the device failed, or memory was refused, it stays at that.
+fn first_of_faults<P: PlaceSource>(
+    alloc: Global,
+    files: &mut P,
+    keys: &RowKeys,
+    fault: LoadFault,
+) -> LoadFault
+    requires some { 0 < P.file_count files.old }
+    ensures first { OfFiles result (IfSome (P.places files.old) (λ known. IsFirstBehind keys.now fault known result)) }
+    ensures stays { is_device_of fault ≡ true → (result ≡ fault) × (P.failure_count files.new ≡ P.failure_count files.old) }
+    ensures device { is_device_of fault ≡ false → is_device_of result ≡ true → FailsBelow (P.file_count files.old) (P.failure_count files.old) (P.failure_count files.new) result }
+    ensures failures { P.failure_count files.old ≤ P.failure_count files.new }
+    ensures calm { is_device_of result ≡ false → P.failure_count files.new ≡ P.failure_count files.old }
+    ensures kind { is_device_of fault ≡ false → FailsAtRead (P.is_read files.old) result }
+    ensures named { FileIs (λ file. file < P.file_count files.old) fault → FileIs (λ file. file < P.file_count files.old) result }
+    ensures found { fault ≢ LoadFault.NoConceptFile → result ≢ LoadFault.NoConceptFile }
+    ensures read { P.is_read files.new ≡ P.is_read files.old }
+    ensures told { P.told files.new ≡ P.told files.old }
+    ensures reference { P.reference files.new ≡ P.reference files.old }
+{
+    if is_memory(&fault) || is_device(&fault) {
+        return fault;
+    }
+    if keys.keys().len() as u64 > MOST_ROWS + 1 {
+        return TOO_MANY_ROWS;
+    }
+    if let Err(conflict) = check_conflicts(alloc, files, keys) {
+        return conflict;
+    }
+    fault
+}
+
+// Chooses among the rows that were all read, if some have one key.
+fn choose_rows<P: PlaceSource>(
+    alloc: Global,
+    files: &mut P,
+    rows: Rows,
+) -> Result<ReadRows, LoadFault>
+    requires some { 0 < P.file_count files.old }
+    ensures ok { IfSome (P.places files.old) (λ known. IfOk result (λ read. AreChosenOfKept (kept_in rows) known read.count (listed_in read.lists))) }
+    ensures err { FaultOf (P.places files.old) (IsFirstOfKept (kept_in rows)) result }
+    ensures device { FailsOnlyBelow (P.file_count files.old) result (P.failure_count files.old) (P.failure_count files.new) }
+    ensures failures { P.failure_count files.old ≤ P.failure_count files.new }
+    ensures calm { RaisesOnlyAtDevice result (P.failure_count files.old) (P.failure_count files.new) }
+    ensures kind { IfErr result (λ fault. FailsAtRead (P.is_read files.old) fault) }
+    ensures named { IfErr result (FileIs (λ file. file < P.file_count files.old)) }
+    ensures found { IfErr result (λ fault. fault ≢ LoadFault.NoConceptFile) }
+    ensures read { P.is_read files.new ≡ P.is_read files.old }
+    ensures told { P.told files.new ≡ P.told files.old }
+    ensures reference { P.reference files.new ≡ P.reference files.old }
+{
+    let Rows {
+        keys,
+        mut lists,
+        ..
+    } = rows;
+    let count = keys.keys().len() as u64;
+    if count > MOST_ROWS + 1 {
+        return Err(TOO_MANY_ROWS);
+    }
+    let repeated = repeated_keys(alloc, keys.keys())?;
+    if repeated.is_empty() {
+        return Ok(ReadRows { lists, count });
+    }
+    match compare(alloc, files, &keys, repeated) {
+        Ok(choices) => {
+            lists.choose(alloc, choices.as_slice())?;
+            Ok(ReadRows { lists, count })
+        }
+        Err(fault) => Err(fault),
+    }
+}
+
+// Whether none of the rows that were read, as far as they were, conflicts with an earlier one.
+fn check_conflicts<P: PlaceSource>(
+    alloc: Global,
+    files: &mut P,
+    keys: &RowKeys,
+) -> Result<(), LoadFault>
+    requires few { length keys.now.keys < 2 ^ 32 }
+    requires some { 0 < P.file_count files.old }
+    ensures ok { IfSome (P.places files.old) (λ known. OnOk result (HaveNoConflict keys.now known)) }
+    ensures err { FaultOf (P.places files.old) (IsFirstConflict keys.now) result }
+    ensures device { FailsOnlyBelow (P.file_count files.old) result (P.failure_count files.old) (P.failure_count files.new) }
+    ensures failures { P.failure_count files.old ≤ P.failure_count files.new }
+    ensures calm { RaisesOnlyAtDevice result (P.failure_count files.old) (P.failure_count files.new) }
+    ensures kind { IfErr result (λ fault. FailsAtRead (P.is_read files.old) fault) }
+    ensures named { IfErr result (FileIs (λ file. file < P.file_count files.old)) }
+    ensures found { IfErr result (λ fault. fault ≢ LoadFault.NoConceptFile) }
+    ensures read { P.is_read files.new ≡ P.is_read files.old }
+    ensures told { P.told files.new ≡ P.told files.old }
+    ensures reference { P.reference files.new ≡ P.reference files.old }
+{
+    let repeated = repeated_keys(alloc, keys.keys())?;
+    if repeated.is_empty() {
+        return Ok(());
+    }
+    match compare(alloc, files, keys, repeated) {
+        Ok(_choices) => Ok(()),
+        Err(fault) => Err(fault),
+    }
+}
+
+// Compares the rows that were read, of which some keys are repeated: tells of each whether it is
+// chosen, or answers the first conflict. Files that have changed since the first pass, and have fewer
+// rows, conflict with what was read.
+fn compare<P: PlaceSource>(
+    alloc: Global,
+    files: &mut P,
+    keys: &RowKeys,
+    repeated: Vec<u64>,
+) -> Result<Vec<bool>, LoadFault>
+    requires rising { IsStrictlyIncreasing repeated.items }
+    requires few { length repeated.items < 2 ^ 32 }
+    requires covers { Covers repeated.items keys.now.keys }
+    requires some { 0 < P.file_count files.old }
+    ensures ok { IfSome (P.places files.old) (λ known. IfOk result (λ chosen. AreChoicesAmong keys.now known chosen.items)) }
+    ensures err { FaultOf (P.places files.old) (IsFirstConflict keys.now) result }
+    ensures device { FailsOnlyBelow (P.file_count files.old) result (P.failure_count files.old) (P.failure_count files.new) }
+    ensures failures { P.failure_count files.old ≤ P.failure_count files.new }
+    ensures calm { RaisesOnlyAtDevice result (P.failure_count files.old) (P.failure_count files.new) }
+    ensures kind { IfErr result (λ fault. FailsAtRead (P.is_read files.old) fault) }
+    ensures named { IfErr result (FileIs (λ file. file < P.file_count files.old)) }
+    ensures found { IfErr result (λ fault. fault ≢ LoadFault.NoConceptFile) }
+    ensures read { P.is_read files.new ≡ P.is_read files.old }
+    ensures told { P.told files.new ≡ P.told files.old }
+    ensures reference { P.reference files.new ≡ P.reference files.old }
+{
+    let versions = Versions::new(alloc, repeated);
+    let mut comparing = Comparing::new(keys, versions);
+    match files.take_places(&mut comparing) {
+        Ok(()) => {
+            if !comparing.left.is_empty() {
+                return Err(behind(comparing.last, files.last_file()));
+            }
+            Ok(comparing.versions.chosen())
+        }
+        Err(fault) => Err(fault),
+    }
+}
+
+// The fault of files that have fewer rows than before: a conflict at the line behind the last row, in a
+// file that is no later than the last one.
+fn behind(last: (usize, u64), last_file: usize) -> LoadFault
+    ensures { result ≡ LoadFault.Conflict (min last.0 last_file) (min (last.1 + 1) (2 ^ 64 - 1)) }
+{
+    let (file, line) = last;
+    LoadFault::Conflict {
+        file: file.min(last_file),
+        line: line.saturating_add(1),
+    }
+}
+
+// Whether a fault is the want of memory.
+fn is_memory(fault: &LoadFault) -> bool
+    ensures other { result ≡ false → fault.now ≢ LoadFault.Memory }
+    ensures memory { result ≡ true → fault.now ≡ LoadFault.Memory }
+{
+    matches!(fault, LoadFault::Memory)
+}
+
+// Whether a fault is the device's.
+fn is_device(fault: &LoadFault) -> bool
+    ensures { result ≡ is_device_of fault.now }
+{
+    matches!(fault, LoadFault::Device { .. })
+}

@@ -1,0 +1,135 @@
+//! The second pass over the files of a release: the rows of components that have several are compared.
+ghost use Rattle.std.specs.Prelude.{◌≡◌, ◌≢◌, ◌<◌, ◌^◌, IfErr, OnOk, false, length};
+ghost use Rattle.release_files.specs.Lines.{line_text};
+ghost use Rattle.rf2_rows.specs.Rows.{IsRow, row_fault};
+ghost use Rattle.release_rows.specs.inside.Comparison.{IsCompared, IsDenied, IsRefused, IsTaken, compared_in};
+ghost use Rattle.release_rows.specs.Files.{later_line};
+ghost use Rattle.release_rows.specs.DeviceFaults.{FileIs, is_device};
+
+use crate::fault::LoadFault;
+use crate::keys::RowKeys;
+use crate::places::{Met, PlaceTaker};
+use crate::versions::{NotedRow, Versions};
+use release_files::Line;
+use rf2_rows::{FileKind, Row, RowReader};
+
+/// Compares the rows that were read before, as many as there were. Only those whose keys are repeated
+/// are read once more.
+#[derive(Drop)]
+pub struct Comparing<'a> {
+    // what reads the lines as rows
+    reader: RowReader,
+    // the keys that the rows have
+    keys: &'a RowKeys,
+    /// The rows compared so far.
+    pub versions: Versions,
+    /// The keys of the rows that are still to come.
+    pub left: &'a [u64],
+    /// The file and the line of the row that was met last.
+    pub last: (usize, u64),
+}
+
+impl<'a> Comparing<'a> {
+    /// No row so far.
+    pub fn new(keys: &'a RowKeys, versions: Versions) -> Comparing<'a>
+        ensures uuids { (compared_in result).uuids ≡ keys.now.uuids }
+        ensures taken { (compared_in result).taken ≡ versions }
+        ensures left { (compared_in result).left ≡ keys.now.keys }
+        ensures few { length keys.now.uuids < 2 ^ 63 }
+    {
+        Comparing {
+            reader: RowReader::new(),
+            keys,
+            versions,
+            left: keys.keys(),
+            last: (0, 0),
+        }
+    }
+
+    // Compares the row on a line behind the header, if one is still to come.
+    fn compare_line(&mut self, file: usize, kind: FileKind, line: Line<'_>) -> Result<(), LoadFault>
+        ensures ok { OnOk result (IsCompared (compared_in self.old) (later_line file kind (line_text line.entry)) (compared_in self.new)) }
+        ensures err { IfErr result (λ fault. fault ≢ LoadFault.Memory → IsDenied (compared_in self.old) (later_line file kind (line_text line.entry)) fault) }
+        ensures own { IfErr result (λ fault. is_device fault ≡ false) }
+        ensures named { IfErr result (FileIs (λ at. at ≡ file)) }
+        ensures found { IfErr result (λ fault. fault ≢ LoadFault.NoConceptFile) }
+    {
+        if line.bytes.is_empty() {
+            return Ok(());
+        }
+        let Some((first, left)) = self.left.split_first() else {
+            return Ok(());
+        };
+        let key = *first;
+        self.left = left;
+        self.last = (file, line.number);
+        if !self.versions.is_repeated(key) {
+            self.versions.skip()?;
+            return Ok(());
+        }
+        match self.reader.read_row(kind, line.bytes) {
+            Ok(row) => self.compare(file, kind, line, key, &row),
+            Err(fault) => Err(LoadFault::Row {
+                file,
+                line: line.number,
+                fault,
+            }),
+        }
+    }
+
+    // Compares a row that had a key when it was read before. One with another key, or with none, is not
+    // that row: it conflicts with what was read.
+    fn compare(
+        &mut self,
+        file: usize,
+        kind: FileKind,
+        line: Line<'_>,
+        key: u64,
+        row: &Row<'_>,
+    ) -> Result<(), LoadFault>
+        requires row { IsRow kind line.bytes.now row.now }
+        requires accepted { row_fault kind line.bytes.now ≡ None }
+        ensures ok { OnOk result (IsTaken (compared_in self.old) key kind line.entry.bytes.now (compared_in self.new)) }
+        ensures err { IfErr result (λ fault. fault ≢ LoadFault.Memory → IsRefused (compared_in self.old) file line.entry.number key kind line.entry.bytes.now fault) }
+        ensures own { IfErr result (λ fault. is_device fault ≡ false) }
+        ensures named { IfErr result (FileIs (λ at. at ≡ file)) }
+        ensures found { IfErr result (λ fault. fault ≢ LoadFault.NoConceptFile) }
+    {
+        let conflict = LoadFault::Conflict {
+            file,
+            line: line.number,
+        };
+        let Some(found) = self.keys.key_of(row) else {
+            return Err(conflict);
+        };
+        if found != key {
+            return Err(conflict);
+        }
+        let noted = NotedRow {
+            key,
+            time: row.effective_time(),
+            kind,
+            text: line.bytes,
+        };
+        let fits = self.versions.take(&noted)?;
+        if !fits {
+            return Err(conflict);
+        }
+        Ok(())
+    }
+}
+
+impl<'a> PlaceTaker for Comparing<'a> {
+    ghost use Rattle.release_rows.specs.inside.Comparison.{IsCompared, IsDenied, compared_in};
+
+    ghost takes = { λ old place new. IsCompared (compared_in old) place (compared_in new) };
+
+    ghost refuses = { λ old place new fault. IsDenied (compared_in old) place fault };
+
+    fn take(&mut self, file: usize, kind: FileKind, met: Met<'_>) -> Result<(), LoadFault> {
+        match met {
+            Met::NoLine | Met::First(_) => Ok(()),
+            Met::Later(line) => self.compare_line(file, kind, line),
+        }
+    }
+}

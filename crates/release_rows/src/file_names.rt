@@ -1,0 +1,35 @@
+//! The names of the files that a source lists.
+ghost use Rattle.std.specs.Prelude.{◌≡◌, map, string_bytes};
+ghost use Rattle.std.specs.Cmp.Lexicographic.{slice_cmp};
+ghost use Rattle.std.specs.List.Sorted.{IsSorted};
+ghost use Rattle.std.specs.Ordering.{nat_cmp};
+ghost use Rattle.release_rows.specs.Pieces.{ListsNames, listing_fault};
+
+use crate::fault::LoadFault;
+use release_files::{FileSource, SourceFault};
+
+/// Leaves in `names` the names of the files that a source lists, in their byte order: the order in
+/// which they are to be read. Where the source fails, or memory is refused, there are none.
+pub fn list_names<S: FileSource>(source: &mut S, names: &mut Vec<String>) -> Result<(), LoadFault>
+    ensures listed { ListsNames (S.files source.old) result (map string_bytes names.new.items) (S.failure_count source.old) (S.failure_count source.new) }
+    ensures rising { IsSorted (slice_cmp nat_cmp) (map string_bytes names.new.items) }
+    ensures files { S.files source.new ≡ S.files source.old }
+{
+    names.clear();
+    match source.list() {
+        Ok(listed) => *names = listed,
+        Err(fault) => return Err(listing_fault(fault)),
+    }
+    names.sort_unstable();
+    Ok(())
+}
+
+// What a fault of a source that was to list its files is to a load.
+fn listing_fault(fault: SourceFault) -> LoadFault
+    ensures { result ≡ listing_fault fault }
+{
+    match fault {
+        SourceFault::Device => LoadFault::Device { file: None },
+        SourceFault::Memory => LoadFault::Memory,
+    }
+}

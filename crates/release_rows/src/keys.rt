@@ -1,0 +1,104 @@
+//! A number for each row by which rows of one component are found.
+ghost use Rattle.std.specs.Prelude.{◌≡◌, ◌<◌, ◌^◌, IfOk, IfSome, IsNone, OnOk, length};
+ghost use Rattle.rf2_rows.specs.RowTexts.{text_in};
+ghost use Rattle.release_rows.specs.inside.Keys.{IsMet, IsShort, key_in, keyed_behind, no_keys, uuids_behind};
+
+use first_met::FirstMet;
+use rf2_rows::Row;
+use sctid::SctId;
+use std::alloc::{AllocError, Global};
+use std::marker::Model;
+
+// The least keys of components, kind by kind: an identifier is below 10^18.
+const CONCEPTS: u64 = 9_223_372_036_854_775_808;
+
+const DESCRIPTIONS: u64 = 10_223_372_036_854_775_808;
+
+const CONCRETE_VALUES: u64 = 11_223_372_036_854_775_808;
+
+/// Those of relationships, which have about as many rows as all other kinds, are the greatest.
+pub const RELATIONSHIPS: u64 = 12_223_372_036_854_775_808;
+
+/// The keys of rows in the order in which they were read. Rows of one kind have one key where their
+/// identifiers are one. In the usual order of files and rows the keys rise.
+#[derive(Drop)]
+pub struct RowKeys {
+    // the UUIDs of members, which have the numbers from 0
+    uuids: FirstMet,
+    keys: Vec<u64>,
+}
+
+impl Model for RowKeys {
+    ghost use Rattle.release_rows.specs.inside.Keys.{Keyed};
+
+    ghost Value = { Keyed };
+
+    ghost view = { λ keys. record { uuids = keys.uuids; keys = keys.keys.items } };
+}
+
+impl RowKeys {
+    pub fn new(alloc: Global) -> RowKeys
+        ensures { result ≡ no_keys }
+    {
+        RowKeys {
+            uuids: FirstMet::new(alloc),
+            keys: Vec::new(alloc),
+        }
+    }
+
+    /// The keys of the rows.
+    pub fn keys(&self) -> &[u64]
+        ensures keys { result.now ≡ self.now.keys }
+        ensures few { length self.now.uuids < 2 ^ 63 }
+    {
+        // its contract says that they are few
+        let _ = self.uuids.len();
+        self.keys.as_slice()
+    }
+
+    /// Adds the key of a row.
+    pub fn add(&mut self, row: &Row<'_>) -> Result<(), AllocError>
+        ensures key { OnOk result (self.new ≡ keyed_behind self.old (text_in row.now)) }
+        ensures short { OnOk result (IsShort (text_in row.now)) }
+    {
+        let key = self.meet(row)?;
+        self.keys.push(key)?;
+        Ok(())
+    }
+
+    // The key of a row, whose UUID is met if it is a member.
+    fn meet(&mut self, row: &Row<'_>) -> Result<u64, AllocError>
+        ensures key { IfOk result (λ key. key ≡ key_in self.old.uuids (text_in row.now)) }
+        ensures uuids { OnOk result (self.new.uuids ≡ uuids_behind self.old.uuids (text_in row.now)) }
+        ensures keys { self.new.keys ≡ self.old.keys }
+        ensures short { OnOk result (IsShort (text_in row.now)) }
+    {
+        match row {
+            Row::Concept(row) => Ok(CONCEPTS + row.id.number()),
+            Row::Description(row) => Ok(DESCRIPTIONS + row.id.number()),
+            Row::Relationship(row) => Ok(RELATIONSHIPS + row.id.number()),
+            Row::Concrete(row) => Ok(CONCRETE_VALUES + row.id.number()),
+            Row::Member(row) => {
+                let (place, _) = self.uuids.meet(row.id.as_u128())?;
+                Ok(place as u64)
+            }
+        }
+    }
+
+    /// The key of a row, if it has one: that of a member is known only where its UUID was met.
+    pub fn key_of(&self, row: &Row<'_>) -> Option<u64>
+        ensures key { IfSome result (λ key. key ≡ key_in self.now.uuids (text_in row.now)) }
+        ensures met { IsNone result → ¬ IsMet self.now.uuids (text_in row.now) }
+    {
+        match row {
+            Row::Concept(row) => Some(CONCEPTS + row.id.number()),
+            Row::Description(row) => Some(DESCRIPTIONS + row.id.number()),
+            Row::Relationship(row) => Some(RELATIONSHIPS + row.id.number()),
+            Row::Concrete(row) => Some(CONCRETE_VALUES + row.id.number()),
+            Row::Member(row) => match self.uuids.place_of(row.id.as_u128()) {
+                Some(place) => Some(place as u64),
+                None => None,
+            },
+        }
+    }
+}

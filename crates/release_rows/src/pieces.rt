@@ -1,0 +1,199 @@
+//! Going over the files of a release that a source reads in pieces, place by place.
+ghost use Rattle.rf2_rows.specs.Files.{file_kind_of};
+ghost use Rattle.std.specs.Prelude.{is_some, ◌≡◌, ◌≢◌, ◌⊎◌, ◌+◌, ◌^◌, ◌<◌, ◌≤◌, ℕ, true, IfErr, IfSome, List, OnOk, Some, length, map, string_bytes, take};
+ghost use Rattle.release_files.specs.Held.{reachable};
+ghost use Rattle.release_files.specs.Lines.{lines_of};
+ghost use Rattle.release_files.specs.PieceLines.{lines_to_come};
+ghost use Rattle.release_files.specs.Source.{FileText};
+ghost use Rattle.release_rows.specs.Files.{later_line, places_from, places_of_file, places_of_lines};
+ghost use Rattle.release_rows.specs.Pieces.{cut_file, has_kind_at, FailsAt, FailsAtFile, GoesOver, TakesAtMost, fault_of, listed, text_named};
+ghost use Rattle.release_rows.specs.Traversal.{StopsAt, TakesAll};
+ghost use Rattle.release_rows.specs.DeviceFaults.{FailsAtRead, FailsOnlyBelow, FileIs, RaisesOnlyAtDevice, is_device};
+
+use crate::fault::LoadFault;
+use crate::places::{Met, PlaceSource, PlaceTaker};
+use release_files::{FileSource, PieceLines, SourceFault};
+use rf2_rows::{FileKind, file_kind};
+use std::alloc::Global;
+
+/// The files of some names, each of which a source reads in pieces, as places.
+#[derive(Drop)]
+pub struct PiecePlaces<'a, S: FileSource> {
+    pub alloc: Global,
+    pub source: &'a mut S,
+    pub names: &'a [String],
+    /// No more of a file is read than a byte past this limit.
+    pub byte_limit: u64,
+}
+
+impl<'a, S: FileSource> PlaceSource for PiecePlaces<'a, S> {
+    ghost use Rattle.std.specs.Prelude.{length, map, option_map, string_bytes};
+    ghost use Rattle.release_rows.specs.Files.{places_from};
+    ghost use Rattle.release_rows.specs.Pieces.{cut_file, has_kind_at, listed};
+
+    ghost places = { λ held. option_map (λ known. places_from 0 (map (cut_file held.byte_limit) (listed known (map string_bytes held.names.now)))) (S.files held.source.now) };
+
+    ghost file_count = { λ held. length held.names.now };
+
+    ghost failure_count = { λ held. S.failure_count held.source.now };
+
+    ghost reference = { λ held. held.source.ghost_name };
+
+    ghost told = { λ held. S.files held.source.now };
+
+    ghost is_read = { λ held. has_kind_at (map string_bytes held.names.now) };
+
+    fn last_file(&self) -> usize {
+        self.names.len().saturating_sub(1)
+    }
+
+    fn take_places<T: PlaceTaker>(&mut self, taker: &mut T) -> Result<(), LoadFault> {
+        take_pieces(self.alloc, self.source, self.names, self.byte_limit, taker)
+    }
+}
+
+// Goes over the files of these names that have a kind, in turn, each read from the source in
+// pieces.
+//
+// A file is read as if it ended one byte past the limit: no more of it is read, and no more than
+// that is held of it beside one piece. Where the source tells its files, the places are those of
+// the files in memory, so cut.
+fn take_pieces<S: FileSource, T: PlaceTaker>(
+    alloc: Global,
+    source: &mut S,
+    names: &[String],
+    byte_limit: u64,
+    taker: &mut T,
+) -> Result<(), LoadFault>
+    ensures ok { IfSome (S.files source.old) (λ known.
+        OnOk result (TakesAll T.takes taker.old (places_from 0 (map (cut_file byte_limit) (listed known (map string_bytes names.now)))) taker.new)) }
+    ensures err { IfSome (S.files source.old) (λ known.
+        IfErr result (λ fault. fault ≢ LoadFault.Memory
+        → FailsAtFile (S.failure_count source.old) (S.failure_count source.new) fault
+        ⊎ StopsAt T.takes T.refuses taker.old (places_from 0 (map (cut_file byte_limit) (listed known (map string_bytes names.now)))) taker.new fault)) }
+    ensures device { FailsOnlyBelow (length names.now) result (S.failure_count source.old) (S.failure_count source.new) }
+    ensures kind { IfErr result (λ fault. FailsAtRead (has_kind_at (map string_bytes names.now)) fault) }
+    ensures named { IfErr result (FileIs (λ file. file < length names.now)) }
+    ensures found { IfErr result (λ fault. fault ≢ LoadFault.NoConceptFile) }
+    ensures files { S.files source.new ≡ S.files source.old }
+    ensures failures { S.failure_count source.old ≤ S.failure_count source.new }
+    ensures calm { RaisesOnlyAtDevice result (S.failure_count source.old) (S.failure_count source.new) }
+{
+    for (file, name) in names.iter().enumerate() {
+        match take_name(alloc, file, name.as_str(), source, byte_limit, taker) {
+            Ok(()) => {}
+            Err(fault) => return Err(fault),
+        }
+    }
+    Ok(())
+}
+
+// Goes over the file of a name, if it has a kind.
+fn take_name<S: FileSource, T: PlaceTaker>(
+    alloc: Global,
+    file: usize,
+    name: &str,
+    source: &mut S,
+    byte_limit: u64,
+    taker: &mut T,
+) -> Result<(), LoadFault>
+    ensures goes { (known : List FileText) → S.files source.old ≡ Some known
+        → GoesOver T.takes T.refuses (FailsAt file (S.failure_count source.old) (S.failure_count source.new))
+        taker.old (places_of_file file (cut_file byte_limit (text_named known name.now))) result taker.new }
+    ensures device { IfErr result (λ fault. is_device fault ≡ true → FailsAt file (S.failure_count source.old) (S.failure_count source.new) fault) }
+    ensures kind { IfErr result (λ fault. is_device fault ≡ true → is_some (file_kind_of name.now) ≡ true) }
+    ensures named { IfErr result (FileIs (λ at. at ≡ file)) }
+    ensures found { IfErr result (λ fault. fault ≢ LoadFault.NoConceptFile) }
+    ensures files { S.files source.new ≡ S.files source.old }
+    ensures failures { S.failure_count source.old ≤ S.failure_count source.new }
+    ensures calm { RaisesOnlyAtDevice result (S.failure_count source.old) (S.failure_count source.new) }
+{
+    match file_kind(name) {
+        Some(kind) => match source.open(name) {
+            Ok(()) => take_opened(alloc, file, kind, source, byte_limit, taker),
+            Err(fault) => Err(fault_of(file, fault)),
+        },
+        None => Ok(()),
+    }
+}
+
+// Goes over the lines of the open file, which is of a kind.
+fn take_opened<S: FileSource, T: PlaceTaker>(
+    alloc: Global,
+    file: usize,
+    kind: FileKind,
+    source: &mut S,
+    byte_limit: u64,
+    taker: &mut T,
+) -> Result<(), LoadFault>
+    ensures goes { (bytes : List ℕ) → S.rest source.old ≡ Some bytes → length bytes < 2 ^ 64
+        → GoesOver T.takes T.refuses (FailsAt file (S.failure_count source.old) (S.failure_count source.new))
+        taker.old (places_of_lines file kind (lines_of (take (byte_limit + 1) bytes))) result taker.new }
+    ensures bounded { TakesAtMost (byte_limit + 1) result (S.rest source.old) (S.rest source.new) }
+    ensures device { IfErr result (λ fault. is_device fault ≡ true → FailsAt file (S.failure_count source.old) (S.failure_count source.new) fault) }
+    ensures named { IfErr result (FileIs (λ at. at ≡ file)) }
+    ensures found { IfErr result (λ fault. fault ≢ LoadFault.NoConceptFile) }
+    ensures files { S.files source.new ≡ S.files source.old }
+    ensures failures { S.failure_count source.old ≤ S.failure_count source.new }
+    ensures calm { RaisesOnlyAtDevice result (S.failure_count source.old) (S.failure_count source.new) }
+{
+    let limit = byte_limit.saturating_add(1);
+    let mut lines = PieceLines::within(alloc, limit);
+    match lines.next_line(source) {
+        Ok(Some(first)) => {
+            match taker.take(file, kind, Met::First(first)) {
+                Ok(()) => {}
+                Err(fault) => return Err(fault),
+            }
+            take_later(file, kind, lines, source, limit, taker)
+        }
+        Ok(None) => taker.take(file, kind, Met::NoLine),
+        Err(fault) => Err(fault_of(file, fault)),
+    }
+}
+
+// Goes over the lines behind the first, which are fewer than the turns.
+fn take_later<S: FileSource, T: PlaceTaker>(
+    file: usize,
+    kind: FileKind,
+    mut lines: PieceLines,
+    source: &mut S,
+    turns: u64,
+    taker: &mut T,
+) -> Result<(), LoadFault>
+    ensures goes { (rest : List ℕ) → reachable lines.held.left (S.rest source.old) ≡ Some rest → length (lines_to_come lines rest) < turns
+        → GoesOver T.takes T.refuses (FailsAt file (S.failure_count source.old) (S.failure_count source.new))
+        taker.old (map (later_line file kind) (lines_to_come lines rest)) result taker.new }
+    ensures bounded { TakesAtMost lines.held.left result (S.rest source.old) (S.rest source.new) }
+    ensures device { IfErr result (λ fault. is_device fault ≡ true → FailsAt file (S.failure_count source.old) (S.failure_count source.new) fault) }
+    ensures named { IfErr result (FileIs (λ at. at ≡ file)) }
+    ensures found { IfErr result (λ fault. fault ≢ LoadFault.NoConceptFile) }
+    ensures files { S.files source.new ≡ S.files source.old }
+    ensures failures { S.failure_count source.old ≤ S.failure_count source.new }
+    ensures calm { RaisesOnlyAtDevice result (S.failure_count source.old) (S.failure_count source.new) }
+{
+    for turn in 0..turns {
+        match lines.next_line(source) {
+            Ok(Some(line)) => match taker.take(file, kind, Met::Later(line)) {
+                Ok(()) => {}
+                Err(fault) => return Err(fault),
+            },
+            Ok(None) => return Ok(()),
+            Err(fault) => return Err(fault_of(file, fault)),
+        }
+    }
+    Err(LoadFault::TooMany {
+        file,
+        line: u64::MAX,
+    })
+}
+
+// What a fault of the source at a file is to a load.
+fn fault_of(file: usize, fault: SourceFault) -> LoadFault
+    ensures { result ≡ fault_of file fault }
+{
+    match fault {
+        SourceFault::Device => LoadFault::Device { file: Some(file) },
+        SourceFault::Memory => LoadFault::Memory,
+    }
+}

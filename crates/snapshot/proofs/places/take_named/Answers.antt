@@ -1,6 +1,0 @@
-use Rattle.snapshot.specs.inside.Traversal.{taken}
-use Rattle.snapshot.proofs.places.take_named.Goals as goal
-use Rattle.std.proofs.Common.{arith}
-
-pub returns-in-None-clause-ok : goal.returns-in-None-clause-ok
-returns-in-None-clause-ok g c = grind (arith, c.in-None.is, c.file_kind.ensures, taken)

@@ -1,6 +1,0 @@
-use Rattle.std.proofs.Common.{◌≡◌, take}
-use Rattle.snapshot.specs.inside.Repeated.{equal_neighbours}
-use Rattle.snapshot.proofs.repeated.equal_neighbours.Given as goal
-
-abbrev pub invariant-loop-place : goal.invariant-loop-place
-invariant-loop-place l = l.repeated.items ≡ equal_neighbours (take l.place l.sorted)

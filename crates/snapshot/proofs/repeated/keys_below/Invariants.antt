@@ -1,5 +1,0 @@
-use Rattle.std.proofs.Common.{◌≡◌, filter, nat_lt, take}
-use Rattle.snapshot.proofs.repeated.keys_below.Given as goal
-
-abbrev pub invariant-loop-key : goal.invariant-loop-key
-invariant-loop-key l = l.below.items ≡ filter (λ key. nat_lt key l.bound) (take l.key-index l.keys)

@@ -1,5 +1,0 @@
-use Rattle.std.proofs.Common.{◌≡◌, filter, nat_lt, not, take}
-use Rattle.snapshot.proofs.repeated.keys_from.Given as goal
-
-abbrev pub invariant-loop-key : goal.invariant-loop-key
-invariant-loop-key l = l.others.items ≡ filter (λ key. not (nat_lt key l.bound)) (take l.key-index l.keys)

@@ -1,7 +1,0 @@
-use Rattle.snapshot.specs.inside.VersionsInside.{taken_in}
-use Rattle.snapshot.proofs.VersionLemmas.{chosen_are}
-use Rattle.snapshot.proofs.versions.Versions.chosen.Goals as goal
-
-pub returns : goal.returns
-returns c = rw (← c.self.view_is) (λ rows before covers. chosen_are
-    (taken_in c.self.inside) c.self.invariant.rising rows before covers c.leave_latest.new.chosen.items c.leave_latest.ensures)

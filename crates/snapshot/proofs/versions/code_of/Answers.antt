@@ -1,7 +1,0 @@
-use Rattle.std.proofs.Common.{Err, sym}
-use Rattle.snapshot.proofs.RisingLemmas.{has-searched}
-use Rattle.snapshot.proofs.versions.code_of.Goals as goal
-
-pub returns-in-Err : goal.returns-in-Err
-returns-in-Err c = λ row key time.
-    sym (has-searched c.args.repeated.now c.requires.rising c.args.key (Err c.in-Err.field-0) c.in-Err.ensures.position)

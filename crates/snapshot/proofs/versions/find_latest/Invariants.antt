@@ -1,6 +1,0 @@
-use Rattle.std.proofs.Common.{◌≡◌, length, take}
-use Rattle.snapshot.proofs.VersionLemmas.{AreLatest}
-use Rattle.snapshot.proofs.versions.find_latest.Given as goal
-
-abbrev pub invariant-loop-number : goal.invariant-loop-number
-invariant-loop-number l = (length l.latest.items ≡ length l.fn.latest.items) × AreLatest l.latest.items (take l.number l.versions)

@@ -1,8 +1,0 @@
-use Rattle.std.proofs.Common.{◌≡◌, length, take}
-use Rattle.snapshot.proofs.VersionLemmas.{AreWithout, is_older_of}
-use Rattle.snapshot.proofs.versions.leave_latest.Given as goal
-
-abbrev pub invariant-loop-number : goal.invariant-loop-number
-invariant-loop-number l =
-    (length l.chosen.items ≡ length l.fn.chosen.items)
-    × AreWithout l.chosen.items l.fn.chosen.items (is_older_of l.versions (take l.number l.versions))
