@@ -5,7 +5,9 @@ set -eu
 here=$(cd "$(dirname "$0")" && pwd)
 work=${1:-$(mktemp -d)}
 mkdir -p "$work/crates"
-[ -d "$work/crates/idset" ] || cp -r "$here/../crates/idset" "$work/crates/"
+for name in number_lists idset; do
+    [ -d "$work/crates/$name" ] || cp -r "$here/../crates/$name" "$work/crates/"
+done
 cd "$work"
 if [ ! -d crates/idset_bench ]; then
     rt new crates/idset_bench start_io
@@ -17,7 +19,7 @@ cp "$here/idset_main.rt.in" crates/idset_bench/src/main.rt
 rm -rf crates/idset_bench/proofs
 cp -r "$here/idset_proofs" crates/idset_bench/proofs
 find crates/idset_bench/proofs -name "*.in" | while read -r file; do mv "$file" "${file%.in}"; done
-printf 'idset:\nidset_bench: idset anyhow\n' > crates.txt
+printf 'number_lists:\nidset: number_lists\nidset_bench: number_lists idset anyhow\n' > crates.txt
 (cd crates/idset_bench && rt run)
 rustc -O -o plain "$here/idset_plain.rs"
 echo

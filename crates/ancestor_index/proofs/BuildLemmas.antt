@@ -10,20 +10,22 @@ use Rattle.std.proofs.lemmas.Map.Steps.{length-le_from_distinct_below, le-length
 use Rattle.hierarchy.specs.Hierarchy.{IsWithin, Reaches, reaches}
 use Rattle.rf2_rows.specs.Release.{Release}
 use Rattle.hierarchy.proofs.HierarchyLemmas.{chain_from_test, test_from_chain}
-use Rattle.idset.specs.Sets.{has_item, listed_numbers, numbers_where}
-use Rattle.idset.proofs.Normal.{numbers_where-agree}
-use Rattle.hierarchy.specs.KeyedLists.{AreItemsBelow, items_of, lists_by, list_of, turned, turned_from, with_key}
+use Rattle.number_lists.specs.Members.{has_item}
+use Rattle.number_lists.specs.Rising.{listed_numbers, numbers_where}
+use Rattle.number_lists.proofs.WhereLemmas.{numbers_where-agree, there_where}
+use Rattle.number_lists.specs.KeyedLists.{AreItemsBelow, items_of, lists_by, list_of, turned, turned_from, with_key}
 use Rattle.snapshot.specs.Numbering.{row_of_numbers}
 use Rattle.hierarchy.specs.ParentsFirst.{IsParentsFirst}
-use Rattle.hierarchy.proofs.CutLemmas.{same_maps}
-use Rattle.hierarchy.proofs.KeyedLemmas.{items_of-append}
+use Rattle.number_lists.proofs.ListLemmas.{both_ways, same_maps}
+use Rattle.number_lists.proofs.KeyedLemmas.{items_of-append}
 use Rattle.snapshot.proofs.NumberingLemmas.{Reaches-map, numbers_again, row_by}
-use Rattle.release_rows.proofs.PlaceLemmas.{contains_map, place_of, place_of-get_or}
-use Rattle.hierarchy.proofs.ReleaseLemmas.{contains_had, had_contained}
+use Rattle.number_lists.proofs.BlockLemmas.{Contains-map}
+use Rattle.release_rows.proofs.PlaceLemmas.{place_of, place_of-get_or}
+use Rattle.number_lists.proofs.MemberLemmas.{contains_had, had_contained, item_there, there_item}
 use Rattle.hierarchy.proofs.WayLemmas.{contained_items_of, items_of-contained}
 use Rattle.ancestor_index.specs.HierarchyLists.{hierarchy_of, is_child, lists_where}
 use Rattle.ancestor_index.specs.inside.Parents.{AreParentsBy}
-use Rattle.ancestor_index.proofs.ClosureLemmas.{both_ways, item_there, length-where, list_of-where, row_there, there_item, there_row, there_where}
+use Rattle.ancestor_index.proofs.ClosureLemmas.{length-where, list_of-where, row_there, there_row}
 
 -- lists by tests that agree are the same
 pub lists_where-agree : (count : ℕ) (test other : ℕ → ℕ → Bool)
@@ -155,8 +157,8 @@ same_child concepts rows isa rises within are a b near far =
     both_ways (is_child rows a b) (is_child isa (get_or concepts a 0) (get_or concepts b 0))
     (λ told. there_row isa (get_or concepts a 0) (get_or concepts b 0)
     (subst (λ (found : List (ℕ × ℕ)). Contains found (get_or concepts a 0, get_or concepts b 0)) are
-    (contains_map (row_of_numbers concepts) rows (a, b) (row_there rows a b told))))
-    (λ told. there_row rows a b (back (contains_map (row_by (place_of concepts)) isa
+    (Contains-map (row_of_numbers concepts) rows (a, b) (row_there rows a b told))))
+    (λ told. there_row rows a b (back (Contains-map (row_by (place_of concepts)) isa
     (get_or concepts a 0, get_or concepts b 0) (row_there isa (get_or concepts a 0) (get_or concepts b 0) told))))
   where
     back : Contains (map (row_by (place_of concepts)) isa)

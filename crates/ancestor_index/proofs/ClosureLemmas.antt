@@ -1,66 +1,30 @@
 -- The ancestors of a concept are its parents and the ancestors of these.
-use Rattle.std.proofs.Common.{ℕ, zero, suc, ◌==◌, ◌&&◌, ◌||◌, ◌≡◌, ◌<◌, ◌≤◌, ◌++◌, ◌∷◌, [], ◌∙◌, ◌⊎◌, inl, inr, ⊎_elim, Bool, true, false, List, length, get_or, map, take, refl, sym, ap, subst, arith, length-take, get_or-take}
+use Rattle.std.proofs.Common.{ℕ, zero, suc, ◌==◌, ◌&&◌, ◌||◌, ◌≡◌, ◌<◌, ◌≤◌, ◌++◌, ◌∷◌, [], ◌∙◌, ◌⊎◌, ⊎_elim, Bool, true, false, List, length, get_or, map, take, refl, sym, ap, subst, arith, length-take, get_or-take}
 use Rattle.std.specs.Prelude.{All, Contains, flat_map}
-use Rattle.std.proofs.lemmas.Bool.{cases_lt, eq-eqb, eqb-true}
+use Rattle.std.proofs.lemmas.Bool.{eq-eqb, eqb-true, or_cases, or_left, or_right}
 use Rattle.std.proofs.lemmas.List.{get_or-map, get_or_default, length-map, same_lists}
 use Rattle.std.proofs.lemmas.List.Elements.{All-contains, Contains-append_right, Contains-get_or}
 use Rattle.std.proofs.lemmas.List.FromFn.{get_or-map-range_with_len, length-map-range_with_len}
 use Rattle.hierarchy.specs.Hierarchy.{Reaches, one_row, more_rows, reaches}
 use Rattle.hierarchy.proofs.HierarchyLemmas.{chain_from_test, test_from_chain}
-use Rattle.idset.specs.Sets.{has_item, listed_numbers, numbers_where}
-use Rattle.idset.proofs.Normal.{has_item-numbers_where, has_item-numbers_where_past, numbers_where-agree}
-use Rattle.hierarchy.specs.KeyedLists.{list_of}
+use Rattle.number_lists.specs.Members.{has_item}
+use Rattle.number_lists.specs.Rising.{listed_numbers, numbers_where}
+use Rattle.number_lists.proofs.ListLemmas.{both_ways}
+use Rattle.number_lists.proofs.MemberLemmas.{has_item-append, item_there, there_item}
+use Rattle.number_lists.proofs.WhereLemmas.{has_item-numbers_where, numbers_where-agree, there_where, where_there}
+use Rattle.number_lists.specs.KeyedLists.{list_of}
 use Rattle.ancestor_index.specs.HierarchyLists.{is_child, lists_where}
 use Rattle.ancestor_index.specs.inside.Gathered.{gathered_by}
 use Rattle.ancestor_index.specs.inside.Parents.{AreParentsBy}
 
--- ---- tests that compute
-pub both_ways : (a b : Bool) → (a ≡ true → b ≡ true) → (b ≡ true → a ≡ true) → a ≡ b
-both_ways true b forth back = sym (forth refl)
-both_ways false true forth back = back refl
-both_ways false false forth back = refl
-
-or_told : (a b : Bool) → (a || b) ≡ true → (a ≡ true) ⊎ (b ≡ true)
-or_told true b told = inl refl
-or_told false b told = inr told
-
-or_left : (a b : Bool) → a ≡ true → (a || b) ≡ true
-or_left true b told = refl
-or_left false b told = absurd (cc)
-
-or_right : (a b : Bool) → b ≡ true → (a || b) ≡ true
-or_right true b told = refl
-or_right false b told = told
-
--- what a list has is in it, and the other way round
-pub item_there : (xs : List ℕ) (x : ℕ) → has_item xs x ≡ true → Contains xs x
-item_there [] x told = absurd (cc)
-item_there (y ∷ xs) x told = ⊎_elim
-    (λ (same : (y == x) ≡ true). (0, omega arith, eqb-true y x same))
-    (λ (rest : has_item xs x ≡ true). Contains-append_right (y ∷ []) xs x (item_there xs x rest))
-    (or_told (y == x) (has_item xs x) told)
-
-pub there_item : (xs : List ℕ) (x : ℕ) → Contains xs x → has_item xs x ≡ true
-there_item [] x there = absurd (omega (arith, there.1))
-there_item (y ∷ xs) x (zero, within, is) = or_left (y == x) (has_item xs x) (eq-eqb y x is)
-there_item (y ∷ xs) x (suc k, within, is) = or_right (y == x) (has_item xs x) (there_item xs x (k, omega arith, is))
-
--- an item of joined lists is an item of one
-pub has_item-append : (xs ys : List ℕ) (x : ℕ) → has_item (xs ++ ys) x ≡ (has_item xs x || has_item ys x)
-has_item-append [] ys x = refl
-has_item-append (y ∷ xs) ys x = ap (λ (b : Bool). (y == x) || b) (has_item-append xs ys x) ∙ assoc (y == x) (has_item xs x) (has_item ys x)
-  where
-    assoc : (a b c : Bool) → (a || (b || c)) ≡ ((a || b) || c)
-    assoc true b c = refl
-    assoc false b c = refl
-
+-- ---- lists of the items of a list, one behind the other
 joined_there : (f : ℕ → List ℕ) (xs : List ℕ) (x : ℕ) → has_item (flat_map f xs) x ≡ true → (y : ℕ) × Contains xs y × (has_item (f y) x ≡ true)
 joined_there f [] x told = absurd (cc)
 joined_there f (y ∷ xs) x told = ⊎_elim
     (λ (here : has_item (f y) x ≡ true). (y, (0, omega arith, refl), here))
     (λ (rest : has_item (flat_map f xs) x ≡ true). let found = joined_there f xs x rest in
     (found.0, Contains-append_right (y ∷ []) xs found.0 found.1, found.2))
-    (or_told (has_item (f y) x) (has_item (flat_map f xs) x) (sym (has_item-append (f y) (flat_map f xs) x) ∙ told))
+    (or_cases (has_item (f y) x) (has_item (flat_map f xs) x) (sym (has_item-append (f y) (flat_map f xs) x) ∙ told))
 
 there_joined : (f : ℕ → List ℕ) (xs : List ℕ) (x y : ℕ) → Contains xs y → has_item (f y) x ≡ true → has_item (flat_map f xs) x ≡ true
 there_joined f [] x y there told = absurd (omega (arith, there.1))
@@ -77,7 +41,7 @@ row_there (row ∷ rows) child parent told = ⊎_elim
     let parts = both (row.0 == child) (row.1 == parent) here in
     (0, omega arith, λ i. (eqb-true row.0 child parts.0 i, eqb-true row.1 parent parts.1 i)))
     (λ (rest : is_child rows child parent ≡ true). Contains-append_right (row ∷ []) rows (child, parent) (row_there rows child parent rest))
-    (or_told ((row.0 == child) && (row.1 == parent)) (is_child rows child parent) told)
+    (or_cases ((row.0 == child) && (row.1 == parent)) (is_child rows child parent) told)
   where
     both : (a b : Bool) → (a && b) ≡ true → (a ≡ true) × (b ≡ true)
     both true b told = (refl, told)
@@ -100,16 +64,6 @@ list_of-where count test concept below =
 
 pub length-where : (count : ℕ) (test : ℕ → ℕ → Bool) → length (lists_where count test) ≡ count
 length-where count test = length-map-range_with_len (λ concept. numbers_where count (test concept)) 0 count
-
--- a number that passes a test is among the numbers, and only such
-pub where_there : (count : ℕ) (test : ℕ → Bool) (n : ℕ) → n < count → test n ≡ true → Contains (numbers_where count test) n
-where_there count test n below told = item_there (numbers_where count test) n (has_item-numbers_where count test n below ∙ told)
-
-pub there_where : (count : ℕ) (test : ℕ → Bool) (n : ℕ) → Contains (numbers_where count test) n → (n < count) × (test n ≡ true)
-there_where count test n there = ⊎_elim
-    (λ (below : n < count). (below, sym (has_item-numbers_where count test n below) ∙ there_item (numbers_where count test) n there))
-    (λ (past : count ≤ n). absurd (cc (there_item (numbers_where count test) n there, has_item-numbers_where_past count test n past)))
-    (cases_lt n count)
 
 -- ---- the turn of a concept of the order
 pub ancestors_by : List (ℕ × ℕ) → ℕ → ℕ → List ℕ
@@ -183,7 +137,7 @@ gathered_told {rows} {parents} {order} {places} {lists} {k} turn d told =
     (item_there (numbers_where count (reaches rows parent)) d
     (ap (λ (xs : List ℕ). has_item xs d) (sym placed.list) ∙ above)) in
     (there.0, more_rows row (chain_from_test rows parent d there.1)))
-    (or_told (parent == d) (has_item (list_of lists (get_or places parent 0)) d) found.2)
+    (or_cases (parent == d) (has_item (list_of lists (get_or places parent 0)) d) found.2)
 
 told_gathered : {rows : List (ℕ × ℕ)} {parents : List (List ℕ)} {order places : List ℕ} {lists : List (List ℕ)} {k : ℕ} → Turn rows parents order places lists k
     → (concept d : ℕ) → concept ≡ get_or order k 0 → d < length order → Reaches rows concept d

@@ -8,10 +8,11 @@ use Rattle.std.proofs.lemmas.List.FromFn.{get_or-range_with_len, length-range_wi
 use Rattle.std.proofs.lemmas.List.Kept.{IsStrictlyIncreasing-filter}
 use Rattle.hierarchy.specs.Hierarchy.{reaches}
 use Rattle.hierarchy.proofs.HierarchyLemmas.{chain_from_test, test_from_chain}
-use Rattle.hierarchy.specs.KeyedLists.{list_of}
+use Rattle.number_lists.specs.KeyedLists.{list_of}
 use Rattle.ancestor_index.specs.Complete.{AreComplete, AreRisingLists, AreSingleSteps}
 use Rattle.ancestor_index.specs.HierarchyLists.{is_child, lists_where}
-use Rattle.ancestor_index.proofs.ClosureLemmas.{length-where, list_of-where, row_there, there_row, there_where, where_there}
+use Rattle.ancestor_index.proofs.ClosureLemmas.{length-where, list_of-where, row_there, there_row}
+use Rattle.number_lists.proofs.WhereLemmas.{there_where, where_there}
 
 -- a list has another number exactly where the test says so
 tested : (count : ℕ) (test : ℕ → ℕ → Bool) (concept other : ℕ) → concept < count → other < count

@@ -7,13 +7,15 @@ use Rattle.std.proofs.lemmas.List.{take_more}
 use Rattle.std.proofs.lemmas.List.Elements.{All-append, All-cons, All-nil, Contains-get_or}
 use Rattle.std.proofs.lemmas.List.Concat.{flat_map-append}
 use Rattle.std.proofs.lemmas.List.Folds.{list_any-append}
-use Rattle.hierarchy.specs.KeyedLists.{AreItemsBelow, list_of}
-use Rattle.idset.specs.Sets.{IsRisingBelow, all_items, has_item, listed_numbers, numbers_where}
-use Rattle.idset.proofs.Rising.{numbers_where-rising, rising_is_where}
-use Rattle.ancestor_index.proofs.ClosureLemmas.{has_item-append, there_where}
+use Rattle.number_lists.specs.KeyedLists.{AreItemsBelow, list_of}
+use Rattle.number_lists.specs.Rising.{IsRisingBelow, listed_numbers, numbers_where}
+use Rattle.idset.specs.Sets.{all_items}
+use Rattle.number_lists.specs.Members.{has_item}
+use Rattle.number_lists.proofs.RisingLemmas.{numbers_where-rising, rising_is_where}
+use Rattle.number_lists.proofs.MemberLemmas.{has_item-append}
+use Rattle.number_lists.proofs.WhereLemmas.{there_where, has_item-numbers_where, numbers_where-agree}
 use Rattle.idset.specs.Words.{is_set}
 use Rattle.ancestor_index.specs.inside.Gathered.{AreRisingBelow, gathered_by, joined_by}
-use Rattle.idset.proofs.Normal.{has_item-numbers_where, numbers_where-agree}
 
 -- what a set has with the numbers of words
 pub with_words_has : (count number : ℕ) (others words : List ℕ) → number < count

@@ -4,10 +4,10 @@ use Rattle.std.specs.Prelude.{All}
 use Rattle.std.specs.List.{slice_range}
 use Rattle.std.proofs.lemmas.Bool.{cases_eq, cases_lt}
 use Rattle.std.proofs.lemmas.List.{drop_at, take_all, get_or_append_left, get_or_push}
-use Rattle.idset.specs.Sets.{has_item}
+use Rattle.number_lists.specs.Members.{has_item}
 use Rattle.idset.specs.Words.{MarkedBelow, words_for}
-use Rattle.hierarchy.specs.KeyedLists.{list_of}
-use Rattle.hierarchy.proofs.CutLemmas.{slice_range-append}
+use Rattle.number_lists.specs.KeyedLists.{list_of}
+use Rattle.number_lists.proofs.CutLemmas.{slice_range-append}
 use Rattle.ancestor_index.specs.Wide.{AreWide, IsKept, IsWide}
 
 -- words stay when more come behind

@@ -4,7 +4,7 @@ use Rattle.std.specs.Prelude.{ℕ, ◌==◌, ◌&&◌, Bool, List, length, map, 
 use Rattle.std.specs.List.{list_any, range_with_len}
 use Rattle.hierarchy.specs.Hierarchy.{reaches}
 use Rattle.rf2_rows.specs.Release.{Release}
-use Rattle.idset.specs.Sets.{numbers_where}
+use Rattle.number_lists.specs.Rising.{numbers_where}
 
 -- for each concept below a count the others that stand to it as a test says, in rising order and once each
 abbrev pub lists_where : ℕ → (ℕ → ℕ → Bool) → List (List ℕ)

@@ -1,8 +1,8 @@
 -- Long lists once more as words of bits, a bit for each concept.
 use Rattle.std.specs.Prelude.{ℕ, ◌≡◌, ◌⊎◌, ◌*◌, ◌-◌, ◌≤◌, ◌<◌, List, length, slice_index, slice_range}
-use Rattle.idset.specs.Sets.{has_item}
+use Rattle.number_lists.specs.Members.{has_item}
 use Rattle.idset.specs.Words.{MarkedBelow, words_for}
-use Rattle.hierarchy.specs.KeyedLists.{list_of}
+use Rattle.number_lists.specs.KeyedLists.{list_of}
 
 -- a list of more than a 32nd of all concepts
 abbrev pub IsWide : ℕ → List ℕ → Type 0

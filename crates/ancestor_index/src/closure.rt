@@ -2,19 +2,19 @@
 ghost use Rattle.std.specs.Prelude.{ℕ, ◌≡◌, ◌<◌, ◌^◌, ◌||◌, ◌++◌, Bool, List, All, IfOk, IfSome, OnOk, length, map, nat_eq, slice_index, vec_len};
 ghost use Rattle.std.specs.List.{IsDistinct};
 ghost use Rattle.hierarchy.specs.Hierarchy.{reaches};
-ghost use Rattle.idset.specs.Sets.{IsRisingBelow, has_item, listed_numbers, numbers_where};
+ghost use Rattle.number_lists.specs.Rising.{IsRisingBelow, listed_numbers, numbers_where};
+ghost use Rattle.number_lists.specs.Members.{has_item};
 ghost use Rattle.idset.specs.Words.{AreWordsBelow, MarkedBelow, is_set};
-ghost use Rattle.hierarchy.specs.KeyedLists.{AreItemsBelow, list_of};
+ghost use Rattle.number_lists.specs.KeyedLists.{AreItemsBelow, list_of};
 ghost use Rattle.ancestor_index.specs.HierarchyLists.{lists_where};
 ghost use Rattle.ancestor_index.specs.inside.Gathered.{AreGathered, AreRisingBelow, gathered_by, has_joined};
 ghost use Rattle.ancestor_index.specs.inside.Parents.{AreParentsBy};
 ghost use Rattle.ancestor_index.specs.Wide.{AreWide};
 
 use crate::grown::with_list;
-use crate::rising::keep_rising;
 use crate::wide::WideLists;
-use hierarchy::KeyedLists;
 use idset::{ConceptSet, WordSet, put_union};
+use number_lists::{KeyedLists, keep_rising};
 use std::alloc::{AllocError, Global};
 use std::mem::swap;
 

@@ -1,7 +1,7 @@
 //! Lists by a key that grow, where want of memory is all that can be answered.
 ghost use Rattle.std.specs.Prelude.{◌≡◌, ◌++◌, ◌∷◌, [], IfOk};
 
-use hierarchy::{KeyedLists, PushFault};
+use number_lists::{KeyedLists, PushFault};
 use std::alloc::{AllocError, Global};
 
 /// The lists and one more. A hierarchy with so many pairs that the lists can't hold them, which would take 16 GiB and

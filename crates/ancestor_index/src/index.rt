@@ -2,14 +2,14 @@
 ghost use Rattle.std.specs.Prelude.{◌≡◌, ◌↔◌, ◌<◌, IfOk, IfSome, IsSome, length};
 ghost use Rattle.std.specs.List.{concat};
 ghost use Rattle.std.specs.List.Sorted.{IsStrictlyIncreasing};
-ghost use Rattle.hierarchy.specs.KeyedLists.{list_of};
+ghost use Rattle.number_lists.specs.KeyedLists.{list_of};
 ghost use Rattle.ancestor_index.specs.HierarchyLists.{hierarchy_of};
 ghost use Rattle.ancestor_index.specs.Wide.{AreWordsOf, IsWide};
 
 use crate::closure::ancestor_lists;
 use crate::linked::linked_lists;
 use crate::wide::{WideLists, wide_lists};
-use hierarchy::KeyedLists;
+use number_lists::KeyedLists;
 use snapshot::Snapshot;
 use std::alloc::{AllocError, Global};
 use std::marker::Model;

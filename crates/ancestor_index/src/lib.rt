@@ -2,7 +2,7 @@
 //!
 //! `AncestorIndex` has for each concept, by its number, all its ancestors and descendants, its parents
 //! and its children, in rising order and once each. `linked_lists` makes such lists of other rows
-//! between concepts, and `keep_rising` brings numbers into the form that they have.
+//! between concepts.
 #![tactic(auto)]
 
 mod closure;
@@ -16,4 +16,3 @@ mod wide;
 pub use crate::index::AncestorIndex;
 pub use crate::laws::lists_are_complete;
 pub use crate::linked::linked_lists;
-pub use crate::rising::keep_rising;

@@ -4,7 +4,7 @@ ghost use Rattle.hierarchy.specs.Hierarchy.{IsWithin};
 ghost use Rattle.ancestor_index.specs.HierarchyLists.{is_child, lists_where};
 
 use crate::rising::rising_lists;
-use hierarchy::KeyedLists;
+use number_lists::KeyedLists;
 use std::alloc::{AllocError, Global};
 
 /// For each concept the concepts that some rows, fewer than 2^32, lead to, in rising order and once each.

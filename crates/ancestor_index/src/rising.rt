@@ -1,10 +1,10 @@
-//! Lists in rising order, without repeats.
-ghost use Rattle.std.specs.Prelude.{ℕ, ◌≡◌, ◌<◌, ◌^◌, All, IfOk, length, map};
-ghost use Rattle.idset.specs.Sets.{listed_numbers};
-ghost use Rattle.hierarchy.specs.KeyedLists.{AreItemsBelow};
+//! Lists by a key in rising order, without repeats.
+ghost use Rattle.std.specs.Prelude.{◌≡◌, ◌<◌, ◌^◌, IfOk, length, map};
+ghost use Rattle.number_lists.specs.Rising.{listed_numbers};
+ghost use Rattle.number_lists.specs.KeyedLists.{AreItemsBelow};
 
 use crate::grown::with_list;
-use hierarchy::KeyedLists;
+use number_lists::{KeyedLists, keep_rising};
 use std::alloc::{AllocError, Global};
 
 /// Each of some lists in rising order, without repeats. All items are below `bound`.
@@ -22,12 +22,4 @@ pub fn rising_lists(alloc: Global, lists: &KeyedLists, bound: u32) -> Result<Key
         rising = with_list(rising, list.as_slice())?;
     }
     Ok(rising)
-}
-
-/// Brings numbers in rising order, and leaves each once. Asks for no memory.
-pub fn keep_rising(numbers: &mut Vec<u32>)
-    ensures { (bound : ℕ) → All (λ number. number < bound) numbers.old.items → numbers.new.items ≡ listed_numbers bound numbers.old.items }
-{
-    numbers.sort_unstable();
-    numbers.dedup();
 }

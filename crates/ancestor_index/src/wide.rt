@@ -1,12 +1,12 @@
 //! Long lists once more as words of bits, which sets are made of without going through the list.
 ghost use Rattle.std.specs.Prelude.{ℕ, ◌≡◌, ◌↔◌, ◌<◌, ◌++◌, ◌∷◌, ◌^◌, [], List, All, IfOk, IfSome, IsSome, IsTrue, OnOk, length};
-ghost use Rattle.idset.specs.Sets.{has_item};
+ghost use Rattle.number_lists.specs.Members.{has_item};
 ghost use Rattle.idset.specs.Words.{MarkedBelow};
-ghost use Rattle.hierarchy.specs.KeyedLists.{AreItemsBelow, list_of};
+ghost use Rattle.number_lists.specs.KeyedLists.{AreItemsBelow, list_of};
 ghost use Rattle.ancestor_index.specs.Wide.{AreWide, IsKept, IsWide};
 
-use hierarchy::KeyedLists;
 use idset::{marks_of, word_count};
+use number_lists::KeyedLists;
 use std::alloc::{AllocError, Global};
 
 /// The lists of more than a 32nd of all concepts, as words of bits.

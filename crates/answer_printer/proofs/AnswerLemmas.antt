@@ -1,6 +1,6 @@
 -- The numbers that an answer is printed from.
 use Rattle.std.proofs.Common.{◌≡◌, ℕ, ◌<◌, All, List, subst, sym}
-use Rattle.idset.specs.Sets.{IsRisingBelow}
+use Rattle.number_lists.specs.Rising.{IsRisingBelow}
 use Rattle.idset.proofs.WordLemmas.{items_below}
 
 -- the numbers in a set are those of concepts

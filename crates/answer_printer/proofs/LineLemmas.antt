@@ -5,7 +5,7 @@ use Rattle.set_algebra.specs.declared.plan.ConceptPlan.{ConceptPlan}
 use Rattle.set_algebra.specs.declared.plan.UnitPlan.{UnitPlan}
 use Rattle.set_algebra.specs.Plan.{unit_plan_of, unit_plans_of, plan_of, plans_of}
 use Rattle.set_algebra.specs.declared.choice.Choice.{Choice}
-use Rattle.planner.proofs.ListLemmas.{drop_further}
+use Rattle.std.proofs.lemmas.List.{drop-drop}
 use Rattle.planner.proofs.LoopLemmas.{Joined, Sort, joined_end, joined_turn, of_concepts, of_groups}
 use Rattle.answer_printer.specs.inside.PlanLines.{before_bound, first_bound, with_bounds}
 use Rattle.answer_printer.specs.PlanText.{bound_line, group_outline, groups_outline, outline, plans_outline}
@@ -17,7 +17,7 @@ drop_behind count (x ∷ xs) = refl
 
 -- behind some, and then some more
 pub drop_both : {X Y : Type 0} (one other : List X) (ys : List Y) → drop (length other) (drop (length one) ys) ≡ drop (length (one ++ other)) ys
-drop_both one other ys = drop_further (length other) (length one) ys ∙ (λ i. drop (sym (length-append one other) i) ys)
+drop_both one other ys = drop-drop (length other) (length one) ys ∙ (λ i. drop (sym (length-append one other) i) ys)
 
 -- and those behind a first
 pub drop_both_behind : {X Y : Type 0} (one other : List X) (ys : List Y)

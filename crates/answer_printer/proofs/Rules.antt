@@ -1,7 +1,8 @@
 -- Sets of lemmas that functions name.
 use Rattle.std.proofs.Common.{append_assoc, append-nil}
 use Rattle.set_algebra.proofs.PlanLemmas.{plan_of-And, plan_of-Or, plan_of-Values, unit_plan_of-And, unit_plan_of-Or}
-use Rattle.planner.proofs.ListLemmas.{drop_further, drop_leaf}
+use Rattle.std.proofs.lemmas.List.{drop-drop}
+use Rattle.planner.proofs.ListLemmas.{drop_leaf}
 use Rattle.answer_printer.proofs.LineLemmas.{drop_behind, drop_both, drop_both_behind, with_bounds-append}
 
 -- for the functions that write the lines of a plan
@@ -13,7 +14,7 @@ pub ruleset writing = (
   unit_plan_of-Or,
   append_assoc,
   append-nil,
-  drop_further,
+  drop-drop,
   drop_leaf,
   drop_behind,
   drop_both,

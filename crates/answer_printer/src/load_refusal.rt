@@ -2,7 +2,7 @@
 ghost use Rattle.std.specs.Prelude.{◌≡◌, ◌++◌, ◌∷◌, [], codes, decimal, OnErr, OnOk, IfOk, slice_index_or};
 ghost use Rattle.answer_printer.specs.LoadRefusal.{cause_word as word_of_cause, id_word as word_of_id, load_refusal, refused_line};
 ghost use Rattle.answer_printer.specs.ToldName.{told_name};
-ghost use Rattle.rf2_rows.specs.Parts.{texts_of};
+ghost use Rattle.text_parts.specs.Parts.{texts_of};
 
 use crate::told_name::push_name;
 use rf2_rows::{RowCause, RowFault};

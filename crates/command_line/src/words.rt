@@ -2,7 +2,7 @@
 ghost use Rattle.std.specs.Prelude.{◌≡◌, ◌≤◌, IfErr, IfOk, false, length, map, string_bytes};
 ghost use Rattle.clap.specs.Words.{app_of, found_of, kind_of, rows_of, rule_of, subcommand_rows_of};
 ghost use Rattle.clap.specs.declared.error.kind.ErrorKind.TheVariants.{MissingSubcommand};
-ghost use Rattle.rf2_rows.specs.Parts.{texts_of};
+ghost use Rattle.text_parts.specs.Parts.{texts_of};
 ghost use Rattle.command_line.specs.CommandLine.{AreOneToNine, CommandAsks, HasOwnArguments, IsFaultBy, IsFaultOfFolders, IsNoRequest, IsRefusal, IsRequest, TellsTooMany, bare_program, check_command, explain_command, folder_rule, folders_in, folders_of, lang_rule, program, query_command};
 
 use clap::error::ErrorKind;

@@ -10,14 +10,14 @@ use Rattle.std.proofs.lemmas.Fmt.{decimal_digit, first_decimal}
 use Rattle.std.proofs.lemmas.List.{append-nil, append_assoc}
 use Rattle.std.proofs.lemmas.Str.{IsUtf8-append, IsUtf8-nil}
 use Rattle.std.proofs.lemmas.Str.Parse.{digits_value_short}
-use Rattle.sctid.proofs.Numerals.{numerals}
+use Rattle.numerals.proofs.DigitLemmas.{numerals}
 use Rattle.ecl_lexer.specs.Bytes.{begins, begins_with}
 use Rattle.ecl_lexer.specs.Pieces.{digits as digits_piece, number as number_piece, fraction_text as point_text, bytes_of, is_plain, Sign, unsigned, plus, minus, sign_text, Stands}
 use Rattle.ecl_lexer.specs.Refusals.{IsRead, unsupported}
 use Rattle.ecl_lexer.proofs.ByteLemmas.{letter-not_digit}
 use Rattle.ecl_lexer.proofs.ReadLemmas.{piece_text-bytes}
-use Rattle.rf2_rows.specs.Numbers.{is_number, number_of}
-use Rattle.rf2_rows.specs.Values.{decimal_of}
+use Rattle.numerals.specs.Numbers.{is_number, number_of}
+use Rattle.numerals.specs.Decimals.{decimal_of}
 use Rattle.constraint_tree.specs.Grammar.{Symbol, symbol_of, digits, decimal as decimal_symbol}
 use Rattle.constraint_tree.specs.Text.{count_text, fraction_digits, fraction_text, most_text, number_text, range_text, unsigned_text}
 use Rattle.constraint_tree.proofs.FractionLemmas.{fraction_written}

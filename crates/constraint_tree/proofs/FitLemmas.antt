@@ -6,12 +6,12 @@ use Rattle.std.proofs.lemmas.Bool.{and_parts, eqb-true, leb-true}
 use Rattle.std.proofs.lemmas.Bool.Decides.{nat_tests}
 use Rattle.std.proofs.lemmas.Fmt.{decimal-digits_value}
 use Rattle.std.proofs.lemmas.Str.Parse.{digits_value_short}
-use Rattle.sctid.proofs.Numerals.{numerals}
+use Rattle.numerals.proofs.DigitLemmas.{numerals}
 use Rattle.ecl_lexer.specs.Pieces.{is_plain}
 use Rattle.ecl_lexer.specs.declared.token.TokenKind.{TokenKind}
 use Rattle.ecl_lexer.specs.declared.token.TokenKind.TheVariants.{MemberOf, RoundClose, BraceOpen, BraceClose, And, Or, Minus, Dot, Colon, Equal as EqualSign, NotEqual as NotEqualSign}
-use Rattle.rf2_rows.specs.Numbers.{is_number, number_of}
-use Rattle.rf2_rows.specs.Values.{decimal_of}
+use Rattle.numerals.specs.Numbers.{is_number, number_of}
+use Rattle.numerals.specs.Decimals.{decimal_of}
 use Rattle.constraint_tree.specs.declared.operator.Compare.{Compare}
 use Rattle.constraint_tree.specs.declared.operator.Compare.TheVariants.{Equal, NotEqual, Less, LessOrEqual, Greater, GreaterOrEqual}
 use Rattle.constraint_tree.specs.declared.operator.Operator.{Operator}

@@ -8,7 +8,7 @@ use Rattle.std.proofs.lemmas.Bool.{and_from, le-leb}
 use Rattle.std.proofs.lemmas.Str.{digit_value_digit}
 use Rattle.std.proofs.Math.Nat.{add-mul, mul_assoc, mul_comm, pow-suc, pow-zero, mod-lt, div-add-mod'}
 use Rattle.std.proofs.lemmas.Nat.{pow-add}
-use Rattle.rf2_rows.specs.Numbers.{number_of}
+use Rattle.numerals.specs.Numbers.{number_of}
 use Rattle.constraint_tree.specs.Text.{fraction_digits}
 use Rattle.constraint_tree.proofs.TextLemmas.{first_digit, fraction_digits-none, fraction_digits-step, unit_is_some}
 

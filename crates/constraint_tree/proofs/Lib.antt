@@ -8,7 +8,6 @@ pub mod LawLemmas
 pub mod LevelLemmas
 pub mod FractionLemmas
 pub mod DigitLemmas
-pub mod Lists
 pub mod MostDeepLemmas
 pub mod NumberLemmas
 pub mod PieceLemmas

@@ -8,12 +8,12 @@ use Rattle.std.proofs.lemmas.Bool.Decides.{nat_tests}
 use Rattle.std.proofs.lemmas.Fmt.{decimal_is_IsNumeral, decimal_nonempty, length-decimal-le}
 use Rattle.std.proofs.lemmas.Str.Parse.{digits_value_short}
 use Rattle.std.proofs.Math.Nat.{div-add-mod'}
-use Rattle.sctid.proofs.Numerals.{numerals}
-use Rattle.rf2_rows.proofs.Parts.{parts_onto}
-use Rattle.rf2_rows.proofs.Values.{fraction_small, negative_of, number_with_fraction}
-use Rattle.rf2_rows.specs.Numbers.{is_number, number_of}
-use Rattle.rf2_rows.specs.Parts.{parts_at}
-use Rattle.rf2_rows.specs.Values.{point, whole_of, fraction_of, number_in, unsigned_of, decimal_of}
+use Rattle.numerals.proofs.DigitLemmas.{numerals}
+use Rattle.text_parts.proofs.Parts.{parts_onto}
+use Rattle.numerals.proofs.DecimalLemmas.{fraction_small, negative_of, number_with_fraction}
+use Rattle.numerals.specs.Numbers.{is_number, number_of}
+use Rattle.text_parts.specs.Parts.{parts_at}
+use Rattle.numerals.specs.Decimals.{point, whole_of, fraction_of, number_in, unsigned_of, decimal_of}
 use Rattle.constraint_tree.specs.Text.{fraction_digits, fraction_text, number_text, unsigned_text}
 use Rattle.constraint_tree.proofs.FitLemmas.{NumbersRead}
 use Rattle.constraint_tree.proofs.FractionLemmas.{fraction_written}

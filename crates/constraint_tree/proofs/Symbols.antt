@@ -3,8 +3,8 @@
 use Rattle.std.proofs.Common.{ℕ, ◌≡◌, ◌==◌, Bool, true, false, if◌then◌else◌, List, ◌∷◌, Option, None, Some, drop, decimal, IsTrue}
 use Rattle.ecl_lexer.specs.declared.token.TokenKind.{TokenKind}
 use Rattle.ecl_lexer.specs.declared.token.TokenKind.TheVariants.{MemberOf, Wildcard, RoundOpen, RoundClose, BraceOpen, BraceClose, BracketOpen, BracketClose, Colon, Dot, Dots, Equal as EqualSign, NotEqual as NotEqualSign, And, Or, Minus}
-use Rattle.rf2_rows.specs.Numbers.{is_number, number_of}
-use Rattle.rf2_rows.specs.Values.{decimal_of}
+use Rattle.numerals.specs.Numbers.{is_number, number_of}
+use Rattle.numerals.specs.Decimals.{decimal_of}
 use Rattle.constraint_tree.specs.declared.operator.Cardinality.{Cardinality}
 use Rattle.constraint_tree.specs.Grammar.{Symbol, digits, decimal as decimal_symbol, mark, operator_kind, compare_kind, reverse_tokens}
 use Rattle.constraint_tree.specs.Text.{is_focus, is_item, is_member_or_focus, is_part, is_sub, number_text}

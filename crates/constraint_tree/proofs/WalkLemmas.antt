@@ -1,26 +1,10 @@
 -- What the tests on concepts in force and on the hierarchy tell.
-use Rattle.std.proofs.Common.{◌≡◌, ◌==◌, ◌&&◌, inl, inr, Bool, true, List, [], ◌∷◌, Contains, refl, sym, subst, arith}
-use Rattle.std.specs.List.{list_any}
-use Rattle.std.proofs.lemmas.Bool.{false≢true, or_cases, or_left, or_right, and_parts, and_from, eqb-true, eq-eqb}
+use Rattle.std.proofs.Common.{◌==◌, ◌&&◌, Contains, refl, subst}
+use Rattle.std.proofs.lemmas.Bool.{and_parts, and_from, eqb-true, eq-eqb}
 use Rattle.hierarchy.specs.Hierarchy.{reaches}
-use Rattle.hierarchy.proofs.HierarchyLemmas.{first_contained, rest_contained, contained_cases, tells_reaches}
+use Rattle.number_lists.proofs.ListLemmas.{passing_item, some_item_passes}
+use Rattle.hierarchy.proofs.HierarchyLemmas.{tells_reaches}
 use Rattle.constraint_tree.specs.Walks.{TellsInForce, TellsBelow, TellsAbove, TellsChild}
-
--- where some item of a list passes a test, one that does is in the list
-pub passing_item : {X : Type 0} (test : X → Bool) (xs : List X) → list_any test xs ≡ true → (x : X) × Contains xs x × (test x ≡ true)
-passing_item test [] holds = absurd (false≢true holds)
-passing_item test (first ∷ rest) holds = elim (or_cases (test first) (list_any test rest) holds) [
-  | inl here ↦ (first, first_contained first rest, here)
-  | inr later ↦ let found = passing_item test rest later in (found.0, rest_contained first rest found.0 found.1, found.2)
-]
-
--- where an item of a list passes a test, some item does
-pub some_item_passes : {X : Type 0} (test : X → Bool) (xs : List X) (x : X) → Contains xs x → test x ≡ true → list_any test xs ≡ true
-some_item_passes test [] x (k, below, is) passes = absurd (omega arith)
-some_item_passes test (first ∷ rest) x contained passes = elim (contained_cases first rest x contained) [
-  | inl is ↦ or_left (test first) (list_any test rest) (subst (λ item. test item ≡ true) (sym is) passes)
-  | inr later ↦ or_right (test first) (list_any test rest) (some_item_passes test rest x later passes)
-]
 
 -- the test of being in force
 pub tells_in_force : TellsInForce

@@ -9,8 +9,8 @@ use Rattle.std.specs.Prelude.{◌≡◌, ℕ, ℤ, Bool, true, false, List, [], 
 use Rattle.ecl_lexer.specs.Tokens.{Spelled}
 use Rattle.ecl_lexer.specs.declared.token.TokenKind.{TokenKind}
 use Rattle.ecl_lexer.specs.declared.token.TokenKind.TheVariants.{DescendantOf, DescendantOrSelfOf, ChildOf, ChildOrSelfOf, AncestorOf, AncestorOrSelfOf, ParentOf, ParentOrSelfOf, Top as TopOf, Bottom as BottomOf, MemberOf, Wildcard, RoundOpen, RoundClose, BraceOpen, BraceClose, BracketOpen, BracketClose, Colon, Dot, Dots, Equal as EqualSign, NotEqual as NotEqualSign, LessOrEqual as LessOrEqualSign, GreaterOrEqual as GreaterOrEqualSign, And, Or, Minus, Reverse, Digits, Number, Term}
-use Rattle.rf2_rows.specs.Numbers.{is_number, number_of}
-use Rattle.rf2_rows.specs.Values.{decimal_of}
+use Rattle.numerals.specs.Numbers.{is_number, number_of}
+use Rattle.numerals.specs.Decimals.{decimal_of}
 use Rattle.constraint_tree.specs.declared.operator.Cardinality.{Cardinality}
 use Rattle.constraint_tree.specs.declared.operator.Compare.{Compare}
 use Rattle.constraint_tree.specs.declared.operator.Compare.TheVariants.{Equal, NotEqual, Less, LessOrEqual, Greater, GreaterOrEqual}

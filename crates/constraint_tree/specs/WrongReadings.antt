@@ -3,7 +3,8 @@
 use Rattle.std.specs.Prelude.{ℕ, zero, suc, ◌≡◌, ◌≢◌, ◌==◌, ◌&&◌, ◌||◌, Bool, false, not, List, [], ◌∷◌, map, filter, count_by, nat_eq}
 use Rattle.std.specs.List.{list_any}
 use Rattle.rf2_rows.specs.Release.{Release}
-use Rattle.rf2_rows.specs.Pairs.{Pair, pair_of, rows_of, distinct}
+use Rattle.rf2_rows.specs.Pairs.{Pair, pair_of, rows_of}
+use Rattle.number_lists.specs.Distinct.{distinct}
 use Rattle.rf2_rows.specs.Groups.{pairs_in}
 use Rattle.constraint_tree.specs.declared.operator.Cardinality.{Cardinality}
 use Rattle.constraint_tree.specs.declared.operator.Compare.TheVariants.{Equal}

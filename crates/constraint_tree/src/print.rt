@@ -5,7 +5,7 @@ ghost use Rattle.constraint_tree.specs.Tree.{tree_of, trees_of, refinement_tree_
 
 use crate::operator::{Cardinality, Compare, Operator};
 use crate::tree::{Attribute, AttributeSet, Constraint, Refinement, Test};
-use rf2_rows::Decimal;
+use numerals::Decimal;
 use std::alloc::{AllocError, Global};
 
 /// How many 10^-18 are one.

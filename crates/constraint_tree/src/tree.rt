@@ -1,6 +1,6 @@
 //! The tree of a constraint.
 use crate::operator::{Cardinality, Compare, Operator};
-use rf2_rows::Decimal;
+use numerals::Decimal;
 
 /// A constraint: it denotes a set of concepts in force (Expression Constraint Language, "Brief Syntax",
 /// expressionConstraint).

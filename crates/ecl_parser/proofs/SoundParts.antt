@@ -1,8 +1,8 @@
 -- What the readers of marks, of lists and of joined forms find, for `Sound`.
 use Rattle.std.proofs.Common.{◌≡◌, ◌⊎◌, inl, inr, ℕ, zero, suc, ℤ, Bool, true, false, cond, List, [], ◌∷◌, ◌++◌, length, drop, map, Option, None, Some, option_map, refl, ap, sym, ◌∙◌}
 use Rattle.std.specs.Prelude.{IsTrue, is_some}
-use Rattle.rf2_rows.specs.Numbers.{is_number, number_of}
-use Rattle.rf2_rows.specs.Values.{decimal_of}
+use Rattle.numerals.specs.Numbers.{is_number, number_of}
+use Rattle.numerals.specs.Decimals.{decimal_of}
 use Rattle.constraint_tree.specs.declared.operator.Cardinality.{Cardinality}
 use Rattle.constraint_tree.specs.declared.operator.Compare.{Compare}
 use Rattle.constraint_tree.specs.declared.operator.Compare.TheVariants as compare

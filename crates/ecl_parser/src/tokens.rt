@@ -1,6 +1,6 @@
 //! The tokens of a text one after another, from a place on.
 ghost use Rattle.std.specs.Prelude.{◌≡◌, ◌+◌, ◌<◌, ◌≤◌, ◌∷◌, [], false, true, None, Some, IfSome, drop, length, option_map};
-ghost use Rattle.rf2_rows.specs.Values.{decimal_of};
+ghost use Rattle.numerals.specs.Decimals.{decimal_of};
 ghost use Rattle.ecl_lexer.specs.Tokens.{spelled};
 ghost use Rattle.constraint_tree.specs.Grammar.{symbol_of};
 ghost use Rattle.ecl_parser.specs.inside.Gives.{symbols_from};
@@ -8,7 +8,7 @@ ghost use Rattle.ecl_parser.specs.inside.Reading.{behind, behind_close as behind
 
 use constraint_tree::{Compare, Operator};
 use ecl_lexer::{Token, TokenKind};
-use rf2_rows::{Decimal, decimal, digits};
+use numerals::{Decimal, decimal, digits};
 
 /// The kinds of token that say nothing but where they stand.
 #[derive(Clone, Copy)]

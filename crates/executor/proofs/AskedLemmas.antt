@@ -8,14 +8,17 @@ use Rattle.std.proofs.lemmas.List.Filters.{length-filter_both}
 use Rattle.std.proofs.lemmas.List.FromFn.{length-range_with_len}
 use Rattle.std.proofs.lemmas.List.Elements.{All-append, All-cons, All-nil, All-tail}
 use Rattle.std.proofs.lemmas.List.Folds.{list_any-append}
+use Rattle.std.proofs.Math.Bool.{and-false}
 use Rattle.constraint_tree.specs.declared.operator.Operator.{Operator}
 use Rattle.constraint_tree.specs.declared.operator.Operator.TheVariants.{Descendants, DescendantsOrSelf, Children, ChildrenOrSelf, Ancestors, AncestorsOrSelf, Parents, ParentsOrSelf, Top, Bottom}
-use Rattle.idset.specs.Sets.{IsRisingBelow, all_items, has_item, listed_numbers, numbers_where}
-use Rattle.idset.proofs.Normal.{filter-numbers_where, has_item-numbers_where, numbers_where-agree}
-use Rattle.idset.proofs.Rising.{numbers_where-rising, rising_is_numbers_where}
-use Rattle.hierarchy.specs.KeyedLists.{list_of}
+use Rattle.number_lists.specs.Rising.{IsRisingBelow, listed_numbers, numbers_where}
+use Rattle.idset.specs.Sets.{all_items}
+use Rattle.number_lists.specs.Members.{has_item}
+use Rattle.number_lists.proofs.WhereLemmas.{filter-numbers_where, has_item-numbers_where, numbers_where-agree}
+use Rattle.number_lists.proofs.RisingLemmas.{numbers_where-rising, rising_is_numbers_where, all_below}
+use Rattle.number_lists.specs.KeyedLists.{list_of}
 use Rattle.ancestor_index.specs.HierarchyLists.{Hierarchy}
-use Rattle.ancestor_index.proofs.ClosureLemmas.{item_there, there_item}
+use Rattle.number_lists.proofs.MemberLemmas.{item_there, there_item}
 use Rattle.executor.specs.inside.Asked.{AreEnough, asked_lists}
 use Rattle.executor.specs.inside.Joined.{back_of}
 use Rattle.executor.specs.inside.Steps.{IsOver, apart, joined, led_to, lists_of}
@@ -23,7 +26,7 @@ use Rattle.executor.specs.declared.family.Family.{Family}
 use Rattle.executor.specs.declared.family.Family.TheVariants as family
 use Rattle.executor.specs.declared.family.Reach.TheVariants.{Listed, ListedOrSelf, Apart}
 use Rattle.executor.proofs.LedLemmas.{asked_apart, asked_back, asked_or_self, led_rises}
-use Rattle.pair_sets.proofs.ListLemmas.{all_below, any_agree}
+use Rattle.number_lists.proofs.ListLemmas.{any_agree}
 use Rattle.executor.proofs.JoinedLemmas.{over_list, stands}
 
 -- what is in the list of one of some concepts is in all of them, one behind the other
@@ -196,11 +199,7 @@ module _ (count : ℕ) (hierarchy : Hierarchy) (over : IsOver count hierarchy) w
         asked n inside true told =
             let here = are_enough n told in
             ap (λ (there : Bool). there && true) (same_led operator n inside here.0 here.1)
-        asked n inside false told = none (has_item (led part) n) ∙ sym (none (has_item (led set) n))
-          where
-            none : (b : Bool) → (b && false) ≡ false
-            none true = refl
-            none false = refl
+        asked n inside false told = and-false (has_item (led part) n) ∙ sym (and-false (has_item (led set) n))
 
         each : (n : ℕ) → n < count → (has_item (led part) n && may n) ≡ (has_item (led set) n && may n)
         each n inside = asked n inside (may n) refl

@@ -5,7 +5,7 @@ use Rattle.std.specs.List.{list_all, list_any, range_with_len}
 use Rattle.rf2_rows.specs.Pairs.{Pair}
 use Rattle.rf2_rows.specs.Release.{Release}
 use Rattle.constraint_tree.specs.declared.operator.Cardinality.{Cardinality}
-use Rattle.idset.proofs.Normal.{numbers_where-agree, numbers_where-all}
+use Rattle.number_lists.proofs.WhereLemmas.{numbers_where-agree, numbers_where-all}
 use Rattle.postings.specs.Groups.{ConceptGroup, all_groups}
 use Rattle.set_algebra.specs.declared.plan.UnitPlan.{UnitPlan}
 use Rattle.set_algebra.specs.Meaning.{all_units_mean, unit_means, has_pairs, means, some_unit_means, value_passes}

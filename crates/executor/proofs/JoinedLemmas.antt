@@ -8,16 +8,19 @@ use Rattle.std.proofs.lemmas.List.{get_or_past}
 use Rattle.hierarchy.specs.Hierarchy.{one_row, reaches}
 use Rattle.rf2_rows.specs.Release.{Release}
 use Rattle.hierarchy.proofs.HierarchyLemmas.{chain_from_test, chain_of_two, test_from_chain}
-use Rattle.constraint_tree.proofs.WalkLemmas.{passing_item, some_item_passes}
-use Rattle.idset.specs.Sets.{all_items, has_item, IsRisingBelow, numbers_where}
+use Rattle.number_lists.proofs.ListLemmas.{passing_item, some_item_passes}
+use Rattle.idset.specs.Sets.{all_items}
+use Rattle.number_lists.specs.Members.{has_item}
+use Rattle.number_lists.specs.Rising.{IsRisingBelow, numbers_where}
 use Rattle.idset.specs.Words.{is_set}
-use Rattle.idset.proofs.Normal.{has_item-numbers_where_any, numbers_where-agree}
+use Rattle.number_lists.proofs.WhereLemmas.{has_item-numbers_where_any, numbers_where-agree, there_where, where_there}
 use Rattle.idset.proofs.Places.{filter_step}
-use Rattle.idset.proofs.Rising.{has_item-past_bound, numbers_where-rising, rising_is_numbers_where, rising_is_where}
-use Rattle.hierarchy.specs.KeyedLists.{list_of}
+use Rattle.number_lists.proofs.RisingLemmas.{has_item-past_bound, numbers_where-rising, rising_is_numbers_where, rising_is_where}
+use Rattle.number_lists.specs.KeyedLists.{list_of}
 use Rattle.ancestor_index.specs.HierarchyLists.{Hierarchy, hierarchy_of, is_child, lists_where}
-use Rattle.ancestor_index.proofs.ClosureLemmas.{item_there, length-where, list_of-where, row_there, there_item, there_where, where_there}
-use Rattle.pair_sets.proofs.ListLemmas.{any_append}
+use Rattle.number_lists.proofs.MemberLemmas.{item_there, there_item}
+use Rattle.ancestor_index.proofs.ClosureLemmas.{length-where, list_of-where, row_there}
+use Rattle.std.proofs.lemmas.List.Folds.{list_any-append}
 use Rattle.executor.specs.inside.Joined.{AreJoined, is_long, is_whole, near_of, with_length}
 use Rattle.executor.specs.inside.Steps.{IsOver, joined, lists_of}
 use Rattle.executor.specs.declared.family.Family.{Family}
@@ -124,7 +127,7 @@ any_more : (lists : List (List ℕ)) (before : List ℕ) (concept n : ℕ)
     → list_any (λ c. has_item (list_of lists c) n) (before ++ concept ∷ [])
     ≡ (list_any (λ c. has_item (list_of lists c) n) before || has_item (list_of lists concept) n)
 any_more lists before concept n =
-    any_append (λ c. has_item (list_of lists c) n) before (concept ∷ [])
+    list_any-append (λ c. has_item (list_of lists c) n) before (concept ∷ [])
     ∙ ap (λ (b : Bool). list_any (λ c. has_item (list_of lists c) n) before || b) (or_nothing (has_item (list_of lists concept) n))
 
 -- what has a list added to it has what it had and what the list has
@@ -196,9 +199,9 @@ any_split : {X : Type 0} (test : X → Bool) (long : X → Bool) (xs : List X)
     → list_any test (filter (λ x. beq (long x) true) xs ++ filter (λ x. beq (long x) false) xs) ≡ list_any test xs
 any_split test long [] = refl
 any_split {X = X} test long (x ∷ xs) =
-    any_append test (filter (λ y. beq (long y) true) (x ∷ xs)) (filter (λ y. beq (long y) false) (x ∷ xs))
+    list_any-append test (filter (λ y. beq (long y) true) (x ∷ xs)) (filter (λ y. beq (long y) false) (x ∷ xs))
     ∙ by_case (long x)
-    ∙ ap (λ (b : Bool). test x || b) (sym (any_append test longs shorts) ∙ any_split test long xs)
+    ∙ ap (λ (b : Bool). test x || b) (sym (list_any-append test longs shorts) ∙ any_split test long xs)
   where
     longs : List X
     longs = filter (λ y. beq (long y) true) xs

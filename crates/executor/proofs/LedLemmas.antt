@@ -3,13 +3,15 @@ use Rattle.std.proofs.Common.{ℕ, Bool, ◌≡◌, ◌<◌, ◌∙◌, true, fa
 use Rattle.std.specs.Prelude.{filter}
 use Rattle.std.specs.List.{list_any}
 use Rattle.rf2_rows.specs.Release.{Release}
-use Rattle.hierarchy.specs.KeyedLists.{list_of}
-use Rattle.constraint_tree.proofs.WalkLemmas.{passing_item, some_item_passes}
-use Rattle.idset.specs.Sets.{IsRisingBelow, all_items, has_item}
-use Rattle.idset.proofs.Normal.{filter-numbers_where, has_item-numbers_where}
-use Rattle.idset.proofs.Rising.{numbers_where-rising, rises_within-filter, rising_is_numbers_where}
+use Rattle.number_lists.specs.KeyedLists.{list_of}
+use Rattle.number_lists.proofs.ListLemmas.{passing_item, some_item_passes, both_ways}
+use Rattle.number_lists.specs.Rising.{IsRisingBelow}
+use Rattle.idset.specs.Sets.{all_items}
+use Rattle.number_lists.specs.Members.{has_item}
+use Rattle.number_lists.proofs.WhereLemmas.{filter-numbers_where, has_item-numbers_where}
+use Rattle.number_lists.proofs.RisingLemmas.{numbers_where-rising, rises_within-filter, rising_is_numbers_where, all_below}
 use Rattle.ancestor_index.specs.HierarchyLists.{Hierarchy}
-use Rattle.ancestor_index.proofs.ClosureLemmas.{both_ways, item_there, there_item}
+use Rattle.number_lists.proofs.MemberLemmas.{item_there, there_item}
 use Rattle.executor.specs.inside.Joined.{AreJoined, back_of, is_whole, near_of}
 use Rattle.executor.specs.inside.Steps.{IsOver, apart, joined, lists_of, stepped}
 use Rattle.executor.specs.declared.family.Family.{Family}
@@ -17,7 +19,6 @@ use Rattle.executor.specs.declared.family.Family.TheVariants as family
 use Rattle.executor.specs.declared.family.Reach.{Reach}
 use Rattle.executor.specs.declared.family.Reach.TheVariants.{Listed, ListedOrSelf, Apart}
 use Rattle.pair_sets.proofs.AmongLemmas.{has_kept}
-use Rattle.pair_sets.proofs.ListLemmas.{all_below}
 use Rattle.executor.proofs.JoinedLemmas.{listed_stands, over_near, stands, stands_listed}
 use Rattle.pair_sets.proofs.WithinLemmas.{restricted_to}
 

@@ -8,19 +8,21 @@ use Rattle.std.proofs.lemmas.List.Elements.{All-append, All-nil, All-tail}
 use Rattle.rf2_rows.specs.Release.{Release}
 use Rattle.constraint_tree.specs.Denotation.{is_component}
 use Rattle.constraint_tree.specs.Walks.{has_concept}
-use Rattle.constraint_tree.proofs.WalkLemmas.{passing_item, some_item_passes, tells_in_force}
-use Rattle.idset.specs.Sets.{IsRising, IsRisingBelow, has_item, listed_numbers, numbers_where}
-use Rattle.idset.proofs.Normal.{filter-numbers_where, has_item-numbers_where, numbers_where-agree}
-use Rattle.idset.proofs.Rising.{numbers_where-rising, rising_fits, rising_is_numbers_where}
-use Rattle.hierarchy.specs.KeyedLists.{list_of}
+use Rattle.number_lists.proofs.ListLemmas.{passing_item, some_item_passes, both_ways, any_agree}
+use Rattle.constraint_tree.proofs.WalkLemmas.{tells_in_force}
+use Rattle.number_lists.specs.Rising.{IsRising, IsRisingBelow, listed_numbers, numbers_where}
+use Rattle.number_lists.specs.Members.{has_item}
+use Rattle.number_lists.proofs.WhereLemmas.{filter-numbers_where, has_item-numbers_where, numbers_where-agree, there_where, where_there}
+use Rattle.number_lists.proofs.RisingLemmas.{numbers_where-rising, rising_fits, rising_is_numbers_where, all_below}
+use Rattle.number_lists.specs.KeyedLists.{list_of}
 use Rattle.ancestor_index.specs.HierarchyLists.{is_child}
-use Rattle.ancestor_index.proofs.ClosureLemmas.{both_ways, list_of-where, there_where, where_there}
+use Rattle.ancestor_index.proofs.ClosureLemmas.{list_of-where}
 use Rattle.postings.specs.Indexed.{members_of}
 use Rattle.executor.specs.inside.Components.{components_of, is_in_one_of}
 use Rattle.pair_sets.proofs.WithinLemmas.{restricted_to}
 use Rattle.pair_sets.specs.Numbers.{numbers_in}
 use Rattle.pair_sets.specs.Tested.{is_one_of}
-use Rattle.pair_sets.proofs.ListLemmas.{all_below, any_agree, any_append}
+use Rattle.std.proofs.lemmas.List.Folds.{list_any-append}
 use Rattle.pair_sets.proofs.Normal.{in_force_kept, numbers_in-agree}
 
 -- the numbers of a set, as a list, are below its bound
@@ -75,7 +77,7 @@ item_joined : (lists : List (List ℕ)) (concepts : List ℕ) (n : ℕ)
     → has_item (flat_map (list_of lists) concepts) n ≡ list_any (λ concept. has_item (list_of lists concept) n) concepts
 item_joined lists [] n = refl
 item_joined lists (concept ∷ concepts) n =
-    any_append (λ item. item == n) (list_of lists concept) (flat_map (list_of lists) concepts)
+    list_any-append (λ item. item == n) (list_of lists concept) (flat_map (list_of lists) concepts)
     ∙ ap (λ (b : Bool). has_item (list_of lists concept) n || b) (item_joined lists concepts n)
 
 -- whether a concept has a member row to another, by their numbers

@@ -9,9 +9,9 @@ use Rattle.std.proofs.lemmas.List.Elements.{All-contains}
 use Rattle.std.proofs.lemmas.List.Sums.{length-filter}
 use Rattle.rf2_rows.specs.Pairs.{Pair}
 use Rattle.rf2_rows.specs.Release.{Attribute, Release}
-use Rattle.hierarchy.specs.Members.{has}
-use Rattle.hierarchy.proofs.ReleaseLemmas.{contains_had}
-use Rattle.idset.specs.Sets.{numbers_where}
+use Rattle.number_lists.specs.Members.{has}
+use Rattle.number_lists.proofs.MemberLemmas.{contains_had}
+use Rattle.number_lists.specs.Rising.{numbers_where}
 use Rattle.constraint_tree.specs.Denotation.{is_value}
 use Rattle.constraint_tree.proofs.WalkLemmas.{tells_in_force}
 use Rattle.postings.specs.Groups.{all_groups}

@@ -10,19 +10,22 @@ use Rattle.std.proofs.lemmas.Map.Keys.{apart_from_distinct}
 use Rattle.rf2_rows.specs.Release.{Release}
 use Rattle.hierarchy.specs.Hierarchy.{IsWithin, Reaches, more_rows, one_row}
 use Rattle.hierarchy.specs.ParentsFirst.{IsParentsFirst}
-use Rattle.hierarchy.specs.KeyedLists.{list_of}
+use Rattle.number_lists.specs.KeyedLists.{list_of}
 use Rattle.hierarchy.proofs.HierarchyLemmas.{chain_from_test}
 use Rattle.snapshot.specs.Numbering.{row_of_numbers}
-use Rattle.constraint_tree.proofs.WalkLemmas.{passing_item, some_item_passes}
-use Rattle.idset.specs.Sets.{IsRisingBelow, all_items, has_item}
+use Rattle.number_lists.proofs.ListLemmas.{passing_item, some_item_passes, both_ways}
+use Rattle.number_lists.specs.Rising.{IsRisingBelow}
+use Rattle.idset.specs.Sets.{all_items}
+use Rattle.number_lists.specs.Members.{has_item}
 use Rattle.ancestor_index.specs.HierarchyLists.{Hierarchy, hierarchy_of, is_child}
 use Rattle.ancestor_index.proofs.BuildLemmas.{same_child, same_reach}
-use Rattle.ancestor_index.proofs.ClosureLemmas.{both_ways, item_there, row_there, there_item, there_row}
+use Rattle.number_lists.proofs.MemberLemmas.{item_there, there_item}
+use Rattle.ancestor_index.proofs.ClosureLemmas.{row_there, there_row}
 use Rattle.executor.specs.inside.Joined.{AreJoined, is_whole, near_of, turn_of}
 use Rattle.executor.specs.inside.Steps.{IsOver, lists_of}
 use Rattle.executor.specs.declared.family.Family.{Family}
 use Rattle.executor.specs.declared.family.Family.TheVariants as family
-use Rattle.pair_sets.proofs.ListLemmas.{all_below}
+use Rattle.number_lists.proofs.RisingLemmas.{all_below}
 use Rattle.executor.proofs.JoinedLemmas.{has_all, listed_stands, near_stands, over_length, over_rising, over_whole, stands, stands_listed}
 
 -- where all of some numbers are among others, each is

@@ -10,12 +10,14 @@ use Rattle.rf2_rows.specs.Release.{Release}
 use Rattle.constraint_tree.specs.Walks.{is_above, is_below, is_child, is_just_above, is_just_below, some_member, walks}
 use Rattle.constraint_tree.specs.declared.operator.Operator.{Operator}
 use Rattle.constraint_tree.specs.declared.operator.Operator.TheVariants.{Descendants, DescendantsOrSelf, Children, ChildrenOrSelf, Ancestors, AncestorsOrSelf, Parents, ParentsOrSelf, Top, Bottom}
-use Rattle.constraint_tree.proofs.WalkLemmas.{passing_item, some_item_passes}
-use Rattle.idset.specs.Sets.{all_items, has_item}
-use Rattle.idset.proofs.Normal.{filter-numbers_where, has_item-numbers_where, numbers_where-agree}
-use Rattle.hierarchy.specs.KeyedLists.{list_of}
+use Rattle.number_lists.proofs.ListLemmas.{passing_item, some_item_passes, both_ways}
+use Rattle.idset.specs.Sets.{all_items}
+use Rattle.number_lists.specs.Members.{has_item}
+use Rattle.number_lists.proofs.WhereLemmas.{filter-numbers_where, has_item-numbers_where, numbers_where-agree, there_where, where_there}
+use Rattle.number_lists.specs.KeyedLists.{list_of}
 use Rattle.ancestor_index.specs.HierarchyLists.{hierarchy_of, lists_where}
-use Rattle.ancestor_index.proofs.ClosureLemmas.{both_ways, item_there, list_of-where, there_item, there_where, where_there}
+use Rattle.number_lists.proofs.MemberLemmas.{item_there, there_item}
+use Rattle.ancestor_index.proofs.ClosureLemmas.{list_of-where}
 use Rattle.pair_sets.specs.Numbers.{numbers_in}
 use Rattle.executor.specs.inside.Steps.{apart, joined, led_to}
 use Rattle.pair_sets.proofs.Normal.{either_in}

@@ -8,9 +8,11 @@ use Rattle.std.proofs.lemmas.Option.{slice_get_cases, slice_get_past}
 use Rattle.rf2_rows.specs.Pairs.{Pair}
 use Rattle.rf2_rows.specs.Release.{Release}
 use Rattle.constraint_tree.specs.declared.operator.Operator.{Operator}
-use Rattle.idset.specs.Sets.{IsRisingBelow, has_item, numbers_where, other_items}
-use Rattle.idset.proofs.Normal.{has_item-numbers_where, has_item-numbers_where_past, numbers_where-agree, numbers_where-all}
-use Rattle.idset.proofs.Rising.{numbers_where-rising}
+use Rattle.number_lists.specs.Rising.{IsRisingBelow, numbers_where}
+use Rattle.number_lists.specs.Members.{has_item}
+use Rattle.idset.specs.Sets.{other_items}
+use Rattle.number_lists.proofs.WhereLemmas.{has_item-numbers_where, has_item-numbers_where_past, numbers_where-agree, numbers_where-all}
+use Rattle.number_lists.proofs.RisingLemmas.{numbers_where-rising}
 use Rattle.ancestor_index.specs.HierarchyLists.{Hierarchy, hierarchy_of}
 use Rattle.postings.specs.Groups.{ConceptGroup, all_groups}
 use Rattle.set_algebra.specs.declared.plan.ConceptPlan.{ConceptPlan}

@@ -2,7 +2,7 @@
 use Rattle.std.proofs.Common.{ℕ, zero, suc, ◌+◌, ◌*◌, ◌-◌, ◌==◌, ◌∷◌, [], ◌≡◌, ◌≢◌, ◌≤◌, ◌<◌, ◌^◌, ◌∙◌, Bool, true, false, cond, List, drop, length, get_or, take, refl, sym, ap, arith, inl, inr, mul-le-mul_right, suc-mul, zero-mul}
 use Rattle.std.specs.Prelude.{min, slice_get}
 use Rattle.std.proofs.lemmas.Bool.{both_ways, cases_lt, eq-eqb, eqb-true, ne_eqb}
-use Rattle.std.proofs.lemmas.List.{take_all}
+use Rattle.std.proofs.lemmas.List.{take_all, drop-drop}
 use Rattle.std.proofs.lemmas.Option.{slice_get_cases, slice_get_read}
 use Rattle.postings.specs.Indexed.{Indexed}
 use Rattle.set_algebra.specs.Plan.{Plan, Plans, values_plan}
@@ -11,10 +11,9 @@ use Rattle.planner.specs.Bounds.{own_number, values_bound}
 use Rattle.planner.specs.Leaves.{leaves, plan_count}
 use Rattle.planner.specs.Nodes.{node_sum, plans_sum}
 use Rattle.planner.specs.Sizes.{size}
-use Rattle.planner.proofs.ListLemmas.{drop_further}
 use Rattle.planner.proofs.LoopLemmas.{Sort, Sum}
 use Rattle.executor.specs.inside.Lead.{of_lead}
-use Rattle.pair_sets.proofs.ListLemmas.{next_place}
+use Rattle.number_lists.proofs.ListLemmas.{next_place}
 
 -- ---- parts in front of a place, and the one at it
 module _ {Part : Type 0} (sort : Sort Part) where
@@ -43,7 +42,7 @@ module _ {Part : Type 0} (sort : Sort Part) where
   choices_more choices parts place part {rest} {behind} within is rest_is behind_is =
       behind_is
       ∙ ap (drop (sort.leaves_of part)) rest_is
-      ∙ drop_further (sort.leaves_of part) (sort.leaves_in (take place parts)) choices
+      ∙ drop-drop (sort.leaves_of part) (sort.leaves_in (take place parts)) choices
       ∙ (λ i. drop (sym (leaves_more parts place part within is) i) choices)
       ∙ (λ i. choices_before choices parts (sym (next_place place) i))
 
@@ -71,7 +70,7 @@ module _ {Part : Type 0} (sort : Sort Part) where
           sum.more choices first (take place parts),
           more behind parts place part (omega (arith, within)) is,
           ap (λ (rest : List Choice). sum.of_part rest part)
-              (drop_further (sort.leaves_in (take place parts)) (sort.leaves_of first) choices
+              (drop-drop (sort.leaves_in (take place parts)) (sort.leaves_of first) choices
               ∙ (λ i. drop (sym (sort.more first (take place parts)) i) choices)),
         )
 

@@ -1,8 +1,8 @@
 //! The four families of lists of a hierarchy.
 ghost use Rattle.std.specs.Prelude.{◌≡◌, ◌↔◌, ◌<◌, IfSome, IsSome, length};
-ghost use Rattle.idset.specs.Sets.{has_item};
+ghost use Rattle.number_lists.specs.Members.{has_item};
 ghost use Rattle.idset.specs.Words.{MarkedBelow};
-ghost use Rattle.hierarchy.specs.KeyedLists.{list_of};
+ghost use Rattle.number_lists.specs.KeyedLists.{list_of};
 ghost use Rattle.executor.specs.inside.Joined.{back_of, is_whole as is_whole_of, near_of, turn_of};
 ghost use Rattle.executor.specs.inside.Steps.{HasWords, IsStepFor, asked_of, lists_of};
 

@@ -1,8 +1,9 @@
 //! Which of some candidates an operator leads to, by the lists of each.
 ghost use Rattle.std.specs.Prelude.{◌≡◌, ◌<◌, ◌∷◌, All, IfOk, filter};
 ghost use Rattle.std.specs.List.{flat_map};
-ghost use Rattle.hierarchy.specs.KeyedLists.{list_of};
-ghost use Rattle.idset.specs.Sets.{all_items, has_item};
+ghost use Rattle.number_lists.specs.KeyedLists.{list_of};
+ghost use Rattle.idset.specs.Sets.{all_items};
+ghost use Rattle.number_lists.specs.Members.{has_item};
 ghost use Rattle.executor.specs.inside.Asked.{AreEnough, asked_lists};
 ghost use Rattle.executor.specs.inside.Steps.{apart as apart_of, IsOf, IsOver, joined, led_to, lists_of, stepped};
 ghost use Rattle.pair_sets.specs.Within.{AreBelow, may_be};

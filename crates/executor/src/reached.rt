@@ -1,7 +1,7 @@
 //! What the concepts of a set reach, by one pass over the is-a rows.
 ghost use Rattle.std.specs.Prelude.{◌≡◌, ◌<◌, ◌&&◌, not, true, All, IfOk};
 ghost use Rattle.std.specs.List.{list_all};
-ghost use Rattle.idset.specs.Sets.{has_item};
+ghost use Rattle.number_lists.specs.Members.{has_item};
 ghost use Rattle.executor.specs.inside.Joined.{AreJoined, is_whole as is_whole_of, turn_of};
 ghost use Rattle.executor.specs.inside.Steps.{IsOf, IsOver, lists_of};
 

@@ -1,8 +1,8 @@
 //! The components of reference sets.
 ghost use Rattle.std.specs.Prelude.{◌≡◌, ◌<◌, All, IfOk, filter, length};
 ghost use Rattle.std.specs.List.{flat_map};
-ghost use Rattle.hierarchy.specs.KeyedLists.{list_of};
-ghost use Rattle.idset.specs.Sets.{has_item};
+ghost use Rattle.number_lists.specs.KeyedLists.{list_of};
+ghost use Rattle.number_lists.specs.Members.{has_item};
 ghost use Rattle.postings.specs.Indexed.{IsIndexOf};
 ghost use Rattle.executor.specs.inside.Components.{components_of, is_in_one_of};
 ghost use Rattle.pair_sets.specs.Within.{AreBelow, may_be};

@@ -1,8 +1,9 @@
 //! Where an operator leads from a set.
 ghost use Rattle.std.specs.Prelude.{ℕ, ◌≡◌, ◌<◌, ◌++◌, ◌∷◌, [], false, not, true, List, All, IfOk, OnOk, filter};
 ghost use Rattle.std.specs.List.{list_any};
-ghost use Rattle.idset.specs.Sets.{all_items, has_item};
-ghost use Rattle.hierarchy.specs.KeyedLists.{list_of};
+ghost use Rattle.idset.specs.Sets.{all_items};
+ghost use Rattle.number_lists.specs.Members.{has_item};
+ghost use Rattle.number_lists.specs.KeyedLists.{list_of};
 ghost use Rattle.executor.specs.inside.Joined.{AreJoined, is_long as is_long_of, is_whole as is_whole_of, with_length};
 ghost use Rattle.executor.specs.inside.Steps.{apart as apart_of, IsOf, IsOver, joined, lists_of, stepped};
 

@@ -1,20 +1,9 @@
 -- The computing test `reaches` tells what a chain of is-a rows is.
-use Rattle.std.proofs.Common.{ℕ, suc, ◌≡◌, ◌==◌, ◌||◌, ◌⊎◌, inl, inr, true, List, [], ◌∷◌, Contains, refl, ap, arith, eq-eqb}
+use Rattle.std.proofs.Common.{ℕ, ◌≡◌, ◌==◌, ◌||◌, ◌⊎◌, inl, inr, true, List, [], ◌∷◌, Contains, refl, ap, arith, eq-eqb}
 use Rattle.std.proofs.lemmas.Bool.{false≢true, or_cases, or_left, or_right, and_parts}
 use Rattle.std.proofs.lemmas.Bool.Decides.{nat_tests}
+use Rattle.number_lists.proofs.ListLemmas.{contained_cases, first_contained, rest_contained}
 use Rattle.hierarchy.specs.Hierarchy.{Reaches, one_row, more_rows, reaches, TellsReaches}
-
--- the first item of a list is in it
-pub first_contained : {X : Type 0} (x : X) (xs : List X) → Contains (x ∷ xs) x
-first_contained x xs = (0, omega arith, refl)
-
--- what is in a list is in the longer list
-pub rest_contained : {X : Type 0} (y : X) (xs : List X) (x : X) → Contains xs x → Contains (y ∷ xs) x
-rest_contained y xs x (k, below, is) = (suc k, omega arith, is)
-
--- what is in a list is its first item or in the rest
-pub contained_cases : {X : Type 0} (y : X) (xs : List X) (x : X) → Contains (y ∷ xs) x → (y ≡ x) ⊎ Contains xs x
-contained_cases y xs x x3 = grind (arith, inl, inr)
 
 -- a chain stays one where a row is added
 pub chain_with_more : (row : ℕ × ℕ) (rows : List (ℕ × ℕ)) {from to : ℕ} → Reaches rows from to → Reaches (row ∷ rows) from to

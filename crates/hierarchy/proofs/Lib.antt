@@ -1,10 +1,6 @@
-pub mod CutLemmas
 pub mod HierarchyLemmas
-pub mod KeyedBlockLemmas
-pub mod KeyedLemmas
 pub mod OrderLemmas
 pub mod ReleaseLemmas
 pub mod SearchLemmas
-pub mod SpanLemmas
 pub mod WayLemmas
 pub mod Rules

@@ -5,12 +5,12 @@ use Rattle.std.specs.Cmp.{nat_eq_equiv}
 use Rattle.std.proofs.lemmas.Bool.{cases_eq, cases_Bool}
 use Rattle.std.proofs.lemmas.List.Sums.{count_by_more_yes, sum_by-cons, sum_by-take-le}
 use Rattle.std.proofs.lemmas.Map.Keys.{IsDistinct-push}
-use Rattle.hierarchy.specs.Members.{has}
-use Rattle.hierarchy.specs.KeyedLists.{items_of, lists_by, list_of, turned, turned_from, with_key}
+use Rattle.number_lists.specs.Members.{has, times}
+use Rattle.number_lists.specs.KeyedLists.{items_of, lists_by, list_of, turned, turned_from, with_key}
 use Rattle.hierarchy.specs.inside.Released.{AreRoots}
-use Rattle.hierarchy.proofs.HierarchyLemmas.{first_contained, rest_contained}
-use Rattle.hierarchy.proofs.KeyedLemmas.{items_of-append, list_of-lists_by}
-use Rattle.hierarchy.proofs.ReleaseLemmas.{had_not, members-push, times, times-append}
+use Rattle.number_lists.proofs.ListLemmas.{first_contained, rest_contained}
+use Rattle.number_lists.proofs.KeyedLemmas.{items_of-append, list_of-lists_by}
+use Rattle.number_lists.proofs.MemberLemmas.{had_not, members-push, times-append}
 use Rattle.std.proofs.lemmas.Grind.{common_steps}
 use Rattle.std.proofs.lemmas.Bool.Decides.{nat_tests}
 

@@ -1,45 +1,18 @@
--- Numbers in a list: whether, and how often. The children of a concept that is done, one after another.
-use Rattle.std.proofs.Common.{ℕ, ◌+◌, ◌-◌, ◌==◌, ◌≡◌, ◌≢◌, ◌≤◌, ◌<◌, ◌↔◌, ◌++◌, ◌∷◌, [], ◌∙◌, ⊎_elim, true, false, cond, List, length, get_or, take, set, refl, arith, length-set, Contains, count_by, eq-eqb, eqb-true, get_or-set_same, get_or-set_other}
+-- The children of a concept that is done, one after another.
+use Rattle.std.proofs.Common.{ℕ, ◌+◌, ◌-◌, ◌==◌, ◌≡◌, ◌≢◌, ◌≤◌, ◌<◌, ◌↔◌, ◌++◌, ◌∷◌, [], ◌∙◌, ⊎_elim, cond, List, length, get_or, take, set, refl, arith, length-set, get_or-set_same, get_or-set_other}
 use Rattle.std.specs.List.{IsDistinct}
-use Rattle.std.proofs.lemmas.Bool.{cases_eq, cases_Bool}
+use Rattle.std.proofs.lemmas.Bool.{cases_eq}
 use Rattle.std.proofs.lemmas.List.{get_or_read}
-use Rattle.std.proofs.lemmas.List.Sums.{sum_by-append, sum_by_more, count_by_more_yes}
+use Rattle.std.proofs.lemmas.List.Sums.{sum_by_more}
 use Rattle.std.proofs.lemmas.Map.Keys.{IsDistinct-push}
-use Rattle.std.proofs.lemmas.Map.Views.{Contains-from_any, list_any-from_Contains}
 use Rattle.std.specs.Cmp.{nat_eq_equiv}
-use Rattle.hierarchy.specs.Members.{has}
+use Rattle.number_lists.specs.Members.{times}
+use Rattle.number_lists.proofs.MemberLemmas.{had_not, members-push, times-own}
 use Rattle.hierarchy.specs.inside.Released.{IsReleased}
 use Rattle.std.proofs.lemmas.Grind.{common_steps}
 use Rattle.std.proofs.lemmas.Bool.Decides.{nat_tests}
 
--- what a list has is in it, and the other way round
-pub contains_had : (xs : List ℕ) (x : ℕ) → has xs x ≡ true → Contains xs x
-contains_had xs x had = Contains-from_any eqb-true x xs had
-
-pub had_contained : (xs : List ℕ) (x : ℕ) → Contains xs x → has xs x ≡ true
-had_contained xs x there = list_any-from_Contains nat_eq_equiv x xs there
-
-pub had_not : (xs : List ℕ) (x : ℕ) → (Contains xs x → ⊥) → has xs x ≡ false
-had_not xs x none = ⊎_elim (λ (had : has xs x ≡ true). absurd (none (contains_had xs x had))) (λ (told : has xs x ≡ false). told) (cases_Bool (has xs x))
-
-pub not_contained : (xs : List ℕ) (x : ℕ) → has xs x ≡ false → Contains xs x → ⊥
-not_contained xs x told there = absurd (cc (told, had_contained xs x there))
-
--- how often a number is in a list
-abbrev pub times : ℕ → List ℕ → ℕ
-times number xs = count_by (λ x. x == number) xs
-
-pub times-append : (number : ℕ) (xs ys : List ℕ) → times number (xs ++ ys) ≡ times number xs + times number ys
-times-append number xs ys = sum_by-append (λ x. cond (x == number) 1 0) xs ys
-
-pub times-own : (xs : List ℕ) (i : ℕ) → i < length xs → times (get_or xs i 0) (take (i + 1) xs) ≡ times (get_or xs i 0) (take i xs) + 1
-times-own xs i within = count_by_more_yes (λ x. x == get_or xs i 0) xs i 0 within (eq-eqb (get_or xs i 0) (get_or xs i 0) refl)
-
--- one more, where the others are those for which something holds
-pub members-push : (P : ℕ → Type 0) (xs : List ℕ) (x : ℕ) → P x → ((y : ℕ) → y ≢ x → Contains xs y ↔ P y) → (y : ℕ) → Contains (xs ++ x ∷ []) y ↔ P y
-members-push P xs x own other y = grind (arith, common_steps, nat_tests, ⊎_elim, cases_eq)
-
--- ---- children that are let go
+-- no child is let go
 pub release_none : (before : List ℕ) → IsReleased [] before before []
 unfolding IsDistinct
 release_none before = record { len = refl; less = λ concept. omega arith; once = tt; members = λ concept. grind arith }

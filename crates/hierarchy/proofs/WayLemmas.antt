@@ -9,14 +9,15 @@ use Rattle.std.proofs.lemmas.List.Elements.{All-contains, Contains-append_left, 
 use Rattle.std.proofs.lemmas.Map.Keys.{IsDistinct-push, IsDistinct-from_apart, apart_from_distinct}
 use Rattle.std.proofs.lemmas.Map.Steps.{length-le_from_distinct_below}
 use Rattle.hierarchy.specs.Hierarchy.{IsWithin, Reaches, more_rows, one_row}
-use Rattle.hierarchy.specs.Members.{has}
-use Rattle.hierarchy.specs.KeyedLists.{AreItemsBelow, items_of, lists_by, list_of, turned, turned_from}
+use Rattle.number_lists.specs.Members.{has, times}
+use Rattle.number_lists.specs.KeyedLists.{AreItemsBelow, items_of, lists_by, list_of, turned, turned_from}
 use Rattle.hierarchy.specs.ParentsFirst.{IsParentsFirst}
 use Rattle.hierarchy.specs.inside.Released.{AreRoots, IsReleased}
-use Rattle.hierarchy.proofs.HierarchyLemmas.{chain_of_two, contained_cases, first_contained, rest_contained}
-use Rattle.hierarchy.proofs.KeyedLemmas.{items_of-append, length-lengths, length-lists_by, lengths, list_of-lists_by}
+use Rattle.hierarchy.proofs.HierarchyLemmas.{chain_of_two}
+use Rattle.number_lists.proofs.ListLemmas.{contained_cases, first_contained, rest_contained}
+use Rattle.number_lists.proofs.KeyedLemmas.{items_of-append, length-lengths, length-lists_by, lengths, list_of-lists_by}
 use Rattle.hierarchy.proofs.OrderLemmas.{all_done, counted, open_all, open_count, open_less, some_open, times-children}
-use Rattle.hierarchy.proofs.ReleaseLemmas.{contains_had, had_not, not_contained, times}
+use Rattle.number_lists.proofs.MemberLemmas.{contains_had, had_not, not_contained}
 
 -- the parents of a concept are those that its rows lead to
 pub items_of-contained : (rows : List (ℕ × ℕ)) (child parent : ℕ) → Contains rows (child, parent) → Contains (items_of rows child) parent

@@ -1,5 +1,3 @@
 pub mod Hierarchy
 pub mod inside
-pub mod KeyedLists
-pub mod Members
 pub mod ParentsFirst

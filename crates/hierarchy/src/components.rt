@@ -4,7 +4,7 @@
 ghost use Rattle.std.specs.Prelude.{◌≡◌, ◌<◌, ◌^◌, IfOk, length};
 ghost use Rattle.hierarchy.specs.Hierarchy.{IsWithin};
 
-use crate::keyed_lists::KeyedLists;
+use number_lists::KeyedLists;
 use std::alloc::{AllocError, Global};
 
 /// A rank for each of `count` concepts: those that reach one another have one rank, and otherwise a

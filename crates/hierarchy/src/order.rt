@@ -5,7 +5,7 @@ ghost use Rattle.hierarchy.specs.Hierarchy.{IsWithin, Reaches};
 ghost use Rattle.hierarchy.specs.ParentsFirst.{IsParentsFirst};
 ghost use Rattle.hierarchy.specs.inside.Released.{AreRoots, IsReleased};
 
-use crate::keyed_lists::KeyedLists;
+use number_lists::KeyedLists;
 use std::alloc::{AllocError, Global};
 
 /// An order of `count` concepts in which each row, a child and its parent, leads to a concept that

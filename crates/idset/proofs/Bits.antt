@@ -6,9 +6,11 @@ use Rattle.std.proofs.lemmas.Bool.{cases_lt}
 use Rattle.std.proofs.lemmas.List.{get_or_past}
 use Rattle.std.proofs.lemmas.Nat.Bits.{bit_at_and, bit_at_or, bit_at_xor, bit_at-lt, bit_at-zero}
 use Rattle.std.proofs.lemmas.Simd.{get_or-zip2, length-zip2}
-use Rattle.idset.specs.Sets.{all_items, common_items, numbers_where, other_items}
+use Rattle.idset.specs.Sets.{all_items, common_items, other_items}
+use Rattle.number_lists.specs.Rising.{numbers_where}
 use Rattle.idset.specs.Words.{AreWordsBelow, bit_minus, is_set}
-use Rattle.idset.proofs.Normal.{all_items-numbers_where, common_items-numbers_where, numbers_where-agree, other_items-numbers_where}
+use Rattle.idset.proofs.Normal.{all_items-numbers_where, common_items-numbers_where, other_items-numbers_where}
+use Rattle.number_lists.proofs.WhereLemmas.{numbers_where-agree}
 
 -- ---- what the operations on words do to a bit
 min_one : (x y : ℕ) → x < 2 → y < 2 → eqb (min x y) 1 ≡ (eqb x 1 && eqb y 1)

@@ -7,9 +7,9 @@ use Rattle.std.proofs.lemmas.List.Sums.{sum_by-cons, sum_by-append}
 use Rattle.std.proofs.lemmas.Nat.Bits.{bit_at_lowest, bit_at-suc}
 use Rattle.std.proofs.Math.Nat.{pow-suc}
 use Rattle.std.proofs.Math.Seq.{take-add}
-use Rattle.idset.specs.Sets.{numbers_where}
+use Rattle.number_lists.specs.Rising.{numbers_where}
 use Rattle.idset.specs.Words.{AreWordsBelow, is_set}
-use Rattle.idset.proofs.Normal.{numbers_from, numbers_from-add, numbers_where-skip}
+use Rattle.number_lists.proofs.WhereLemmas.{numbers_from, numbers_from-add, numbers_where-skip}
 
 -- ---- a vector
 pub vector_sum : (f : ℕ → ℕ → ℕ) (g h : ℕ → ℕ) → ((s x : ℕ) → s + x < 2 ^ 64 → f s x ≡ s + x)

@@ -5,6 +5,5 @@ pub mod Merging
 pub mod Normal
 pub mod Places
 pub mod Rising
-pub mod Sorting
 pub mod Vectors
 pub mod WordLemmas

@@ -1,44 +1,15 @@
 -- The place of a number in a rising list: how many items stand before the first that is not below it.
-use Rattle.std.proofs.Common.{ℕ, zero, suc, ◌+◌, ◌-◌, ◌<◌, ◌≤◌, ◌≡◌, ◌^◌, Bool, true, false, ◌&&◌, ◌||◌, cond, ltb, eqb, List, [], ◌∷◌, ◌++◌, length, take, drop, get_or, refl, sym, ◌∙◌, subst, arith, inl, inr}
+use Rattle.std.proofs.Common.{ℕ, suc, ◌+◌, ◌-◌, ◌<◌, ◌≤◌, ◌≡◌, ◌^◌, Bool, true, false, ◌&&◌, ◌||◌, cond, ltb, eqb, List, [], ◌∷◌, ◌++◌, length, take, drop, get_or, refl, sym, ◌∙◌, subst, arith, inl, inr}
 use Rattle.std.specs.List.{filter}
 use Rattle.std.proofs.lemmas.Bool.{lt-ltb, le-ltb, eq-eqb, ne_eqb, ltb-true, cases_lt, cases_eq, true≢false}
 use Rattle.std.proofs.lemmas.List.Elements.{filter_more}
 use Rattle.std.proofs.lemmas.List.Sums.{prefix_len-le-length, prefix_len_passes, prefix_len_stops}
 use Rattle.std.proofs.lemmas.List.Folds.{list_any_at}
-use Rattle.idset.specs.Sets.{has_item, rises_within, IsRising, IsRisingBelow, place_of}
-use Rattle.idset.proofs.Rising.{rises_on, rises_from_on, has_item-below_lowest}
+use Rattle.number_lists.specs.Members.{has_item}
+use Rattle.number_lists.specs.Rising.{rises_within, IsRising, IsRisingBelow}
+use Rattle.idset.specs.Sets.{place_of}
+use Rattle.number_lists.proofs.RisingLemmas.{get_or-rising, has_item-below_lowest, rises_from_on, rises_on}
 
--- ---- the items of a rising list by their places
-pub get_or-above : (lowest bound : ℕ) (items : List ℕ) (k : ℕ) → rises_within lowest bound items ≡ true → k < length items → lowest ≤ get_or items k 0
-get_or-above lowest bound [] k rises in' = absurd (omega arith)
-get_or-above lowest bound (item ∷ items) zero rises in' = (rises_on lowest bound item items rises).above
-get_or-above lowest bound (item ∷ items) (suc k) rises in' =
-    let on = rises_on lowest bound item items rises in
-    omega (arith, on.above, get_or-above (suc item) bound items k on.rest (omega arith))
-
-pub get_or-below : (lowest bound : ℕ) (items : List ℕ) (k : ℕ) → rises_within lowest bound items ≡ true → k < length items → get_or items k 0 < bound
-get_or-below lowest bound [] k rises in' = absurd (omega arith)
-get_or-below lowest bound (item ∷ items) zero rises in' = (rises_on lowest bound item items rises).below
-get_or-below lowest bound (item ∷ items) (suc k) rises in' =
-    get_or-below (suc item) bound items k (rises_on lowest bound item items rises).rest (omega arith)
-
-pub get_or-rising : (lowest bound : ℕ) (items : List ℕ) (j k : ℕ) → rises_within lowest bound items ≡ true → j < k
-    → k < length items → get_or items j 0 < get_or items k 0
-get_or-rising lowest bound [] j k rises lt in' = absurd (omega arith)
-get_or-rising lowest bound (item ∷ items) j zero rises lt in' = absurd (omega arith)
-get_or-rising lowest bound (item ∷ items) zero (suc k) rises lt in' =
-    get_or-above (suc item) bound items k (rises_on lowest bound item items rises).rest (omega arith)
-get_or-rising lowest bound (item ∷ items) (suc j) (suc k) rises lt in' =
-    get_or-rising (suc item) bound items j k (rises_on lowest bound item items rises).rest (omega arith) (omega arith)
-
--- a rising list has no more items than there are numbers for them
-pub length-rising : (lowest bound : ℕ) (items : List ℕ) → rises_within lowest bound items ≡ true → length items ≤ bound - lowest
-length-rising lowest bound [] rises = omega arith
-length-rising lowest bound (item ∷ items) rises =
-    let on = rises_on lowest bound item items rises in
-    omega (arith, on.above, on.below, length-rising (suc item) bound items on.rest)
-
--- ---- the place of a number
 pub place_le : (items : List ℕ) (n : ℕ) → place_of items n ≤ length items
 place_le items n = prefix_len-le-length (λ item. ltb item n) items
 
@@ -213,7 +184,3 @@ behind_step items others i p rises in' is =
       place_grows others (get_or items i 0) (get_or items (i + 1) 0)
           (omega (arith, get_or-rising 0 (2 ^ 32) items i (i + 1) rises (omega arith) in')),
     )
-
--- a rising list of numbers of 32 bits has no more items than 32 bits count
-pub count_fits : (bound : ℕ) (items : List ℕ) → IsRisingBelow bound items → length items ≤ bound
-count_fits bound items rises = omega (arith, length-rising 0 bound items rises)

@@ -6,12 +6,13 @@ use Rattle.std.proofs.lemmas.List.Elements.{filter_agree}
 use Rattle.std.specs.Simd.Lanes.{zip2}
 use Rattle.std.proofs.lemmas.Bool.{lt-ltb, cases_lt}
 use Rattle.std.proofs.lemmas.List.{get_or_default}
-use Rattle.idset.specs.Sets.{all_items, common_items, has_item, IsRisingBelow, numbers_where, other_items}
+use Rattle.idset.specs.Sets.{all_items, common_items, other_items}
+use Rattle.number_lists.specs.Members.{has_item}
+use Rattle.number_lists.specs.Rising.{IsRisingBelow, numbers_where}
 use Rattle.idset.specs.Words.{AreWordsBelow, bit_minus, is_set, MarkedBelow}
 use Rattle.idset.proofs.Bits.{and_words_below, and_words_items, minus_words_below, minus_words_items, or_words_below, or_words_items}
-use Rattle.idset.proofs.Normal.{filter-numbers_where, has_item-numbers_where, has_item-numbers_where_past, numbers_where-agree, numbers_where-all}
-use Rattle.idset.proofs.Places.{get_or-below}
-use Rattle.idset.proofs.Rising.{has_item-past_bound, numbers_where-rising, rising_is_numbers_where}
+use Rattle.number_lists.proofs.WhereLemmas.{filter-numbers_where, has_item-numbers_where, has_item-numbers_where_past, numbers_where-agree, numbers_where-all}
+use Rattle.number_lists.proofs.RisingLemmas.{get_or-below, has_item-past_bound, numbers_where-rising, rising_is_numbers_where}
 
 -- words of a set with the same bound
 pub below_too : (bound other_bound : ℕ) (words : List ℕ) → bound ≡ other_bound → AreWordsBelow other_bound words → AreWordsBelow bound words

@@ -1,7 +1,9 @@
 //! What every form of set gives.
 ghost use Rattle.std.specs.Prelude.{◌≡◌, ◌<◌, ◌^◌, ℕ, List, All, IfOk, length, OnErr, OnOk};
 ghost use Rattle.std.specs.List.{range_with_len};
-ghost use Rattle.idset.specs.Sets.{all_items, common_items, has_item, IsRisingBelow, listed_numbers, missing_numbers, numbers_where, other_items};
+ghost use Rattle.idset.specs.Sets.{all_items, common_items, missing_numbers, other_items};
+ghost use Rattle.number_lists.specs.Members.{has_item};
+ghost use Rattle.number_lists.specs.Rising.{IsRisingBelow, listed_numbers, numbers_where};
 ghost use Rattle.idset.specs.Words.{AreWordsBelow, is_set};
 
 use std::alloc::{AllocError, Global};

@@ -1,7 +1,8 @@
 //! The set in whichever of the two forms suits how many items it has.
 ghost use Rattle.std.specs.Prelude.{◌≡◌, IfOk};
 ghost use Rattle.idset.specs.inside.MixedForm.{form_bound, form_items, form_rises, list_items, word_items};
-ghost use Rattle.idset.specs.Sets.{all_items, common_items, IsRisingBelow, other_items};
+ghost use Rattle.idset.specs.Sets.{all_items, common_items, other_items};
+ghost use Rattle.number_lists.specs.Rising.{IsRisingBelow};
 
 use crate::concept_set::ConceptSet;
 use crate::lists::union_of;

@@ -1,6 +1,6 @@
 //! The set as the rising list of its items.
 ghost use Rattle.std.specs.Prelude.{◌≡◌, ◌<◌, ◌^◌};
-ghost use Rattle.idset.specs.Sets.{IsRisingBelow};
+ghost use Rattle.number_lists.specs.Rising.{IsRisingBelow};
 
 use crate::concept_set::ConceptSet;
 use crate::lists::{
@@ -112,7 +112,7 @@ impl ConceptSet for SortedSet {
         has_number(&self.items, number)
     }
 
-    #[tactic(auto, using(crate::proofs::Places::count_fits))]
+    #[tactic(auto, using(number_lists::proofs::RisingLemmas::count_fits))]
     fn count(&self) -> u32 {
         self.items.len() as u32
     }

@@ -1,6 +1,7 @@
 //! The set as words of bits.
 ghost use Rattle.std.specs.Prelude.{◌≡◌, ◌<◌, ◌^◌};
-ghost use Rattle.idset.specs.Sets.{IsRisingBelow, numbers_where, other_items};
+ghost use Rattle.number_lists.specs.Rising.{IsRisingBelow, numbers_where};
+ghost use Rattle.idset.specs.Sets.{other_items};
 ghost use Rattle.idset.specs.Words.{AreWordsBelow, is_set};
 
 use crate::concept_set::ConceptSet;

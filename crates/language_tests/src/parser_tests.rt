@@ -5,7 +5,7 @@ use constraint_tree::{
 };
 use ecl_lexer::{Feature, QueryFault};
 use ecl_parser::{parse, read_again};
-use rf2_rows::Decimal;
+use numerals::Decimal;
 use std::alloc::{AllocError, Global};
 use std::process::Abort;
 

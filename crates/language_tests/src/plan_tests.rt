@@ -6,7 +6,7 @@ use crate::trees::{
 use constraint_tree::{
     Attribute, AttributeSet, Cardinality, Compare, Constraint, Operator, Refinement, Test,
 };
-use rf2_rows::Decimal;
+use numerals::Decimal;
 use set_algebra::{ConceptPlan, UnitPlan, ValueTest, lower};
 use std::alloc::{AllocError, Global};
 

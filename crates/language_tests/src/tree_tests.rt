@@ -5,7 +5,7 @@ use crate::trees::{
 use constraint_tree::{
     Attribute, AttributeSet, Cardinality, Compare, Constraint, Operator, Refinement, Test,
 };
-use rf2_rows::Decimal;
+use numerals::Decimal;
 use std::alloc::{AllocError, Global};
 use std::process::Abort;
 

@@ -8,8 +8,9 @@ use Rattle.rf2_rows.specs.Pairs.{value_eq}
 use Rattle.rf2_rows.specs.Release.{Attribute, Release, Value, concept_value}
 use Rattle.constraint_tree.specs.Passing.{lies_in}
 use Rattle.constraint_tree.specs.declared.operator.Cardinality.{Cardinality}
-use Rattle.idset.specs.Sets.{has_item, numbers_where}
-use Rattle.idset.proofs.Normal.{numbers_where-agree}
+use Rattle.number_lists.specs.Members.{has_item, has}
+use Rattle.number_lists.specs.Rising.{numbers_where}
+use Rattle.number_lists.proofs.WhereLemmas.{numbers_where-agree}
 use Rattle.postings.specs.Entries.{Entry, entries_of}
 use Rattle.postings.specs.Groups.{ConceptGroup, groups_in, is_in_group, rows_of_group}
 use Rattle.postings.specs.Indexed.{Indexed, IsIndexOf}
@@ -17,8 +18,8 @@ use Rattle.postings.specs.Places.{places_from, places_where}
 use Rattle.postings.proofs.EntryLemmas.{rows_of_entries}
 use Rattle.postings.proofs.PlaceLemmas.{places_where-within}
 use Rattle.std.proofs.lemmas.List.Elements.{All-nil}
+use Rattle.std.proofs.Math.Bool.{and-false}
 use Rattle.set_algebra.specs.Meaning.{has_pairs, pairs_of}
-use Rattle.hierarchy.specs.Members.{has}
 use Rattle.pair_sets.specs.inside.Among.{at_entry, pair_counts, pairs_among, pairs_of_concept, rows_of_unit}
 use Rattle.pair_sets.specs.Groups.{some_group_in}
 use Rattle.pair_sets.specs.inside.Hits.{TellsTypes, has_pair_in, has_source_in, is_in_some, value_of}
@@ -98,16 +99,12 @@ has_kept p (x ∷ xs) n = elim (cases_eq x n) [
   | inr apart ↦ by_other (has_kept p xs n) (ne_eqb x n apart) (p x)
 ]
   where
-    never : (a : Bool) → (a && false) ≡ false
-    never true = refl
-    never false = refl
-
     by_same : has_item (filter p xs) n ≡ (has_item xs n && p n) → x ≡ n → (b : Bool) → p x ≡ b
         → has_item (cond b (x ∷ filter p xs) (filter p xs)) n ≡ (((x == n) || has_item xs n) && p n)
     by_same rest same true keeps = (λ i. eq-eqb x n same i || has_item (filter p xs) n)
         ∙ sym (λ i. (eq-eqb x n same i || has_item xs n) && (ap p (sym same) ∙ keeps) i)
     by_same rest same false leaves =
-        rest ∙ (λ i. has_item xs n && (ap p (sym same) ∙ leaves) i) ∙ never (has_item xs n)
+        rest ∙ (λ i. has_item xs n && (ap p (sym same) ∙ leaves) i) ∙ and-false (has_item xs n)
         ∙ sym ((λ i. (eq-eqb x n same i || has_item xs n) && (ap p (sym same) ∙ leaves) i))
 
     by_other : has_item (filter p xs) n ≡ (has_item xs n && p n) → (x == n) ≡ false → (b : Bool)

@@ -13,12 +13,13 @@ use Rattle.postings.specs.RowColumns.{AreRowCells}
 use Rattle.postings.specs.declared.index.RowCells.{RowCells}
 use Rattle.postings.proofs.EntryLemmas.{rows_of_entries}
 use Rattle.pair_sets.specs.inside.Among.{at_entry}
-use Rattle.pair_sets.specs.inside.Counted.{times}
+use Rattle.number_lists.specs.Members.{times}
 use Rattle.pair_sets.specs.inside.Hits.{TellsTypes, counts_for_value}
 use Rattle.pair_sets.proofs.AmongLemmas.{places_counted}
 use Rattle.pair_sets.proofs.HitLemmas.{and_apart, value_tells}
 use Rattle.pair_sets.proofs.LeafLemmas.{count_kept, none_within}
-use Rattle.pair_sets.proofs.TimesLemmas.{times-append, times-cons}
+use Rattle.number_lists.proofs.MemberLemmas.{times-append}
+use Rattle.pair_sets.proofs.TimesLemmas.{times-cons}
 
 -- ---- the values of rows, row by row
 module _ (indexed : Indexed) (rising : IsStrictlyIncreasing indexed.concepts) (one told : ℕ → Bool)

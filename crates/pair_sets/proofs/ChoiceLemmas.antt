@@ -6,13 +6,14 @@ use Rattle.std.specs.List.{flat_map, list_any}
 use Rattle.std.specs.List.Sorted.{IsStrictlyIncreasing}
 use Rattle.std.proofs.lemmas.Bool.{cases_eq, eq-eqb, eqb-true, ne_eqb}
 use Rattle.std.proofs.lemmas.List.Elements.{filter_more}
+use Rattle.std.proofs.Math.Bool.{and-false}
 use Rattle.rf2_rows.specs.Pairs.{value_eq}
 use Rattle.rf2_rows.specs.Release.{Value, concept_value, number_value, text_value}
 use Rattle.constraint_tree.specs.Passing.{is_within}
-use Rattle.idset.specs.Sets.{numbers_where, rises_within}
-use Rattle.idset.proofs.Normal.{numbers_where-more}
-use Rattle.idset.proofs.Rising.{rises_on}
-use Rattle.ancestor_index.proofs.ClosureLemmas.{both_ways}
+use Rattle.number_lists.specs.Rising.{numbers_where, rises_within}
+use Rattle.number_lists.proofs.WhereLemmas.{numbers_where-more}
+use Rattle.number_lists.proofs.RisingLemmas.{rises_on}
+use Rattle.number_lists.proofs.ListLemmas.{both_ways}
 use Rattle.postings.specs.Entries.{Entry, entries_of}
 use Rattle.postings.specs.Indexed.{Indexed, types_of}
 use Rattle.pair_sets.specs.inside.Hits.{AreHits, entries_with_sources, entries_with_types, entries_with_values}
@@ -22,10 +23,6 @@ use Rattle.pair_sets.proofs.LeafLemmas.{count_either, count_kept, count_none, ty
 use Rattle.pair_sets.proofs.Normal.{same_by_number}
 
 -- ---- tests
-never : (a : Bool) → (a && false) ≡ false
-never true = refl
-never false = refl
-
 always : (a : Bool) → a ≡ (a && true)
 always true = refl
 always false = refl
@@ -33,16 +30,16 @@ always false = refl
 -- the first of four, put last
 moved : (a b c d : Bool) → (a && (b && (c && d))) ≡ (b && (c && (d && a)))
 moved true b c d = λ i. b && (c && always d i)
-moved false b c d = sym ((λ i. b && (c && never d i)) ∙ (λ i. b && never c i) ∙ never b)
+moved false b c d = sym ((λ i. b && (c && and-false d i)) ∙ (λ i. b && and-false c i) ∙ and-false b)
 
 both_apart : (a b c : Bool) → (a && b) ≡ false → ((a && c) && (b && c)) ≡ false
 both_apart true true c apart = absurd cc
-both_apart true false c apart = never c
+both_apart true false c apart = and-false c
 both_apart false b c apart = refl
 
 one_of_both : (a b c : Bool) → ((a || b) && c) ≡ ((a && c) || (b && c))
 one_of_both true b true = refl
-one_of_both true b false = sym (never b)
+one_of_both true b false = sym (and-false b)
 one_of_both false b c = refl
 
 apart_from_both : (a b c : Bool) → (a && b) ≡ false → (a && c) ≡ false → (a && (b || c)) ≡ false
@@ -75,7 +72,7 @@ module _ (bound : ℕ) (has : ℕ → Entry → Bool)
     (apart : (a b : ℕ) → a < bound → b < bound → (a ≡ b → ⊥) → (entry : Entry) → (has a entry && has b entry) ≡ false) where
   not_again : (key lowest : ℕ) → key < lowest → key < bound → (keys : List ℕ) → rises_within lowest bound keys ≡ true
       → (entry : Entry) → (has key entry && has_some has keys entry) ≡ false
-  not_again key lowest less within [] rises entry = never (has key entry)
+  not_again key lowest less within [] rises entry = and-false (has key entry)
   not_again key lowest less within (next ∷ keys) rises entry =
       let on = rises_on lowest bound next keys rises in
       apart_from_both (has key entry) (has next entry) (has_some has keys entry)
@@ -122,7 +119,7 @@ module _ (concepts : List ℕ) where
       | inl same ↦
           (λ i. (concept == get_or concepts a 0) && (ap (λ (c : ℕ). c == get_or concepts b 0) same
           ∙ same_by_number concepts rising a b a_within b_within ∙ ne_eqb a b other) i)
-          ∙ never (concept == get_or concepts a 0)
+          ∙ and-false (concept == get_or concepts a 0)
       | inr differs ↦ (λ i. ne_eqb concept (get_or concepts a 0) differs i && (concept == get_or concepts b 0))
     ]
 

@@ -17,13 +17,14 @@ use Rattle.postings.specs.Entries.{Entry}
 use Rattle.postings.specs.Groups.{ConceptGroup, group_of, groups_in, is_in_group, rows_alone}
 use Rattle.postings.specs.Indexed.{Indexed, types_of, value_at, values_of}
 use Rattle.postings.proofs.KeyLemmas.{IsTold, groups_once, groups_told_apart, in_one_group, in_own_group}
-use Rattle.postings.proofs.OnceLemmas.{IsOnce, same_place}
+use Rattle.number_lists.proofs.ListLemmas.{IsOnce, same_place}
 use Rattle.postings.proofs.ValueLemmas.{concept_at}
-use Rattle.pair_sets.specs.inside.Counted.{times}
+use Rattle.number_lists.specs.Members.{times}
 use Rattle.pair_sets.specs.inside.Hits.{AreHits, TellsTypes, value_of, counts_for_group, counts_for_source, counts_for_value}
 use Rattle.pair_sets.specs.inside.Hits.{has_source_in, is_in_some, picked}
 use Rattle.pair_sets.proofs.Normal.{same_by_number}
-use Rattle.pair_sets.proofs.TimesLemmas.{times-append, times-cons}
+use Rattle.number_lists.proofs.MemberLemmas.{times-append}
+use Rattle.pair_sets.proofs.TimesLemmas.{times-cons}
 
 -- ---- lists of which functions give the same
 module _ {X Y Z : Type 0} (f : X → Z) (g : Y → Z) (xs : List X) (ys : List Y) (are : map f xs ≡ map g ys) where

@@ -10,31 +10,30 @@ use Rattle.std.proofs.lemmas.List.Sums.{count_by-le-length, length-filter}
 use Rattle.std.proofs.lemmas.Map.Keys.{IsDistinct-from_apart}
 use Rattle.std.proofs.lemmas.Option.{get_or_from_slice_get, slice_get-get_or, slice_get_within}
 use Rattle.std.proofs.lemmas.List.{get_or_default}
+use Rattle.std.proofs.Math.Bool.{and-false, or-false}
 use Rattle.rf2_rows.specs.Pairs.{Pair, in_pairs, out_pairs, pair_of, reverse_pair_of, rows_of, value_eq}
 use Rattle.rf2_rows.specs.Release.{Attribute, Release, Value, concept_value}
-use Rattle.rf2_rows.proofs.DistinctLemmas.{keeps_each_number_once}
+use Rattle.number_lists.proofs.DistinctLemmas.{keeps_each_number_once}
 use Rattle.constraint_tree.specs.Passing.{lies_in}
 use Rattle.constraint_tree.specs.declared.operator.Cardinality.{Cardinality}
-use Rattle.idset.specs.Sets.{has_item, numbers_where}
-use Rattle.idset.proofs.Normal.{numbers_where-agree}
+use Rattle.number_lists.specs.Members.{has_item, has, times}
+use Rattle.number_lists.specs.Rising.{numbers_where}
+use Rattle.number_lists.proofs.WhereLemmas.{numbers_where-agree}
 use Rattle.set_algebra.specs.Meaning.{has_pairs, pairs_of}
-use Rattle.hierarchy.specs.Members.{has}
 use Rattle.snapshot.specs.AttributesBySource.{attributes_by_source}
-use Rattle.release_rows.proofs.PlaceLemmas.{contains_map}
-use Rattle.hierarchy.proofs.ReleaseLemmas.{had_contained}
+use Rattle.number_lists.proofs.MemberLemmas.{had_contained, item_there, there_item}
+use Rattle.number_lists.proofs.BlockLemmas.{Contains-map, filter-all}
 use Rattle.release_rows.proofs.RisingLemmas.{earlier_below}
 use Rattle.postings.specs.Entries.{Entry, entries_of}
 use Rattle.postings.specs.Groups.{ConceptGroup, all_groups, groups_in, is_in_group, pairs_of_group, rows_alone}
 use Rattle.postings.specs.Indexed.{Indexed, IsIndexOf, types_of}
-use Rattle.postings.proofs.BlockLemmas.{filter-all}
 use Rattle.postings.proofs.CountLemmas.{all_groups_again, back_count, first_entries, first_entries_of_group}
 use Rattle.postings.proofs.EntryLemmas.{rows_of_entries}
-use Rattle.pair_sets.specs.inside.Counted.{times}
 use Rattle.pair_sets.specs.inside.Hits.{counts_for_concept, counts_for_group, counts_for_source, counts_for_value, entries_with_types}
 use Rattle.pair_sets.specs.inside.Hits.{has_pair_in, has_source_in, is_in_some}
 use Rattle.pair_sets.specs.Groups.{groups_where, some_group_in}
 use Rattle.pair_sets.specs.Numbers.{numbers_in}
-use Rattle.ancestor_index.proofs.ClosureLemmas.{both_ways, item_there, there_item}
+use Rattle.number_lists.proofs.ListLemmas.{both_ways}
 use Rattle.pair_sets.proofs.HitLemmas.{count-append, count-cons}
 
 -- ---- how many items pass, by a key
@@ -89,14 +88,6 @@ none_of key (other ∷ keys) apart = (λ i. (swapped other key ∙ apart.0) i ||
     swapped : (a b : ℕ) → (a == b) ≡ (b == a)
     swapped a b = both_ways (a == b) (b == a) (λ told. eq-eqb b a (sym (eqb-true a b told))) (λ told. eq-eqb a b (sym (eqb-true b a told)))
 
-never : (b : Bool) → (b && false) ≡ false
-never true = refl
-never false = refl
-
-or_never : (b : Bool) → (b || false) ≡ b
-or_never true = refl
-or_never false = refl
-
 -- items key by key, of the keys that are kept
 module _ {X : Type 0} (key : X → ℕ) (kept : ℕ → Bool) (test : X → Bool) (xs : List X) where
   of_key : ℕ → List X
@@ -125,7 +116,7 @@ module _ {X : Type 0} (key : X → ℕ) (kept : ℕ → Bool) (test : X → Bool
         where
           apart : (x : X) → (((key x == k) && test x) && ((has_item keys (key x) && kept (key x)) && test x)) ≡ false
           apart x = elim (cases_eq (key x) k) [
-            | inl same ↦ (λ i. ((key x == k) && test x) && ((absent x same i && kept (key x)) && test x)) ∙ never ((key x == k) && test x)
+            | inl same ↦ (λ i. ((key x == k) && test x) && ((absent x same i && kept (key x)) && test x)) ∙ and-false ((key x == k) && test x)
             | inr other ↦ (λ i. (ne_eqb (key x) k other i && test x) && ((has_item keys (key x) && kept (key x)) && test x))
           ]
 
@@ -134,7 +125,7 @@ module _ {X : Type 0} (key : X → ℕ) (kept : ℕ → Bool) (test : X → Bool
           either x = elim (cases_eq (key x) k) [
             | inl same ↦
                 (λ i. ((eq-eqb k (key x) (sym same) i || absent x same i) && (ap kept same ∙ is) i) && test x)
-                ∙ sym ((λ i. (eq-eqb (key x) k same i && test x) || ((absent x same i && kept (key x)) && test x)) ∙ or_never (test x))
+                ∙ sym ((λ i. (eq-eqb (key x) k same i && test x) || ((absent x same i && kept (key x)) && test x)) ∙ or-false (test x))
             | inr other ↦
                 (λ i. ((ne_eqb k (key x) (λ same. other (sym same)) i || has_item keys (key x)) && kept (key x)) && test x)
                 ∙ sym (λ i. (ne_eqb (key x) k other i && test x) || ((has_item keys (key x) && kept (key x)) && test x))
@@ -169,7 +160,7 @@ one_inside true b c d = refl
 one_inside false b c d = sym (by_case b c)
   where
     by_case : (b c : Bool) → (b && (c && false)) ≡ false
-    by_case true c = never c
+    by_case true c = and-false c
     by_case false c = refl
 
 together : (a b c : Bool) → (a && (b && c)) ≡ ((a && b) && c)
@@ -186,9 +177,9 @@ module _ (rows : List Attribute) (one : ℕ → Bool) where
   type_there entry there =
       there_item (types_of rows) entry.row.type_id
       (((keeps_each_number_once (map (λ (row : Attribute). row.type_id) rows)).1 entry.row.type_id).1
-      (contains_map (λ (row : Attribute). row.type_id) rows entry.row
+      (Contains-map (λ (row : Attribute). row.type_id) rows entry.row
       (subst (λ (all : List Attribute). Contains all entry.row) (rows_of_entries [] rows)
-      (contains_map (λ (e : Entry). e.row) (entries_of rows) entry there))))
+      (Contains-map (λ (e : Entry). e.row) (entries_of rows) entry there))))
 
   pub types_counted : (belongs first passes : Entry → Bool)
       → count_by (λ entry. belongs entry && (first entry && passes entry)) (entries_with_types rows kept_types)

@@ -11,14 +11,16 @@ use Rattle.std.proofs.lemmas.List.Sums.{prefix_len_passes}
 use Rattle.rf2_rows.specs.Release.{Release}
 use Rattle.constraint_tree.specs.Walks.{has_concept}
 use Rattle.constraint_tree.proofs.WalkLemmas.{tells_in_force}
-use Rattle.idset.specs.Sets.{all_items, has_item}
-use Rattle.idset.specs.Sets.{IsRisingBelow}
-use Rattle.idset.proofs.Rising.{rises_from_on, rising_is_where}
-use Rattle.idset.proofs.Normal.{all_items-numbers_where, has_item-numbers_where_any, numbers_where-agree, numbers_where-all, numbers_where-none}
+use Rattle.idset.specs.Sets.{all_items}
+use Rattle.number_lists.specs.Members.{has_item}
+use Rattle.number_lists.specs.Rising.{IsRisingBelow}
+use Rattle.number_lists.proofs.RisingLemmas.{rises_from_on, rising_is_where}
+use Rattle.idset.proofs.Normal.{all_items-numbers_where}
+use Rattle.number_lists.proofs.WhereLemmas.{has_item-numbers_where_any, numbers_where-agree, numbers_where-all, numbers_where-none}
 use Rattle.snapshot.specs.Numbering.{concept_number}
 use Rattle.release_rows.proofs.PlaceLemmas.{place_of}
 use Rattle.release_rows.proofs.RisingLemmas.{earlier_below}
-use Rattle.ancestor_index.proofs.ClosureLemmas.{both_ways}
+use Rattle.number_lists.proofs.ListLemmas.{both_ways}
 use Rattle.pair_sets.specs.Numbers.{numbers_in}
 
 -- tests that agree on the concepts of the release keep the same numbers

@@ -11,9 +11,11 @@ use Rattle.pair_sets.proofs.TimesLemmas.{item_more}
 use Rattle.std.proofs.lemmas.List.Elements.{Contains-append_right, Contains-get_or}
 use Rattle.std.proofs.lemmas.List.FromFn.{get_or-range_with_len, length-range_with_len}
 use Rattle.std.proofs.lemmas.Grind.{flat_map-append}
+use Rattle.std.proofs.Math.Bool.{or-false}
 use Rattle.rf2_rows.specs.Release.{Release}
-use Rattle.idset.specs.Sets.{has_item, numbers_where}
-use Rattle.idset.proofs.Normal.{has_item-numbers_where}
+use Rattle.number_lists.specs.Members.{has_item}
+use Rattle.number_lists.specs.Rising.{numbers_where}
+use Rattle.number_lists.proofs.WhereLemmas.{has_item-numbers_where}
 use Rattle.postings.specs.Groups.{ConceptGroup, GroupKey, all_groups, groups_among, groups_before, groups_in, keys_of, rows_alone}
 use Rattle.postings.specs.Indexed.{Indexed, IsIndexOf}
 use Rattle.postings.proofs.KeyLemmas.{group_with, groups_at}
@@ -60,13 +62,9 @@ pub taken_more : (xs : List ℕ) (k n : ℕ) → k < length xs → has_item (tak
 taken_more xs k n within there = elim (cases_eq (get_or xs k 0) n) [
   | inl same ↦ inr same
   | inr apart ↦
-      inl (sym (or_none (has_item (take k xs) n)) ∙ (λ i. has_item (take k xs) n || sym (ne_eqb (get_or xs k 0) n apart) i)
+      inl (sym (or-false (has_item (take k xs) n)) ∙ (λ i. has_item (take k xs) n || sym (ne_eqb (get_or xs k 0) n apart) i)
       ∙ sym (item_more (take k xs) (get_or xs k 0) n) ∙ ap (λ (ys : List ℕ). has_item ys n) (sym (take_more xs k 0 within)) ∙ there)
 ]
-  where
-    or_none : (b : Bool) → (b || false) ≡ b
-    or_none true = refl
-    or_none false = refl
 
 -- ---- items of lists one behind the other
 get_left : {X : Type 0} (xs ys : List X) (k : ℕ) → k < length xs → slice_get (xs ++ ys) k ≡ slice_get xs k

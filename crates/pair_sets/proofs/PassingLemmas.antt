@@ -9,7 +9,8 @@ use Rattle.std.specs.List.Sorted.{IsStrictlyIncreasing}
 use Rattle.std.proofs.lemmas.Bool.{cases_lt, le-leb, le-ltb, lt-leb, lt-ltb, ne_eqb}
 use Rattle.std.proofs.lemmas.List.{get_or-append_right, length-map}
 use Rattle.std.proofs.lemmas.List.Elements.{All-append, All-map, All-tail}
-use Rattle.idset.specs.Sets.{has_item}
+use Rattle.std.proofs.Math.Bool.{and-false}
+use Rattle.number_lists.specs.Members.{has_item}
 use Rattle.constraint_tree.specs.declared.operator.Compare.{Compare}
 use Rattle.constraint_tree.specs.declared.operator.Compare.TheVariants as comparison
 use Rattle.constraint_tree.specs.Passing.{compares, is_number_that, is_outside, is_within}
@@ -19,7 +20,7 @@ use Rattle.postings.specs.Indexed.{Indexed, value_at, values_among, values_of}
 use Rattle.postings.proofs.ValueLemmas.{concept_at, decimal_at, value_behind}
 use Rattle.pair_sets.specs.inside.Hits.{value_of}
 use Rattle.pair_sets.specs.Tested.{is_one_of, meets}
-use Rattle.pair_sets.proofs.ListLemmas.{any_agree}
+use Rattle.number_lists.proofs.ListLemmas.{any_agree}
 use Rattle.pair_sets.proofs.Normal.{concept_number-None, same_by_number}
 
 -- ---- a concept by its number
@@ -108,13 +109,9 @@ not_less a b = elim (cases_lt b a) [
 
 not_both : (a b : ℕ) → (ltb a b && ltb b a) ≡ false
 not_both a b = elim (cases_lt a b) [
-  | inl less ↦ (λ i. ltb a b && le-ltb b a (omega (arith, less)) i) ∙ never (ltb a b)
+  | inl less ↦ (λ i. ltb a b && le-ltb b a (omega (arith, less)) i) ∙ and-false (ltb a b)
   | inr past ↦ (λ i. le-ltb a b past i && ltb b a)
 ]
-  where
-    never : (x : Bool) → (x && false) ≡ false
-    never true = refl
-    never false = refl
 
 -- at most is not more
 pub int_not_more : (x y : ℤ) → int_le x y ≡ not (int_lt y x)

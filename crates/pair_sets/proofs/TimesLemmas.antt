@@ -4,11 +4,12 @@ use Rattle.std.proofs.Common.{Bool, true, false, not, ◌&&◌, ◌||◌, ◌==�
 use Rattle.std.specs.Prelude.{All, filter, nat_le}
 use Rattle.std.proofs.lemmas.Bool.{cases_eq, cases_lt, eq-eqb, le-leb, leb-false, leb-true, lt-leb, ne_eqb}
 use Rattle.std.proofs.lemmas.List.Sums.{length-filter}
-use Rattle.ancestor_index.proofs.ClosureLemmas.{both_ways}
-use Rattle.idset.specs.Sets.{has_item}
+use Rattle.std.proofs.Math.Bool.{or-false}
+use Rattle.number_lists.proofs.ListLemmas.{both_ways}
+use Rattle.number_lists.specs.Members.{has_item, times}
+use Rattle.number_lists.proofs.MemberLemmas.{times-append}
 use Rattle.constraint_tree.specs.declared.operator.Cardinality.{Cardinality}
 use Rattle.constraint_tree.specs.Passing.{is_up_to, lies_in}
-use Rattle.pair_sets.specs.inside.Counted.{times}
 
 -- ---- by recursion on the list
 pub times-cons : (number x : ℕ) (xs : List ℕ) → times number (x ∷ xs) ≡ cond (x == number) (1 + times number xs) (times number xs)
@@ -28,17 +29,6 @@ has_times (x ∷ xs) number =
       | true ↦ sym (le-leb 1 (1 + times number xs) (omega arith))
       | false ↦ has_times xs number
     ] ∙ ap (nat_le 1) (sym (times-cons number x xs))
-
-pub times-append : (number : ℕ) (xs ys : List ℕ) → times number (xs ++ ys) ≡ times number xs + times number ys
-times-append number [] ys = let none : times number [] ≡ 0 = refl in omega (arith, none)
-times-append number (x ∷ xs) ys =
-    times-cons number x (xs ++ ys)
-    ∙ elim (x == number) as (λ b. cond b (1 + times number (xs ++ ys)) (times number (xs ++ ys))
-    ≡ cond b (1 + times number xs) (times number xs) + times number ys) [
-      | true ↦ omega (arith, times-append number xs ys)
-      | false ↦ times-append number xs ys
-    ]
-    ∙ ap (λ n. n + times number ys) (sym (times-cons number x xs))
 
 -- ---- a number more
 times_more : (number x : ℕ) → times number (x ∷ []) ≡ cond (x == number) 1 0
@@ -79,13 +69,9 @@ first_step xs left x number absent so_far = so_far ∙ by_case ∙ sym (ap (λ n
           = times_more number x ∙ ap (λ b. cond b 1 0) (ne_eqb x number other) in omega (arith, none)
     ]
 
-or_false : (b : Bool) → (b || false) ≡ b
-or_false true = refl
-or_false false = refl
-
 -- a number more among those that there are
 pub item_more : (xs : List ℕ) (x number : ℕ) → has_item (xs ++ x ∷ []) number ≡ (has_item xs number || (x == number))
-item_more [] x number = or_false (x == number)
+item_more [] x number = or-false (x == number)
 item_more (y ∷ xs) x number =
     ap (λ (b : Bool). (y == number) || b) (item_more xs x number)
     ∙ apart (y == number) (has_item xs number) (x == number)
@@ -101,7 +87,7 @@ marked_again xs x number there = sym (item_more xs x number ∙ by_case)
     by_case = elim (cases_eq x number) [
       | inl same ↦
           (λ i. ap (has_item xs) (sym same) i || (x == number)) ∙ (λ i. there i || (x == number)) ∙ sym there ∙ ap (has_item xs) same
-      | inr other ↦ (λ i. has_item xs number || ne_eqb x number other i) ∙ or_false (has_item xs number)
+      | inr other ↦ (λ i. has_item xs number || ne_eqb x number other i) ∙ or-false (has_item xs number)
     ]
 
 pub one_below : (bound x : ℕ) → x < bound → All (λ n. n < bound) (x ∷ [])

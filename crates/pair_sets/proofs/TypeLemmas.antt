@@ -10,7 +10,7 @@ use Rattle.std.proofs.lemmas.List.Quantifiers.{position-Some}
 use Rattle.std.proofs.lemmas.Map.Keys.{apart_from_distinct}
 use Rattle.std.proofs.lemmas.Option.{slice_get-get_or}
 use Rattle.rf2_rows.specs.Release.{Attribute}
-use Rattle.idset.specs.Sets.{has_item}
+use Rattle.number_lists.specs.Members.{has_item}
 use Rattle.postings.specs.Indexed.{Indexed, concept_of_type, types_of}
 use Rattle.pair_sets.specs.inside.Hits.{TellsTypes, is_one_at, is_type_in}
 use Rattle.pair_sets.specs.Tested.{is_one_of}

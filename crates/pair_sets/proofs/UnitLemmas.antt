@@ -14,19 +14,18 @@ use Rattle.rf2_rows.specs.Pairs.{Pair}
 use Rattle.rf2_rows.specs.Release.{Release}
 use Rattle.constraint_tree.specs.Passing.{lies_in}
 use Rattle.constraint_tree.specs.declared.operator.Cardinality.{Cardinality}
-use Rattle.idset.specs.Sets.{numbers_where}
-use Rattle.idset.proofs.Normal.{numbers_where-agree}
+use Rattle.number_lists.specs.Rising.{numbers_where}
+use Rattle.number_lists.proofs.WhereLemmas.{numbers_where-agree}
 use Rattle.set_algebra.specs.Meaning.{has_groups}
 use Rattle.postings.specs.Groups.{ConceptGroup, all_groups, groups_among, keys_of, pairs_of_group}
 use Rattle.postings.proofs.CountLemmas.{groups_count}
 use Rattle.postings.proofs.KeyLemmas.{group_with, groups_at}
-use Rattle.pair_sets.specs.inside.Counted.{times}
+use Rattle.number_lists.specs.Members.{times, has_item}
 use Rattle.pair_sets.specs.Groups.{concept_in, groups_where, some_group_in}
 use Rattle.pair_sets.specs.Numbers.{numbers_in}
 use Rattle.pair_sets.specs.Owned.{HaveGroupsOf, groups_owned}
 use Rattle.pair_sets.specs.Within.{groups_within, numbers_within}
 use Rattle.pair_sets.proofs.WithinLemmas.{restricted_to}
-use Rattle.idset.specs.Sets.{has_item}
 use Rattle.std.specs.Prelude.{filter}
 use Rattle.std.proofs.lemmas.Bool.{eqb-true}
 use Rattle.pair_sets.proofs.HitLemmas.{count-append, count-cons}

@@ -3,17 +3,17 @@ use Rattle.std.proofs.Common.{ℕ, ◌≡◌, ◌+◌, ◌∙◌, ◌∷◌, [],
 use Rattle.std.specs.Prelude.{count_by, filter, nat_le}
 use Rattle.std.specs.List.{list_any}
 use Rattle.std.proofs.lemmas.Bool.{le-leb}
-use Rattle.rf2_rows.specs.Pairs.{Pair, distinct, in_pairs, pair_eq, reverse_pair_of, value_eq}
+use Rattle.rf2_rows.specs.Pairs.{Pair, in_pairs, pair_eq, reverse_pair_of, value_eq}
+use Rattle.number_lists.specs.Distinct.{distinct}
 use Rattle.rf2_rows.specs.Release.{Attribute, Release, concept_value}
-use Rattle.rf2_rows.proofs.DistinctLemmas.{keeps_each_pair_once}
+use Rattle.rf2_rows.proofs.PairLemmas.{keeps_each_pair_once}
 use Rattle.constraint_tree.specs.Denotation.{is_value}
 use Rattle.constraint_tree.specs.Passing.{is_within}
-use Rattle.constraint_tree.proofs.WalkLemmas.{passing_item, some_item_passes}
-use Rattle.ancestor_index.proofs.ClosureLemmas.{both_ways}
+use Rattle.number_lists.proofs.ListLemmas.{passing_item, some_item_passes, both_ways}
 use Rattle.set_algebra.specs.Meaning.{has_pairs}
 use Rattle.pair_sets.specs.Numbers.{numbers_in}
 use Rattle.pair_sets.proofs.HitLemmas.{count-cons}
-use Rattle.pair_sets.proofs.ListLemmas.{any_map}
+use Rattle.number_lists.proofs.BlockLemmas.{any-filter, any-map}
 use Rattle.pair_sets.proofs.Normal.{in_force_kept, numbers_in-agree}
 
 -- an item passes where at least one does
@@ -24,14 +24,6 @@ count_any test (x ∷ xs) =
     ∙ elim (test x) as (λ b. nat_le 1 (cond b (1 + count_by test xs) (count_by test xs)) ≡ (b || list_any test xs)) [
       | true ↦ le-leb 1 (1 + count_by test xs) (omega arith)
       | false ↦ count_any test xs
-    ]
-
-any_filter : {X : Type 0} (kept test : X → Bool) (xs : List X) → list_any test (filter kept xs) ≡ list_any (λ x. kept x && test x) xs
-any_filter kept test [] = refl
-any_filter kept test (x ∷ xs) =
-    elim (kept x) as (λ b. list_any test (cond b (x ∷ filter kept xs) (filter kept xs)) ≡ ((b && test x) || list_any (λ y. kept y && test y) xs)) [
-      | true ↦ ap (λ (b : Bool). test x || b) (any_filter kept test xs)
-      | false ↦ any_filter kept test xs
     ]
 
 -- a distinct item passes where an item does
@@ -75,6 +67,6 @@ some_pair_is_value release sources types =
         with_true (nat_le 1 (count_by test (in_pairs release concept)))
         ∙ count_any test (in_pairs release concept)
         ∙ any_distinct test (map reverse_pair_of (filter leads release.attributes))
-        ∙ any_map reverse_pair_of test (filter leads release.attributes)
-        ∙ any_filter leads (λ row. test (reverse_pair_of row)) release.attributes
+        ∙ any-map test reverse_pair_of (filter leads release.attributes)
+        ∙ any-filter (λ row. test (reverse_pair_of row)) leads release.attributes
         ∙ (λ i. list_any (λ (row : Attribute). shuffled (leads row) (types row.type_id) (sources row.source) i) release.attributes)

@@ -2,15 +2,20 @@
 use Rattle.std.proofs.Common.{ℕ, ◌≡◌, ◌<◌, ◌+◌, ◌∙◌, [], Bool, true, false, not, ◌&&◌, ◌||◌, List, length, get_or, take, refl, sym, ap}
 use Rattle.std.specs.Prelude.{filter, slice_get}
 use Rattle.std.specs.List.{list_all, list_any}
+use Rattle.std.proofs.Math.Bool.{and-false}
 use Rattle.rf2_rows.specs.Pairs.{Pair}
 use Rattle.rf2_rows.specs.Release.{Release}
-use Rattle.idset.specs.Sets.{all_items, has_item, numbers_where, other_items}
-use Rattle.idset.proofs.Normal.{all_items-numbers_where, filter-numbers_where, has_item-numbers_where, numbers_where-agree, numbers_where-none, other_items-numbers_where}
+use Rattle.idset.specs.Sets.{all_items, other_items}
+use Rattle.number_lists.specs.Members.{has_item}
+use Rattle.number_lists.specs.Rising.{numbers_where}
+use Rattle.idset.proofs.Normal.{all_items-numbers_where, other_items-numbers_where}
+use Rattle.number_lists.proofs.WhereLemmas.{filter-numbers_where, has_item-numbers_where, numbers_where-agree, numbers_where-none}
 use Rattle.postings.specs.Groups.{all_groups}
 use Rattle.pair_sets.specs.Groups.{groups_where, some_group_in}
 use Rattle.pair_sets.specs.Numbers.{numbers_in}
 use Rattle.pair_sets.specs.Within.{groups_within, numbers_within}
-use Rattle.pair_sets.proofs.ListLemmas.{all_take, any_take, next_place}
+use Rattle.pair_sets.proofs.ListLemmas.{all_take, any_take}
+use Rattle.number_lists.proofs.ListLemmas.{next_place}
 
 -- both, the other way round
 and_swap : (a b : Bool) → (a && b) ≡ (b && a)
@@ -122,11 +127,7 @@ module _ {X : Type 0} (bound : ℕ) (test : X → ℕ → Bool) (parts : List X)
 -- of no parts
 pub some_of_none : (bound : ℕ) (may : ℕ → Bool) (found : List ℕ) → found ≡ [] → found ≡ numbers_where bound (λ n. may n && false)
 some_of_none bound may found is =
-    is ∙ sym (numbers_where-none bound) ∙ (λ i. numbers_where bound (λ n. sym (never (may n)) i))
-  where
-    never : (a : Bool) → (a && false) ≡ false
-    never true = refl
-    never false = refl
+    is ∙ sym (numbers_where-none bound) ∙ (λ i. numbers_where bound (λ n. sym (and-false (may n)) i))
 
 -- of no parts all that it started from
 pub all_of_none : (bound : ℕ) (start : ℕ → Bool) (found : List ℕ) → found ≡ numbers_where bound start

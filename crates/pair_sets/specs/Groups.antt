@@ -3,7 +3,7 @@
 use Rattle.std.specs.Prelude.{ℕ, Bool, false, List, Option, None, Some, length, slice_get}
 use Rattle.rf2_rows.specs.Pairs.{Pair}
 use Rattle.rf2_rows.specs.Release.{Release}
-use Rattle.idset.specs.Sets.{numbers_where}
+use Rattle.number_lists.specs.Rising.{numbers_where}
 use Rattle.postings.specs.Groups.{ConceptGroup, all_groups, pairs_of_group}
 
 -- whether the pairs of a group are in a set

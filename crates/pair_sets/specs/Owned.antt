@@ -1,7 +1,7 @@
 -- The groups of concepts, by the numbers of both.
 use Rattle.std.specs.Prelude.{ℕ, ◌≡◌, ◌<◌, ◌==◌, true, List, count_by, length, slice_get, slice_index}
 use Rattle.rf2_rows.specs.Release.{Release}
-use Rattle.idset.specs.Sets.{has_item}
+use Rattle.number_lists.specs.Members.{has_item}
 use Rattle.postings.specs.Groups.{all_groups}
 use Rattle.pair_sets.specs.Groups.{concept_in}
 

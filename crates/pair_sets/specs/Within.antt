@@ -2,7 +2,8 @@
 use Rattle.std.specs.Prelude.{ℕ, ◌≡◌, ◌&&◌, Bool, true, List, length, slice_get, slice_index}
 use Rattle.rf2_rows.specs.Pairs.{Pair}
 use Rattle.rf2_rows.specs.Release.{Release}
-use Rattle.idset.specs.Sets.{has_item, numbers_where}
+use Rattle.number_lists.specs.Members.{has_item}
+use Rattle.number_lists.specs.Rising.{numbers_where}
 use Rattle.postings.specs.Groups.{all_groups}
 use Rattle.pair_sets.specs.Groups.{some_group_in}
 use Rattle.pair_sets.specs.declared.candidates.Candidates.{Candidates}

@@ -2,7 +2,8 @@
 ghost use Rattle.std.specs.Prelude.{ℕ, ◌≡◌, ◌<◌, All, Bool, IfOk, filter, length};
 ghost use Rattle.std.specs.List.{range_with_len};
 ghost use Rattle.constraint_tree.specs.Passing.{is_within};
-ghost use Rattle.idset.specs.Sets.{IsRisingBelow, has_item};
+ghost use Rattle.number_lists.specs.Rising.{IsRisingBelow};
+ghost use Rattle.number_lists.specs.Members.{has_item};
 ghost use Rattle.postings.specs.Groups.{all_groups};
 ghost use Rattle.postings.specs.Indexed.{IsIndexOf, types_of};
 ghost use Rattle.set_algebra.specs.Meaning.{has_pairs, pairs_of};

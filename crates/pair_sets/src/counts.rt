@@ -1,8 +1,8 @@
 //! How often something is found.
 ghost use Rattle.std.specs.Prelude.{ℕ, ◌≡◌, ◌-◌, ◌<◌, All, IfOk, nat_le};
 ghost use Rattle.constraint_tree.specs.Passing.{lies_in};
-ghost use Rattle.idset.specs.Sets.{numbers_where};
-ghost use Rattle.pair_sets.specs.inside.Counted.{times};
+ghost use Rattle.number_lists.specs.Rising.{numbers_where};
+ghost use Rattle.number_lists.specs.Members.{times};
 
 use crate::difference::without;
 use constraint_tree::Cardinality;

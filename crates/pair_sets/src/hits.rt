@@ -2,12 +2,12 @@
 ghost use Rattle.std.specs.Prelude.{ℕ, ◌≡◌, ◌<◌, ◌+◌, ◌&&◌, ◌++◌, All, Bool, IfOk, OnOk, count_by, filter, length, nat_lt, slice_get};
 ghost use Rattle.rf2_rows.specs.Release.{concept_value};
 ghost use Rattle.constraint_tree.specs.Passing.{is_within};
-ghost use Rattle.idset.specs.Sets.{IsRisingBelow};
+ghost use Rattle.number_lists.specs.Rising.{IsRisingBelow};
 ghost use Rattle.postings.specs.Entries.{entries_of};
 ghost use Rattle.postings.specs.Groups.{groups_in};
 ghost use Rattle.postings.specs.Indexed.{types_of};
 ghost use Rattle.pair_sets.specs.inside.Among.{at_entry};
-ghost use Rattle.pair_sets.specs.inside.Counted.{times};
+ghost use Rattle.number_lists.specs.Members.{times};
 ghost use Rattle.pair_sets.specs.inside.Hits.{AreHits, has_pair_in, is_type_in, picked, value_of};
 ghost use Rattle.pair_sets.specs.inside.Hits.{counts_for_concept, counts_for_group, counts_for_source, counts_for_value};
 ghost use Rattle.pair_sets.specs.inside.Hits.{entries_with_sources, entries_with_types, entries_with_values};

@@ -1,7 +1,7 @@
 //! The concepts and the groups with so many pairs of a type and a value.
 ghost use Rattle.std.specs.Prelude.{ℕ, ◌≡◌, ◌≤◌, ◌+◌, ◌-◌, ◌^◌, Bool, IfOk, filter, length, min};
 ghost use Rattle.constraint_tree.specs.Denotation.{is_value};
-ghost use Rattle.idset.specs.Sets.{IsRisingBelow};
+ghost use Rattle.number_lists.specs.Rising.{IsRisingBelow};
 ghost use Rattle.postings.specs.Groups.{all_groups};
 ghost use Rattle.postings.specs.Indexed.{IsIndexOf, types_of};
 ghost use Rattle.set_algebra.specs.Meaning.{has_pairs, pairs_of};

@@ -5,7 +5,8 @@ ghost use Rattle.postings.specs.Indexed.{IsIndexOf};
 ghost use Rattle.pair_sets.specs.Groups.{concept_in};
 ghost use Rattle.pair_sets.specs.Owned.{HaveGroupsOf, groups_owned};
 ghost use Rattle.constraint_tree.specs.Passing.{lies_in};
-ghost use Rattle.idset.specs.Sets.{has_item, numbers_where};
+ghost use Rattle.number_lists.specs.Members.{has_item};
+ghost use Rattle.number_lists.specs.Rising.{numbers_where};
 ghost use Rattle.std.specs.List.{range_with_len};
 
 use crate::counts::as_often;

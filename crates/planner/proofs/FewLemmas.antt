@@ -7,11 +7,10 @@ use Rattle.std.proofs.lemmas.List.Elements.{Contains-append_left, Contains-appen
 use Rattle.std.proofs.lemmas.List.Folds.{fold-map}
 use Rattle.std.proofs.lemmas.List.Sums.{length-filter, sum_by-cons, sum_by-le-sum_by}
 use Rattle.std.proofs.lemmas.Option.{slice_get-get_or}
-use Rattle.hierarchy.proofs.HierarchyLemmas.{contained_cases, first_contained, rest_contained}
-use Rattle.idset.specs.Sets.{numbers_where}
-use Rattle.idset.proofs.Normal.{numbers_where-agree}
-use Rattle.postings.proofs.BlockLemmas.{Contains-filter, items_by_place}
-use Rattle.postings.proofs.OnceLemmas.{IsOnce}
+use Rattle.number_lists.proofs.ListLemmas.{contained_cases, first_contained, rest_contained, IsOnce}
+use Rattle.number_lists.specs.Rising.{numbers_where}
+use Rattle.number_lists.proofs.WhereLemmas.{numbers_where-agree}
+use Rattle.number_lists.proofs.BlockLemmas.{Contains-filter, items_by_place}
 
 -- ---- how many items pass
 module _ {X : Type 0} where

@@ -12,16 +12,17 @@ use Rattle.rf2_rows.specs.Pairs.{Pair, in_pairs, out_pairs, pair_of, reverse_pai
 use Rattle.rf2_rows.specs.Release.{Attribute, Release, Value, concept_value, number_value, text_value}
 use Rattle.rf2_rows.proofs.PairLemmas.{tells_same_value}
 use Rattle.hierarchy.specs.Hierarchy.{reaches}
-use Rattle.hierarchy.specs.KeyedLists.{list_of}
-use Rattle.hierarchy.specs.Members.{has}
-use Rattle.hierarchy.proofs.ReleaseLemmas.{had_contained}
+use Rattle.number_lists.specs.KeyedLists.{list_of}
+use Rattle.number_lists.specs.Members.{has}
+use Rattle.number_lists.proofs.MemberLemmas.{had_contained}
 use Rattle.constraint_tree.specs.declared.operator.Cardinality.{Cardinality}
 use Rattle.constraint_tree.specs.declared.operator.Operator.{Operator}
 use Rattle.constraint_tree.specs.declared.operator.Operator.TheVariants.{Descendants, DescendantsOrSelf, Children, ChildrenOrSelf, Ancestors, AncestorsOrSelf, Parents, ParentsOrSelf, Top, Bottom}
 use Rattle.constraint_tree.specs.Denotation.{is_component, is_value}
 use Rattle.constraint_tree.specs.Passing.{is_within, lies_in}
 use Rattle.constraint_tree.specs.Walks.{has_concept, is_above, is_below, is_child, is_just_above, is_just_below, some_member}
-use Rattle.constraint_tree.proofs.WalkLemmas.{passing_item, some_item_passes, tells_in_force}
+use Rattle.number_lists.proofs.ListLemmas.{passing_item, some_item_passes, IsOnce}
+use Rattle.constraint_tree.proofs.WalkLemmas.{tells_in_force}
 use Rattle.set_algebra.specs.Meaning.{unit_means, has_groups, means, value_passes}
 use Rattle.set_algebra.specs.Plan.{Plan, empty_plan, one_plan, walk_plan, members_plan, pairs_plan, pairs_units, TestPlan, within_plan}
 use Rattle.snapshot.specs.AttributesBySource.{attributes_by_source}
@@ -36,11 +37,10 @@ use Rattle.postings.specs.Groups.{ConceptGroup, all_groups, groups_among, groups
 use Rattle.postings.specs.Indexed.{Indexed, IsIndexOf, rows_by_source, rows_by_value}
 use Rattle.postings.specs.Stats.{pairs_where}
 use Rattle.postings.specs.declared.stats.Stats.{Stats}
-use Rattle.postings.proofs.BlockLemmas.{Contains-filter, Contains-map}
+use Rattle.number_lists.proofs.BlockLemmas.{Contains-filter, Contains-map}
 use Rattle.postings.proofs.CountLemmas.{all_groups_again, back_count, first_entries, first_entries_of_group, groups_count}
 use Rattle.postings.proofs.EntryLemmas.{rows_of_entries}
 use Rattle.postings.proofs.KeyLemmas.{IsTold, group_with, groups_at, groups_once, groups_told_apart, in_one_group}
-use Rattle.postings.proofs.OnceLemmas.{IsOnce}
 use Rattle.postings.proofs.PlaceLemmas.{length-places_where}
 use Rattle.postings.proofs.StatsLemmas.{stats_told}
 use Rattle.postings.proofs.ValueLemmas.{from_map}

@@ -1,23 +1,16 @@
 -- Lists that are read from a place on, and lists in which a place is written later; numbers that stand still.
-use Rattle.std.proofs.Common.{ℕ, zero, suc, ◌+◌, ◌-◌, ◌*◌, ◌∷◌, ◌++◌, [], ◌≡◌, ◌≤◌, ◌^◌, ◌∙◌, List, length, drop, sym, ap, arith, zero-add, append_assoc, inl, inr}
+use Rattle.std.proofs.Common.{ℕ, zero, suc, ◌+◌, ◌-◌, ◌*◌, ◌∷◌, ◌++◌, [], ◌≡◌, ◌≤◌, ◌^◌, ◌∙◌, List, length, drop, sym, ap, arith, append_assoc, inl, inr}
 use Rattle.std.specs.List.{slice_set}
 use Rattle.std.proofs.Math.Nat.{mul-suc, mul_comm}
 use Rattle.std.proofs.Math.Seq.{drop-nil, set-append_seam}
 use Rattle.std.proofs.lemmas.Bool.{cases_lt}
+use Rattle.std.proofs.lemmas.List.{drop-drop}
 use Rattle.planner.specs.Bounds.{capped}
-
--- to drop some, and then some more
-pub drop_further : {X : Type 0} (a b : ℕ) (xs : List X) → drop a (drop b xs) ≡ drop (b + a) xs
-drop_further a zero xs = (λ i. drop (sym (zero-add a) i) xs)
-drop_further a (suc b) [] = drop-nil a ∙ sym (drop-nil (suc b + a))
-drop_further a (suc b) (x ∷ xs) =
-    let more : suc (b + a) ≡ suc b + a = omega arith in
-    drop_further a b xs ∙ (λ i. drop (more i) (x ∷ xs))
 
 -- behind the first, the choices of its types, and those of its test
 pub drop_leaf : {X : Type 0} (a b : ℕ) (xs : List X) → drop b (drop a (drop 1 xs)) ≡ drop (suc (a + b)) xs
 drop_leaf a b [] = ap (drop b) (drop-nil a) ∙ drop-nil b ∙ sym (drop-nil (suc (a + b)))
-drop_leaf a b (x ∷ xs) = drop_further b a xs
+drop_leaf a b (x ∷ xs) = drop-drop b a xs
 
 -- what is written at a place that was kept free
 pub put_seam : {X : Type 0} (xs ys : List X) (free x : X) → slice_set ((xs ++ free ∷ []) ++ ys) (length xs) x ≡ xs ++ (x ∷ ys)

@@ -1,7 +1,7 @@
 -- What loops over the parts of a node keep, of either sort: what is left of the parts, with what was taken, is what all of them are.
 use Rattle.std.proofs.Common.{ℕ, ◌+◌, ◌-◌, ◌++◌, ◌∷◌, [], ◌≡◌, ◌≤◌, ◌<◌, ◌^◌, ◌∙◌, List, drop, length, get_or, refl, sym, ap, arith, add-one, append-nil, append_assoc}
 use Rattle.std.proofs.Math.Seq.{drop-cons}
-use Rattle.std.proofs.lemmas.List.{drop_all}
+use Rattle.std.proofs.lemmas.List.{drop_all, drop-drop}
 use Rattle.set_algebra.specs.declared.plan.ConceptPlan.{ConceptPlan}
 use Rattle.set_algebra.specs.declared.plan.UnitPlan.{UnitPlan}
 use Rattle.set_algebra.specs.Plan.{plan_of, plans_of, unit_plan_of, unit_plans_of}
@@ -13,7 +13,6 @@ use Rattle.planner.specs.Leaves.{group_leaves, groups_leaves, leaves, plans_leav
 use Rattle.planner.specs.Nodes.{NodeList, NodeNumber, group_list, group_sum, groups_list, groups_sum, node_list, node_sum, plans_list, plans_sum}
 use Rattle.planner.specs.Sizes.{group_size, group_sizes, size, sizes}
 use Rattle.planner.specs.inside.Tallies.{IsTallyOf, tally_of, tally_on, tally_with}
-use Rattle.planner.proofs.ListLemmas.{drop_further}
 use Rattle.planner.proofs.TallyLemmas.{is_tally_of}
 
 -- ---- the two sorts of parts, each with the choices from its own first leaf on
@@ -156,7 +155,7 @@ module _ {Part : Type 0} where
       record {
         behind =
             ap (drop (sort.leaves_in later)) behind_is
-            ∙ drop_further (sort.leaves_in later) (sort.leaves_of part) rest
+            ∙ drop-drop (sort.leaves_in later) (sort.leaves_of part) rest
             ∙ (λ i. drop (sym (parts_left sort.leaves_in parts place part within is ∙ sort.more part later) i) rest)
             ∙ left.behind;
       }

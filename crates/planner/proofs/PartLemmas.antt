@@ -8,7 +8,7 @@ use Rattle.set_algebra.specs.Plan.{Plan, Plans, unit_plans_of, plan_of, plans_of
 use Rattle.set_algebra.proofs.PlanLemmas.{plan_of-Values}
 use Rattle.set_algebra.specs.declared.choice.Choice.{Choice}
 use Rattle.planner.specs.Leaves.{group_count, leaves, plan_count, plans_leaves}
-use Rattle.planner.proofs.ListLemmas.{drop_further}
+use Rattle.std.proofs.lemmas.List.{drop-drop}
 
 -- there are as many plans as parts
 pub plan_count-parts : (parts : List ConceptPlan) → plan_count (plans_of parts) ≡ length parts
@@ -31,5 +31,5 @@ pub values_behind : {plan : Plan} (start : Plan) (names : Plans) (choices : List
 values_behind start names choices is inner_is rest_is =
     rest_is
     ∙ ap (drop (plans_leaves names)) inner_is
-    ∙ drop_further (plans_leaves names) (leaves start) choices
+    ∙ drop-drop (plans_leaves names) (leaves start) choices
     ∙ sym (ap (λ (plan : Plan). drop (leaves plan) choices) is)

@@ -6,8 +6,8 @@ use Rattle.std.proofs.lemmas.Bool.{and_parts, false≢true, ne_eqb}
 use Rattle.std.proofs.lemmas.List.Sums.{length-filter}
 use Rattle.rf2_rows.specs.Pairs.{Pair}
 use Rattle.rf2_rows.specs.Release.{Attribute, Release}
-use Rattle.hierarchy.specs.Members.{has}
-use Rattle.idset.specs.Sets.{numbers_where}
+use Rattle.number_lists.specs.Members.{has}
+use Rattle.number_lists.specs.Rising.{numbers_where}
 use Rattle.constraint_tree.specs.declared.operator.Operator.{Operator}
 use Rattle.constraint_tree.specs.Denotation.{is_value}
 use Rattle.constraint_tree.specs.Walks.{has_concept}

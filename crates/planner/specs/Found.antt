@@ -2,7 +2,7 @@
 use Rattle.std.specs.Prelude.{◌≡◌, ◌≤◌, true, All, List, filter, length}
 use Rattle.std.specs.List.Sorted.{IsStrictlyIncreasing}
 use Rattle.rf2_rows.specs.Release.{Attribute, Release}
-use Rattle.hierarchy.specs.Members.{has}
+use Rattle.number_lists.specs.Members.{has}
 use Rattle.set_algebra.specs.Meaning.{unit_means, meaning}
 use Rattle.set_algebra.specs.Plan.{PlanOfUnits, Plan}
 use Rattle.postings.specs.Groups.{ConceptGroup, all_groups, pairs_of_group}

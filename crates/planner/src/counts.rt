@@ -1,6 +1,6 @@
 //! What is counted of a release for a node of a plan.
 ghost use Rattle.std.specs.Prelude.{◌≡◌, ◌==◌, ◌<◌, ◌+◌, ◌*◌, if◌then◌else◌, min, ◌^◌, length};
-ghost use Rattle.hierarchy.specs.KeyedLists.{list_of};
+ghost use Rattle.number_lists.specs.KeyedLists.{list_of};
 ghost use Rattle.set_algebra.specs.Plan.{plan_of, test_plan_of};
 ghost use Rattle.postings.specs.Groups.{groups_in};
 ghost use Rattle.planner.specs.Alternatives.{found_by, passed_over};

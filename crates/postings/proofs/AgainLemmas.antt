@@ -11,8 +11,7 @@ use Rattle.rf2_rows.specs.Pairs.{rows_of}
 use Rattle.rf2_rows.specs.Release.{Attribute, Release}
 use Rattle.snapshot.specs.AttributesBySource.{attributes_by_source}
 use Rattle.release_rows.proofs.PlaceLemmas.{place_of, place_of-get_or}
-use Rattle.postings.proofs.BlockLemmas.{blocks-same, blocks_by_place, filter-flat_map, filter-none, filter-twice, filter-within}
-use Rattle.postings.proofs.BlockLemmas.{flat_map-within}
+use Rattle.number_lists.proofs.BlockLemmas.{blocks-same, blocks_by_place, filter-flat_map, filter-none, filter-twice, filter-within, flat_map-within}
 
 -- blocks of which the one that is not empty is not there
 none_left : {X : Type 0} (xs : List X) (j from n : ℕ) → j < from → flat_map (λ k. cond (k == j) xs []) (range_with_len from n) ≡ []

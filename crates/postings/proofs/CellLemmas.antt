@@ -6,8 +6,8 @@ use Rattle.std.specs.List.{concat, filter, slice_range}
 use Rattle.std.proofs.lemmas.List.{drop-map, drop_at, drop_more, get_or-map, length-map, take-append-drop, take-map, take_at}
 use Rattle.std.proofs.lemmas.List.Elements.{All-map, All-same, All-tail}
 use Rattle.rf2_rows.specs.Release.{Attribute, Value, concept_value}
-use Rattle.hierarchy.specs.KeyedLists.{list_of}
-use Rattle.hierarchy.proofs.SpanLemmas.{concat-append, concat-take_more}
+use Rattle.number_lists.specs.KeyedLists.{list_of}
+use Rattle.number_lists.proofs.ListLemmas.{concat-append, concat-take_more}
 use Rattle.postings.specs.inside.Cells.{IsColumn, cells_of}
 use Rattle.postings.specs.Columns.{AreGroups, AreSources, AreTypes, AreValues, Flagged}
 use Rattle.postings.specs.Entries.{Entry, entries_of}

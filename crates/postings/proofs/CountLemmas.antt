@@ -18,25 +18,27 @@ use Rattle.std.proofs.lemmas.Map.Keys.{IsDistinct-from_apart, apart_from_distinc
 use Rattle.std.proofs.lemmas.Map.Made.{length-from_same_keys}
 use Rattle.std.proofs.lemmas.Map.Views.{Contains-from_any, list_any-from_Contains}
 use Rattle.std.proofs.lemmas.Simd.{map-map}
+use Rattle.std.proofs.Math.Bool.{and-false}
 use Rattle.rf2_rows.specs.Groups.{group_numbers, groups_of, pairs_in}
-use Rattle.rf2_rows.specs.Pairs.{Pair, distinct, in_pairs, out_pairs, pair_eq, pair_of, reverse_pair_of, rows_of, value_eq}
+use Rattle.rf2_rows.specs.Pairs.{Pair, in_pairs, out_pairs, pair_eq, pair_of, reverse_pair_of, rows_of, value_eq}
+use Rattle.number_lists.specs.Distinct.{distinct}
 use Rattle.rf2_rows.specs.Release.{Attribute, Release, Value, concept_value}
-use Rattle.rf2_rows.proofs.DistinctLemmas.{keeps_each_number_once, keeps_each_pair_once}
-use Rattle.rf2_rows.proofs.PairLemmas.{tells_same_pair, tells_same_value}
+use Rattle.number_lists.proofs.DistinctLemmas.{keeps_each_number_once}
+use Rattle.rf2_rows.proofs.PairLemmas.{keeps_each_pair_once, tells_same_pair, tells_same_value}
 use Rattle.snapshot.specs.AttributesBySource.{attributes_by_source}
-use Rattle.hierarchy.specs.Members.{has}
+use Rattle.number_lists.specs.Members.{has}
 use Rattle.release_rows.specs.InForce.{rising}
 use Rattle.release_rows.proofs.SortLemmas.{keeps_rising}
-use Rattle.ancestor_index.proofs.ClosureLemmas.{both_ways}
+use Rattle.number_lists.proofs.ListLemmas.{both_ways}
 use Rattle.postings.specs.Entries.{Entry, entries_of, is_alike, is_alike_in_group}
 use Rattle.postings.specs.Groups.{ConceptGroup, GroupKey, all_groups, groups_among, is_in_group, keys_of, numbered, pairs_of_group}
 use Rattle.postings.specs.Groups.{rows_alone, ungrouped}
 use Rattle.postings.proofs.AgainLemmas.{rows_of_again}
-use Rattle.postings.proofs.BlockLemmas.{All-flat_map, Contains-filter, any-filter, any-flat_map, any-map, any-within, filter-map}
-use Rattle.postings.proofs.BlockLemmas.{filter-none, filter-twice, flat_map-within}
+use Rattle.number_lists.proofs.BlockLemmas.{All-flat_map, Contains-filter, any-filter, any-flat_map, any-map, any-within, filter-map}
+use Rattle.number_lists.proofs.BlockLemmas.{filter-none, filter-twice, flat_map-within}
 use Rattle.postings.proofs.FirstLemmas.{firsts_give_distinct, pair_eq-flips}
 use Rattle.postings.proofs.KeyLemmas.{group_with, groups_at}
-use Rattle.postings.proofs.OnceLemmas.{All-distinct}
+use Rattle.postings.proofs.DistinctLemmas.{All-distinct}
 
 -- ---- counts of lists that have the same members, each once
 module _ {X : Type 0} (same : X → X → Bool) (laws : IsEquivalence same) (exact : (x y : X) → same x y ≡ true → x ≡ y) where
@@ -54,22 +56,14 @@ module _ {X : Type 0} (same : X → X → Bool) (laws : IsEquivalence same) (exa
     where
       here : (x : X) (b : Bool) → same q x ≡ b → (test x && b) ≡ (test q && b)
       here x true alike = ap (λ (y : X). test y && true) (sym (exact q x alike))
-      here x false apart = none (test x) ∙ sym (none (test q))
-        where
-          none : (b : Bool) → (b && false) ≡ false
-          none true = refl
-          none false = refl
+      here x false apart = and-false (test x) ∙ sym (and-false (test q))
 
       or_of : (a b c : Bool) → ((a && b) || (a && c)) ≡ (a && (b || c))
       or_of true b c = refl
       or_of false b c = refl
 
       along : (xs : List X) → list_any (λ x. test x && same q x) xs ≡ (test q && list_any (same q) xs)
-      along [] = none (test q)
-        where
-          none : (b : Bool) → false ≡ (b && false)
-          none true = refl
-          none false = refl
+      along [] = sym (and-false (test q))
       along (x ∷ xs) = (λ i. here x (same q x) refl i || along xs i) ∙ or_of (test q) (same q x) (list_any (same q) xs)
 
   -- what is left of items that stand once stands once

@@ -7,9 +7,9 @@ use Rattle.std.specs.List.{filter, list_any, position_or_len}
 use Rattle.std.proofs.lemmas.List.{map_more}
 use Rattle.std.proofs.lemmas.List.Elements.{All-cons, All-filter, All-head, All-tail, All-weaker, filter-append, filter_agree}
 use Rattle.std.proofs.lemmas.List.Sums.{count_by-le-length, length-filter}
-use Rattle.rf2_rows.specs.Pairs.{distinct}
-use Rattle.rf2_rows.proofs.DistinctLemmas.{any_distinct}
-use Rattle.postings.proofs.BlockLemmas.{filter-twice}
+use Rattle.number_lists.specs.Distinct.{distinct}
+use Rattle.number_lists.proofs.DistinctLemmas.{any_distinct}
+use Rattle.number_lists.proofs.BlockLemmas.{filter-twice}
 
 -- ---- lists, tests and places
 module _ {X : Type 0} where

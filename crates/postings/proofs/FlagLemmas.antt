@@ -6,7 +6,7 @@ use Rattle.std.specs.List.{flat_map, list_any, range_with_len}
 use Rattle.std.proofs.lemmas.List.{map-append}
 use Rattle.std.proofs.lemmas.List.Elements.{All-append, All-head, All-nil, All-push, All-tail, All-weaker}
 use Rattle.std.proofs.lemmas.List.Folds.{list_any-append, list_any_none}
-use Rattle.postings.proofs.BlockLemmas.{any-map, any-within}
+use Rattle.number_lists.proofs.BlockLemmas.{any-map, any-within}
 
 -- of each of some items behind others, whether no item before it is the same
 abbrev pub flags_after : {X : Type 0} → (X → X → Bool) → List X → List X → List Bool

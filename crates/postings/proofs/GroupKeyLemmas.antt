@@ -6,20 +6,22 @@ use Rattle.std.specs.List.{filter, list_any, position_or_len}
 use Rattle.std.proofs.lemmas.Bool.{and_from, and_parts, eq-eqb, eqb-true}
 use Rattle.std.proofs.lemmas.List.{get_or-map, get_or-append_right, get_or_append_left, length-map}
 use Rattle.std.proofs.lemmas.List.Sums.{passes_at_first}
-use Rattle.rf2_rows.specs.Pairs.{Pair, distinct, pair_of}
+use Rattle.rf2_rows.specs.Pairs.{Pair, pair_of}
+use Rattle.number_lists.specs.Distinct.{distinct}
 use Rattle.rf2_rows.specs.Release.{Value}
-use Rattle.rf2_rows.proofs.DistinctLemmas.{keeps_each_number_once}
-use Rattle.idset.specs.Sets.{has_item}
-use Rattle.idset.proofs.Normal.{numbers_where-agree}
+use Rattle.number_lists.proofs.DistinctLemmas.{keeps_each_number_once}
+use Rattle.number_lists.specs.Members.{has_item}
+use Rattle.number_lists.proofs.WhereLemmas.{numbers_where-agree}
 use Rattle.release_rows.specs.InForce.{rising}
-use Rattle.ancestor_index.proofs.ClosureLemmas.{both_ways, item_there, there_item}
+use Rattle.number_lists.proofs.ListLemmas.{both_ways, some_item_passes}
+use Rattle.number_lists.proofs.MemberLemmas.{item_there, there_item}
 use Rattle.postings.specs.inside.Coded.{code_eq, group_codes, ungrouped_pairs, numbers_of_groups, pair_code, place_in_source, row_coded}
 use Rattle.postings.specs.Groups.{GroupKey, key_of, numbered, ungrouped}
 use Rattle.postings.specs.Indexed.{value_at}
 use Rattle.postings.specs.declared.rows.CodedRow.{CodedRow}
-use Rattle.postings.proofs.BlockLemmas.{Contains-filter, Contains-map}
+use Rattle.number_lists.proofs.BlockLemmas.{Contains-filter, Contains-map}
 use Rattle.postings.proofs.DistinctLemmas.{All-distinct}
-use Rattle.postings.proofs.OnceLemmas.{any-Contains, distinct-keeps, position-within}
+use Rattle.postings.proofs.OnceLemmas.{distinct-keeps, position-within}
 use Rattle.postings.proofs.RisingLemmas.{has_item-rising, rising_is_listed, some_bound}
 
 -- the members of a list in rising order are the same whether repeats leave before
@@ -57,8 +59,8 @@ number_place rows row there some =
     let listed : has_item (numbers_of_groups rows) row.group ≡ true =
     has_item-rising numbers row.group ∙ there_item numbers row.group among in
     let found : list_any (λ group. row.group == group) (numbers_of_groups rows) ≡ true =
-    any-Contains (λ group. row.group == group) (numbers_of_groups rows) row.group (eq-eqb row.group row.group refl)
-    (item_there (numbers_of_groups rows) row.group listed) in
+    some_item_passes (λ group. row.group == group) (numbers_of_groups rows) row.group (item_there (numbers_of_groups rows) row.group listed)
+    (eq-eqb row.group row.group refl) in
     let within = position-within (λ group. row.group == group) (numbers_of_groups rows) found in (
       within,
       sym (eqb-true row.group (get_or (numbers_of_groups rows)
@@ -76,7 +78,7 @@ pair_place rows row there none =
     distinct-keeps code_eq same_code (map pair_code ungrouped_own) (pair_code row)
     (Contains-map pair_code ungrouped_own row (Contains-filter (λ (row : CodedRow). row.group == 0) rows row none there)) in
     let found : list_any (code_eq (pair_code row)) (ungrouped_pairs rows) ≡ true =
-    any-Contains (code_eq (pair_code row)) (ungrouped_pairs rows) (pair_code row) (code_itself (pair_code row)) among in
+    some_item_passes (code_eq (pair_code row)) (ungrouped_pairs rows) (pair_code row) among (code_itself (pair_code row)) in
     let within = position-within (code_eq (pair_code row)) (ungrouped_pairs rows) found in (
       within,
       sym (same_code (pair_code row) (get_or (ungrouped_pairs rows)

@@ -9,8 +9,10 @@ use Rattle.std.proofs.lemmas.List.Filters.{length-filter_both}
 use Rattle.std.proofs.lemmas.List.Folds.{list_any-append}
 use Rattle.std.proofs.lemmas.List.Sums.{position_or_len_is, prefix_len-le-length}
 use Rattle.std.proofs.lemmas.Map.Views.{any-filter_same}
-use Rattle.rf2_rows.specs.Pairs.{distinct}
-use Rattle.idset.specs.Sets.{IsRising, has_item, place_of}
+use Rattle.number_lists.specs.Distinct.{distinct}
+use Rattle.number_lists.specs.Rising.{IsRising}
+use Rattle.number_lists.specs.Members.{has_item}
+use Rattle.idset.specs.Sets.{place_of}
 use Rattle.idset.proofs.Places.{below_place, has_item-place, place_le}
 use Rattle.snapshot.proofs.FinishLemmas.{length-rising}
 use Rattle.postings.specs.inside.Coded.{code_eq, group_codes, ungrouped_pairs, numbers_of_groups, pair_code, place_in_source}

@@ -14,9 +14,10 @@ use Rattle.release_rows.specs.InForce.{rising}
 use Rattle.release_rows.proofs.SortLemmas.{keeps_rising}
 use Rattle.postings.specs.Groups.{ConceptGroup, GroupKey, groups_among, is_in_group, keys_of, numbered, ungrouped}
 use Rattle.postings.specs.Places.{places_where}
-use Rattle.postings.proofs.BlockLemmas.{All-flat_map}
+use Rattle.number_lists.proofs.BlockLemmas.{All-flat_map}
 use Rattle.postings.proofs.KeyLemmas.{group_with, groups_at}
-use Rattle.postings.proofs.OnceLemmas.{All-distinct, any-Contains}
+use Rattle.number_lists.proofs.ListLemmas.{some_item_passes}
+use Rattle.postings.proofs.DistinctLemmas.{All-distinct}
 use Rattle.postings.proofs.PlaceLemmas.{length-places_from, places_where-within, rows_at_places}
 
 -- ---- the groups of a concept
@@ -53,9 +54,9 @@ module _ (release : Release) (concept : ℕ) where
       each : All (λ (row : Attribute). HasRow (numbered row.group)) (rows_of release concept)
       each k d below =
           let row : Attribute = get_or (rows_of release concept) k d in
-          any-Contains (is_in_group (group_with concept (numbered row.group))) release.attributes row
-          (and_from (is_own row) (row.group == row.group) (filter_passes is_own release.attributes k d below) (eq-eqb row.group row.group refl))
+          some_item_passes (is_in_group (group_with concept (numbered row.group))) release.attributes row
           ((All-filter is_own (Contains release.attributes) release.attributes (All-contains_itself release.attributes)) k d below)
+          (and_from (is_own row) (row.group == row.group) (filter_passes is_own release.attributes k d below) (eq-eqb row.group row.group refl))
 
   -- and those of a pair
   pair_has : All (λ pair. HasRow (ungrouped pair)) (pairs_in release concept 0)
@@ -69,11 +70,11 @@ module _ (release : Release) (concept : ℕ) where
       each : All (λ row. HasRow (ungrouped (pair_of row))) (filter alone (rows_of release concept))
       each k d below =
           let row : Attribute = get_or (filter alone (rows_of release concept)) k d in
-          any-Contains (is_in_group (group_with concept (ungrouped (pair_of row)))) release.attributes row
+          some_item_passes (is_in_group (group_with concept (ungrouped (pair_of row)))) release.attributes row
+          (own_there alone k d below)
           (and_from (is_own row) (alone row && pair_eq (pair_of row) (pair_of row)) (own_passes alone k d below)
           (and_from (alone row) (pair_eq (pair_of row) (pair_of row)) (filter_passes alone (rows_of release concept) k d below)
           ((tells_same_pair (pair_of row) (pair_of row)).1 refl)))
-          (own_there alone k d below)
 
   keys_have : All HasRow (keys_of release concept)
   keys_have =

@@ -13,7 +13,8 @@ use Rattle.std.proofs.lemmas.List.Elements.{All-contains, All-filter, All-get_or
 use Rattle.std.proofs.lemmas.List.Folds.{length-flat_map-take}
 use Rattle.std.proofs.lemmas.Option.{get_or_from_slice_get, slice_get-get_or, slice_get_within}
 use Rattle.std.proofs.lemmas.Simd.{map-map}
-use Rattle.rf2_rows.specs.Pairs.{distinct, pair_eq, pair_of, value_eq}
+use Rattle.number_lists.specs.Distinct.{distinct}
+use Rattle.rf2_rows.specs.Pairs.{pair_eq, pair_of, value_eq}
 use Rattle.rf2_rows.specs.Release.{Attribute, Value}
 use Rattle.release_rows.specs.InForce.{rising}
 use Rattle.postings.specs.inside.Coded.{IsBySource, IsCoded, all_group_marks, code_eq, group_codes, group_marks, groups_ahead, has_same_in_group}
@@ -25,14 +26,14 @@ use Rattle.postings.specs.Groups.{rows_alone, ungrouped}
 use Rattle.postings.specs.Indexed.{value_at}
 use Rattle.postings.specs.Places.{places_from, places_where}
 use Rattle.postings.specs.declared.rows.CodedRow.{CodedRow}
-use Rattle.postings.proofs.BlockLemmas.{All-range, blocks-long, blocks-same, blocks_before, filter-map}
-use Rattle.postings.proofs.BlockLemmas.{items_by_place, map-flat_map, map-within}
+use Rattle.number_lists.proofs.BlockLemmas.{All-range, blocks-long, blocks-same, blocks_before, filter-map, items_by_place, map-flat_map, map-within}
 use Rattle.postings.proofs.CodeLemmas.{alike_in_group_coded, same_type}
 use Rattle.postings.proofs.EntryLemmas.{firsts_in_group, firsts_of_marks, numbers_of_marks, rows_of_entries}
 use Rattle.postings.proofs.FlagLemmas.{flags-map, flags_after}
 use Rattle.postings.proofs.GroupKeyLemmas.{key_at_place, keys_coded, length-keys_coded, pair_at, rising_distinct}
 use Rattle.postings.proofs.KeyLemmas.{IsTold, group_with, groups_at, groups_once, groups_told_apart, in_one_group, in_own_group}
-use Rattle.postings.proofs.OnceLemmas.{IsOnce, distinct-map, same_place}
+use Rattle.number_lists.proofs.ListLemmas.{IsOnce, same_place}
+use Rattle.postings.proofs.DistinctLemmas.{distinct-map}
 use Rattle.postings.proofs.SourcesToldLemmas.{apart_by_source, flags_by_source, rows_of_source, same_by_source, source_of_block}
 
 -- ---- lists alone
@@ -126,7 +127,7 @@ module _ (concepts types : List ℕ) (values : List Value) (increases : IsStrict
       (filter-map (λ (row : Attribute). row.group == 0) (row_coded concepts types values) (of_source coded k))
       ∙ ap (distinct pair_eq) (map-map pair_of (row_coded concepts types values) ungrouped_own
       ∙ sym (map-map (pair_at types values) pair_code ungrouped_own))
-      ∙ distinct-map (λ (code : ℕ × ℕ). (code.0 < length types) × (code.1 < length values)) (pair_at types values) pair_eq code_eq
+      ∙ distinct-map pair_eq (pair_at types values) code_eq (λ (code : ℕ × ℕ). (code.0 < length types) × (code.1 < length values))
       (λ x y near far i. same_type types once x.0 y.0 near.0 far.0 i && exact x.1 y.1 near.1 far.1 i) (map pair_code ungrouped_own)
       (All-map (λ (code : ℕ × ℕ). (code.0 < length types) × (code.1 < length values)) pair_code ungrouped_own
       (All-weaker (IsCoded concepts types values) (λ (row : CodedRow). (row.type_place < length types) × (row.value < length values))

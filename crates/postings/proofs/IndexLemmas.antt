@@ -10,8 +10,8 @@ use Rattle.std.proofs.lemmas.List.{get_or-map, length-map}
 use Rattle.std.proofs.lemmas.List.FromFn.{get_or-map-range_with_len, length-map-range_with_len}
 use Rattle.std.proofs.lemmas.List.Quantifiers.{position-Some}
 use Rattle.rf2_rows.specs.Release.{Attribute}
-use Rattle.rf2_rows.proofs.DistinctLemmas.{any_distinct}
-use Rattle.hierarchy.specs.KeyedLists.{list_of}
+use Rattle.number_lists.proofs.DistinctLemmas.{any_distinct}
+use Rattle.number_lists.specs.KeyedLists.{list_of}
 use Rattle.postings.specs.Columns.{AreGroups, AreSources, Flagged}
 use Rattle.postings.specs.Entries.{Entry, entries_after, entries_of, entries_with_type, is_alike, is_alike_in_group}
 use Rattle.postings.specs.Groups.{ConceptGroup, group_of}

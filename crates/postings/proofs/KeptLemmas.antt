@@ -10,7 +10,7 @@ use Rattle.std.proofs.lemmas.List.FromFn.{get_or-map-range_with_len, length-map-
 use Rattle.std.proofs.lemmas.Option.{slice_get_within}
 use Rattle.rf2_rows.specs.Release.{Attribute, Release}
 use Rattle.snapshot.specs.AttributesBySource.{attributes_by_source}
-use Rattle.hierarchy.proofs.CutLemmas.{same_maps}
+use Rattle.number_lists.proofs.ListLemmas.{same_maps}
 use Rattle.postings.specs.inside.Coded.{AreCoded, AreCodedRows, AreRowMarks, has_same_pair, of_source, row_coded, source_marks}
 use Rattle.postings.specs.inside.Cells.{AreRowLists}
 use Rattle.postings.specs.Columns.{AreGroups, AreSources, Flagged}
@@ -25,7 +25,7 @@ use Rattle.postings.specs.declared.rows.CodedRow.{CodedRow}
 use Rattle.postings.specs.declared.rows.CodedRows.{CodedRows}
 use Rattle.snapshot.specs.declared.attribute_types.Types.{Types}
 use Rattle.postings.specs.declared.values.Values.{Values}
-use Rattle.postings.proofs.BlockLemmas.{blocks-same, items_by_place, map-flat_map}
+use Rattle.number_lists.proofs.BlockLemmas.{blocks-same, items_by_place, map-flat_map}
 use Rattle.postings.proofs.CellLemmas.{long_cells}
 use Rattle.postings.proofs.EntryLemmas.{numbers_of_marks}
 use Rattle.postings.proofs.IndexLemmas.{group_at}

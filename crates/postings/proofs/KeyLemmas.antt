@@ -11,15 +11,16 @@ use Rattle.std.proofs.lemmas.Map.Keys.{apart_from_distinct}
 use Rattle.rf2_rows.specs.Groups.{group_numbers, pairs_in}
 use Rattle.rf2_rows.specs.Pairs.{Pair, pair_eq, pair_of, rows_of}
 use Rattle.rf2_rows.specs.Release.{Attribute, Release}
-use Rattle.rf2_rows.proofs.DistinctLemmas.{keeps_each_number_once, keeps_each_pair_once}
-use Rattle.rf2_rows.proofs.PairLemmas.{tells_same_pair}
+use Rattle.number_lists.proofs.DistinctLemmas.{keeps_each_number_once}
+use Rattle.rf2_rows.proofs.PairLemmas.{keeps_each_pair_once, tells_same_pair}
 use Rattle.release_rows.specs.InForce.{rising}
 use Rattle.release_rows.proofs.SortLemmas.{keeps_rising}
 use Rattle.release_rows.proofs.PlaceLemmas.{place_of, place_of-get_or}
 use Rattle.postings.specs.Groups.{ConceptGroup, GroupKey, all_groups, group_of, groups_among, has_key, is_in_group, key_of, keys_of}
 use Rattle.postings.specs.Groups.{numbered, ungrouped}
-use Rattle.postings.proofs.BlockLemmas.{All-flat_map, blocks_by_place}
-use Rattle.postings.proofs.OnceLemmas.{AllPairs-append, AllPairs-blocks, AllPairs-map, IsOnce}
+use Rattle.number_lists.proofs.BlockLemmas.{All-flat_map, blocks_by_place}
+use Rattle.postings.proofs.OnceLemmas.{AllPairs-append, AllPairs-blocks, AllPairs-map}
+use Rattle.number_lists.proofs.ListLemmas.{IsOnce}
 
 -- the group of a concept with a key
 abbrev pub group_with : ℕ → GroupKey → ConceptGroup

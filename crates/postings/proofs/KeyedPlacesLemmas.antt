@@ -5,8 +5,8 @@ use Rattle.std.specs.List.{filter}
 use Rattle.std.proofs.lemmas.Bool.{cases_eq, eq-eqb, lt-ltb, ltb-true, ne_eqb}
 use Rattle.std.proofs.lemmas.List.{take_more}
 use Rattle.std.proofs.lemmas.List.Elements.{All-cons}
-use Rattle.hierarchy.specs.KeyedLists.{AreKeysBelow, items_of, lists_by}
-use Rattle.hierarchy.proofs.CutLemmas.{same_maps}
+use Rattle.number_lists.specs.KeyedLists.{AreKeysBelow, items_of, lists_by}
+use Rattle.number_lists.proofs.ListLemmas.{same_maps}
 use Rattle.postings.specs.inside.KeyedPlaces.{keyed_places}
 use Rattle.postings.specs.Places.{places_by, places_from}
 

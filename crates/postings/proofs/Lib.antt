@@ -1,5 +1,4 @@
 pub mod AgainLemmas
-pub mod BlockLemmas
 pub mod BuildLemmas
 pub mod CellLemmas
 pub mod CellsToldLemmas

@@ -1,30 +1,18 @@
--- Lists in which no item stands twice, and the distinct items of a list: under maps, joined, and block by block.
-use Rattle.std.proofs.Common.{ℕ, zero, suc, ◌+◌, ◌≡◌, ◌≢◌, ◌<◌, ◌++◌, ◌∷◌, [], ◌∙◌, ◌||◌, not}
-use Rattle.std.proofs.Common.{inl, inr, List, length, get_or, map, Bool, true, false, cond, refl, sym, ap, subst, arith}
+-- The distinct items of a list, and pairs of items: under maps, joined, and block by block.
+use Rattle.std.proofs.Common.{ℕ, zero, suc, ◌+◌, ◌≡◌, ◌<◌, ◌++◌, ◌∷◌, [], ◌||◌, not}
+use Rattle.std.proofs.Common.{List, length, get_or, map, Bool, true, false, cond, refl, sym, ap, subst, arith}
 use Rattle.std.specs.Prelude.{All, AllPairs, Contains}
 use Rattle.std.specs.List.{filter, flat_map, list_any, position_or_len, range_with_len}
-use Rattle.std.proofs.lemmas.Bool.{cases_order}
 use Rattle.std.proofs.lemmas.List.{get_or-map, length-map}
-use Rattle.std.proofs.lemmas.List.Elements.{All-append, All-cons, All-filter, All-get_or, All-head, All-nil, All-tail}
+use Rattle.std.proofs.lemmas.List.Elements.{All-append}
 use Rattle.std.proofs.lemmas.List.Elements.{Contains-append_right}
 use Rattle.std.proofs.lemmas.List.Kept.{AllPairs-cons}
-use Rattle.rf2_rows.specs.Pairs.{distinct}
-use Rattle.postings.proofs.BlockLemmas.{All-blocks, Contains-filter, filter-map, filter-within}
+use Rattle.number_lists.specs.Distinct.{distinct}
+use Rattle.number_lists.proofs.BlockLemmas.{All-blocks, Contains-filter}
 
--- ---- tests of an item that is there
+-- ---- the place of an item that passes
 module _ {X : Type 0} where
-  -- an item that passes is found
-  pub any-Contains : (p : X → Bool) (xs : List X) (x : X) → p x ≡ true → Contains xs x → list_any p xs ≡ true
-  any-Contains p [] x passes there = absurd (omega (arith, there.1))
-  any-Contains p (y ∷ xs) x passes (zero, within, is) = ap (λ (b : Bool). b || list_any p xs) (ap p is ∙ passes)
-  any-Contains p (y ∷ xs) x passes (suc k, within, is) = ap (λ (b : Bool). p y || b) (any-Contains p xs x passes (k, omega arith, is))
-      ∙ always (p y)
-    where
-      always : (b : Bool) → (b || true) ≡ true
-      always true = refl
-      always false = refl
-
-  -- and its place is one of the list's
+  -- where an item passes, the place of the first that does is one of the list's
   pub position-within : (p : X → Bool) (xs : List X) → list_any p xs ≡ true → position_or_len p xs < length xs
   position-within p [] found = absurd (cc)
   position-within p (x ∷ xs) found = by (p x) refl found (position-within p xs)
@@ -36,28 +24,6 @@ module _ {X : Type 0} where
 
 -- ---- the distinct items of a list
 module _ {X : Type 0} where
-  -- what holds of the items holds of the distinct ones
-  pub All-distinct : (same : X → X → Bool) (P : X → Type 0) (xs : List X) → All P xs → All P (distinct same xs)
-  All-distinct same P [] all = All-nil P
-  All-distinct same P (x ∷ xs) all =
-      All-cons P x (filter (λ other. not (same x other)) (distinct same xs)) (All-head P x xs all)
-      (All-filter (λ other. not (same x other)) P (distinct same xs) (All-distinct same P xs (All-tail P x xs all)))
-
-  -- of what a function gives, where the tests agree
-  pub distinct-map : {Y : Type 0} (P : X → Type 0) (f : X → Y) (same : Y → Y → Bool) (other : X → X → Bool)
-      → ((x y : X) → P x → P y → same (f x) (f y) ≡ other x y)
-      → (xs : List X) → All P xs → distinct same (map f xs) ≡ map f (distinct other xs)
-  distinct-map P f same other agree [] all = refl
-  distinct-map P f same other agree (x ∷ xs) all =
-      let own : P x = All-head P x xs all in
-      let later : All P xs = All-tail P x xs all in
-      ap (λ (rest : List _). f x ∷ filter (λ y. not (same (f x) y)) rest) (distinct-map P f same other agree xs later)
-      ∙ ap (λ rest. f x ∷ rest)
-      (filter-map (λ y. not (same (f x) y)) f (distinct other xs)
-      ∙ ap (map f) (filter-within (λ y. not (same (f x) (f y))) (λ y. not (other x y)) (distinct other xs)
-      (λ k d below. ap not (agree x (get_or (distinct other xs) k d) own
-      (All-get_or P (distinct other xs) k d below (All-distinct other P xs later))))))
-
   -- where the test finds the same only what is, each item of the list is among them
   pub distinct-keeps : (same : X → X → Bool) → ((x y : X) → same x y ≡ true → x ≡ y) → (xs : List X) (x : X)
       → Contains xs x → Contains (distinct same xs) x
@@ -70,22 +36,8 @@ module _ {X : Type 0} where
       by false apart there = Contains-append_right (y ∷ []) (filter (λ other. not (same y other)) (distinct same xs)) x
           (Contains-filter (λ other. not (same y other)) (distinct same xs) x (ap not apart) there)
 
--- ---- lists without repeats
-
--- no two places have one item
-abbrev pub IsOnce : {X : Type 0} → List X → Type 0
-IsOnce xs = AllPairs (λ x y. x ≢ y) xs
-
+-- ---- pairs of the items of a list
 module _ {X : Type 0} where
-  -- so an item has one place
-  pub same_place : (xs : List X) → IsOnce xs → (i j : ℕ) (d : X) → i < length xs → j < length xs
-      → get_or xs i d ≡ get_or xs j d → i ≡ j
-  same_place xs once i j d near far same = elim (cases_order i j) [
-    | inl is ↦ is
-    | inr (inl less) ↦ absurd (once i j d less far same)
-    | inr (inr more) ↦ absurd (once j i d more near (sym same))
-  ]
-
   -- what holds of the pairs of two lists and across them holds of the pairs of both joined
   pub AllPairs-append : (R : X → X → Type 0) (xs ys : List X) → AllPairs R xs → AllPairs R ys
       → ((x : X) → Contains xs x → All (R x) ys) → AllPairs R (xs ++ ys)

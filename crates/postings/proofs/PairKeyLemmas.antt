@@ -9,8 +9,8 @@ use Rattle.std.proofs.lemmas.List.{append-nil, length-map, map-append}
 use Rattle.std.proofs.lemmas.Simd.{map-map}
 use Rattle.std.proofs.lemmas.List.Elements.{All-filter, All-head, All-map, All-tail, filter-append}
 use Rattle.first_met.specs.FirstMet.{keys_behind}
-use Rattle.rf2_rows.specs.Pairs.{distinct}
-use Rattle.rf2_rows.proofs.DistinctLemmas.{any_distinct}
+use Rattle.number_lists.specs.Distinct.{distinct}
+use Rattle.number_lists.proofs.DistinctLemmas.{any_distinct}
 use Rattle.postings.specs.inside.Coded.{code_eq, has_same_in_group, has_same_pair, pair_code, ungrouped_pairs}
 use Rattle.postings.specs.inside.PairKeys.{IsShort, grouped_key, key_of_code, pair_key, ungrouped_keys}
 use Rattle.postings.specs.declared.rows.CodedRow.{CodedRow}

@@ -7,11 +7,11 @@ use Rattle.std.proofs.lemmas.List.{get_or_default, take_more}
 use Rattle.std.proofs.lemmas.List.Elements.{All-tail}
 use Rattle.std.proofs.lemmas.List.FromFn.{get_or-map-range_with_len, length-map-range_with_len}
 use Rattle.std.proofs.lemmas.List.Sums.{length-filter}
-use Rattle.idset.specs.Sets.{IsRisingBelow, has_item, numbers_where}
-use Rattle.idset.proofs.Normal.{has_item-numbers_where, numbers_from}
-use Rattle.idset.proofs.Places.{get_or-below}
-use Rattle.idset.proofs.Rising.{numbers_where-rising}
-use Rattle.hierarchy.specs.KeyedLists.{list_of}
+use Rattle.number_lists.specs.Rising.{IsRisingBelow, numbers_where}
+use Rattle.number_lists.specs.Members.{has_item}
+use Rattle.number_lists.proofs.WhereLemmas.{has_item-numbers_where, numbers_from}
+use Rattle.number_lists.proofs.RisingLemmas.{get_or-below, numbers_where-rising}
+use Rattle.number_lists.specs.KeyedLists.{list_of}
 use Rattle.postings.specs.inside.Coded.{of_source}
 use Rattle.postings.specs.Places.{places_by, places_from, places_where}
 use Rattle.postings.specs.declared.rows.CodedRow.{CodedRow}

@@ -2,12 +2,13 @@
 use Rattle.std.proofs.Common.{ℕ, suc, ◌+◌, ◌==◌, ◌≡◌, ◌≤◌, ◌<◌, ◌||◌, ◌∷◌, [], ◌∙◌, inl, inr}
 use Rattle.std.proofs.Common.{true, List, refl, sym, arith}
 use Rattle.std.specs.Prelude.{All}
-use Rattle.std.proofs.lemmas.Bool.{cases_eq, cases_order, eq-eqb, le-ltb, lt-ltb, ne_eqb}
+use Rattle.std.proofs.lemmas.Bool.{cases_order, eq-eqb, le-ltb, lt-ltb, ne_eqb}
 use Rattle.std.proofs.lemmas.List.Elements.{All-cons, All-head, All-nil, All-tail, All-weaker}
-use Rattle.idset.specs.Sets.{IsRisingBelow, has_item, listed_numbers, rises_within}
-use Rattle.idset.proofs.Rising.{rises_from_on, rises_on, rising_is_where}
-use Rattle.hierarchy.specs.Members.{has}
+use Rattle.number_lists.specs.Rising.{IsRisingBelow, listed_numbers, rises_within}
+use Rattle.number_lists.specs.Members.{has_item}
+use Rattle.number_lists.proofs.RisingLemmas.{rises_from_on, rises_on, rising_is_where}
 use Rattle.release_rows.specs.InForce.{put, rising}
+use Rattle.number_lists.proofs.MemberLemmas.{has_item-has}
 use Rattle.release_rows.proofs.SortLemmas.{has-rising}
 
 -- a number put into a rising list leaves one that rises within the same limits
@@ -30,17 +31,6 @@ rising-rises bound [] below = refl
 rising-rises bound (x ∷ xs) below =
     rises_within-put 0 bound x (rising xs) (omega arith) (All-head (λ id. id < bound) x xs below)
     (rising-rises bound xs (All-tail (λ id. id < bound) x xs below))
-
--- the two tests of being in a list are the same
-pub has_item-has : (xs : List ℕ) (n : ℕ) → has_item xs n ≡ has xs n
-has_item-has [] n = refl
-has_item-has (x ∷ xs) n = λ i. swapped i || has_item-has xs n i
-  where
-    swapped : (x == n) ≡ (n == x)
-    swapped = elim (cases_eq x n) [
-      | inl same ↦ eq-eqb x n same ∙ sym (eq-eqb n x (sym same))
-      | inr apart ↦ ne_eqb x n apart ∙ sym (ne_eqb n x (λ same. apart (sym same)))
-    ]
 
 -- bringing a list in order keeps its members
 pub has_item-rising : (xs : List ℕ) (n : ℕ) → has_item (rising xs) n ≡ has_item xs n

@@ -14,9 +14,9 @@ use Rattle.std.proofs.lemmas.Option.{get_or_from_slice_get, slice_get_within}
 use Rattle.std.proofs.lemmas.Simd.{map-map}
 use Rattle.rf2_rows.specs.Release.{Attribute, Release}
 use Rattle.snapshot.specs.AttributesBySource.{attributes_by_source}
-use Rattle.hierarchy.specs.KeyedLists.{list_of}
+use Rattle.number_lists.specs.KeyedLists.{list_of}
 use Rattle.release_rows.proofs.PlaceLemmas.{place_of, place_of-get_or}
-use Rattle.hierarchy.proofs.SpanLemmas.{concat-take_more}
+use Rattle.number_lists.proofs.ListLemmas.{concat-take_more}
 use Rattle.postings.specs.inside.Coded.{AreCodedRows, AreRowMarks, row_coded}
 use Rattle.postings.specs.Columns.{Flagged}
 use Rattle.postings.specs.Groups.{ConceptGroup, all_groups, group_of, groups_among, keys_of, rows_alone}
@@ -25,7 +25,7 @@ use Rattle.postings.specs.inside.ValueTables.{values_in}
 use Rattle.postings.specs.declared.groups.RowMarks.{RowMarks}
 use Rattle.postings.specs.declared.rows.CodedRow.{CodedRow}
 use Rattle.postings.specs.declared.rows.CodedRows.{CodedRows}
-use Rattle.postings.proofs.BlockLemmas.{All-flat_map, filter-map, filter-none}
+use Rattle.number_lists.proofs.BlockLemmas.{All-flat_map, filter-map, filter-none}
 use Rattle.postings.proofs.KeptLemmas.{group_marked, many_groups}
 use Rattle.postings.proofs.KeyLemmas.{group_with, groups_at}
 use Rattle.postings.proofs.PlaceLemmas.{length-places_by, length-places_from, list_of-places_by}

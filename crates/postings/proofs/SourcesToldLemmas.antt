@@ -14,7 +14,7 @@ use Rattle.postings.specs.Columns.{AreSources, Flagged}
 use Rattle.postings.specs.Entries.{Entry, entries_of, is_alike}
 use Rattle.postings.specs.Indexed.{value_at}
 use Rattle.postings.specs.declared.rows.CodedRow.{CodedRow}
-use Rattle.postings.proofs.BlockLemmas.{All-blocks, All-mapped, blocks-same, blocks_by_place, filter-map, filter-within, map-flat_map}
+use Rattle.number_lists.proofs.BlockLemmas.{All-blocks, All-mapped, blocks-same, blocks_by_place, filter-map, filter-within, map-flat_map}
 use Rattle.postings.proofs.CodeLemmas.{alike_coded, same_all_coded, same_concept}
 use Rattle.postings.proofs.EntryLemmas.{firsts_of_entries, firsts_of_marks, numbers_of_marks, rows_of_entries}
 use Rattle.postings.proofs.FlagLemmas.{flags-blocks, flags-map, flags_after}

@@ -3,7 +3,7 @@ use Rattle.std.proofs.Common.{ℕ, ◌≡◌, ◌≤◌, ◌∙◌, List, length
 use Rattle.std.specs.List.{concat, flat_map}
 use Rattle.std.proofs.lemmas.Grind.{flat_map-append}
 use Rattle.std.proofs.lemmas.List.{take-append-drop, take-take}
-use Rattle.hierarchy.proofs.SpanLemmas.{concat-append}
+use Rattle.number_lists.proofs.ListLemmas.{concat-append}
 
 -- the first lists have no more items than more lists
 pub lengths_rise : (lists : List (List ℕ)) (i j : ℕ) → i ≤ j → length (concat (take i lists)) ≤ length (concat (take j lists))

@@ -1,4 +1,5 @@
 -- Finding a key among keys that rise.
+use Rattle.number_lists.proofs.BlockLemmas.{Contains-map}
 use Rattle.std.proofs.Common.{ℕ, ◌+◌, ◌≡◌, ◌<◌, ◌∙◌, inl, inr, Bool, List, length, get_or, ltb, Err, Ok}
 use Rattle.std.proofs.Common.{◌∷◌, [], Some, map, sym, ap, subst, arith}
 use Rattle.std.specs.Prelude.{◌↔◌, bytes_eq}
@@ -16,7 +17,6 @@ use Rattle.std.proofs.lemmas.List.Kept.{Any-dedup, Contains-from_dedup, IsStrict
 use Rattle.std.proofs.lemmas.Map.Keys.{Less-from_sorted}
 use Rattle.std.proofs.lemmas.Option.{slice_get-get_or}
 use Rattle.std.proofs.lemmas.Slice.Eq.{bytes_eq-Decides}
-use Rattle.release_rows.proofs.PlaceLemmas.{contains_map}
 use Rattle.postings.specs.RowValues.{text_cmp}
 use Rattle.postings.proofs.ValueLemmas.{from_map}
 
@@ -89,13 +89,13 @@ pub texts_kept : {X : Type 0} (f : X → List ℕ) (xs sorted : List X) → IsPe
 texts_kept {X} f xs sorted moved text = (
   λ there.
       let from = from_map f (dedup same sorted) text there in
-      subst (Contains (map f xs)) from.2 (contains_map f xs from.0
+      subst (Contains (map f xs)) from.2 (Contains-map f xs from.0
       (Contains-permutation sorted xs from.0 (IsPermutation-sym xs sorted moved) (Contains-from_dedup same sorted from.0 from.1))),
   λ there.
       let from = from_map f xs text there in
       let kept = Any-dedup (on_texts_equal f) sorted from.0 (Contains-permutation xs sorted from.0 moved from.1) in
       let is : f kept.1 ≡ text = sym ((bytes_eq-Decides (f from.0) (f kept.1)).0 kept.4) ∙ from.2 in
-      subst (Contains (map f (dedup same sorted))) is (contains_map f (dedup same sorted) kept.1 (kept.0, kept.2, kept.3)),
+      subst (Contains (map f (dedup same sorted))) is (Contains-map f (dedup same sorted) kept.1 (kept.0, kept.2, kept.3)),
 )
   where
     same : X → X → Bool

@@ -18,9 +18,9 @@ use Rattle.rf2_rows.specs.Pairs.{value_eq}
 use Rattle.rf2_rows.specs.Release.{Attribute, Value, concept_value, number_value, text_value}
 use Rattle.rf2_rows.proofs.PairLemmas.{tells_same_value}
 use Rattle.snapshot.specs.AttributesBySource.{value_by_identifier}
-use Rattle.release_rows.proofs.PlaceLemmas.{contains_map}
 use Rattle.snapshot.specs.ValuesInForce.{is_value_among}
-use Rattle.hierarchy.proofs.ReleaseLemmas.{contains_had}
+use Rattle.number_lists.proofs.MemberLemmas.{contains_had}
+use Rattle.number_lists.proofs.BlockLemmas.{Contains-map}
 use Rattle.release_rows.proofs.RisingLemmas.{earlier_below}
 use Rattle.postings.specs.Indexed.{value_at, values_among}
 use Rattle.postings.specs.RowValues.{AreTables, decimals_at, decimals_of, text_cmp, texts_at, texts_of}
@@ -105,19 +105,19 @@ module _ (concepts : List ℕ) (decimals : List ℤ) (texts : List (List ℕ)) w
   -- what is among the concepts, the decimals or the texts is among the values
   pub concept_there : (concept : ℕ) → Contains concepts concept → Contains values (concept_value concept)
   concept_there concept there = Contains-append_left (map concept_value concepts) behind (concept_value concept)
-      (contains_map concept_value concepts concept there)
+      (Contains-map concept_value concepts concept there)
 
   pub decimal_there : (decimal : ℤ) → Contains decimals decimal → Contains values (number_value decimal)
   decimal_there decimal there =
       Contains-append_right (map concept_value concepts) behind (number_value decimal)
       (Contains-append_left (map number_value decimals) (map text_value texts) (number_value decimal)
-      (contains_map number_value decimals decimal there))
+      (Contains-map number_value decimals decimal there))
 
   pub text_there : (text : List ℕ) → Contains texts text → Contains values (text_value text)
   text_there text there =
       Contains-append_right (map concept_value concepts) behind (text_value text)
       (Contains-append_right (map number_value decimals) (map text_value texts) (text_value text)
-      (contains_map text_value texts text there))
+      (Contains-map text_value texts text there))
 
   -- a value is of a concept, a decimal or a text
   cases_of : (value : Value) → Contains values value

@@ -1,7 +1,8 @@
 -- What the indexes of a release hold. Concepts go by their numbers: their places, from 0, in the rising list of those in force.
 -- Attribute rows go by theirs: by source, and those of one source in the order of the files and their lines.
 use Rattle.std.specs.Prelude.{ℕ, ℤ, ◌≡◌, ◌==◌, ◌++◌, List, [], Option, None, Some, length, map, nat_eq, slice_index, slice_index_or}
-use Rattle.rf2_rows.specs.Pairs.{distinct, value_eq}
+use Rattle.number_lists.specs.Distinct.{distinct}
+use Rattle.rf2_rows.specs.Pairs.{value_eq}
 use Rattle.rf2_rows.specs.Release.{Attribute, Release, Value, concept_value, number_value, text_value}
 use Rattle.snapshot.specs.AttributesBySource.{attributes_by_source}
 use Rattle.snapshot.specs.Numbering.{concept_number}

@@ -6,7 +6,7 @@ ghost use Rattle.postings.specs.inside.Cells.{AreColumns, AreOfOneLength, AreRow
 use crate::flagged_number::FlaggedNumber;
 use crate::groups::RowMarks;
 use crate::lists::{column, places_by_key};
-use hierarchy::KeyedLists;
+use number_lists::KeyedLists;
 use std::alloc::{AllocError, Global};
 
 /// Columns of the rows of a type, cell by cell in the order of the rows.

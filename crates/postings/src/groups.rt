@@ -1,7 +1,8 @@
 //! The groups of attribute rows, numbered over all concepts, and which rows are the first with their pair.
 ghost use Rattle.std.specs.Prelude.{◌≡◌, ◌+◌, ◌≤◌, ◌<◌, ◌^◌, ◌++◌, ◌∷◌, [], List, All, IfOk, OnOk};
 ghost use Rattle.std.specs.Prelude.{length, map, nat_lt, slice_index_or};
-ghost use Rattle.idset.specs.Sets.{IsRising, place_of};
+ghost use Rattle.number_lists.specs.Rising.{IsRising};
+ghost use Rattle.idset.specs.Sets.{place_of};
 ghost use Rattle.postings.specs.inside.Coded.{AreRowMarks, IsBySource, group_codes, group_marks, numbers_of_groups};
 ghost use Rattle.postings.specs.inside.Coded.{pair_code, place_in_source, source_marks};
 ghost use Rattle.postings.specs.inside.PairKeys.{IsShort, ungrouped_keys};
@@ -10,8 +11,7 @@ ghost use Rattle.postings.specs.Places.{places_by};
 use crate::first_keys::FirstKeys;
 use crate::flagged_number::FlaggedNumber;
 use crate::rows::CodedRow;
-use ancestor_index::keep_rising;
-use hierarchy::KeyedLists;
+use number_lists::{KeyedLists, keep_rising};
 use std::alloc::{AllocError, Global};
 
 /// For each attribute row the number of its source and that of its group, and for each source how many groups

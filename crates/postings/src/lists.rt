@@ -4,7 +4,7 @@ ghost use Rattle.postings.specs.inside.Cells.{IsColumn};
 ghost use Rattle.postings.specs.inside.KeyedPlaces.{keyed_places};
 ghost use Rattle.postings.specs.Places.{places_by};
 
-use hierarchy::KeyedLists;
+use number_lists::KeyedLists;
 use std::alloc::{AllocError, Global};
 
 /// Of the keys of some rows, for each key below `count` the places of the rows that have it, in rising order.

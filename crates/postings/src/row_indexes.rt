@@ -15,7 +15,7 @@ use crate::groups::{RowMarks, row_marks};
 use crate::lists::{places_among, places_by_key};
 use crate::rows::{CodedRow, coded_rows};
 use crate::values::Values;
-use hierarchy::KeyedLists;
+use number_lists::KeyedLists;
 use snapshot::{Snapshot, Types};
 use std::alloc::{AllocError, Global};
 

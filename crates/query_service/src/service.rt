@@ -1,7 +1,7 @@
 //! What the program does with a request, its files and its streams.
 ghost use Rattle.std.specs.Prelude.{◌≡◌, ◌⊎◌, false, Err, IfErr, IfOk, IfSome, Ok, OnOk, map, string_bytes};
 ghost use Rattle.std.specs.Io.KnownBytes.{IsAtEnd};
-ghost use Rattle.rf2_rows.specs.Parts.{texts_of};
+ghost use Rattle.text_parts.specs.Parts.{texts_of};
 ghost use Rattle.snapshot.specs.Contents.{Contents, IsFaultOf};
 ghost use Rattle.release_rows.specs.Pieces.{AreInOrder, FailsAtFiles, IsUnlisted};
 ghost use Rattle.release_rows.specs.DeviceFaults.{RaisesOnlyAtDevice};

@@ -8,8 +8,8 @@ use Rattle.std.proofs.lemmas.Grind.{common_steps}
 use Rattle.std.proofs.lemmas.List.Kept.{IsStrictlyIncreasing-filter}
 use Rattle.std.specs.Io.KnownBytes.{Appends}
 use Rattle.std.specs.List.Sorted.{IsStrictlyIncreasing}
-use Rattle.idset.specs.Sets.{has_item}
-use Rattle.ancestor_index.proofs.ClosureLemmas.{item_there, there_item}
+use Rattle.number_lists.specs.Members.{has_item}
+use Rattle.number_lists.proofs.MemberLemmas.{item_there, there_item}
 use Rattle.constraint_tree.specs.Denotation.{denotation, denotes}
 use Rattle.release_files.specs.Source.{FileText}
 use Rattle.snapshot.specs.Contents.{Contents, contents_of, load_of, loaded_from, unless_faulty}

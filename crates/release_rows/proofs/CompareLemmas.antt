@@ -10,14 +10,14 @@ use Rattle.release_rows.specs.Chosen.{choices, conflicts, same_component}
 use Rattle.release_rows.specs.inside.Comparison.{Comparison, IsCompared, IsComparedRow, IsDenied, IsDeniedRow, IsExpected, IsRefused, IsTaken, clashes, compared_in, noted_of}
 use Rattle.release_rows.specs.declared.comparing.Comparing.{Comparing}
 use Rattle.release_rows.specs.Files.{text_of_row, Place, RowAt, row_at, rows_of, later_line}
-use Rattle.hierarchy.specs.Members.{has}
+use Rattle.number_lists.specs.Members.{has}
 use Rattle.release_rows.specs.inside.Keys.{IsMet, IsShort, Keyed, key_in, uuids_behind}
 use Rattle.release_rows.specs.inside.KeyedRows.{AreOfItsKind, Covers, KeyedRow}
 use Rattle.release_rows.specs.inside.VersionTable.{HasTaken, VersionTable}
 use Rattle.release_rows.specs.Traversal.{StopsAt, TakesAll, next, taken}
 use Rattle.release_rows.specs.declared.fault.LoadFault.{LoadFault}
 use Rattle.release_rows.specs.inside.FirstPass.{AreSeen, AreShort, first_conflict, keys_behind, uuids_after}
-use Rattle.hierarchy.proofs.ReleaseLemmas.{had_contained}
+use Rattle.number_lists.proofs.MemberLemmas.{had_contained}
 use Rattle.release_rows.proofs.PlaceLemmas.{get_or-place_of, place_below, place_of}
 use Rattle.release_rows.proofs.SingleLemmas.{any-none, key-twice, met-seen}
 use Rattle.release_rows.proofs.KindLemmas.{kind_same}

@@ -10,8 +10,8 @@ use Rattle.std.proofs.lemmas.List.Kept.{AllPairs-cons, Contains-dedup_nat, Conta
 use Rattle.std.proofs.lemmas.List.Sorted.{IsNonDecreasingBy-from_sort, IsPermutation-sym, sum_by-IsPermutation, Contains-permutation}
 use Rattle.std.proofs.lemmas.List.Sums.{sum_by-append, sum_by-cons, sum_by_more, sum_by_push}
 use Rattle.std.proofs.lemmas.Map.Keys.{IsStrictlyIncreasing-dedup, non_decreasing_from_sorted, sorted_from_strictly_increasing}
-use Rattle.hierarchy.specs.Members.{has}
-use Rattle.hierarchy.proofs.ReleaseLemmas.{contains_had, had_contained, had_not, times}
+use Rattle.number_lists.specs.Members.{has, times}
+use Rattle.number_lists.proofs.MemberLemmas.{contains_had, had_contained, had_not}
 use Rattle.release_rows.specs.inside.Repeated.{equal_neighbours}
 use Rattle.release_rows.proofs.RisingLemmas.{earlier_below}
 use Rattle.std.proofs.lemmas.List.Filters.{sum_by-filter_both}

@@ -1,21 +1,16 @@
 -- The places of identifiers in lists.
-use Rattle.std.proofs.Common.{ltb, arith, ℕ, ◌≡◌, ◌<◌, ◌==◌, ◌∙◌, List, [], ◌∷◌, length, get_or, map, true, ap, refl, Contains, eqb-true, ltb-true}
+use Rattle.std.proofs.Common.{ltb, arith, ℕ, ◌≡◌, ◌<◌, ◌==◌, ◌∙◌, List, [], ◌∷◌, length, get_or, true, refl, eqb-true, ltb-true}
 use Rattle.std.proofs.lemmas.Grind.{common_steps}
 use Rattle.std.specs.List.{position_or_len}
 use Rattle.std.specs.List.Sorted.{IsStrictlyIncreasing}
-use Rattle.std.proofs.lemmas.List.{get_or-map, length-map}
 use Rattle.std.proofs.lemmas.List.Sums.{position_or_len_is, passes_at_first}
 use Rattle.std.proofs.lemmas.Bool.Decides.{nat_tests}
-use Rattle.hierarchy.specs.Members.{has}
+use Rattle.number_lists.specs.Members.{has}
 use Rattle.release_rows.proofs.RisingLemmas.{earlier_below}
 
 -- the place of an identifier among concepts, or their number where it is not among them
 abbrev pub place_of : List ℕ → ℕ → ℕ
 place_of concepts id = position_or_len (λ other. id == other) concepts
-
--- an item of a list, in the list of what a function gives of its items
-pub contains_map : {X Y : Type 0} (f : X → Y) (xs : List X) (x : X) → Contains xs x → Contains (map f xs) (f x)
-contains_map f xs x there = (there.0, rw length-map there.1, get_or-map f xs there.0 x (f x) there.1 ∙ ap f there.2)
 
 -- an identifier has a place below the number of concepts exactly where it is among them
 pub place_within : (concepts : List ℕ) (id : ℕ) → ltb (place_of concepts id) (length concepts) ≡ has concepts id

@@ -18,7 +18,7 @@ use Rattle.release_rows.specs.declared.row_lists.Listing.{Listing}
 use Rattle.release_rows.specs.declared.row_lists.Listing.TheVariants as listing
 use Rattle.release_rows.proofs.ChosenItemLemmas.{chosen-picked, map-marked}
 use Rattle.release_rows.proofs.ListedLemmas.{listed-rows}
-use Rattle.hierarchy.proofs.ReleaseLemmas.{times}
+use Rattle.number_lists.specs.Members.{times}
 use Rattle.release_rows.proofs.SingleLemmas.{no_conflict, single-choices, single-keys}
 use Rattle.release_rows.proofs.WentLemmas.{first_of-none, kept_rows-keys, kept_rows-uuids}
 

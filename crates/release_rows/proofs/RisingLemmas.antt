@@ -7,8 +7,8 @@ use Rattle.std.proofs.lemmas.List.Sorted.{searched}
 use Rattle.std.proofs.lemmas.Map.Keys.{non_decreasing_from_sorted, sorted_from_strictly_increasing}
 use Rattle.std.proofs.lemmas.Bool.{cases_lt}
 use Rattle.std.proofs.lemmas.List.{get_or_default}
-use Rattle.hierarchy.specs.Members.{has}
-use Rattle.hierarchy.proofs.ReleaseLemmas.{had_not}
+use Rattle.number_lists.specs.Members.{has}
+use Rattle.number_lists.proofs.MemberLemmas.{had_not}
 
 -- an earlier number is below a later one
 pub earlier_below : (xs : List ℕ) → IsStrictlyIncreasing xs → (j k : ℕ) → j < k → k < length xs → get_or xs j 0 < get_or xs k 0

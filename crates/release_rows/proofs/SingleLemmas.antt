@@ -11,11 +11,11 @@ use Rattle.rf2_rows.specs.RowTexts.{RowText, of_concept, of_concrete, of_descrip
 use Rattle.rf2_rows.specs.Versions.{member_number}
 use Rattle.release_rows.specs.Chosen.{choices, is_later, marked, same_component}
 use Rattle.release_rows.specs.Files.{text_of_row, RowAt}
-use Rattle.hierarchy.specs.Members.{has}
+use Rattle.number_lists.specs.Members.{has, times}
 use Rattle.release_rows.specs.inside.Keys.{IsMet, key_in, uuids_behind}
 use Rattle.release_rows.specs.inside.FirstPass.{first_conflict, keys_behind, uuids_after}
 use Rattle.release_rows.proofs.KindLemmas.{kind_same}
-use Rattle.hierarchy.proofs.ReleaseLemmas.{times, times-append, times-own}
+use Rattle.number_lists.proofs.MemberLemmas.{times-append, times-own}
 
 -- a number that was met, or is put behind the others, stays at its place
 pos-kept : (n more : ℕ) (uuids : List ℕ) → (has uuids n || n == more) ≡ true

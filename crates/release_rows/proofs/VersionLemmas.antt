@@ -4,11 +4,12 @@ use Rattle.std.proofs.Common.{ℕ, ◌≡◌, ◌<◌, ◌≤◌, ◌/◌, ◌^�
 use Rattle.std.specs.List.Sorted.{IsStrictlyIncreasing}
 use Rattle.std.proofs.lemmas.Bool.Decides.{nat_tests}
 use Rattle.std.proofs.lemmas.List.Folds.{list_any_at, Any-from_list_any, list_any_more, list_any-append}
-use Rattle.hierarchy.specs.Members.{has}
+use Rattle.number_lists.specs.Members.{has, times}
+use Rattle.number_lists.proofs.BlockLemmas.{Contains-map}
 use Rattle.release_rows.specs.Chosen.{is_later}
 use Rattle.release_rows.specs.inside.KeyedRows.{KeyedRow, same_version, AreOfItsKind, conflicts, is_repeated, Covers, choices, is_superseded}
 use Rattle.release_rows.specs.inside.VersionTable.{IsCodeOf, time_code, AgreesWith, HasTaken, IsOfVersion, IsVersionAmong, VersionTable, Version, firsts, is_outdated, without, is_older}
-use Rattle.release_rows.proofs.PlaceLemmas.{place_of-get_or, contains_map}
+use Rattle.release_rows.proofs.PlaceLemmas.{place_of-get_or}
 use Rattle.release_rows.specs.Spans.{Extends}
 use Rattle.release_rows.specs.inside.VersionsInside.{IsLineOf, version_in}
 use Rattle.release_rows.specs.declared.versions.VersionRow.{VersionRow}
@@ -23,7 +24,7 @@ use Rattle.first_met.specs.FirstMet.{keys_behind}
 use Rattle.rf2_rows.specs.Rows.{row_fault}
 use Rattle.rf2_rows.specs.Versions.{same_row, same_time}
 use Rattle.rf2_rows.proofs.VersionLemmas.{same_row-refl, same_row-sym, same_row-trans}
-use Rattle.hierarchy.proofs.ReleaseLemmas.{had_contained, not_contained, times, times-append}
+use Rattle.number_lists.proofs.MemberLemmas.{had_contained, not_contained, times-append}
 use Rattle.release_rows.proofs.SplitLemmas.{Contains-cut, any_of, one_first, one_at}
 use Rattle.std.proofs.Math.Bool.{and-false, or-false, or-true}
 use Rattle.rf2_rows.specs.declared.kind.FileKind.TheVariants.{Concept}
@@ -166,7 +167,7 @@ module _ (taken : VersionTable) (rising : IsStrictlyIncreasing taken.repeated) (
         let of = version_before other.0 other.1 code is other.2 in
         false≢true (sym new ∙ rw (before.codes, ← of.3)
         (had_contained (map (λ (version : Version). version.code) taken.versions) of.0.code
-        (contains_map (λ (version : Version). version.code) taken.versions of.0 of.1))))
+        (Contains-map (λ (version : Version). version.code) taken.versions of.0 of.1))))
 
     pub new_conflicts : has taken.codes code ≡ false → list_any (λ earlier. conflicts earlier row) rows ≡ false
     new_conflicts new = any-none (λ other. same_version other row) (λ other. conflicts other row) rows

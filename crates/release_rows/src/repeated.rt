@@ -2,7 +2,7 @@
 ghost use Rattle.std.specs.Prelude.{◌≡◌, ◌==◌, ◌≤◌, ◌+◌, ◌-◌, ◌↔◌, ℕ, Contains, IfOk, count_by, filter, length, nat_lt, not};
 ghost use Rattle.std.specs.Bool.{OnTrue};
 ghost use Rattle.std.specs.List.Sorted.{IsStrictlyIncreasing};
-ghost use Rattle.hierarchy.specs.Members.{has};
+ghost use Rattle.number_lists.specs.Members.{has};
 ghost use Rattle.release_rows.specs.inside.Repeated.{equal_neighbours};
 
 use crate::keys::RELATIONSHIPS;

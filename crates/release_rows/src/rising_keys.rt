@@ -1,7 +1,7 @@
 //! Looking up one key after another in a rising list that has few of them.
 ghost use Rattle.std.specs.Prelude.{◌≡◌, false, true};
 ghost use Rattle.std.specs.List.Sorted.{IsStrictlyIncreasing};
-ghost use Rattle.hierarchy.specs.Members.{has};
+ghost use Rattle.number_lists.specs.Members.{has};
 
 use std::marker::Model;
 

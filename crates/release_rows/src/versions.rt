@@ -5,7 +5,7 @@ ghost use Rattle.std.specs.List.{list_any};
 ghost use Rattle.std.specs.List.Sorted.{IsStrictlyIncreasing};
 ghost use Rattle.rf2_rows.specs.Rows.{row_fault};
 ghost use Rattle.rf2_rows.specs.Versions.{same_row as same_row_of};
-ghost use Rattle.hierarchy.specs.Members.{has};
+ghost use Rattle.number_lists.specs.Members.{has};
 ghost use Rattle.release_rows.specs.inside.KeyedRows.{KeyedRow, choices, conflicts, AreOfItsKind, Covers};
 ghost use Rattle.release_rows.specs.inside.VersionTable.{IsCodeOf, Version, is_older, is_outdated, time_code, without};
 

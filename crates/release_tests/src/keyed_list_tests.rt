@@ -1,10 +1,11 @@
 //! Lists by a key, orders with parents first and cycles, of the is-a rows of the sample release and of a ring.
 ghost use Rattle.std.specs.Prelude.{◌<◌, ◌^◌, length};
 ghost use Rattle.hierarchy.specs.Hierarchy.{IsWithin};
-ghost use Rattle.hierarchy.specs.KeyedLists.{AreItemsBelow, AreKeysBelow, lists_by, turned as turned_of};
+ghost use Rattle.number_lists.specs.KeyedLists.{AreItemsBelow, AreKeysBelow, lists_by, turned as turned_of};
 
 use crate::hierarchy_tests::is_parents_first;
-use hierarchy::{KeyedLists, PushFault, least_cyclic, parents_first};
+use hierarchy::{least_cyclic, parents_first};
+use number_lists::{KeyedLists, PushFault};
 use std::alloc::{AllocError, Global};
 use std::test::Fail;
 

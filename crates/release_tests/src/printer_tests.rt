@@ -1,6 +1,6 @@
 //! What is printed, in full.
 ghost use Rattle.std.specs.Prelude.{◌≡◌, ◌≢◌};
-ghost use Rattle.idset.specs.Sets.{IsRisingBelow};
+ghost use Rattle.number_lists.specs.Rising.{IsRisingBelow};
 
 use answer_printer::{print_answer, print_fault, print_load_fault, print_report};
 use ecl_lexer::{Feature, QueryFault};

@@ -1,6 +1,6 @@
 //! The row of sets in each form, and the forms against each other at many bounds.
 ghost use Rattle.std.specs.Prelude.{◌≡◌, ◌<◌, ◌++◌, ◌∷◌, [], cond, IfOk, OnOk};
-ghost use Rattle.idset.specs.Sets.{IsRisingBelow};
+ghost use Rattle.number_lists.specs.Rising.{IsRisingBelow};
 
 use idset::{ConceptSet, MixedSet, SortedSet, WordSet};
 use std::alloc::{AllocError, Global};

@@ -2,13 +2,14 @@
 -- where it is false of the empty set, and true of two sets joined exactly where it is of one of them.
 use Rattle.std.proofs.Common.{ℕ, ◌≡◌, ◌&&◌, ◌||◌, Bool, false, List, [], ◌∷◌, refl, sym, ap, ◌∙◌}
 use Rattle.std.specs.List.{list_any}
+use Rattle.std.proofs.Math.Bool.{and-false}
 use Rattle.rf2_rows.specs.Release.{Release, Value, concept_value, number_value, text_value}
 use Rattle.rf2_rows.specs.Pairs.{Pair}
 use Rattle.constraint_tree.specs.Passing.{is_within}
 use Rattle.set_algebra.specs.Meaning.{means, some_means, unit_means, some_unit_means}
 use Rattle.set_algebra.specs.Plan.{Plan, Plans, no_plans, plan_then, PlanOfUnits, PlansOfUnits, no_unit_plans, unit_plan_then}
 use Rattle.rewrites.specs.PlanLists.{plans_each, groups_each, groups_of_each, plans_of_each}
-use Rattle.rewrites.proofs.BoolLemmas.{either_under, either_over, four, none_over}
+use Rattle.rewrites.proofs.BoolLemmas.{either_under, either_over, four}
 
 pub record IsAdditive {X : Type 0} (test : (X → Bool) → Bool) : Type 0 where
   pub none : test (λ item. false) ≡ false
@@ -30,7 +31,7 @@ and_after test rest is = record {
 pub and_before : {X : Type 0} (first : Bool) (test : (X → Bool) → Bool) → IsAdditive test
     → IsAdditive (λ (set : X → Bool). first && test set)
 and_before first test is = record {
-  none = ap (λ (b : Bool). first && b) is.none ∙ none_over first;
+  none = ap (λ (b : Bool). first && b) is.none ∙ and-false first;
   either = λ one other. ap (λ (b : Bool). first && b) (is.either one other) ∙ either_over first (test one) (test other);
 }
 

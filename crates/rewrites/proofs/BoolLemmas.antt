@@ -100,11 +100,6 @@ four false true true d = refl
 four false true false d = refl
 four false false c d = refl
 
--- nothing under "and"
-pub none_over : (f : Bool) → (f && false) ≡ false
-none_over true = refl
-none_over false = refl
-
 -- two tests of which each follows from the other
 pub same_if : (one other : Bool) → (one ≡ true → other ≡ true) → (other ≡ true → one ≡ true) → one ≡ other
 same_if true true to from = refl

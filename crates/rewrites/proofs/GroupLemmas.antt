@@ -5,10 +5,12 @@ use Rattle.std.specs.List.{list_any}
 use Rattle.std.proofs.lemmas.Bool.{and_parts, and_from, or_cases, or_left, or_right, cases_Bool, eq-eqb}
 use Rattle.std.proofs.lemmas.List.Folds.{list_any-append}
 use Rattle.rf2_rows.specs.Release.{Release, Attribute}
-use Rattle.rf2_rows.specs.Pairs.{Pair, pair_eq, pair_of, distinct, rows_of, out_pairs, KeepsEachOnce}
+use Rattle.rf2_rows.specs.Pairs.{Pair, pair_eq, pair_of, rows_of, out_pairs}
+use Rattle.number_lists.specs.Distinct.{distinct, KeepsEachOnce}
 use Rattle.rf2_rows.specs.Groups.{group_numbers, pairs_in, groups_of}
-use Rattle.rf2_rows.proofs.DistinctLemmas.{keeps_each_number_once, keeps_each_pair_once}
-use Rattle.constraint_tree.proofs.WalkLemmas.{passing_item, some_item_passes}
+use Rattle.number_lists.proofs.DistinctLemmas.{keeps_each_number_once}
+use Rattle.rf2_rows.proofs.PairLemmas.{keeps_each_pair_once}
+use Rattle.number_lists.proofs.ListLemmas.{passing_item, some_item_passes}
 use Rattle.rewrites.proofs.BoolLemmas.{same_if, or_only}
 
 -- Whether some item passes, of a list that was made of another.

@@ -38,7 +38,7 @@ use Rattle.rewrites.proofs.AdditiveLemmas.{IsAdditive, holds_of, and_after, and_
 use Rattle.rewrites.proofs.AdditiveLemmas.{alike, spread_plans, spread_braces}
 use Rattle.rewrites.proofs.WalkLemmas.{beyond_twice, there_same, below_is_transitive, above_is_transitive}
 use Rattle.rewrites.proofs.GroupLemmas.{some_pair_of_group}
-use Rattle.constraint_tree.proofs.WalkLemmas.{passing_item, some_item_passes}
+use Rattle.number_lists.proofs.ListLemmas.{passing_item, some_item_passes}
 
 -- no new plan, or one that means the same
 abbrev pub Keeps : Release → Plan → Option Plan → Type 0

@@ -5,7 +5,8 @@ use Rattle.rf2_rows.specs.Release.{Release}
 use Rattle.hierarchy.specs.Hierarchy.{reaches}
 use Rattle.hierarchy.proofs.HierarchyLemmas.{chain_from_test, test_from_chain, chain_of_two}
 use Rattle.constraint_tree.specs.Walks.{has_concept, some_member}
-use Rattle.constraint_tree.proofs.WalkLemmas.{passing_item, some_item_passes, tells_in_force}
+use Rattle.number_lists.proofs.ListLemmas.{passing_item, some_item_passes}
+use Rattle.constraint_tree.proofs.WalkLemmas.{tells_in_force}
 use Rattle.rewrites.proofs.BoolLemmas.{same_if}
 
 -- a test of two concepts that is handed on

@@ -6,7 +6,7 @@ use Rattle.std.proofs.lemmas.Str.Parse.{digits_value_short}
 use Rattle.rf2_rows.specs.Columns.{Column, Format, cause_of, column, columns_of, id_format, time_format}
 use Rattle.rf2_rows.specs.Rows.{concept_row, concrete_row, description_row, fields_fault, fields_of, first_column_fault, member_row, relationship_row, row_fault, time_of}
 use Rattle.rf2_rows.specs.Versions.{time_on}
-use Rattle.sctid.proofs.Numerals.{numerals}
+use Rattle.numerals.proofs.DigitLemmas.{numerals}
 use Rattle.sctid.specs.declared.Part.TheVariants.{Concept}
 use Rattle.rf2_rows.specs.declared.kind.FileKind.{FileKind}
 

@@ -11,7 +11,8 @@ use Rattle.rf2_rows.specs.Files.{file_kind_of}
 use Rattle.rf2_rows.specs.Columns.{header_of, cause_of}
 use Rattle.rf2_rows.specs.Release.{number_value, text_value}
 use Rattle.rf2_rows.specs.Rows.{row_fault, concept_row, description_row, concrete_row, member_row}
-use Rattle.rf2_rows.specs.Values.{decimal_of, value_cause, value_of}
+use Rattle.numerals.specs.Decimals.{decimal_of}
+use Rattle.rf2_rows.specs.Values.{value_cause, value_of}
 
 -- the concepts of an extension, the relationships of a test release, and the files of values and of a simple
 -- reference set; no kind has a language reference set, nor a full release

@@ -1,12 +1,9 @@
 pub mod Accepted
 pub mod Columns
-pub mod DistinctLemmas
 pub mod Examples
 pub mod Identifiers
 pub mod PairLemmas
-pub mod Parts
 pub mod TabBits
 pub mod Texts
-pub mod Values
 pub mod VersionLemmas
 pub mod RowTextLemmas

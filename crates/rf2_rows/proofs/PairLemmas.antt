@@ -1,11 +1,13 @@
--- The tests whether two values, and two pairs, are the same.
+-- The tests whether two values, and two pairs, are the same; and the distinct pairs of a list.
 use Rattle.std.proofs.Common.{arith}
 use Rattle.std.proofs.lemmas.Bool.Decides.{nat_tests, Decides-and, Decides-eqb, Decides-like}
 use Rattle.std.proofs.lemmas.Grind.{common_steps}
 use Rattle.std.proofs.lemmas.Bool.{false≢true}
 use Rattle.std.proofs.lemmas.Slice.Eq.{bytes_eq-Decides}
 use Rattle.rf2_rows.specs.Release.{concept_value, number_value, text_value}
-use Rattle.rf2_rows.specs.Pairs.{value_eq, TellsSameValue, TellsSamePair}
+use Rattle.std.specs.Cmp.{IsEquivalence}
+use Rattle.number_lists.proofs.DistinctLemmas.{keeps_each_once}
+use Rattle.rf2_rows.specs.Pairs.{KeepsEachPairOnce, pair_eq, value_eq, TellsSameValue, TellsSamePair}
 
 -- the test of values tells what is the same
 pub tells_same_value : TellsSameValue
@@ -14,3 +16,10 @@ tells_same_value one other = grind (arith, value_eq, concept_value, number_value
 -- the test of pairs tells what is the same
 pub tells_same_pair : TellsSamePair
 tells_same_pair one other = grind (arith, common_steps, nat_tests, Decides-and, Decides-eqb, Decides-like, tells_same_value)
+
+-- the test of pairs is an equivalence, since it tells which are equal
+pair_eq_equiv : IsEquivalence pair_eq
+pair_eq_equiv = grind (arith, common_steps, nat_tests, tells_same_pair)
+
+pub keeps_each_pair_once : KeepsEachPairOnce
+keeps_each_pair_once pairs = keeps_each_once pair_eq pair_eq_equiv (λ x y alike. (tells_same_pair x y).0 alike) pairs

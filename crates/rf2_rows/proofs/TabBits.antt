@@ -10,7 +10,7 @@ use Rattle.std.proofs.lemmas.Simd.{trailing_mask_l, leading_from_mask_l}
 use Rattle.std.specs.Int.Count.{count_trailing_zeros}
 use Rattle.std.specs.List.{prefix_len}
 use Rattle.rf2_rows.specs.inside.Tabs.{NoTab, tab_bits, tabs_in, parts_from}
-use Rattle.rf2_rows.proofs.Parts.{parts_cut}
+use Rattle.text_parts.proofs.Parts.{parts_cut}
 use Rattle.std.proofs.lemmas.Bool.{cases_lt}
 use Rattle.std.proofs.lemmas.Bool.Decides.{nat_tests}
 

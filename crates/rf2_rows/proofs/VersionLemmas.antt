@@ -5,7 +5,7 @@ use Rattle.std.proofs.Common.{◌≡◌, ℕ, Bool, true, IsTrue, List, [], ◌�
 use Rattle.std.proofs.lemmas.Bool.{false≢true, and_from}
 use Rattle.std.proofs.lemmas.Slice.Eq.{bytes_eq-Decides}
 use Rattle.rf2_rows.specs.Columns.{Column, Format, columns_of, uuid_format, time_format, active_format, text_format, value_format}
-use Rattle.rf2_rows.specs.Numbers.{number_of}
+use Rattle.numerals.specs.Numbers.{number_of}
 use Rattle.rf2_rows.specs.Release.{Value}
 use Rattle.rf2_rows.specs.Rows.{IsRow, active_of, fields_of, row_fault, time_of, uuid_of}
 use Rattle.rf2_rows.specs.Values.{value_of}

@@ -15,7 +15,7 @@ use Rattle.rf2_rows.specs.declared.kind.FileKind.{FileKind}
 use Rattle.rf2_rows.specs.declared.kind.FileKind.TheVariants.{Concept as ConceptFile, Description as DescriptionFile, Relationship as RelationshipFile, Concrete as ConcreteFile, Member as MemberFile}
 use Rattle.rf2_rows.specs.declared.fault.RowCause.{RowCause}
 use Rattle.rf2_rows.specs.declared.fault.RowCause.TheVariants.{Fields, Id, Time, Active, Group, Value, Utf8, Uuid}
-use Rattle.rf2_rows.specs.Numbers.{is_number}
+use Rattle.numerals.specs.Numbers.{is_number}
 use Rattle.rf2_rows.specs.Values.{value_cause}
 
 -- what the texts of a column are

@@ -2,7 +2,7 @@
 -- convention": FileType_ContentType_ContentSubType_.. and at last .txt).
 use Rattle.std.specs.Prelude.{ℕ, ◌-◌, Bool, false, ◌||◌, ◌==◌, nat_eq, if◌then◌else◌, List, [], ◌∷◌, length, take, codes, bytes_eq, Option, None, Some, option_and_then}
 use Rattle.std.specs.List.{after_last, starts_with, ends_with}
-use Rattle.rf2_rows.specs.Parts.{parts_at}
+use Rattle.text_parts.specs.Parts.{parts_at}
 use Rattle.rf2_rows.specs.declared.kind.FileKind.{FileKind}
 use Rattle.rf2_rows.specs.declared.kind.FileKind.TheVariants.{Concept, Description, Relationship, Concrete, Member}
 

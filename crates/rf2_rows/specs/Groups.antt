@@ -4,7 +4,8 @@
 -- project's choice).
 use Rattle.std.specs.Prelude.{ℕ, ◌==◌, ◌++◌, not, List, [], ◌∷◌, map, filter, nat_eq}
 use Rattle.rf2_rows.specs.Release.{Release}
-use Rattle.rf2_rows.specs.Pairs.{Pair, pair_eq, pair_of, distinct, rows_of}
+use Rattle.rf2_rows.specs.Pairs.{Pair, pair_eq, pair_of, rows_of}
+use Rattle.number_lists.specs.Distinct.{distinct}
 
 -- the distinct numbers of the groups of a concept, without 0
 abbrev pub group_numbers : Release → ℕ → List ℕ

@@ -2,9 +2,7 @@ pub mod Columns
 pub mod Files
 pub mod Groups
 pub mod inside
-pub mod Numbers
 pub mod Pairs
-pub mod Parts
 pub mod Release
 pub mod Rows
 pub mod RowTexts

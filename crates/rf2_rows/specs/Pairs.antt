@@ -1,9 +1,9 @@
 -- Attributes as pairs of a type and a value (Release File Specification, "Relationship file" and
 -- "Relationship concrete values file"). What a query counts are distinct pairs, and not rows (this
 -- project's choice).
-use Rattle.std.specs.Prelude.{ℕ, ◌≡◌, ◌↔◌, ◌==◌, ◌&&◌, Bool, false, not, nat_eq, IsTrue, List, [], ◌∷◌, map, filter, bytes_eq}
-use Rattle.std.specs.List.{Contains, IsDistinct}
+use Rattle.std.specs.Prelude.{ℕ, ◌≡◌, ◌↔◌, ◌==◌, ◌&&◌, Bool, false, IsTrue, List, map, filter, bytes_eq}
 use Rattle.std.specs.Ordering.{int_eq}
+use Rattle.number_lists.specs.Distinct.{KeepsEachOnce, distinct}
 use Rattle.rf2_rows.specs.Release.{Value, concept_value, number_value, text_value, Attribute, Release}
 
 pub record Pair : Type 0 where
@@ -19,11 +19,6 @@ value_eq one other = false
 
 abbrev pub pair_eq : Pair → Pair → Bool
 pair_eq one other = (one.type_id == other.type_id) && value_eq one.value other.value
-
--- the items of a list, each once, where it is first
-abbrev pub distinct : {X : Type 0} → (X → X → Bool) → List X → List X
-distinct same [] = []
-distinct same (first ∷ rest) = first ∷ filter (λ other. not (same first other)) (distinct same rest)
 
 -- the attribute rows of a concept
 abbrev pub rows_of : Release → ℕ → List Attribute
@@ -53,14 +48,6 @@ TellsSamePair = (one other : Pair) → IsTrue (pair_eq one other) ↔ (one ≡ o
 abbrev pub TellsSameValue : Type 0
 TellsSameValue = (one other : Value) → IsTrue (value_eq one other) ↔ (one ≡ other)
 
--- what is kept of a list has the same members, each once
-abbrev pub KeepsEachOnce : {X : Type 0} → (X → X → Bool) → List X → Type 0
-KeepsEachOnce {X} same items =
-    IsDistinct same (distinct same items)
-    × ((item : X) → Contains (distinct same items) item ↔ Contains items item)
-
-abbrev pub KeepsEachNumberOnce : Type 0
-KeepsEachNumberOnce = (numbers : List ℕ) → KeepsEachOnce nat_eq numbers
-
+-- of pairs, the distinct ones are the same members, each once
 abbrev pub KeepsEachPairOnce : Type 0
 KeepsEachPairOnce = (pairs : List Pair) → KeepsEachOnce pair_eq pairs

@@ -20,8 +20,8 @@ use Rattle.rf2_rows.specs.declared.row.Row.TheVariants.{Concept, Description, Re
 use Rattle.rf2_rows.specs.declared.value.Value.{Value as LentValue}
 use Rattle.rf2_rows.specs.declared.value.Value.TheVariants.{Concept as LentConcept, Decimal as LentDecimal, Other as LentOther}
 use Rattle.rf2_rows.specs.Columns.{Column, columns_of, cause_of, tab}
-use Rattle.rf2_rows.specs.Numbers.{number_of}
-use Rattle.rf2_rows.specs.Parts.{parts_at}
+use Rattle.numerals.specs.Numbers.{number_of}
+use Rattle.text_parts.specs.Parts.{parts_at}
 use Rattle.rf2_rows.specs.Release.{Value, concept_value, number_value, text_value}
 use Rattle.rf2_rows.specs.Values.{value_of}
 

@@ -1,18 +1,16 @@
-//! Reading the rows of concrete values, and the numbers in them.
-ghost use Rattle.std.specs.Prelude.{◌≡◌, ◌<◌, ◌^◌, pos, IfSome, is_some, option_map};
+//! Reading the rows of concrete values.
 ghost use Rattle.rf2_rows.specs.Columns.{cause_of, value_format};
-ghost use Rattle.rf2_rows.specs.Numbers.{is_number};
-ghost use Rattle.rf2_rows.specs.Parts.{texts_of};
+ghost use Rattle.text_parts.specs.Parts.{texts_of};
 ghost use Rattle.rf2_rows.specs.Rows.{IsReadingLent, column_fault, concrete_of, concrete_text, fields_fault, value_lent};
-ghost use Rattle.rf2_rows.specs.Values.{decimal_of, fraction_of, unsigned_of, value_of};
+ghost use Rattle.rf2_rows.specs.Values.{value_of};
 
 use crate::fault::{RowCause, RowFault};
-use crate::fields::{digits, fault, flag, group, identifier, text, time};
+use crate::fields::{fault, flag, group, identifier, text, time};
 use crate::kind::FileKind;
 use crate::recent_concepts::RecentConcepts;
 use crate::row::ConcreteRow;
-use crate::split::cut;
-use crate::value::{Decimal, Value};
+use crate::value::Value;
+use numerals::decimal;
 use sctid::Part;
 
 /// The row of the Relationship concrete values file that the fields of a line stand for.
@@ -83,50 +81,4 @@ fn concrete_value<'a>(field: &'a [u8], column: u8) -> Result<Value<'a>, RowFault
             Err(fault) => Err(fault),
         },
     }
-}
-
-/// The number that a text writes behind `#`: a sign or none, 1 to 18 digits and, behind a point,
-/// another 1 to 18 (Release File Specification, "Relationship concrete values file"). Takes no memory.
-pub fn decimal(text: &[u8]) -> Option<Decimal>
-    ensures { option_map (λ found. found.0) result ≡ decimal_of text.now }
-{
-    match text {
-        [b'-', rest @ ..] => {
-            let number = unsigned(rest)?;
-            Some(Decimal(-number))
-        }
-        [b'+', rest @ ..] => {
-            let number = unsigned(rest)?;
-            Some(Decimal(number))
-        }
-        _ => {
-            let number = unsigned(text)?;
-            Some(Decimal(number))
-        }
-    }
-}
-
-// The number that a text without a sign writes, as so many times 10^-18.
-#[tactic(auto, using(crate::proofs::Values::parts_of_number))]
-fn unsigned(text: &[u8]) -> Option<i128>
-    ensures { result ≡ option_map pos (unsigned_of text.now) }
-{
-    let (whole, behind) = cut(text, b'.');
-    let whole = digits(whole, 1, 18)?;
-    let fraction = match behind {
-        Some(behind) => fraction(behind)?,
-        None => 0,
-    };
-    Some(i128::from(whole) * 1_000_000_000_000_000_000 + i128::from(fraction))
-}
-
-// The fraction that the text behind a point writes, as so many times 10^-18.
-#[tactic(auto, using(crate::proofs::Values::fraction_small))]
-fn fraction(text: &[u8]) -> Option<u64>
-    ensures digits { is_some result ≡ is_number 1 18 text.now }
-    ensures value { IfSome result (λ number. number ≡ fraction_of text.now) }
-    ensures small { IfSome result (λ number. number < 10 ^ 18) }
-{
-    let number = digits(text, 1, 18)?;
-    Some(number * 10u64.pow(18 - text.len() as u32))
 }

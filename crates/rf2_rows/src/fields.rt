@@ -1,10 +1,11 @@
 //! Reading the fields of a line, each as its column asks for.
-ghost use Rattle.std.specs.Prelude.{◌≡◌, ◌<◌, ◌≤◌, ◌^◌, IfSome, is_some};
+ghost use Rattle.std.specs.Prelude.{◌≡◌};
 ghost use Rattle.rf2_rows.specs.Columns.{cause_of, id_format, component_format, uuid_format, time_format, active_format, group_format, text_format};
-ghost use Rattle.rf2_rows.specs.Numbers.{is_number, number_of};
+ghost use Rattle.numerals.specs.Numbers.{number_of};
 ghost use Rattle.rf2_rows.specs.Rows.{IsReading, IsReadingLent, column_fault, time_of, active_of, uuid_of};
 
 use crate::fault::{RowCause, RowFault};
+use numerals::digits;
 use sctid::{IdFault, Part, SctId};
 use uuid::Uuid;
 
@@ -93,28 +94,6 @@ pub fn text(text: &[u8], column: u8) -> Result<&str, RowFault>
         Ok(found) => Ok(found),
         Err(_) => Err(fault(RowCause::Utf8, column)),
     }
-}
-
-/// The number that a text of ASCII digits writes, of `least` to `most` digits, of which 18 may be the
-/// most; `None` for any other text. Takes no memory.
-#[tactic(auto, using(crate::proofs::Values::digit_steps))]
-pub fn digits(text: &[u8], least: usize, most: usize) -> Option<u64>
-    requires { most ≤ 18 }
-    ensures digits { is_some result ≡ is_number least most text.now }
-    ensures value { IfSome result (λ number. number ≡ number_of text.now) }
-    ensures small { IfSome result (λ number. number < 10 ^ most) }
-{
-    if text.len() < least || text.len() > most {
-        return None;
-    }
-    let mut number = 0u64;
-    for byte in text {
-        if !byte.is_ascii_digit() {
-            return None;
-        }
-        number = number * 10 + u64::from(*byte - b'0');
-    }
-    Some(number)
 }
 
 /// A fault of a column.

@@ -3,8 +3,8 @@ ghost use Rattle.std.specs.Prelude.{◌≡◌, None, Some, IsNone, IfSome};
 ghost use Rattle.rf2_rows.specs.Columns.{header_of};
 ghost use Rattle.rf2_rows.specs.Files.{file_kind_of, file_name, stem_of, elements_of, kind_of_elements, kind_named, component_kind, reference_set_kind, is_snapshot, is_terminology, is_reference_set};
 
-use crate::split::cut;
 use bstr::ByteSlice;
+use text_parts::cut;
 
 /// What the rows of a file describe.
 #[derive(Clone, Copy, Debug, PartialEq, Eq)]

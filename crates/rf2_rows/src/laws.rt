@@ -1,5 +1,6 @@
 //! Laws about the definitions of this crate: functions that do nothing, each with the law as its contract.
-ghost use Rattle.rf2_rows.specs.Pairs.{KeepsEachNumberOnce, KeepsEachPairOnce, TellsSamePair, TellsSameValue};
+ghost use Rattle.number_lists.specs.Distinct.{KeepsEachNumberOnce};
+ghost use Rattle.rf2_rows.specs.Pairs.{KeepsEachPairOnce, TellsSamePair, TellsSameValue};
 ghost use Rattle.rf2_rows.specs.Versions.{IsEquivalenceOfRows};
 
 /// The test whether two pairs of a type and a value are the same says exactly that they are equal.

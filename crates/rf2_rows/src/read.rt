@@ -1,6 +1,6 @@
 //! Reading a line as a row.
 ghost use Rattle.std.specs.Prelude.{◌≡◌, None, Some, IfOk, IfErr};
-ghost use Rattle.rf2_rows.specs.Parts.{texts_of};
+ghost use Rattle.text_parts.specs.Parts.{texts_of};
 ghost use Rattle.rf2_rows.specs.Rows.{IsReading, IsReadingLent, fields_fault, row_fault, concept_of, description_of, description_text, relationship_of, member_of, IsRow};
 
 use crate::concrete::read_concrete;

@@ -1,7 +1,7 @@
 //! Identifiers that stand in one row after another: those of modules, types and modifiers.
 ghost use Rattle.std.specs.Prelude.{◌≡◌, true, None, IfSome, length};
 ghost use Rattle.rf2_rows.specs.Columns.{cause_of, id_format};
-ghost use Rattle.rf2_rows.specs.Numbers.{number_of};
+ghost use Rattle.numerals.specs.Numbers.{number_of};
 ghost use Rattle.rf2_rows.specs.Rows.{IsReading, column_fault};
 ghost use Rattle.sctid.specs.declared.Part.TheVariants.{Concept};
 

@@ -1,6 +1,6 @@
 //! Cutting a line at its tabs, 64 bytes at a time.
 ghost use Rattle.std.specs.Prelude.{◌≡◌, ◌+◌, ◌<◌, ◌≤◌, ◌++◌, [], length, IsNone, IfSome};
-ghost use Rattle.rf2_rows.specs.Parts.{texts_of};
+ghost use Rattle.text_parts.specs.Parts.{texts_of};
 ghost use Rattle.rf2_rows.specs.Rows.{fields_of};
 ghost use Rattle.rf2_rows.specs.inside.Tabs.{NoTab, parts_from, tab_bits, tabs_in};
 

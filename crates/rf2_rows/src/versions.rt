@@ -2,17 +2,17 @@
 ghost use Rattle.std.specs.Prelude.{◌≡◌, ◌==◌, true, map, None, bytes_eq};
 ghost use Rattle.rf2_rows.specs.Columns.{cause_of, columns_of, time_format, uuid_format, value_format};
 ghost use Rattle.rf2_rows.specs.inside.Formats.{format_of};
-ghost use Rattle.rf2_rows.specs.Numbers.{is_number, number_of};
+ghost use Rattle.numerals.specs.Numbers.{is_number, number_of};
 ghost use Rattle.rf2_rows.specs.Pairs.{value_eq};
-ghost use Rattle.rf2_rows.specs.Parts.{texts_of};
+ghost use Rattle.text_parts.specs.Parts.{texts_of};
 ghost use Rattle.rf2_rows.specs.Rows.{active_of, fields_fault, row_fault, time_of, uuid_of};
 ghost use Rattle.rf2_rows.specs.Values.{value_of};
 ghost use Rattle.rf2_rows.specs.Versions.{same_row, same_time, same_value, same_values};
 
-use crate::concrete::decimal;
-use crate::fields::{digits, hyphenated};
+use crate::fields::hyphenated;
 use crate::kind::FileKind;
 use crate::tabs::cut_fields;
+use numerals::{decimal, digits};
 use sctid::Part;
 use uuid::Uuid;
 

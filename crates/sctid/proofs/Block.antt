@@ -11,7 +11,8 @@ use Rattle.std.proofs.lemmas.Nat.{le_bytes_8}
 use Rattle.std.proofs.lemmas.Str.{digit_value_digit}
 use Rattle.sctid.specs.Identifier.{times, permuted, check_product}
 use Rattle.sctid.proofs.Group.{times-lt, times_assoc, zero-times, permuted-lt}
-use Rattle.sctid.proofs.Product.{digit-lt, digit_in}
+use Rattle.sctid.proofs.Product.{digit-lt}
+use Rattle.numerals.proofs.DigitLemmas.{digit_in}
 
 -- the text of eight digits
 abbrev pub block_text : (ℕ → ℕ) → List ℕ

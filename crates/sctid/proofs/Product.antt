@@ -2,9 +2,9 @@
 use Rattle.std.proofs.Common.{◌≡◌, ℕ, ◌+◌, ◌-◌, ◌<◌, ◌≤◌, nat_le, zero, suc, true, List, [], ◌∷◌, ◌++◌, length, get_or, drop, length-append, length-drop, sym, ap, ◌∙◌, arith}
 use Rattle.std.specs.Char.{is_ascii_digit}
 use Rattle.std.specs.List.{list_all}
-use Rattle.std.proofs.lemmas.Bool.{and_parts, leb-true, true_from_ne_false, both_ways}
-use Rattle.std.proofs.lemmas.List.Folds.{list_all_at}
+use Rattle.std.proofs.lemmas.Bool.{and_parts, leb-true}
 use Rattle.std.proofs.lemmas.List.{at_drop_more}
+use Rattle.numerals.proofs.DigitLemmas.{digit_in}
 use Rattle.sctid.specs.Identifier.{times, permuted, check_product}
 use Rattle.sctid.proofs.Group.{times-lt, times_assoc, times-zero, permuted-lt, permuted-eight}
 
@@ -18,11 +18,6 @@ check_product-lt [] digits = omega arith
 check_product-lt (byte ∷ right) digits =
     let parts = and_parts _ _ digits in
     times-lt (check_product right) _ (check_product-lt right parts.1) (permuted-lt (length right) (byte - 48) (digit-lt byte parts.0))
-
--- each byte of a text of digits is a digit
-pub digit_in : (text : List ℕ) (i : ℕ) → i < length text → list_all is_ascii_digit text ≡ true → is_ascii_digit (get_or text i 0) ≡ true
-digit_in text i within digits =
-    true_from_ne_false _ (λ other. both_ways _ (list_all_at is_ascii_digit text i 0 within other) digits)
 
 -- what is left of a text of digits are digits
 digits-drop : (i : ℕ) (text : List ℕ) → list_all is_ascii_digit text ≡ true → list_all is_ascii_digit (drop i text) ≡ true

@@ -1,6 +1,6 @@
 //! The plan of a query.
 use constraint_tree::{Cardinality, Compare, Operator};
-use rf2_rows::Decimal;
+use numerals::Decimal;
 
 /// A plan of a set of concepts in force (Expression Constraint Language, "Simple Expression Constraints" to
 /// "Refinements"). `specs/Meaning.antt` says which set it means over a release.

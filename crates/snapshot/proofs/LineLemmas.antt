@@ -6,10 +6,11 @@ use Rattle.std.proofs.lemmas.List.{get_or-map, get_or_default, get_or_read, map_
 use Rattle.std.proofs.lemmas.Option.{slice_get_within}
 use Rattle.rf2_rows.specs.Release.{Name}
 use Rattle.snapshot.specs.inside.FirstRows.{AreFirstPlaces}
-use Rattle.hierarchy.specs.inside.KeyedListsInside.{AreStarts}
+use Rattle.number_lists.specs.inside.KeyedListsInside.{AreStarts}
 use Rattle.snapshot.specs.Line.{concept_line}
 use Rattle.snapshot.specs.Name.{first_name, name_among, names_of}
-use Rattle.hierarchy.proofs.CutLemmas.{below_cut, cut, cut-push, end_within, found, same_maps, slice_range-append, starts-push}
+use Rattle.number_lists.proofs.CutLemmas.{below_cut, cut, cut-push, end_within, found, slice_range-append, starts-push}
+use Rattle.number_lists.proofs.ListLemmas.{same_maps}
 
 -- the place of the row that comes first is that of a row, and the term there is its term
 pub place_within : (names : List Name) (place : Option ℕ) (first : Option Name)

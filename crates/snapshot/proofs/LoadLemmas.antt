@@ -16,7 +16,7 @@ use Rattle.rf2_rows.specs.declared.row.RelationshipRow.{RelationshipRow}
 use Rattle.snapshot.specs.Contents.{contents_of, load_of, loaded_from}
 use Rattle.release_rows.specs.Files.{text_of_row, Place, RowAt, is_concept_file, is_concept_kind, has_kind, places_from}
 use Rattle.rf2_rows.specs.Files.{file_kind_of}
-use Rattle.hierarchy.specs.Members.{has}
+use Rattle.number_lists.specs.Members.{has}
 use Rattle.release_rows.specs.InForce.{attributes_in_force, concept_in, concept_rows, concepts_in_force, description_in, is_in_force, is_member_in_force, is_name, isa_in_force, member_in, members_in_force, name_on, names_in_force, relationship_in, release_of, rows_among}
 use Rattle.release_rows.specs.ReadRows.{IsReadFrom}
 use Rattle.snapshot.specs.inside.Finished.{attributes_among, contents_from, finished, names_among, release_from}

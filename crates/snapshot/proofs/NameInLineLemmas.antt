@@ -4,7 +4,7 @@ use Rattle.std.proofs.lemmas.Grind.{common_steps}
 use Rattle.std.proofs.Common.{ℕ, ◌≡◌, ◌≤◌, ◌+◌, ◌-◌, ◌++◌, ◌∷◌, [], List, Option, Some, length, get_or, drop, refl, arith, length-append, append_assoc, get_or-drop, codes, decimal, slice_range, drop-drop, drop_at, get_or-append-add, take-append-drop, take_at}
 use Rattle.std.proofs.lemmas.List.{append_cancel_left, append_cancel_right, get_or_at}
 use Rattle.snapshot.specs.Line.{concept_line, name_text}
-use Rattle.hierarchy.proofs.CutLemmas.{length-range}
+use Rattle.number_lists.proofs.CutLemmas.{length-range}
 
 -- a line with a name between two places
 module _ (texts digits name : List ℕ) (from to : ℕ) (rise : from ≤ to) (end : to ≤ length texts)

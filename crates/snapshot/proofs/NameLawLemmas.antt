@@ -1,7 +1,7 @@
 -- The name row that is called the first comes before all others.
 use Rattle.std.proofs.Common.{ℕ, ◌≡◌, List, [], ◌∷◌, None, Some, Bool, true, false, cond, nat_lt, not, ◌&&◌, ap, refl, arith, Contains}
 use Rattle.rf2_rows.specs.Release.{Name}
-use Rattle.hierarchy.proofs.HierarchyLemmas.{first_contained, rest_contained}
+use Rattle.number_lists.proofs.ListLemmas.{first_contained, rest_contained}
 use Rattle.snapshot.specs.Name.{NamesFirstRow, comes_before, first_name, first_of_two, is_in}
 
 -- the order of two rows by what it depends on: whether each is in the language, and their identifiers

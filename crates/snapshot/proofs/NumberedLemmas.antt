@@ -5,7 +5,7 @@ use Rattle.std.proofs.lemmas.List.Elements.{All-map, All-weaker, filter-append}
 use Rattle.std.proofs.lemmas.List.Quantifiers.{position-Some}
 use Rattle.std.proofs.lemmas.Simd.{map-map}
 use Rattle.rf2_rows.specs.Release.{Attribute, concept_value}
-use Rattle.hierarchy.specs.Members.{has}
+use Rattle.number_lists.specs.Members.{has}
 use Rattle.snapshot.specs.AttributesBySource.{HasNumbersBelow, IsNumberBelow, by_identifiers, value_by_identifier}
 use Rattle.release_rows.specs.ConcreteValues.{Concrete, a_number, a_text, concrete_value, no_text}
 use Rattle.snapshot.specs.inside.Finished.{attributes_among}

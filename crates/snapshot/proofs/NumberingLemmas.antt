@@ -13,10 +13,11 @@ use Rattle.hierarchy.specs.Hierarchy.{IsWithin, Reaches, more_rows, one_row, rea
 use Rattle.hierarchy.proofs.HierarchyLemmas.{chain_from_test, test_from_chain}
 use Rattle.std.proofs.lemmas.List.{length-map}
 use Rattle.snapshot.specs.Contents.{first_cyclic}
-use Rattle.hierarchy.specs.Members.{has}
+use Rattle.number_lists.specs.Members.{has}
+use Rattle.number_lists.proofs.BlockLemmas.{Contains-map}
 use Rattle.release_rows.specs.InForce.{rows_among}
 use Rattle.snapshot.specs.Numbering.{concept_number, numbered_row, row_of_numbers}
-use Rattle.release_rows.proofs.PlaceLemmas.{contains_map, get_or-place_of, place_below, place_of, place_of-get_or, place_within}
+use Rattle.release_rows.proofs.PlaceLemmas.{get_or-place_of, place_below, place_of, place_of-get_or, place_within}
 use Rattle.release_rows.proofs.RisingLemmas.{has-between}
 
 -- the row of what a function gives of both ends
@@ -25,8 +26,8 @@ row_by f row = (f row.0, f row.1)
 
 -- a chain of rows, each end of which is renamed
 pub Reaches-map : (f : ℕ → ℕ) {rows : List (ℕ × ℕ)} {x y : ℕ} → Reaches rows x y → Reaches (map (row_by f) rows) (f x) (f y)
-Reaches-map f {rows} {x} {y} (one_row there) = one_row (contains_map (row_by f) rows (x, y) there)
-Reaches-map f {rows} {x} {y} (more_rows {parent = parent} there rest) = more_rows (contains_map (row_by f) rows (x, parent) there) (Reaches-map f rest)
+Reaches-map f {rows} {x} {y} (one_row there) = one_row (Contains-map (row_by f) rows (x, y) there)
+Reaches-map f {rows} {x} {y} (more_rows {parent = parent} there rest) = more_rows (Contains-map (row_by f) rows (x, parent) there) (Reaches-map f rest)
 
 -- the number of a concept among others is its place
 pub concept_number-has : (concepts : List ℕ) (id : ℕ) → has concepts id ≡ true → concept_number concepts id ≡ Some (place_of concepts id)

@@ -12,7 +12,7 @@ use Rattle.rf2_rows.specs.declared.row.ConceptRow.{ConceptRow}
 use Rattle.rf2_rows.specs.declared.row.RelationshipRow.{RelationshipRow}
 use Rattle.release_rows.specs.Chosen.{choices, marked}
 use Rattle.release_rows.specs.Files.{RowAt}
-use Rattle.hierarchy.specs.Members.{has}
+use Rattle.number_lists.specs.Members.{has}
 use Rattle.release_rows.specs.InForce.{attributes_in_force, concept_rows, concrete_rows, description_rows, is_concrete_in_force, is_in_force, listed_count, member_rows, put, relationship_rows, release_of, rising}
 use Rattle.release_rows.specs.Metadata.{is_a}
 use Rattle.snapshot.specs.Passed.{CountsPassedRows, failing, passed_texts}

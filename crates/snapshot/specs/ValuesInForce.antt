@@ -1,7 +1,7 @@
 -- Values of attributes that are concepts in force (Release File Specification, "Relationship file", destinationId).
 use Rattle.std.specs.Prelude.{◌≡◌, ℕ, Bool, true, List, All}
 use Rattle.rf2_rows.specs.Release.{Attribute, Release, Value, concept_value, number_value, text_value}
-use Rattle.hierarchy.specs.Members.{has}
+use Rattle.number_lists.specs.Members.{has}
 
 -- a value that is no concept, or one of some concepts
 abbrev pub is_value_among : List ℕ → Value → Bool

@@ -87,7 +87,7 @@ impl Concepts {
 }
 
 impl KnownConcepts for Concepts {
-    ghost use Rattle.hierarchy.specs.Members.{has};
+    ghost use Rattle.number_lists.specs.Members.{has};
 
     ghost knows = { has };
 

@@ -1,7 +1,8 @@
 -- What is gathered of concepts with their lists, before it is brought in order.
 use Rattle.std.specs.Prelude.{ℕ, ◌≡◌, ◌<◌, ◌∷◌, ◌||◌, Bool, false, List, Option, None, Some, All, flat_map, slice_index}
-use Rattle.idset.specs.Sets.{IsRisingBelow, has_item}
-use Rattle.hierarchy.specs.KeyedLists.{list_of}
+use Rattle.number_lists.specs.Rising.{IsRisingBelow}
+use Rattle.number_lists.specs.Members.{has_item}
+use Rattle.number_lists.specs.KeyedLists.{list_of}
 
 -- concepts, each with the concepts of its list, which is the list of its place
 abbrev pub gathered_by : List ℕ → List (List ℕ) → List ℕ → List ℕ

@@ -3,8 +3,8 @@
 use Rattle.std.specs.Prelude.{ℕ, zero, suc, ℤ, Bool, true, false, if◌then◌else◌, List, [], ◌∷◌, ◌++◌, length, drop, Option, None, Some, is_some, option_map}
 use Rattle.ecl_lexer.specs.declared.token.TokenKind.{TokenKind}
 use Rattle.ecl_lexer.specs.declared.token.TokenKind.TheVariants as token
-use Rattle.rf2_rows.specs.Numbers.{is_number, number_of}
-use Rattle.rf2_rows.specs.Values.{decimal_of}
+use Rattle.numerals.specs.Numbers.{is_number, number_of}
+use Rattle.numerals.specs.Decimals.{decimal_of}
 use Rattle.constraint_tree.specs.Grammar.{Symbol, digits, decimal, mark}
 use Rattle.constraint_tree.specs.Tree.{Tree, concept_tree, any_tree, walk_tree, member_tree, and_tree, or_tree, minus_tree, dotted_tree, refined_tree, trees_from, RefinementTree, one_refinement, group_refinement, and_refinement, or_refinement, refinements_from, AttributeSetTree, one_set, and_set, or_set, sets_from, AttributeTree, attribute_tree, TestTree, within_test, outside_test, number_test}
 use Rattle.constraint_tree.specs.declared.operator.Cardinality.{Cardinality}

@@ -11,7 +11,8 @@ use Rattle.pair_sets.specs.declared.candidates.Candidates.{Candidates}
 use Rattle.pair_sets.proofs.UnitLemmas.{units_found, units_within as units_of_candidates}
 use Rattle.set_algebra.specs.Plan.{PlanOfUnits, Plan, and_units, and_plan, unit_plan_of, unit_plans_of, members_plan, minus_units, minus_plan, or_units, or_plan, outside_plan, pairs_units, pairs_plan, plan_of, plans_of, test_plan_of, units_plan, values_plan, walk_plan, within_plan}
 use Rattle.set_algebra.proofs.PlanLemmas.{unit_plan_of-And, unit_plan_of-Or, plan_of-And, plan_of-Or, plan_of-Values}
-use Rattle.idset.specs.Sets.{has_item, numbers_where}
+use Rattle.number_lists.specs.Members.{has_item}
+use Rattle.number_lists.specs.Rising.{numbers_where}
 use Rattle.postings.specs.Groups.{all_groups}
 use Rattle.pair_sets.specs.Groups.{groups_where, some_group_in}
 use Rattle.pair_sets.specs.Numbers.{numbers_in}

@@ -3,8 +3,9 @@
 use Rattle.std.specs.Prelude.{ℕ, Bool, ◌==◌, ◌&&◌, List, length, slice_index}
 use Rattle.std.specs.List.{list_any}
 use Rattle.rf2_rows.specs.Release.{Release}
-use Rattle.idset.specs.Sets.{has_item, numbers_where}
-use Rattle.hierarchy.specs.KeyedLists.{list_of}
+use Rattle.number_lists.specs.Members.{has_item}
+use Rattle.number_lists.specs.Rising.{numbers_where}
+use Rattle.number_lists.specs.KeyedLists.{list_of}
 
 -- the numbers of the components of the member rows whose reference set is one of some concepts
 abbrev pub components_of : Release → List ℕ → List ℕ

@@ -5,8 +5,10 @@ use Rattle.std.specs.List.{list_any}
 use Rattle.rf2_rows.specs.Release.{Release}
 use Rattle.constraint_tree.specs.declared.operator.Operator.{Operator}
 use Rattle.constraint_tree.specs.declared.operator.Operator.TheVariants.{Descendants, DescendantsOrSelf, Children, ChildrenOrSelf, Ancestors, AncestorsOrSelf, Parents, ParentsOrSelf, Top, Bottom}
-use Rattle.idset.specs.Sets.{all_items, has_item, numbers_where}
-use Rattle.hierarchy.specs.KeyedLists.{list_of}
+use Rattle.idset.specs.Sets.{all_items}
+use Rattle.number_lists.specs.Members.{has_item}
+use Rattle.number_lists.specs.Rising.{numbers_where}
+use Rattle.number_lists.specs.KeyedLists.{list_of}
 use Rattle.ancestor_index.specs.HierarchyLists.{Hierarchy, hierarchy_of}
 use Rattle.ancestor_index.specs.Wide.{IsWide}
 use Rattle.executor.specs.declared.family.Family.{Family}

@@ -1,7 +1,7 @@
 -- Concepts by how many of their groups are among some (Expression Constraint Language, "Cardinality").
 use Rattle.std.specs.Prelude.{ℕ, List, length}
 use Rattle.rf2_rows.specs.Release.{Release}
-use Rattle.idset.specs.Sets.{numbers_where}
+use Rattle.number_lists.specs.Rising.{numbers_where}
 use Rattle.constraint_tree.specs.Passing.{lies_in}
 use Rattle.constraint_tree.specs.declared.operator.Cardinality.{Cardinality}
 use Rattle.pair_sets.specs.Owned.{groups_owned}

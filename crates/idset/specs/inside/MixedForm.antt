@@ -4,7 +4,7 @@ use Rattle.idset.specs.declared.mixed_set.Form.{Form}
 use Rattle.idset.specs.declared.mixed_set.Form.TheVariants.{Few, Many}
 use Rattle.idset.specs.declared.sorted_set.SortedSet.{SortedSet}
 use Rattle.idset.specs.declared.word_set.WordSet.{WordSet}
-use Rattle.idset.specs.Sets.{IsRisingBelow, numbers_where}
+use Rattle.number_lists.specs.Rising.{IsRisingBelow, numbers_where}
 use Rattle.idset.specs.Words.{is_set}
 
 -- the items of a list

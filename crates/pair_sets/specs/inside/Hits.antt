@@ -4,12 +4,11 @@ use Rattle.std.specs.Prelude.{count_by, length, slice_get, slice_index}
 use Rattle.std.specs.List.{flat_map}
 use Rattle.rf2_rows.specs.Pairs.{value_eq}
 use Rattle.rf2_rows.specs.Release.{Attribute, Value, concept_value}
-use Rattle.idset.specs.Sets.{has_item}
+use Rattle.number_lists.specs.Members.{has_item, times}
 use Rattle.postings.specs.Columns.{Flagged}
 use Rattle.postings.specs.Entries.{Entry, entries_where, entries_with_type, entries_with_value}
 use Rattle.postings.specs.Groups.{ConceptGroup, is_in_group}
 use Rattle.postings.specs.Indexed.{Indexed, types_of, value_at, values_of}
-use Rattle.pair_sets.specs.inside.Counted.{times}
 use Rattle.pair_sets.specs.Tested.{is_one_of}
 
 -- of marks and the cells beside them: a number for each place that is kept

@@ -2,7 +2,7 @@
 use Rattle.std.specs.Prelude.{ℕ, ◌≡◌, Bool, if◌then◌else◌, List, filter, length}
 use Rattle.rf2_rows.specs.Release.{Value}
 use Rattle.constraint_tree.specs.Passing.{is_within}
-use Rattle.idset.specs.Sets.{IsRisingBelow}
+use Rattle.number_lists.specs.Rising.{IsRisingBelow}
 use Rattle.postings.specs.Indexed.{Indexed, rows_by_source, rows_by_value, types_of}
 use Rattle.pair_sets.specs.Tested.{IsTestBelow, is_one_of, passes_of}
 use Rattle.pair_sets.specs.declared.tested.Tested.{Tested}

@@ -3,7 +3,7 @@ use Rattle.std.specs.Prelude.{ℕ, ◌+◌, ◌==◌, ◌≡◌, ◌≤◌, ◌<
 use Rattle.std.specs.Prelude.{if◌then◌else◌, List, [], ◌∷◌}
 use Rattle.std.specs.Prelude.{All, filter, length, map, slice_index, vec_len}
 use Rattle.std.specs.List.{flat_map, list_any, position_or_len, range_with_len}
-use Rattle.rf2_rows.specs.Pairs.{distinct}
+use Rattle.number_lists.specs.Distinct.{distinct}
 use Rattle.rf2_rows.specs.Release.{Attribute, Value}
 use Rattle.release_rows.specs.InForce.{rising}
 use Rattle.postings.specs.Columns.{Flagged}

@@ -1,6 +1,6 @@
 -- The pairs of attribute rows as numbers.
 use Rattle.std.specs.Prelude.{ℕ, ◌+◌, ◌*◌, ◌^◌, ◌<◌, ◌==◌, List, filter, map, nat_eq}
-use Rattle.rf2_rows.specs.Pairs.{distinct}
+use Rattle.number_lists.specs.Distinct.{distinct}
 use Rattle.postings.specs.inside.Coded.{pair_code}
 use Rattle.postings.specs.declared.rows.CodedRow.{CodedRow}
 

@@ -1,7 +1,7 @@
 -- What the fields of texts in one vector say, and what they keep.
 use Rattle.std.specs.Prelude.{ℕ, ◌+◌, ◌-◌, List, length, map, slice_index, slice_range}
 use Rattle.std.specs.List.{range_with_len}
-use Rattle.hierarchy.specs.inside.KeyedListsInside.{AreStarts}
+use Rattle.number_lists.specs.inside.KeyedListsInside.{AreStarts}
 use Rattle.postings.specs.declared.texts.Texts.TheInside.{Inside}
 
 abbrev pub texts_in : Inside → List (List ℕ)

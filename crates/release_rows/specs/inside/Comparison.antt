@@ -6,7 +6,7 @@ use Rattle.rf2_rows.specs.Rows.{row_fault}
 use Rattle.rf2_rows.specs.Versions.{time_on}
 use Rattle.rf2_rows.specs.declared.kind.FileKind.{FileKind}
 use Rattle.release_rows.specs.Files.{Place, RowAt, row_at}
-use Rattle.hierarchy.specs.Members.{has}
+use Rattle.number_lists.specs.Members.{has}
 use Rattle.release_rows.specs.inside.Keys.{IsMet, key_in}
 use Rattle.release_rows.specs.inside.KeyedRows.{AreOfItsKind, KeyedRow, conflicts}
 use Rattle.release_rows.specs.inside.VersionTable.{HasTaken, VersionTable}

@@ -3,7 +3,7 @@ use Rattle.std.specs.Prelude.{◌≡◌, ◌<◌, ℕ, ◌+◌, ◌*◌, ◌/◌
 use Rattle.std.specs.List.{list_any}
 use Rattle.rf2_rows.specs.Versions.{same_row}
 use Rattle.rf2_rows.specs.declared.kind.FileKind.{FileKind}
-use Rattle.hierarchy.specs.Members.{has}
+use Rattle.number_lists.specs.Members.{has}
 use Rattle.release_rows.specs.inside.KeyedRows.{KeyedRow, is_repeated}
 
 -- a version of a component: its code, and of its first row the place among all rows, the kind and the line

@@ -1,7 +1,7 @@
 -- What is kept with the text of an identifier that was read.
 use Rattle.std.specs.Prelude.{◌≡◌, None, IfSome}
 use Rattle.rf2_rows.specs.Columns.{cause_of, id_format}
-use Rattle.rf2_rows.specs.Numbers.{number_of}
+use Rattle.numerals.specs.Numbers.{number_of}
 use Rattle.rf2_rows.specs.declared.recent.ReadConcept.TheInside.{Inside}
 use Rattle.sctid.specs.declared.Part.TheVariants.{Concept}
 

@@ -2,7 +2,7 @@
 use Rattle.std.specs.Prelude.{◌≡◌, ℕ, ◌-◌, ◌<◌, ◌≤◌, ◌==◌, false, List, map, take, drop, slice_index_or}
 use Rattle.std.specs.Simd.Lanes.{mask_l}
 use Rattle.rf2_rows.specs.Columns.{tab}
-use Rattle.rf2_rows.specs.Parts.{parts_at}
+use Rattle.text_parts.specs.Parts.{parts_at}
 
 -- the tabs among some bytes, one bit to a byte, the first byte's lowest
 abbrev pub tab_bits : List ℕ → ℕ

@@ -1,6 +1,6 @@
 -- The snapshot that is made of what was listed of the rows of a release.
 use Rattle.std.specs.Prelude.{◌≡◌, ◌≢◌, ◌&&◌, ◌-◌, ℕ, List, filter, Option, Some, option_map, Result}
-use Rattle.hierarchy.specs.Members.{has}
+use Rattle.number_lists.specs.Members.{has}
 use Rattle.rf2_rows.specs.Release.{Attribute, Name, Release}
 use Rattle.release_rows.specs.InForce.{listed_count, rising, rows_among}
 use Rattle.release_rows.specs.ReleaseLists.{ReleaseLists}

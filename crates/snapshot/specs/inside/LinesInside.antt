@@ -2,7 +2,7 @@
 use Rattle.std.specs.Prelude.{ℕ, ◌≡◌, ◌+◌, ◌-◌, ◌++◌, List, length, map, slice_index, slice_range, string_bytes}
 use Rattle.std.specs.List.{range_with_len}
 use Rattle.snapshot.specs.inside.NamesInLines.{name_kept}
-use Rattle.hierarchy.specs.inside.KeyedListsInside.{AreStarts}
+use Rattle.number_lists.specs.inside.KeyedListsInside.{AreStarts}
 use Rattle.snapshot.specs.inside.Lined.{Lined}
 use Rattle.snapshot.specs.declared.lines.ConceptLines.TheInside.{Inside}
 

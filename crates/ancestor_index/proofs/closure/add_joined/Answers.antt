@@ -1,5 +1,6 @@
 use Rattle.std.proofs.Common.{◌≡◌, ◌∙◌, ◌||◌, IfSome, ap, subst, sym}
-use Rattle.idset.specs.Sets.{all_items, numbers_where}
+use Rattle.idset.specs.Sets.{all_items}
+use Rattle.number_lists.specs.Rising.{numbers_where}
 use Rattle.ancestor_index.specs.inside.Gathered.{has_joined}
 use Rattle.ancestor_index.proofs.GatherLemmas.{joined_list}
 use Rattle.ancestor_index.proofs.closure.add_joined.Goals as goal

@@ -1,9 +1,9 @@
 use Rattle.std.proofs.Common.{ℕ, ◌≡◌, ◌<◌, ◌∙◌, List, length, get_or, map, ap, arith}
 use Rattle.std.proofs.lemmas.List.{get_or_default, length-map}
 use Rattle.std.proofs.lemmas.Result.{IfOk-weaker}
-use Rattle.idset.specs.Sets.{numbers_where}
+use Rattle.number_lists.specs.Rising.{numbers_where}
 use Rattle.hierarchy.specs.Hierarchy.{reaches}
-use Rattle.hierarchy.specs.KeyedLists.{list_of}
+use Rattle.number_lists.specs.KeyedLists.{list_of}
 use Rattle.ancestor_index.proofs.ClosureLemmas.{lists_reordered, order_below, place_at}
 use Rattle.ancestor_index.proofs.closure.ancestor_lists.Goals as goal
 

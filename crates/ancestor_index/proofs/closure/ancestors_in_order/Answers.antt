@@ -2,9 +2,9 @@ use Rattle.std.proofs.Common.{ℕ, ◌≡◌, ◌<◌, ◌++◌, ◌∷◌, [], 
 use Rattle.std.specs.Prelude.{All, Contains}
 use Rattle.std.proofs.lemmas.List.{take_all}
 use Rattle.std.proofs.lemmas.List.Elements.{All-nil, Contains-get_or}
-use Rattle.hierarchy.specs.KeyedLists.{AreItemsBelow}
-use Rattle.idset.specs.Sets.{IsRisingBelow, listed_numbers, numbers_where}
-use Rattle.idset.proofs.Rising.{numbers_where-rising}
+use Rattle.number_lists.specs.KeyedLists.{AreItemsBelow}
+use Rattle.number_lists.specs.Rising.{IsRisingBelow, listed_numbers, numbers_where}
+use Rattle.number_lists.proofs.RisingLemmas.{numbers_where-rising}
 use Rattle.hierarchy.specs.Hierarchy.{reaches}
 use Rattle.ancestor_index.specs.HierarchyLists.{is_child}
 use Rattle.ancestor_index.proofs.ClosureLemmas.{Turn, gathered_listed, length-where, order_below, own_parents, parent_placed}

@@ -1,7 +1,7 @@
 use Rattle.std.proofs.Common.{ℕ, ◌≡◌, List, length, map, take}
 use Rattle.hierarchy.specs.Hierarchy.{reaches}
-use Rattle.hierarchy.specs.KeyedLists.{AreItemsBelow}
-use Rattle.idset.specs.Sets.{numbers_where}
+use Rattle.number_lists.specs.KeyedLists.{AreItemsBelow}
+use Rattle.number_lists.specs.Rising.{numbers_where}
 use Rattle.ancestor_index.specs.inside.Gathered.{AreRisingBelow}
 use Rattle.ancestor_index.specs.inside.Parents.{AreParentsBy}
 use Rattle.ancestor_index.specs.Wide.{AreWide}

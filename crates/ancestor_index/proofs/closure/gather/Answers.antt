@@ -1,5 +1,5 @@
 use Rattle.std.proofs.Common.{ℕ, List, ◌∙◌, ◌++◌, ◌∷◌, [], ap, get_or, subst, sym, take}
-use Rattle.idset.specs.Sets.{has_item}
+use Rattle.number_lists.specs.Members.{has_item}
 use Rattle.ancestor_index.specs.inside.Gathered.{AreGathered, gathered_by, has_joined}
 use Rattle.ancestor_index.proofs.GatherLemmas.{gathered_item, gathered_more}
 use Rattle.ancestor_index.proofs.closure.gather.Goals as goal

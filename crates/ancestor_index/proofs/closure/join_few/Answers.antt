@@ -1,5 +1,6 @@
 use Rattle.std.proofs.Common.{ℕ, ◌≡◌, ◌∙◌, ◌++◌, List, ap, arith, get_or, sym, take, take_all}
-use Rattle.idset.specs.Sets.{IsRisingBelow, all_items, listed_numbers}
+use Rattle.number_lists.specs.Rising.{IsRisingBelow, listed_numbers}
+use Rattle.idset.specs.Sets.{all_items}
 use Rattle.ancestor_index.specs.inside.Gathered.{joined_by}
 use Rattle.ancestor_index.proofs.GatherLemmas.{joined_listed, joined_more, joined_with, listed_more, none_joined, own_rises}
 use Rattle.ancestor_index.proofs.closure.join_few.Goals as goal

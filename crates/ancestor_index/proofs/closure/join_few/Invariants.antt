@@ -1,5 +1,5 @@
 use Rattle.std.proofs.Common.{◌≡◌, ◌++◌, take}
-use Rattle.idset.specs.Sets.{listed_numbers}
+use Rattle.number_lists.specs.Rising.{listed_numbers}
 use Rattle.ancestor_index.specs.inside.Gathered.{joined_by}
 use Rattle.ancestor_index.proofs.closure.join_few.Given as goal
 

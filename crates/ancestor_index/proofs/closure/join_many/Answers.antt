@@ -1,7 +1,7 @@
 use Rattle.std.proofs.Common.{◌∙◌, sym}
 use Rattle.std.proofs.lemmas.Result.{on_ok_weaker}
-use Rattle.idset.specs.Sets.{has_item}
-use Rattle.idset.proofs.Normal.{numbers_where-agree}
+use Rattle.number_lists.specs.Members.{has_item}
+use Rattle.number_lists.proofs.WhereLemmas.{numbers_where-agree}
 use Rattle.idset.specs.declared.word_set.WordSet.{WordSet}
 use Rattle.ancestor_index.proofs.GatherLemmas.{rises_below}
 use Rattle.ancestor_index.proofs.closure.join_many.Goals as goal

@@ -1,5 +1,5 @@
 use Rattle.std.proofs.Common.{◌≡◌, map, take}
-use Rattle.hierarchy.specs.KeyedLists.{list_of}
+use Rattle.number_lists.specs.KeyedLists.{list_of}
 use Rattle.ancestor_index.proofs.closure.reordered.Given as goal
 
 abbrev pub invariant-loop-place : goal.invariant-loop-place

@@ -1,7 +1,7 @@
 use Rattle.std.proofs.Common.{arith}
 use Rattle.std.proofs.lemmas.Bool.Decides.{nat_tests}
 use Rattle.std.proofs.lemmas.Grind.{common_steps}
-use Rattle.idset.proofs.Normal.{has_item-numbers_where}
+use Rattle.number_lists.proofs.WhereLemmas.{has_item-numbers_where}
 use Rattle.ancestor_index.proofs.GatherLemmas.{with_words_has}
 use Rattle.ancestor_index.proofs.closure.with_words.Goals as goal
 

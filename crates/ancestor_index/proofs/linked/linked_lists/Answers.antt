@@ -1,7 +1,7 @@
 use Rattle.std.proofs.Common.{ℕ, ◌≡◌, ◌∙◌, List, length, map, ap, subst, arith}
 use Rattle.std.specs.Prelude.{IfOk}
-use Rattle.idset.specs.Sets.{listed_numbers}
-use Rattle.hierarchy.proofs.KeyedLemmas.{length-lists_by}
+use Rattle.number_lists.specs.Rising.{listed_numbers}
+use Rattle.number_lists.proofs.KeyedLemmas.{length-lists_by}
 use Rattle.hierarchy.proofs.WayLemmas.{parents_below}
 use Rattle.ancestor_index.specs.HierarchyLists.{is_child, lists_where}
 use Rattle.ancestor_index.proofs.BuildLemmas.{parents_listed}

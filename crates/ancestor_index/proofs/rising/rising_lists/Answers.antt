@@ -1,6 +1,6 @@
 use Rattle.std.proofs.Common.{ℕ, ◌≡◌, ◌<◌, ◌++◌, ◌∷◌, [], ◌∙◌, List, length, get_or, sym, subst, ap, arith}
 use Rattle.std.specs.Prelude.{All}
-use Rattle.idset.specs.Sets.{listed_numbers}
+use Rattle.number_lists.specs.Rising.{listed_numbers}
 use Rattle.ancestor_index.proofs.ListLemmas.{map_more}
 use Rattle.ancestor_index.proofs.rising.rising_lists.Goals as goal
 

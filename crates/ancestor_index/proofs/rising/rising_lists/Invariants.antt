@@ -1,5 +1,5 @@
 use Rattle.std.proofs.Common.{◌≡◌, map, take}
-use Rattle.idset.specs.Sets.{listed_numbers}
+use Rattle.number_lists.specs.Rising.{listed_numbers}
 use Rattle.ancestor_index.proofs.rising.rising_lists.Given as goal
 
 abbrev pub invariant-loop-key : goal.invariant-loop-key

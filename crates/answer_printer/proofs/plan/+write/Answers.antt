@@ -3,7 +3,8 @@ use Rattle.set_algebra.specs.declared.plan.ConceptPlan.{ConceptPlan}
 use Rattle.set_algebra.specs.Plan.{Plan, PlanOfUnits, minus_plan, minus_units, pairs_plan, pairs_units, plan_of, plans_of, test_plan_of, unit_plan_of, values_plan}
 use Rattle.set_algebra.specs.declared.choice.Choice.{Choice}
 use Rattle.planner.specs.Leaves.{group_leaves, leaves, test_leaves}
-use Rattle.planner.proofs.ListLemmas.{drop_further, drop_leaf}
+use Rattle.std.proofs.lemmas.List.{drop-drop}
+use Rattle.planner.proofs.ListLemmas.{drop_leaf}
 use Rattle.planner.proofs.LoopLemmas.{rest_end, rest_turn}
 use Rattle.planner.proofs.PartLemmas.{values_are, values_behind}
 use Rattle.answer_printer.specs.inside.PlanLines.{before_bound, first_bound, with_bounds}
@@ -104,7 +105,7 @@ write_plan-returns-in-Minus t c =
       text = written.lines ∙ sym (ap (λ (plan : Plan). given ++ with_bounds (outline before_bound spaces choices plan) bounds) is);
       choices = last.choices
           ∙ ap (drop (leaves other)) left.choices
-          ∙ drop_further (leaves other) (leaves one) choices
+          ∙ drop-drop (leaves other) (leaves one) choices
           ∙ sym (ap (λ (plan : Plan). drop (leaves plan) choices) is);
       bounds = written.behind ∙ sym (ap (λ (plan : Plan). drop (length (outline before_bound spaces choices plan)) bounds) is);
     }
@@ -169,7 +170,7 @@ write_units-returns-in-Minus t c =
       text = written.lines ∙ sym (ap (λ (plan : PlanOfUnits). given ++ with_bounds (group_outline before_bound spaces choices plan) bounds) is);
       choices = last.choices
           ∙ ap (drop (group_leaves other)) left.choices
-          ∙ drop_further (group_leaves other) (group_leaves one) choices
+          ∙ drop-drop (group_leaves other) (group_leaves one) choices
           ∙ sym (ap (λ (plan : PlanOfUnits). drop (group_leaves plan) choices) is);
       bounds = written.behind ∙ sym (ap (λ (plan : PlanOfUnits). drop (length (group_outline before_bound spaces choices plan)) bounds) is);
     }

@@ -1,5 +1,5 @@
 use Rattle.std.proofs.Common.{◌≡◌, map, take, string_bytes}
-use Rattle.rf2_rows.specs.Parts.{texts_of}
+use Rattle.text_parts.specs.Parts.{texts_of}
 use Rattle.command_line.proofs.words.copies.Given as goal
 
 abbrev pub invariant-loop-text : goal.invariant-loop-text

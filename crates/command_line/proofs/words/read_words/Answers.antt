@@ -1,5 +1,5 @@
 use Rattle.std.proofs.Common.{◌≡◌, ◌∙◌, ap, refl, subst, true, []}
-use Rattle.rf2_rows.specs.Parts.{texts_of}
+use Rattle.text_parts.specs.Parts.{texts_of}
 use Rattle.clap.specs.Words.{App, app_of, is_simple, is_simple_and_free, HasKind, fault_of, kind_of, subcommand_of, subcommand_rows_of}
 use Rattle.clap.proofs.OnLiterals.{clap_on_literals}
 use Rattle.command_line.specs.CommandLine.{program}

@@ -2,11 +2,12 @@ use Rattle.std.proofs.Common.{ℕ, List, ◌≡◌, ◌<◌, ◌∙◌, ◌∷�
 use Rattle.std.specs.Prelude.{All}
 use Rattle.std.specs.List.{flat_map}
 use Rattle.std.proofs.lemmas.Result.{IfOk-weaker}
-use Rattle.hierarchy.specs.KeyedLists.{list_of}
-use Rattle.idset.specs.Sets.{has_item, listed_numbers}
+use Rattle.number_lists.specs.KeyedLists.{list_of}
+use Rattle.number_lists.specs.Members.{has_item}
+use Rattle.number_lists.specs.Rising.{listed_numbers}
 use Rattle.executor.specs.inside.Asked.{AreEnough}
 use Rattle.executor.specs.inside.Steps.{lists_of}
-use Rattle.pair_sets.proofs.ListLemmas.{all_below}
+use Rattle.number_lists.proofs.RisingLemmas.{all_below}
 use Rattle.executor.proofs.AskedLemmas.{with_lists_below, with_lists_enough}
 use Rattle.executor.proofs.led.enough_for.Goals as goal
 

@@ -1,7 +1,7 @@
 use Rattle.std.proofs.Common.{◌∙◌, arith}
 use Rattle.std.specs.List.{list_any}
-use Rattle.hierarchy.specs.KeyedLists.{list_of}
-use Rattle.idset.specs.Sets.{has_item}
+use Rattle.number_lists.specs.KeyedLists.{list_of}
+use Rattle.number_lists.specs.Members.{has_item}
 use Rattle.executor.specs.inside.Steps.{lists_of}
 use Rattle.executor.proofs.JoinedLemmas.{over_length}
 use Rattle.executor.proofs.LedLemmas.{asked_back}

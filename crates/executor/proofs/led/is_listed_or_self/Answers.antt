@@ -1,5 +1,5 @@
 use Rattle.std.proofs.Common.{◌≡◌, ◌∙◌, ◌||◌, true, false, sym}
-use Rattle.idset.specs.Sets.{has_item}
+use Rattle.number_lists.specs.Members.{has_item}
 use Rattle.executor.specs.inside.Steps.{joined, lists_of}
 use Rattle.executor.proofs.LedLemmas.{asked_or_self}
 use Rattle.executor.proofs.led.is_listed_or_self.Goals as goal

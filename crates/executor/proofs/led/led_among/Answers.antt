@@ -1,10 +1,10 @@
 use Rattle.std.proofs.Common.{ℕ, List, ◌≡◌, ◌<◌, ◌∙◌, sym, ap, subst}
 use Rattle.std.specs.Prelude.{All, filter}
 use Rattle.std.proofs.lemmas.Result.{IfOk-weaker}
-use Rattle.idset.specs.Sets.{IsRisingBelow, has_item}
-use Rattle.idset.proofs.Rising.{rises_within-filter}
+use Rattle.number_lists.specs.Rising.{IsRisingBelow}
+use Rattle.number_lists.specs.Members.{has_item}
+use Rattle.number_lists.proofs.RisingLemmas.{rises_within-filter, all_below}
 use Rattle.executor.specs.inside.Steps.{lists_of, stepped}
-use Rattle.pair_sets.proofs.ListLemmas.{all_below}
 use Rattle.executor.proofs.LedLemmas.{led_asked}
 use Rattle.executor.proofs.led.led_among.Goals as goal
 

@@ -1,5 +1,5 @@
 use Rattle.std.proofs.Common.{ℕ, Vec, Bool, true, false, ◌∙◌, sym, ap, append-nil}
-use Rattle.idset.specs.Sets.{has_item}
+use Rattle.number_lists.specs.Members.{has_item}
 use Rattle.idset.proofs.Places.{filter_step}
 use Rattle.executor.specs.inside.Steps.{lists_of, stepped}
 use Rattle.executor.proofs.led.those_led_to.Goals as goal

@@ -1,6 +1,6 @@
 use Rattle.std.proofs.Common.{◌≡◌, take}
 use Rattle.std.specs.Prelude.{filter}
-use Rattle.idset.specs.Sets.{has_item}
+use Rattle.number_lists.specs.Members.{has_item}
 use Rattle.executor.specs.inside.Steps.{lists_of, stepped}
 use Rattle.executor.proofs.led.those_led_to.Given as goal
 

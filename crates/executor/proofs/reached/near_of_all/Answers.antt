@@ -1,6 +1,8 @@
 use Rattle.std.proofs.Common.{ℕ, List, ◌<◌, ◌∙◌, get_or, take, sym, ap, subst, arith}
 use Rattle.std.proofs.lemmas.List.{take_all, take_more}
-use Rattle.idset.specs.Sets.{IsRisingBelow, all_items, has_item, numbers_where}
+use Rattle.number_lists.specs.Rising.{IsRisingBelow, numbers_where}
+use Rattle.idset.specs.Sets.{all_items}
+use Rattle.number_lists.specs.Members.{has_item}
 use Rattle.idset.specs.Words.{is_set}
 use Rattle.executor.specs.inside.Joined.{AreJoined}
 use Rattle.executor.specs.inside.Steps.{lists_of}

@@ -1,12 +1,14 @@
 use Rattle.std.proofs.Common.{ℕ, List, ◌≡◌, ◌<◌, ◌+◌, not, ◌&&◌, ◌∙◌, length, get_or, sym, ap, subst, arith}
 use Rattle.std.specs.Prelude.{All}
-use Rattle.hierarchy.specs.KeyedLists.{list_of}
-use Rattle.idset.specs.Sets.{IsRisingBelow, all_items, has_item, numbers_where}
+use Rattle.number_lists.specs.KeyedLists.{list_of}
+use Rattle.number_lists.specs.Rising.{IsRisingBelow, numbers_where}
+use Rattle.idset.specs.Sets.{all_items}
+use Rattle.number_lists.specs.Members.{has_item}
 use Rattle.idset.specs.Words.{is_set}
 use Rattle.executor.specs.inside.Joined.{AreJoined, near_of, turn_of}
 use Rattle.executor.specs.inside.Steps.{lists_of}
 use Rattle.executor.specs.declared.family.Family.{Family}
-use Rattle.pair_sets.proofs.ListLemmas.{all_below}
+use Rattle.number_lists.proofs.RisingLemmas.{all_below}
 use Rattle.executor.proofs.ReachedLemmas.{IsPassed, all_among, near_rises, near_there, passed_all, passed_first, passed_on, passed_over}
 use Rattle.executor.proofs.reached.reached.Goals as goal
 use Rattle.executor.proofs.reached.reached.Goals.{then-is_in_first_alone+in_ok-add_all, else-is_in_first_alone}

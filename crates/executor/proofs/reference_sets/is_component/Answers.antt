@@ -1,6 +1,6 @@
 use Rattle.std.proofs.Common.{ℕ, List, ◌<◌, ◌∙◌, arith, length, sym, ap, subst, get_or}
-use Rattle.idset.specs.Sets.{IsRising}
-use Rattle.hierarchy.specs.KeyedLists.{list_of}
+use Rattle.number_lists.specs.Rising.{IsRising}
+use Rattle.number_lists.specs.KeyedLists.{list_of}
 use Rattle.executor.proofs.MemberLemmas.{members_rise}
 use Rattle.executor.proofs.reference_sets.is_component.Goals as goal
 

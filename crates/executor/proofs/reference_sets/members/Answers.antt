@@ -2,8 +2,8 @@ use Rattle.std.proofs.Common.{ℕ, List, ◌<◌, ◌≡◌, ◌∙◌, length, 
 use Rattle.std.specs.Prelude.{All}
 use Rattle.std.specs.List.{flat_map}
 use Rattle.std.proofs.lemmas.Result.{IfOk-weaker}
-use Rattle.idset.specs.Sets.{listed_numbers}
-use Rattle.hierarchy.specs.KeyedLists.{list_of}
+use Rattle.number_lists.specs.Rising.{listed_numbers}
+use Rattle.number_lists.specs.KeyedLists.{list_of}
 use Rattle.postings.specs.Indexed.{members_of}
 use Rattle.executor.proofs.MemberLemmas.{members_below, members_listed}
 use Rattle.executor.proofs.reference_sets.members.Goals as goal

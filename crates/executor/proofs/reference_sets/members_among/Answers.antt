@@ -1,8 +1,8 @@
 use Rattle.std.proofs.Common.{ℕ, List, ◌≡◌, ◌<◌, ◌∙◌, length, sym, ap, subst}
 use Rattle.std.specs.Prelude.{All, filter}
 use Rattle.std.proofs.lemmas.Result.{IfOk-weaker}
-use Rattle.idset.specs.Sets.{IsRisingBelow}
-use Rattle.idset.proofs.Rising.{rises_within-filter}
+use Rattle.number_lists.specs.Rising.{IsRisingBelow}
+use Rattle.number_lists.proofs.RisingLemmas.{rises_within-filter}
 use Rattle.executor.specs.inside.Components.{is_in_one_of}
 use Rattle.executor.proofs.MemberLemmas.{members_asked}
 use Rattle.executor.proofs.reference_sets.members_among.Goals as goal

@@ -1,8 +1,8 @@
 use Rattle.std.proofs.Common.{ℕ, List, ◌≡◌, ◌∙◌, sym, subst, arith}
 use Rattle.std.proofs.lemmas.Result.{on_ok_weaker}
-use Rattle.idset.specs.Sets.{IsRisingBelow}
+use Rattle.number_lists.specs.Rising.{IsRisingBelow}
 use Rattle.idset.specs.Words.{AreWordsBelow}
-use Rattle.hierarchy.specs.KeyedLists.{list_of}
+use Rattle.number_lists.specs.KeyedLists.{list_of}
 use Rattle.executor.specs.inside.Steps.{lists_of}
 use Rattle.executor.proofs.JoinedLemmas.{join_list, join_skipped, over_length, over_rising, words_list}
 use Rattle.executor.proofs.walks.add_list.Goals as goal

@@ -1,7 +1,7 @@
 use Rattle.std.proofs.Common.{ℕ, List, ◌≡◌, ◌<◌, ◌++◌, ◌∷◌, [], ◌∙◌, get_or, take, refl, sym, ap, subst, arith, append-nil}
 use Rattle.std.specs.Bool.{beq}
 use Rattle.std.proofs.lemmas.List.{take_all}
-use Rattle.hierarchy.specs.KeyedLists.{list_of}
+use Rattle.number_lists.specs.KeyedLists.{list_of}
 use Rattle.executor.specs.inside.Joined.{AreJoined, is_long, with_length}
 use Rattle.executor.specs.inside.Steps.{IsOver, lists_of}
 use Rattle.executor.proofs.JoinedLemmas.{over_length, with_length_more, with_length_same}

@@ -1,9 +1,10 @@
 use Rattle.std.proofs.Common.{ℕ, List, true, ◌∙◌, [], All, ◌<◌, sym, ap, subst}
-use Rattle.idset.specs.Sets.{has_item, numbers_where}
+use Rattle.number_lists.specs.Members.{has_item}
+use Rattle.number_lists.specs.Rising.{numbers_where}
 use Rattle.idset.specs.Words.{is_set}
 use Rattle.executor.specs.inside.Joined.{AreJoined, with_length}
 use Rattle.executor.specs.inside.Steps.{lists_of}
-use Rattle.pair_sets.proofs.ListLemmas.{all_below}
+use Rattle.number_lists.proofs.RisingLemmas.{all_below}
 use Rattle.executor.proofs.JoinedLemmas.{both_joined}
 use Rattle.executor.proofs.walks.all_listed.Goals as goal
 

@@ -1,11 +1,11 @@
 use Rattle.std.proofs.Common.{ℕ, List, Bool, not, ◌≡◌, ◌<◌, ◌∙◌, sym, ap, subst}
 use Rattle.std.specs.Prelude.{All, filter}
 use Rattle.std.specs.List.{list_any}
-use Rattle.idset.specs.Sets.{has_item, IsRisingBelow}
-use Rattle.idset.proofs.Rising.{rises_within-filter}
-use Rattle.hierarchy.specs.KeyedLists.{list_of}
+use Rattle.number_lists.specs.Members.{has_item}
+use Rattle.number_lists.specs.Rising.{IsRisingBelow}
+use Rattle.number_lists.proofs.RisingLemmas.{rises_within-filter, all_below}
+use Rattle.number_lists.specs.KeyedLists.{list_of}
 use Rattle.executor.specs.inside.Steps.{lists_of}
-use Rattle.pair_sets.proofs.ListLemmas.{all_below}
 use Rattle.executor.proofs.walks.apart.Goals as goal
 
 pub kept_apart-requires-clause-below : goal.kept_apart-requires-clause-below

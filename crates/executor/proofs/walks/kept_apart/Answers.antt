@@ -3,9 +3,9 @@ use Rattle.std.specs.Prelude.{All, filter, slice_index_or}
 use Rattle.std.specs.List.{list_any}
 use Rattle.std.proofs.lemmas.Result.{IfOk-weaker}
 use Rattle.std.proofs.lemmas.List.Elements.{All-filter}
-use Rattle.hierarchy.specs.KeyedLists.{list_of}
-use Rattle.idset.specs.Sets.{has_item}
-use Rattle.postings.proofs.BlockLemmas.{filter-twice, filter-within}
+use Rattle.number_lists.specs.KeyedLists.{list_of}
+use Rattle.number_lists.specs.Members.{has_item}
+use Rattle.number_lists.proofs.BlockLemmas.{filter-twice, filter-within}
 use Rattle.executor.specs.inside.Joined.{near_of}
 use Rattle.executor.specs.inside.Steps.{IsOver, lists_of}
 use Rattle.executor.specs.declared.family.Family.{Family}

@@ -1,8 +1,8 @@
 use Rattle.std.proofs.Common.{◌≡◌, not, take}
 use Rattle.std.specs.Prelude.{filter}
 use Rattle.std.specs.List.{list_any}
-use Rattle.idset.specs.Sets.{has_item}
-use Rattle.hierarchy.specs.KeyedLists.{list_of}
+use Rattle.number_lists.specs.Members.{has_item}
+use Rattle.number_lists.specs.KeyedLists.{list_of}
 use Rattle.executor.specs.inside.Steps.{lists_of}
 use Rattle.executor.proofs.walks.kept_by_lists.Given as goal
 

@@ -2,10 +2,11 @@ use Rattle.std.proofs.Common.{ℕ, List, not, ◌∙◌, ap, subst}
 use Rattle.std.specs.Prelude.{slice_index_or}
 use Rattle.std.specs.List.{list_any}
 use Rattle.std.proofs.lemmas.Result.{IfOk-weaker}
-use Rattle.hierarchy.specs.KeyedLists.{list_of}
-use Rattle.idset.specs.Sets.{has_item, numbers_where}
+use Rattle.number_lists.specs.KeyedLists.{list_of}
+use Rattle.number_lists.specs.Members.{has_item}
+use Rattle.number_lists.specs.Rising.{numbers_where}
 use Rattle.idset.specs.Words.{is_set}
-use Rattle.postings.proofs.BlockLemmas.{filter-within}
+use Rattle.number_lists.proofs.BlockLemmas.{filter-within}
 use Rattle.executor.specs.inside.Joined.{AreJoined, back_of, is_whole}
 use Rattle.executor.specs.inside.Steps.{IsOver, lists_of}
 use Rattle.executor.specs.declared.family.Family.{Family}

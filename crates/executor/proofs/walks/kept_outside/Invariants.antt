@@ -1,6 +1,6 @@
 use Rattle.std.proofs.Common.{◌≡◌, not, take}
 use Rattle.std.specs.Prelude.{filter}
-use Rattle.idset.specs.Sets.{has_item}
+use Rattle.number_lists.specs.Members.{has_item}
 use Rattle.executor.proofs.walks.kept_outside.Given as goal
 
 abbrev pub invariant-loop-concept : goal.invariant-loop-concept

@@ -1,6 +1,6 @@
 use Rattle.std.proofs.Common.{ℕ, List, ◌∙◌, sym, subst, arith}
 use Rattle.std.proofs.lemmas.Result.{IfOk-weaker}
-use Rattle.idset.specs.Sets.{IsRisingBelow}
+use Rattle.number_lists.specs.Rising.{IsRisingBelow}
 use Rattle.idset.specs.Words.{AreWordsBelow}
 use Rattle.executor.specs.inside.Steps.{lists_of}
 use Rattle.executor.proofs.JoinedLemmas.{list_joined, over_length, over_rising, words_joined}

@@ -1,5 +1,6 @@
 use Rattle.std.proofs.Common.{ℕ, List, ◌∙◌, refl, sym, subst}
-use Rattle.idset.specs.Sets.{IsRisingBelow, all_items}
+use Rattle.number_lists.specs.Rising.{IsRisingBelow}
+use Rattle.idset.specs.Sets.{all_items}
 use Rattle.idset.proofs.Normal.{all_items-swap}
 use Rattle.executor.specs.inside.Steps.{joined, lists_of}
 use Rattle.executor.proofs.walks.listed_or_self.Goals as goal

@@ -1,6 +1,6 @@
 use Rattle.std.proofs.Common.{ℕ, List, length, ap, arith}
-use Rattle.hierarchy.specs.KeyedLists.{turned_from}
-use Rattle.hierarchy.proofs.KeyedLemmas.{length-lists_by}
+use Rattle.number_lists.specs.KeyedLists.{turned_from}
+use Rattle.number_lists.proofs.KeyedLemmas.{length-lists_by}
 use Rattle.hierarchy.proofs.WayLemmas.{parents_below}
 use Rattle.hierarchy.proofs.components.component_ranks.Goals as goal
 

@@ -1,6 +1,6 @@
 use Rattle.std.proofs.Common.{ℕ, ◌∙◌, List, length, ap}
 use Rattle.std.proofs.lemmas.Result.{IfOk-weaker}
-use Rattle.hierarchy.proofs.KeyedLemmas.{length-lists_by}
+use Rattle.number_lists.proofs.KeyedLemmas.{length-lists_by}
 use Rattle.hierarchy.proofs.components.places_by_child.Goals as goal
 
 pub returns : goal.returns

@@ -1,5 +1,5 @@
 use Rattle.std.proofs.Common.{◌≡◌, length}
-use Rattle.hierarchy.specs.KeyedLists.{AreKeysBelow}
+use Rattle.number_lists.specs.KeyedLists.{AreKeysBelow}
 use Rattle.hierarchy.proofs.components.places_by_child.Given as goal
 
 abbrev pub invariant-loop-place : goal.invariant-loop-place

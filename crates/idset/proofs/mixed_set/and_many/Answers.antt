@@ -1,8 +1,10 @@
 use Rattle.std.proofs.Common.{◌∙◌, ◌^◌, ap, sym}
 use Rattle.idset.specs.inside.MixedForm.{form_items}
-use Rattle.idset.specs.Sets.{common_items, numbers_where}
+use Rattle.idset.specs.Sets.{common_items}
+use Rattle.number_lists.specs.Rising.{numbers_where}
 use Rattle.idset.specs.Words.{is_set}
-use Rattle.idset.proofs.Rising.{common_items-swap, rising_fits}
+use Rattle.idset.proofs.Rising.{common_items-swap}
+use Rattle.number_lists.proofs.RisingLemmas.{rising_fits}
 use Rattle.idset.proofs.mixed_set.and_many.Goals as goal
 
 pub returns-in_ok-set-in-Few-clause-items : goal.returns-in_ok-set-in-Few-clause-items

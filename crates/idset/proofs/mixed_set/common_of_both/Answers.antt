@@ -1,5 +1,6 @@
 use Rattle.std.proofs.Common.{◌∙◌, List, ℕ, ap, subst, sym}
-use Rattle.idset.specs.Sets.{common_items, IsRisingBelow, numbers_where}
+use Rattle.idset.specs.Sets.{common_items}
+use Rattle.number_lists.specs.Rising.{IsRisingBelow, numbers_where}
 use Rattle.idset.specs.Words.{is_set}
 use Rattle.idset.proofs.Rising.{common_items-rising}
 use Rattle.idset.proofs.WordLemmas.{kept_common}

@@ -1,6 +1,6 @@
 use Rattle.std.proofs.Common.{ℕ, Bool, List, ◌<◌, ◌∙◌, All, length, sym, ap, subst}
 use Rattle.std.proofs.lemmas.Result.{IfOk-weaker}
-use Rattle.idset.specs.Sets.{has_item}
+use Rattle.number_lists.specs.Members.{has_item}
 use Rattle.postings.specs.Groups.{ConceptGroup, groups_in}
 use Rattle.rf2_rows.specs.Release.{Value}
 use Rattle.pair_sets.specs.Tested.{is_one_of, passes_of}

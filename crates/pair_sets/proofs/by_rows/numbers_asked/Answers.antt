@@ -1,10 +1,9 @@
 use Rattle.std.proofs.Common.{ℕ, List, ◌≡◌, ◌<◌, ◌∙◌, All, true, sym, ap, subst}
-use Rattle.idset.specs.Sets.{has_item}
-use Rattle.idset.proofs.Normal.{has_item-numbers_where, numbers_where-all}
-use Rattle.idset.proofs.Rising.{range_rising}
+use Rattle.number_lists.specs.Members.{has_item}
+use Rattle.number_lists.proofs.WhereLemmas.{has_item-numbers_where, numbers_where-all}
+use Rattle.number_lists.proofs.RisingLemmas.{range_rising, all_below}
 use Rattle.pair_sets.specs.declared.candidates.Candidates.{Candidates}
 use Rattle.pair_sets.specs.Within.{AreBelow, may_be}
-use Rattle.pair_sets.proofs.ListLemmas.{all_below}
 use Rattle.pair_sets.proofs.by_rows.numbers_asked.Goals as goal
 
 pub returns-in_ok-numbers-in-All-clause-within : goal.returns-in_ok-numbers-in-All-clause-within

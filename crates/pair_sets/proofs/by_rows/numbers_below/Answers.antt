@@ -1,5 +1,5 @@
 use Rattle.std.proofs.Common.{ℕ, List, ◌∙◌, ◌∷◌, ◌++◌, [], sym, ap}
-use Rattle.idset.proofs.Normal.{range_more}
+use Rattle.number_lists.proofs.WhereLemmas.{range_more}
 use Rattle.pair_sets.proofs.by_rows.numbers_below.Goals as goal
 
 pub loop-number-preserved : goal.loop-number-preserved

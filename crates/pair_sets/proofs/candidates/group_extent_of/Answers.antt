@@ -1,6 +1,6 @@
 use Rattle.std.proofs.Common.{ℕ, List, ◌<◌, ◌∙◌, All, length, sym, ap, subst}
 use Rattle.postings.specs.Groups.{ConceptGroup, groups_in}
-use Rattle.pair_sets.proofs.ListLemmas.{all_below}
+use Rattle.number_lists.proofs.RisingLemmas.{all_below}
 use Rattle.pair_sets.proofs.LeafLemmas.{groups_are}
 use Rattle.pair_sets.proofs.candidates.group_extent_of.Goals as goal
 

@@ -1,6 +1,6 @@
 use Rattle.std.proofs.Common.{◌∙◌, true, refl, sym, ap}
 use Rattle.std.specs.Prelude.{filter}
-use Rattle.postings.proofs.BlockLemmas.{filter-all}
+use Rattle.number_lists.proofs.BlockLemmas.{filter-all}
 use Rattle.pair_sets.specs.declared.candidates.Candidates.{Candidates}
 use Rattle.pair_sets.specs.Within.{may_be}
 use Rattle.pair_sets.proofs.candidates.restricted.Goals as goal

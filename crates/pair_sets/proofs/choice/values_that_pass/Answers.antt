@@ -1,7 +1,7 @@
 use Rattle.std.proofs.Common.{ℕ, ◌≡◌, ◌<◌, ◌∙◌, All, length, sym, subst}
 use Rattle.pair_sets.specs.declared.tested.Tested.{Tested}
 use Rattle.pair_sets.specs.Tested.{IsTestBelow}
-use Rattle.pair_sets.proofs.ListLemmas.{all_below}
+use Rattle.number_lists.proofs.RisingLemmas.{all_below}
 use Rattle.pair_sets.proofs.choice.values_that_pass.Goals as goal
 
 pub rows_of_values-rows-requires : goal.rows_of_values-rows-requires

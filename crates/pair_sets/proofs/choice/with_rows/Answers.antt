@@ -1,5 +1,5 @@
 use Rattle.std.proofs.Common.{ℕ, ◌<◌, ◌∙◌, All, length, sym, subst}
-use Rattle.pair_sets.proofs.ListLemmas.{all_below}
+use Rattle.number_lists.proofs.RisingLemmas.{all_below}
 use Rattle.pair_sets.proofs.choice.with_rows.Goals as goal
 
 pub rows_of_values-rows-requires : goal.rows_of_values-rows-requires

@@ -1,10 +1,11 @@
 use Rattle.std.proofs.Common.{◌∙◌, ◌+◌}
 use Rattle.std.specs.Prelude.{nat_le}
 use Rattle.std.proofs.lemmas.Result.{IfOk-weaker}
-use Rattle.idset.proofs.Normal.{numbers_where-agree, other_items-numbers_where}
+use Rattle.number_lists.proofs.WhereLemmas.{numbers_where-agree}
+use Rattle.idset.proofs.Normal.{other_items-numbers_where}
 use Rattle.idset.specs.Sets.{other_items}
 use Rattle.constraint_tree.specs.Passing.{lies_in}
-use Rattle.pair_sets.specs.inside.Counted.{times}
+use Rattle.number_lists.specs.Members.{times}
 use Rattle.pair_sets.proofs.TimesLemmas.{up_to}
 use Rattle.pair_sets.proofs.counts.as_often.Goals as goal
 

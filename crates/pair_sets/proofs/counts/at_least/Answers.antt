@@ -2,9 +2,9 @@ use Rattle.std.proofs.Common.{ℕ, ◌∙◌, List, true, sym, ap, arith}
 use Rattle.std.specs.Prelude.{nat_le}
 use Rattle.std.proofs.lemmas.Bool.{le-leb}
 use Rattle.std.proofs.lemmas.Result.{IfOk-weaker}
-use Rattle.idset.proofs.Normal.{numbers_where-agree, numbers_where-all}
-use Rattle.idset.specs.Sets.{has_item, numbers_where}
-use Rattle.pair_sets.specs.inside.Counted.{times}
+use Rattle.number_lists.proofs.WhereLemmas.{numbers_where-agree, numbers_where-all}
+use Rattle.number_lists.specs.Members.{has_item, times}
+use Rattle.number_lists.specs.Rising.{numbers_where}
 use Rattle.pair_sets.proofs.TimesLemmas.{beyond, has_times}
 use Rattle.pair_sets.proofs.counts.at_least.Goals as goal
 

@@ -2,7 +2,7 @@ use Rattle.std.proofs.Common.{ℕ, ◌∙◌, ◌-◌, ◌<◌, All, List, sym, 
 use Rattle.std.specs.Prelude.{vec_len}
 use Rattle.std.proofs.lemmas.Bool.{eqb-true}
 use Rattle.std.proofs.lemmas.List.{nil_from_length}
-use Rattle.pair_sets.specs.inside.Counted.{times}
+use Rattle.number_lists.specs.Members.{times}
 use Rattle.pair_sets.proofs.TimesLemmas.{done_all, none_left}
 use Rattle.pair_sets.proofs.counts.repeated.Goals as goal
 use Rattle.pair_sets.proofs.counts.repeated.Goals.{then-loop-done-test+else-not-is_empty, else-loop-done-test}

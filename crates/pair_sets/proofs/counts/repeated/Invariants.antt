@@ -1,5 +1,5 @@
 use Rattle.std.proofs.Common.{ℕ, All, ◌≡◌, ◌-◌, ◌<◌, ◌≤◌}
-use Rattle.pair_sets.specs.inside.Counted.{times}
+use Rattle.number_lists.specs.Members.{times}
 use Rattle.pair_sets.proofs.counts.repeated.Given as goal
 
 -- so many of each number are gone

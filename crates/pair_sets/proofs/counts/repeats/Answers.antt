@@ -2,9 +2,8 @@ use Rattle.std.proofs.Common.{ℕ, Vec, ◌≡◌, ◌∙◌, ◌+◌, ◌-◌, 
 use Rattle.std.proofs.Common.{List, drop, [], ◌∷◌, ◌++◌, ◌||◌, ◌==◌, length, get_or, take, sym, ap, subst}
 use Rattle.std.proofs.lemmas.List.{take_all, take_at, take_more}
 use Rattle.std.proofs.lemmas.List.Elements.{All-append}
-use Rattle.idset.specs.Sets.{has_item}
+use Rattle.number_lists.specs.Members.{has_item, times}
 use Rattle.idset.specs.Words.{is_set}
-use Rattle.pair_sets.specs.inside.Counted.{times}
 use Rattle.pair_sets.proofs.TimesLemmas.{again_step, first_step, item_more, marked_again, one_below}
 use Rattle.pair_sets.proofs.counts.repeats.Goals as goal
 use Rattle.pair_sets.proofs.counts.repeats.Goals.{then-is_marked+in_ok-push, else-is_marked}

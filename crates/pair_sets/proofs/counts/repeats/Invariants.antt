@@ -1,7 +1,6 @@
 use Rattle.std.proofs.Common.{ℕ, All, ◌≡◌, ◌-◌, ◌<◌, length, take}
-use Rattle.idset.specs.Sets.{has_item}
+use Rattle.number_lists.specs.Members.{has_item, times}
 use Rattle.idset.specs.Words.{is_set, words_for}
-use Rattle.pair_sets.specs.inside.Counted.{times}
 use Rattle.pair_sets.proofs.counts.repeats.Given as goal
 
 -- the numbers so far are marked, and kept but for the first place of each

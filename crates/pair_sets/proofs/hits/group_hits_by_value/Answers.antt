@@ -6,7 +6,7 @@ use Rattle.postings.specs.Groups.{groups_in}
 use Rattle.pair_sets.specs.inside.Hits.{is_in_some}
 use Rattle.pair_sets.specs.Tested.{is_one_of}
 use Rattle.pair_sets.proofs.ChoiceLemmas.{of_values}
-use Rattle.pair_sets.proofs.ListLemmas.{all_below}
+use Rattle.number_lists.proofs.RisingLemmas.{all_below}
 use Rattle.pair_sets.proofs.hits.group_hits_by_value.Goals as goal
 
 pub groups_by_value-requires-clause-values : goal.groups_by_value-requires-clause-values

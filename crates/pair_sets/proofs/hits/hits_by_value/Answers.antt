@@ -7,7 +7,7 @@ use Rattle.postings.specs.Entries.{Entry, entries_of}
 use Rattle.pair_sets.specs.inside.Hits.{AreHits, counts_for_concept}
 use Rattle.pair_sets.specs.Tested.{is_one_of}
 use Rattle.pair_sets.proofs.ChoiceLemmas.{of_sources, of_values}
-use Rattle.pair_sets.proofs.ListLemmas.{all_below}
+use Rattle.number_lists.proofs.RisingLemmas.{all_below}
 use Rattle.pair_sets.proofs.hits.hits_by_value.Goals as goal
 
 pub values_by_source-requires-clause-sources : goal.values_by_source-requires-clause-sources

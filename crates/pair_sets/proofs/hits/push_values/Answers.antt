@@ -3,7 +3,7 @@ use Rattle.std.specs.Prelude.{count_by}
 use Rattle.std.proofs.lemmas.Bool.{and_parts, ltb-true}
 use Rattle.std.proofs.lemmas.List.{take_all}
 use Rattle.std.proofs.lemmas.List.Elements.{All-append}
-use Rattle.pair_sets.specs.inside.Counted.{times}
+use Rattle.number_lists.specs.Members.{times}
 use Rattle.pair_sets.specs.inside.Hits.{is_type_in}
 use Rattle.pair_sets.specs.Tested.{is_one_of}
 use Rattle.pair_sets.proofs.BackLemmas.{cells_tell, counts_at, none_pushed, pushed_more}

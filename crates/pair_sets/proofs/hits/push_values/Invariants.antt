@@ -2,7 +2,7 @@ use Rattle.std.proofs.Common.{ℕ, ◌≡◌, ◌<◌, ◌+◌, All, length, tak
 use Rattle.std.specs.Prelude.{count_by, slice_get}
 use Rattle.postings.specs.Entries.{entries_of}
 use Rattle.pair_sets.specs.inside.Among.{at_entry}
-use Rattle.pair_sets.specs.inside.Counted.{times}
+use Rattle.number_lists.specs.Members.{times}
 use Rattle.pair_sets.specs.inside.Hits.{counts_for_value}
 use Rattle.pair_sets.specs.Tested.{is_one_of}
 use Rattle.pair_sets.proofs.hits.push_values.Given as goal

@@ -5,7 +5,7 @@ use Rattle.rf2_rows.specs.Release.{Attribute}
 use Rattle.postings.specs.Entries.{entries_of, entries_where}
 use Rattle.postings.proofs.PlaceLemmas.{places_where-within}
 use Rattle.pair_sets.specs.inside.Among.{at_entry}
-use Rattle.pair_sets.specs.inside.Counted.{times}
+use Rattle.number_lists.specs.Members.{times}
 use Rattle.pair_sets.specs.inside.Hits.{AreHits, counts_for_value, entries_with_sources}
 use Rattle.pair_sets.proofs.BackLemmas.{source_counted}
 use Rattle.pair_sets.specs.Tested.{is_one_of}

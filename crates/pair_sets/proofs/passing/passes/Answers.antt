@@ -2,10 +2,10 @@ use Rattle.std.proofs.Common.{ℕ, ◌≡◌, ◌<◌, ◌∙◌, ◌&&◌, leng
 use Rattle.std.specs.Prelude.{All}
 use Rattle.std.proofs.lemmas.Bool.{le-ltb, lt-ltb}
 use Rattle.pair_sets.specs.declared.tested.Tested.{Tested}
-use Rattle.idset.specs.Sets.{has_item}
+use Rattle.number_lists.specs.Members.{has_item}
 use Rattle.pair_sets.specs.inside.Hits.{value_of}
 use Rattle.pair_sets.specs.Tested.{IsTestBelow, passes_of}
-use Rattle.pair_sets.proofs.ListLemmas.{all_below}
+use Rattle.number_lists.proofs.RisingLemmas.{all_below}
 use Rattle.pair_sets.proofs.PassingLemmas.{outside_told, within_told}
 use Rattle.pair_sets.proofs.passing.passes.Goals as goal
 

@@ -1,7 +1,7 @@
 use Rattle.std.proofs.Common.{ℕ, ◌<◌, ◌∙◌, sym, subst}
 use Rattle.std.specs.Prelude.{All, slice_get}
 use Rattle.postings.specs.Indexed.{types_of}
-use Rattle.pair_sets.proofs.ListLemmas.{all_below}
+use Rattle.number_lists.proofs.RisingLemmas.{all_below}
 use Rattle.pair_sets.proofs.TypeLemmas.{no_typed, typed}
 use Rattle.pair_sets.proofs.types.is_typed.Goals as goal
 

@@ -2,7 +2,7 @@ use Rattle.std.proofs.Common.{ℕ, List, ◌<◌, ◌∙◌, length, sym, subst}
 use Rattle.std.specs.Prelude.{All}
 use Rattle.std.proofs.lemmas.Result.{IfOk-weaker}
 use Rattle.pair_sets.specs.inside.Hits.{ArePlacesOf}
-use Rattle.pair_sets.proofs.ListLemmas.{all_below}
+use Rattle.number_lists.proofs.RisingLemmas.{all_below}
 use Rattle.pair_sets.proofs.types.places_in.Goals as goal
 
 pub places_of_concepts-requires-clause-below : goal.places_of_concepts-requires-clause-below

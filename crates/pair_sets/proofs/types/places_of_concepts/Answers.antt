@@ -2,7 +2,7 @@ use Rattle.std.proofs.Common.{ℕ, Vec, List, ◌≡◌, ◌<◌, ◌∙◌, ◌
 use Rattle.std.specs.Prelude.{All, None, Some, nat_eq, position}
 use Rattle.std.proofs.lemmas.List.{take_all}
 use Rattle.std.proofs.lemmas.List.Elements.{All-append, All-nil}
-use Rattle.idset.specs.Sets.{has_item}
+use Rattle.number_lists.specs.Members.{has_item}
 use Rattle.postings.specs.Indexed.{types_of}
 use Rattle.pair_sets.specs.inside.Hits.{ArePlacesOf}
 use Rattle.pair_sets.proofs.TimesLemmas.{one_below}

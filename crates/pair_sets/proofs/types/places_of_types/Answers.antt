@@ -1,13 +1,13 @@
 use Rattle.std.proofs.Common.{ℕ, Vec, Bool, List, true, false, ◌≡◌, ◌<◌, ◌∙◌, length, get_or, append-nil, sym, ap, subst, arith}
 use Rattle.std.specs.Prelude.{All}
 use Rattle.std.proofs.lemmas.List.{get_or_default}
-use Rattle.idset.specs.Sets.{has_item, numbers_where}
-use Rattle.idset.proofs.Normal.{has_item-numbers_where}
-use Rattle.idset.proofs.Rising.{numbers_where-rising}
+use Rattle.number_lists.specs.Members.{has_item}
+use Rattle.number_lists.specs.Rising.{numbers_where}
+use Rattle.number_lists.proofs.WhereLemmas.{has_item-numbers_where}
+use Rattle.number_lists.proofs.RisingLemmas.{numbers_where-rising, all_below}
 use Rattle.postings.proofs.IndexLemmas.{few_types}
 use Rattle.pair_sets.specs.Tested.{is_one_of}
 use Rattle.pair_sets.proofs.ChoiceLemmas.{place_more}
-use Rattle.pair_sets.proofs.ListLemmas.{all_below}
 use Rattle.pair_sets.proofs.types.places_of_types.Goals as goal
 use Rattle.pair_sets.proofs.types.places_of_types.Goals.{then-is_in+in_ok-push, else-is_in}
 

@@ -1,6 +1,6 @@
 use Rattle.std.proofs.Common.{ℕ, Bool, List, ◌≡◌, ◌<◌, ◌∙◌, length, get_or, sym, ap, subst, arith}
 use Rattle.std.specs.Prelude.{All, filter}
-use Rattle.idset.specs.Sets.{has_item}
+use Rattle.number_lists.specs.Members.{has_item}
 use Rattle.idset.specs.Words.{is_set}
 use Rattle.postings.proofs.IndexLemmas.{few_types}
 use Rattle.postings.specs.Indexed.{types_of}

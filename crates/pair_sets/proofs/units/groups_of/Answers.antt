@@ -1,8 +1,9 @@
 use Rattle.std.proofs.Common.{ℕ, List, ◌<◌, ◌∙◌, All, length, sym, ap, subst}
 use Rattle.std.proofs.lemmas.Result.{IfOk-weaker}
-use Rattle.idset.specs.Sets.{has_item, numbers_where}
+use Rattle.number_lists.specs.Members.{has_item}
+use Rattle.number_lists.specs.Rising.{numbers_where}
 use Rattle.postings.specs.Groups.{ConceptGroup, groups_in}
-use Rattle.pair_sets.proofs.ListLemmas.{all_below}
+use Rattle.number_lists.proofs.RisingLemmas.{all_below}
 use Rattle.pair_sets.proofs.LeafLemmas.{groups_are}
 use Rattle.pair_sets.proofs.OwnedLemmas.{owned}
 use Rattle.pair_sets.proofs.units.groups_of.Goals as goal

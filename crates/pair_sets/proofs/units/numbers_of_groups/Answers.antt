@@ -1,7 +1,7 @@
 use Rattle.std.proofs.Common.{ℕ, List, ◌≡◌, ◌≤◌, ◌<◌, ◌+◌, ◌-◌, ◌∙◌, ◌++◌, All, length, get_or, inl, inr, sym, ap, subst, arith}
 use Rattle.std.specs.List.{range_with_len}
 use Rattle.std.proofs.lemmas.List.Elements.{All-append}
-use Rattle.idset.specs.Sets.{has_item}
+use Rattle.number_lists.specs.Members.{has_item}
 use Rattle.postings.specs.Groups.{groups_before, groups_in}
 use Rattle.pair_sets.proofs.OwnedLemmas.{before_all, has_later, has_sooner, has_range, range_below, taken_more}
 use Rattle.pair_sets.proofs.units.numbers_of_groups.Goals as goal

@@ -1,5 +1,5 @@
 use Rattle.std.proofs.Common.{ℕ, ◌≡◌, ◌≤◌, ◌<◌, ◌+◌, true, All, length, take}
-use Rattle.idset.specs.Sets.{has_item}
+use Rattle.number_lists.specs.Members.{has_item}
 use Rattle.postings.specs.Groups.{groups_before, groups_in}
 use Rattle.pair_sets.proofs.units.numbers_of_groups.Given as goal
 

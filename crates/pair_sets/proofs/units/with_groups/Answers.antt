@@ -2,7 +2,7 @@ use Rattle.std.proofs.Common.{ℕ, List, ◌<◌, ◌∙◌, All, get_or, length
 use Rattle.std.proofs.lemmas.Result.{IfOk-weaker}
 use Rattle.postings.specs.Groups.{ConceptGroup, groups_in}
 use Rattle.pair_sets.specs.Groups.{concept_in}
-use Rattle.pair_sets.proofs.ListLemmas.{all_below}
+use Rattle.number_lists.proofs.RisingLemmas.{all_below}
 use Rattle.pair_sets.proofs.LeafLemmas.{groups_are}
 use Rattle.pair_sets.proofs.UnitLemmas.{owners_found}
 use Rattle.pair_sets.proofs.units.with_groups.Goals as goal

@@ -1,5 +1,4 @@
 use Rattle.std.proofs.Common.{ℕ, arith, ◌≡◌, ◌++◌, ◌∙◌, append_assoc, List, drop, sym, ap}
-use Rattle.set_algebra.specs.declared.choice.Choice.{Choice}
 use Rattle.set_algebra.specs.declared.plan.ConceptPlan.{ConceptPlan}
 use Rattle.set_algebra.specs.Plan.{Plan, PlanOfUnits, minus_plan, minus_units, pairs_plan, pairs_units, plan_of, plans_of, test_plan_of, unit_plan_of}
 use Rattle.planner.specs.Chosen.{chosen, group_chosen, plans_chosen}

@@ -2,7 +2,7 @@ use Rattle.std.proofs.Common.{ℕ, ◌+◌, ◌≡◌, ◌<◌, ◌++◌, ◌≤
 use Rattle.std.proofs.Common.{sym}
 use Rattle.std.specs.Prelude.{All}
 use Rattle.std.proofs.lemmas.List.{length-map}
-use Rattle.hierarchy.specs.KeyedLists.{list_of}
+use Rattle.number_lists.specs.KeyedLists.{list_of}
 use Rattle.snapshot.proofs.SortedLemmas.{flat_map-more}
 use Rattle.postings.specs.inside.Coded.{group_codes, group_marks, groups_ahead, of_source, source_marks}
 use Rattle.postings.specs.declared.rows.CodedRow.{CodedRow}

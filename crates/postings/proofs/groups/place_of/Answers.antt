@@ -3,8 +3,8 @@ use Rattle.std.specs.List.Sorted.{IsNonDecreasingBy}
 use Rattle.std.proofs.lemmas.Bool.{cases_lt}
 use Rattle.std.proofs.lemmas.List.Sorted.{IsNonDecreasingBy-from_default, IsPartitionPoint-from_clause, IsPartitionedBy-ltb}
 use Rattle.std.proofs.lemmas.List.Sums.{prefix_len_is}
-use Rattle.idset.specs.Sets.{IsRising}
-use Rattle.idset.proofs.Places.{get_or-rising}
+use Rattle.number_lists.specs.Rising.{IsRising}
+use Rattle.number_lists.proofs.RisingLemmas.{get_or-rising}
 use Rattle.postings.proofs.groups.place_of.Goals as goal
 
 -- a later item of a rising list is not below an earlier one

@@ -5,7 +5,7 @@ use Rattle.std.proofs.lemmas.Cmp.{nat_eq_equiv}
 use Rattle.std.proofs.lemmas.List.{take_all, take_more}
 use Rattle.std.proofs.lemmas.List.Elements.{All-more}
 use Rattle.first_met.specs.FirstMet.{keys_behind}
-use Rattle.hierarchy.proofs.KeyedLemmas.{split_at}
+use Rattle.number_lists.proofs.ListLemmas.{split_at}
 use Rattle.postings.specs.inside.Coded.{group_codes, has_same_in_group, marks_after, numbers_of_groups, pair_code, place_in_source}
 use Rattle.postings.specs.inside.PairKeys.{IsShort, grouped_key, ungrouped_keys}
 use Rattle.postings.specs.declared.rows.CodedRow.{CodedRow}

@@ -1,5 +1,5 @@
 use Rattle.std.proofs.Common.{◌+◌, ◌≡◌, ◌++◌, [], take}
-use Rattle.idset.specs.Sets.{IsRising}
+use Rattle.number_lists.specs.Rising.{IsRising}
 use Rattle.postings.specs.inside.Coded.{has_same_in_group, marks_after, numbers_of_groups, place_in_source}
 use Rattle.postings.specs.inside.PairKeys.{grouped_keys, ungrouped_keys}
 use Rattle.postings.proofs.PairKeyLemmas.{HaveShort}

@@ -1,6 +1,6 @@
 use Rattle.std.proofs.Common.{ℕ, List, length, ◌≡◌, ◌∙◌, sym, ap, subst, arith}
 use Rattle.std.proofs.lemmas.Result.{IfOk-weaker}
-use Rattle.hierarchy.specs.KeyedLists.{AreKeysBelow, lists_by}
+use Rattle.number_lists.specs.KeyedLists.{AreKeysBelow, lists_by}
 use Rattle.postings.specs.Places.{places_by}
 use Rattle.postings.proofs.KeyedPlacesLemmas.{keyed_below, length-keyed_places, places_by_keyed}
 use Rattle.postings.proofs.lists.places_by_key.Goals as goal

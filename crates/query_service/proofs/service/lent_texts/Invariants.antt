@@ -1,6 +1,6 @@
 -- The texts so far and those to come are all texts.
 use Rattle.std.proofs.Common.{◌≡◌, ◌++◌, drop, map, string_bytes}
-use Rattle.rf2_rows.specs.Parts.{texts_of}
+use Rattle.text_parts.specs.Parts.{texts_of}
 use Rattle.query_service.proofs.service.lent_texts.Given as goal
 
 abbrev pub invariant-loop-text : goal.invariant-loop-text

@@ -1,5 +1,5 @@
 use Rattle.std.proofs.Common.{ℕ, ◌≡◌, ◌≤◌, ◌-◌, ◌++◌, ◌↔◌, ◌∙◌, List, ap, arith, filter, length, length-append, nat_lt, not, subst, sym}
-use Rattle.hierarchy.proofs.ReleaseLemmas.{times}
+use Rattle.number_lists.specs.Members.{times}
 use Rattle.release_rows.proofs.NeighbourLemmas.{length-sides, twice_on_a_side}
 use Rattle.release_rows.proofs.repeated.again_keys.Goals as goal
 

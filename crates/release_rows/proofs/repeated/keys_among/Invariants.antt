@@ -1,5 +1,5 @@
 use Rattle.std.proofs.Common.{◌≡◌, take, filter}
-use Rattle.hierarchy.specs.Members.{has}
+use Rattle.number_lists.specs.Members.{has}
 use Rattle.release_rows.proofs.repeated.keys_among.Given as goal
 
 abbrev pub invariant-loop-key : goal.invariant-loop-key

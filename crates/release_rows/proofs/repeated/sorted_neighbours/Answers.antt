@@ -1,6 +1,6 @@
 use Rattle.std.proofs.Common.{ℕ, ◌∙◌, List, ap, arith, length}
 use Rattle.release_rows.specs.inside.Repeated.{equal_neighbours}
-use Rattle.hierarchy.proofs.ReleaseLemmas.{times}
+use Rattle.number_lists.specs.Members.{times}
 use Rattle.release_rows.proofs.NeighbourLemmas.{neighbours_few, times_again}
 use Rattle.release_rows.proofs.repeated.sorted_neighbours.Goals as goal
 

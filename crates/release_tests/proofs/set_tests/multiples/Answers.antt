@@ -1,7 +1,7 @@
 use Rattle.std.proofs.Common.{◌≡◌, ◌∙◌, ◌%◌, ◌++◌, ◌∷◌, [], List, ℕ, cond, eqb, sym, subst, arith}
-use Rattle.idset.specs.Sets.{IsRisingBelow, numbers_where}
-use Rattle.idset.proofs.Normal.{numbers_where-more}
-use Rattle.idset.proofs.Rising.{numbers_where-rising}
+use Rattle.number_lists.specs.Rising.{IsRisingBelow, numbers_where}
+use Rattle.number_lists.proofs.WhereLemmas.{numbers_where-more}
+use Rattle.number_lists.proofs.RisingLemmas.{numbers_where-rising}
 use Rattle.release_tests.proofs.set_tests.multiples.Goals as goal
 
 pub loop-number-preserved : goal.loop-number-preserved

@@ -1,5 +1,5 @@
 use Rattle.std.proofs.Common.{◌≡◌, ◌%◌, eqb}
-use Rattle.idset.specs.Sets.{numbers_where}
+use Rattle.number_lists.specs.Rising.{numbers_where}
 use Rattle.release_tests.proofs.set_tests.multiples.Given as goal
 
 abbrev pub invariant-loop-number : goal.invariant-loop-number

@@ -1,4 +1,5 @@
-use Rattle.rf2_rows.proofs.DistinctLemmas.{keeps_each_number_once, keeps_each_pair_once}
+use Rattle.number_lists.proofs.DistinctLemmas.{keeps_each_number_once}
+use Rattle.rf2_rows.proofs.PairLemmas.{keeps_each_pair_once}
 use Rattle.rf2_rows.proofs.laws.distinct_keeps_each_once.Goals as goal
 
 pub returns-clause-numbers : goal.returns-clause-numbers

@@ -1,5 +1,5 @@
 use Rattle.std.proofs.Common.{◌≡◌, ◌+◌, ◌-◌, ◌≤◌, ◌++◌, length}
-use Rattle.rf2_rows.specs.Parts.{texts_of}
+use Rattle.text_parts.specs.Parts.{texts_of}
 use Rattle.rf2_rows.specs.inside.Tabs.{NoTab, parts_from, tabs_in}
 use Rattle.rf2_rows.proofs.tabs.push_ended.Given as goal
 

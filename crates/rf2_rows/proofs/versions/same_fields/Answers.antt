@@ -6,7 +6,7 @@ use Rattle.std.proofs.lemmas.List.{drop_all, drop_more}
 use Rattle.sctid.specs.declared.Part.TheVariants.{Concept}
 use Rattle.rf2_rows.specs.Columns.{Column, cause_of, column, columns_of, id_format}
 use Rattle.rf2_rows.specs.inside.Formats.{format_of}
-use Rattle.rf2_rows.specs.Parts.{texts_of}
+use Rattle.text_parts.specs.Parts.{texts_of}
 use Rattle.rf2_rows.specs.Rows.{fields_fault}
 use Rattle.rf2_rows.specs.Versions.{same_value, same_values}
 use Rattle.rf2_rows.specs.declared.kind.FileKind.{FileKind}

@@ -1,6 +1,6 @@
 use Rattle.std.proofs.Common.{◌≡◌, drop}
 use Rattle.rf2_rows.specs.Columns.{columns_of}
-use Rattle.rf2_rows.specs.Parts.{texts_of}
+use Rattle.text_parts.specs.Parts.{texts_of}
 use Rattle.rf2_rows.specs.Versions.{same_values}
 use Rattle.rf2_rows.proofs.versions.same_fields.Given as goal
 

@@ -1,7 +1,7 @@
 use Rattle.std.proofs.Common.{◌≡◌, None, decimal, sym, ap, ◌∙◌, arith}
 use Rattle.std.proofs.lemmas.Bool.Decides.{nat_tests}
 use Rattle.sctid.specs.Identifier.{fault_of}
-use Rattle.sctid.proofs.Numerals.{decimal_of_text}
+use Rattle.numerals.proofs.DigitLemmas.{decimal_of_text}
 use Rattle.sctid.proofs.SctId.parse.Goals as goal
 
 pub invariant_of-result : goal.invariant_of-result

@@ -4,7 +4,7 @@ use Rattle.std.specs.List.{list_all}
 use Rattle.std.specs.Str.Parse.{digits_value}
 use Rattle.sctid.specs.Identifier.{check_product}
 use Rattle.sctid.proofs.Blocks.{so_far, block_is, front_is, not_digits, digits-block, value-block, product-block}
-use Rattle.sctid.proofs.Numerals.{front_small}
+use Rattle.numerals.proofs.DigitLemmas.{front_small}
 use Rattle.sctid.proofs.Product.{check_product-lt}
 use Rattle.sctid.proofs.digits.read_digits.Goals as goal
 

@@ -4,7 +4,7 @@ use Rattle.std.specs.List.{list_all}
 use Rattle.std.proofs.lemmas.List.{at_drop_all}
 use Rattle.sctid.specs.Identifier.{times, permuted, check_product}
 use Rattle.sctid.proofs.Group.{times-zero, zero-times}
-use Rattle.sctid.proofs.Numerals.{digits_more, value_more, front_small}
+use Rattle.numerals.proofs.DigitLemmas.{digits_more, value_more, front_small}
 use Rattle.sctid.proofs.Product.{check_product-lt, check_product-more, digit-lt}
 use Rattle.sctid.proofs.digits.read_front.Goals as goal
 

@@ -1,5 +1,5 @@
 use Rattle.std.proofs.Common.{refl}
-use Rattle.constraint_tree.proofs.Lists.{differ}
+use Rattle.number_lists.proofs.ListLemmas.{differ}
 use Rattle.set_algebra.proofs.laws.wrong_plans_differ.Goals as goal
 
 pub returns-clause-split_braces : goal.returns-clause-split_braces

@@ -2,7 +2,7 @@
 use Rattle.std.proofs.Common.{ℕ, ◌≡◌, List, map, take, string_bytes}
 use Rattle.snapshot.specs.inside.FirstRows.{AreFirstPlaces}
 use Rattle.snapshot.specs.inside.NamesInLines.{AreNoted}
-use Rattle.hierarchy.specs.inside.KeyedListsInside.{AreStarts}
+use Rattle.number_lists.specs.inside.KeyedListsInside.{AreStarts}
 use Rattle.snapshot.specs.Line.{concept_line}
 use Rattle.snapshot.specs.inside.LinesInside.{lines_between}
 use Rattle.snapshot.specs.Name.{name_among}

@@ -2,8 +2,8 @@ use Rattle.std.proofs.Common.{ℕ, ◌≡◌, ◌<◌, ◌^◌, ◌∙◌, List,
 use Rattle.std.specs.Prelude.{All}
 use Rattle.std.specs.List.Sorted.{IsStrictlyIncreasing}
 use Rattle.hierarchy.specs.Hierarchy.{IsWithin, reaches}
-use Rattle.hierarchy.specs.KeyedLists.{turned, turned_from}
-use Rattle.hierarchy.proofs.KeyedLemmas.{length-lists_by}
+use Rattle.number_lists.specs.KeyedLists.{turned, turned_from}
+use Rattle.number_lists.proofs.KeyedLemmas.{length-lists_by}
 use Rattle.ancestor_index.specs.HierarchyLists.{is_child, lists_where}
 use Rattle.ancestor_index.specs.Wide.{AreWide}
 use Rattle.ancestor_index.proofs.BuildLemmas.{ancestors_told, given_parents, hierarchy_told, order_count, turned_where, where_below}

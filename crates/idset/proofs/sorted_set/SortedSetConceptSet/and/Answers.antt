@@ -1,6 +1,7 @@
 use Rattle.std.proofs.Common.{◌∙◌, ◌^◌}
 use Rattle.idset.specs.Sets.{common_items}
-use Rattle.idset.proofs.Rising.{common_items-swap, rising_fits}
+use Rattle.idset.proofs.Rising.{common_items-swap}
+use Rattle.number_lists.proofs.RisingLemmas.{rising_fits}
 use Rattle.idset.proofs.sorted_set.SortedSetConceptSet.and.Goals as goal
 
 pub returns-in_ok-items-2-clause-items : goal.returns-in_ok-items-2-clause-items

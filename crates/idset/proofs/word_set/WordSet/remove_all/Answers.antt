@@ -1,6 +1,7 @@
 use Rattle.std.proofs.Common.{◌∙◌, ◌&&◌, not, List, ℕ, sym, ap, subst, arith, drop, length}
 use Rattle.std.proofs.lemmas.List.{take_at}
-use Rattle.idset.specs.Sets.{has_item, numbers_where, IsRisingBelow}
+use Rattle.number_lists.specs.Members.{has_item}
+use Rattle.number_lists.specs.Rising.{numbers_where, IsRisingBelow}
 use Rattle.idset.specs.Words.{AreWordsBelow, is_set}
 use Rattle.idset.proofs.WordLemmas.{holds_less, items_below}
 use Rattle.idset.proofs.word_set.WordSet.remove_all.Goals as goal

@@ -1,5 +1,5 @@
 use Rattle.std.proofs.Common.{ℕ, List, length, ap, arith}
-use Rattle.hierarchy.proofs.CutLemmas.{length-cut}
+use Rattle.number_lists.proofs.CutLemmas.{length-cut}
 use Rattle.postings.proofs.texts.Texts.len.Goals as goal
 
 pub returns : goal.returns

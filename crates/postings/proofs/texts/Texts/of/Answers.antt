@@ -1,7 +1,7 @@
 use Rattle.std.proofs.Common.{ℕ, ◌+◌, ◌≤◌, ◌<◌, ◌≡◌, ◌∙◌, List, length, get_or, sym, subst, arith}
 use Rattle.std.specs.List.{slice_range}
 use Rattle.std.proofs.lemmas.List.{get_or_default}
-use Rattle.hierarchy.proofs.CutLemmas.{below_cut, end_within, found}
+use Rattle.number_lists.proofs.CutLemmas.{below_cut, end_within, found}
 use Rattle.postings.proofs.texts.Texts.of.Goals as goal
 use Rattle.postings.proofs.texts.Texts.of.Goals.{After-index-to}
 

@@ -1,5 +1,5 @@
 use Rattle.std.proofs.Common.{◌++◌, ◌∷◌, [], ◌∙◌, ap, arith, List, ℕ, ◌≡◌, ◌+◌, length, length-append}
-use Rattle.hierarchy.proofs.CutLemmas.{cut, cut-push}
+use Rattle.number_lists.proofs.CutLemmas.{cut, cut-push}
 use Rattle.postings.proofs.texts.Texts.push.Goals as goal
 
 pub returns : goal.returns

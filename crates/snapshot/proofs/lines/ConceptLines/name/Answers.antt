@@ -1,7 +1,7 @@
 use Rattle.std.proofs.Common.{ℕ, ◌≡◌, ◌≤◌, ◌<◌, ◌+◌, ◌++◌, List, [], length, get_or, arith, string_bytes, slice_range}
 use Rattle.std.proofs.lemmas.List.{get_or_read}
-use Rattle.hierarchy.specs.inside.KeyedListsInside.{AreStarts}
-use Rattle.hierarchy.proofs.CutLemmas.{cut}
+use Rattle.number_lists.specs.inside.KeyedListsInside.{AreStarts}
+use Rattle.number_lists.proofs.CutLemmas.{cut}
 use Rattle.snapshot.proofs.LineLemmas.{line_places}
 use Rattle.snapshot.proofs.lines.ConceptLines.name.Goals as goal
 

@@ -1,5 +1,5 @@
 use Rattle.std.proofs.Common.{◌≡◌, ◌++◌, ◌∷◌, [], ◌∙◌, List, None, ap, append-nil, map, subst, sym, true, is_some}
-use Rattle.hierarchy.specs.Members.{has}
+use Rattle.number_lists.specs.Members.{has}
 use Rattle.rf2_rows.specs.Release.{Attribute}
 use Rattle.snapshot.specs.AttributesBySource.{by_identifiers}
 use Rattle.release_rows.specs.LentRows.{attribute_read}

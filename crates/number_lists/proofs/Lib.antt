@@ -1,0 +1,12 @@
+pub mod BlockLemmas
+pub mod CutLemmas
+pub mod DistinctLemmas
+pub mod KeyedBlockLemmas
+pub mod KeyedLemmas
+pub mod ListLemmas
+pub mod MemberLemmas
+pub mod RisingLemmas
+pub mod Rules
+pub mod SortingLemmas
+pub mod SpanLemmas
+pub mod WhereLemmas

@@ -1,0 +1,178 @@
+-- The numbers below a bound that pass a test.
+use Rattle.std.proofs.Common.{ℕ, zero, suc, ◌+◌, ◌-◌, ◌<◌, ◌≤◌, ◌≡◌, Bool, true, false, ◌&&◌, ◌||◌, cond, ltb, eqb, List, [], ◌∷◌, ◌++◌}
+use Rattle.std.proofs.Common.{length, refl, sym, ap, ◌∙◌, ⊎_elim, arith, inl, inr, append-nil, Contains}
+use Rattle.std.specs.List.{range_with_len, count_by, filter}
+use Rattle.std.proofs.lemmas.Bool.{lt-ltb, le-ltb, eq-eqb, ne_eqb, cases_lt, cases_eq}
+use Rattle.std.proofs.lemmas.List.Sums.{length-filter, count_by-le-length}
+use Rattle.std.proofs.lemmas.List.FromFn.{length-range_with_len}
+use Rattle.number_lists.specs.Members.{has_item}
+use Rattle.number_lists.specs.Rising.{numbers_where, listed_numbers}
+use Rattle.number_lists.proofs.BlockLemmas.{filter-twice}
+use Rattle.number_lists.proofs.MemberLemmas.{item_there, there_item}
+
+-- the numbers from one on, as many as told, that pass a test
+abbrev pub numbers_from : ℕ → ℕ → (ℕ → Bool) → List ℕ
+numbers_from low count test = filter test (range_with_len low count)
+
+-- tests that agree on the range keep the same numbers
+pub numbers_from-agree : (low count : ℕ) (p q : ℕ → Bool) → ((n : ℕ) → low ≤ n → n < low + count → p n ≡ q n)
+    → numbers_from low count p ≡ numbers_from low count q
+numbers_from-agree low zero p q agree = refl
+numbers_from-agree low (suc count) p q agree =
+    let here : p low ≡ q low = agree low (omega arith) (omega arith) in
+    let rest : numbers_from (low + 1) count p ≡ numbers_from (low + 1) count q =
+    numbers_from-agree (low + 1) count p q (λ n above below. agree n (omega arith) (omega arith)) in
+    (λ i. cond (here i) (low ∷ rest i) (rest i))
+
+-- tests that agree below the bound give the same list
+pub numbers_where-agree : (bound : ℕ) (p q : ℕ → Bool) → ((n : ℕ) → n < bound → p n ≡ q n) → numbers_where bound p ≡ numbers_where bound q
+numbers_where-agree bound p q agree = numbers_from-agree 0 bound p q (λ n _ below. agree n (omega arith))
+
+-- nothing below the lowest is among the numbers
+has_item-below : (low count : ℕ) (p : ℕ → Bool) (n : ℕ) → n < low → has_item (numbers_from low count p) n ≡ false
+has_item-below low zero p n below = refl
+has_item-below low (suc count) p n below =
+    let apart : eqb low n ≡ false = ne_eqb low n (λ e. omega arith) in
+    let rest : has_item (numbers_from (low + 1) count p) n ≡ false = has_item-below (low + 1) count p n (omega arith) in
+    elim (p low) as (λ b. has_item (cond b (low ∷ numbers_from (low + 1) count p) (numbers_from (low + 1) count p)) n
+    ≡ false) [ true ↦ (λ i. apart i || rest i) | false ↦ rest ]
+
+has_item-from : (low count : ℕ) (p : ℕ → Bool) (n : ℕ) → low ≤ n → n < low + count → has_item (numbers_from low count p) n ≡ p n
+has_item-from low zero p n above below = absurd (omega arith)
+has_item-from low (suc count) p n above below =
+    elim (cases_eq low n) [
+      | inl same ↦
+          let kept : has_item (numbers_from (low + 1) count p) n ≡ false = has_item-below (low + 1) count p n (omega arith) in
+          let here : eqb low n ≡ true = eq-eqb low n same in
+          (elim (p low) as (λ b. has_item (cond b (low ∷ numbers_from (low + 1) count p)
+          (numbers_from (low + 1) count p)) n ≡ b)
+          [ true ↦ (λ i. here i || has_item (numbers_from (low + 1) count p) n) | false ↦ kept ]) ∙ ap p same
+      | inr apart ↦
+          let rest : has_item (numbers_from (low + 1) count p) n ≡ p n = has_item-from (low + 1) count p n (omega arith) (omega arith) in
+          let other : eqb low n ≡ false = ne_eqb low n apart in
+          (elim (p low) as (λ b. has_item (cond b (low ∷ numbers_from (low + 1) count p)
+          (numbers_from (low + 1) count p)) n ≡ p n)
+          [ true ↦ (λ i. other i || has_item (numbers_from (low + 1) count p) n) ∙ rest | false ↦ rest ])
+    ]
+
+-- below the bound, being among the numbers is to pass the test
+pub has_item-numbers_where : (bound : ℕ) (p : ℕ → Bool) (n : ℕ) → n < bound → has_item (numbers_where bound p) n ≡ p n
+has_item-numbers_where bound p n below = has_item-from 0 bound p n (omega arith) (omega arith)
+
+-- at the bound and past it there is none
+has_item-past_from : (low count : ℕ) (p : ℕ → Bool) (n : ℕ) → low + count ≤ n → has_item (numbers_from low count p) n ≡ false
+has_item-past_from low zero p n past = refl
+has_item-past_from low (suc count) p n past =
+    let apart : eqb low n ≡ false = ne_eqb low n (λ e. omega arith) in
+    let rest : has_item (numbers_from (low + 1) count p) n ≡ false = has_item-past_from (low + 1) count p n (omega arith) in
+    elim (p low) as (λ b. has_item (cond b (low ∷ numbers_from (low + 1) count p) (numbers_from (low + 1) count p)) n
+    ≡ false) [ true ↦ (λ i. apart i || rest i) | false ↦ rest ]
+
+-- a number that is no number below the bound is not among them
+pub has_item-numbers_where_past : (bound : ℕ) (p : ℕ → Bool) (n : ℕ) → bound ≤ n → has_item (numbers_where bound p) n ≡ false
+has_item-numbers_where_past bound p n past = has_item-past_from 0 bound p n (omega arith)
+
+-- being among the numbers, for any number
+pub has_item-numbers_where_any : (bound : ℕ) (p : ℕ → Bool) (n : ℕ) → has_item (numbers_where bound p) n ≡ (ltb n bound && p n)
+has_item-numbers_where_any bound p n =
+    elim (cases_lt n bound) [
+      | inl below ↦ has_item-numbers_where bound p n below ∙ (λ i. sym (lt-ltb n bound below) i && p n)
+      | inr past ↦ has_item-numbers_where_past bound p n past ∙ (λ i. sym (le-ltb n bound past) i && p n)
+    ]
+
+-- the numbers from one on, in two stretches
+pub numbers_from-add : (low count more : ℕ) (p : ℕ → Bool) → numbers_from low (count + more) p ≡ numbers_from low count p ++ numbers_from (low + count) more p
+numbers_from-add low zero more p = (λ i. numbers_from (low-zero i) (zero-more i) p)
+  where
+    low-zero : low ≡ low + 0
+    low-zero = omega arith
+
+    zero-more : 0 + more ≡ more
+    zero-more = omega arith
+numbers_from-add low (suc count) more p =
+    let after : numbers_from (low + 1) (count + more) p ≡ numbers_from (low + 1) count p
+    ++ numbers_from (low + 1 + count) more p = numbers_from-add (low + 1) count more p in
+    let place : low + 1 + count ≡ low + suc count = omega arith in
+    let long : suc count + more ≡ suc (count + more) = omega arith in
+    let joined : numbers_from (low + 1) (count + more) p ≡ numbers_from (low + 1) count p
+    ++ numbers_from (low + suc count) more p = after
+    ∙ (λ i. numbers_from (low + 1) count p ++ numbers_from (place i) more p) in
+    (λ i. numbers_from low (long i) p) ∙
+    (elim (p low) as (λ b. cond b (low ∷ numbers_from (low + 1) (count + more) p)
+    (numbers_from (low + 1) (count + more) p)
+    ≡ cond b (low ∷ numbers_from (low + 1) count p) (numbers_from (low + 1) count p)
+    ++ numbers_from (low + suc count) more p) [ true ↦ (λ i. low ∷ joined i) | false ↦ joined ])
+
+-- the numbers below a sum are those below the first part, and those of the stretch after it
+pub numbers_where-add : (bound more : ℕ) (p : ℕ → Bool) → numbers_where (bound + more) p ≡ numbers_where bound p ++ filter p (range_with_len bound more)
+numbers_where-add bound more p =
+    let place : 0 + bound ≡ bound = omega arith in
+    numbers_from-add 0 bound more p ∙ (λ i. numbers_from 0 bound p ++ numbers_from (place i) more p)
+
+-- one number more
+pub numbers_where-more : (bound : ℕ) (p : ℕ → Bool) → numbers_where (bound + 1) p ≡ numbers_where bound p ++ cond (p bound) (bound ∷ []) []
+numbers_where-more bound p = numbers_where-add bound 1 p
+
+-- no number of a stretch passes
+pub numbers_from-none : (low count : ℕ) (p : ℕ → Bool) → ((n : ℕ) → low ≤ n → n < low + count → p n ≡ false) → numbers_from low count p ≡ []
+numbers_from-none low zero p none = refl
+numbers_from-none low (suc count) p none =
+    (λ i. cond (none low (omega arith) (omega arith) i) (low ∷ numbers_from (low + 1) count p) (numbers_from (low + 1) count p))
+    ∙ numbers_from-none (low + 1) count p (λ n above below. none n (omega arith) (omega arith))
+
+-- where no number from one bound up to another passes, the bounds give the same list
+pub numbers_where-skip : (bound further : ℕ) (p : ℕ → Bool) → bound ≤ further
+    → ((n : ℕ) → bound ≤ n → n < further → p n ≡ false) → numbers_where further p ≡ numbers_where bound p
+numbers_where-skip bound further p le none =
+    let long : further ≡ bound + (further - bound) = omega arith in
+    (λ i. numbers_where (long i) p) ∙ numbers_where-add bound (further - bound) p
+    ∙ ap (λ rest. numbers_where bound p ++ rest) (numbers_from-none bound (further - bound) p (λ n above below. none n above (omega arith)))
+    ∙ append-nil (numbers_where bound p)
+
+-- the least number that passes from a bound on comes next
+pub numbers_where-next : (bound number : ℕ) (p : ℕ → Bool) → bound ≤ number
+    → ((n : ℕ) → bound ≤ n → n < number → p n ≡ false) → p number ≡ true
+    → numbers_where (number + 1) p ≡ numbers_where bound p ++ number ∷ []
+numbers_where-next bound number p le none here =
+    numbers_where-more number p ∙ (λ i. numbers_where-skip bound number p le none i ++ cond (here i) (number ∷ []) [])
+
+-- ---- a filter of such a list
+-- the numbers that pass one test, kept by another
+pub filter-numbers_where : (bound : ℕ) (p q : ℕ → Bool) → filter q (numbers_where bound p) ≡ numbers_where bound (λ n. p n && q n)
+filter-numbers_where bound p q = filter-twice q p (range_with_len 0 bound)
+
+pub listed_numbers-numbers_where : (bound : ℕ) (p : ℕ → Bool) → listed_numbers bound (numbers_where bound p) ≡ numbers_where bound p
+listed_numbers-numbers_where bound p = numbers_where-agree bound (has_item (numbers_where bound p)) p (λ n below. has_item-numbers_where bound p n below)
+
+-- ---- how many
+pub length-numbers_where : (bound : ℕ) (p : ℕ → Bool) → length (numbers_where bound p) ≡ count_by p (range_with_len 0 bound)
+length-numbers_where bound p = length-filter p (range_with_len 0 bound)
+
+pub length-numbers_where-le : (bound : ℕ) (p : ℕ → Bool) → length (numbers_where bound p) ≤ bound
+length-numbers_where-le bound p =
+    omega (arith, length-numbers_where bound p, count_by-le-length p (range_with_len 0 bound), length-range_with_len 0 bound)
+
+-- all numbers below the bound
+numbers_from-all : (low count : ℕ) → numbers_from low count (λ _. true) ≡ range_with_len low count
+numbers_from-all low zero = refl
+numbers_from-all low (suc count) = ap (λ rest. low ∷ rest) (numbers_from-all (low + 1) count)
+
+pub numbers_where-all : (bound : ℕ) → numbers_where bound (λ _. true) ≡ range_with_len 0 bound
+numbers_where-all bound = numbers_from-all 0 bound
+
+pub numbers_where-none : (bound : ℕ) → numbers_where bound (λ _. false) ≡ []
+numbers_where-none bound = numbers_from-none 0 bound (λ _. false) (λ n _ _. refl)
+
+pub range_more : (bound : ℕ) → range_with_len 0 (bound + 1) ≡ range_with_len 0 bound ++ bound ∷ []
+range_more bound = sym (numbers_where-all (bound + 1)) ∙ numbers_where-more bound (λ _. true) ∙ ap (λ numbers. numbers ++ bound ∷ []) (numbers_where-all bound)
+
+-- ---- what is in such a list
+-- a number that passes a test is among the numbers, and only such
+pub where_there : (count : ℕ) (test : ℕ → Bool) (n : ℕ) → n < count → test n ≡ true → Contains (numbers_where count test) n
+where_there count test n below told = item_there (numbers_where count test) n (has_item-numbers_where count test n below ∙ told)
+
+pub there_where : (count : ℕ) (test : ℕ → Bool) (n : ℕ) → Contains (numbers_where count test) n → (n < count) × (test n ≡ true)
+there_where count test n there = ⊎_elim
+    (λ (below : n < count). (below, sym (has_item-numbers_where count test n below) ∙ there_item (numbers_where count test) n there))
+    (λ (past : count ≤ n). absurd (cc (there_item (numbers_where count test) n there, has_item-numbers_where_past count test n past)))
+    (cases_lt n count)

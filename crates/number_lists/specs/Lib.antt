@@ -1,0 +1,5 @@
+pub mod Distinct
+pub mod inside
+pub mod KeyedLists
+pub mod Members
+pub mod Rising

@@ -1,0 +1,15 @@
+-- The members of a list of numbers: whether a number is one, and how often it stands there.
+use Rattle.std.specs.Prelude.{ℕ, ◌==◌, Bool, List, count_by}
+use Rattle.std.specs.List.{list_any}
+
+-- a number is among others
+abbrev pub has : List ℕ → ℕ → Bool
+has numbers number = list_any (λ other. number == other) numbers
+
+-- the same test of the items of a set, with the sides of each comparison the other way round
+abbrev pub has_item : List ℕ → ℕ → Bool
+has_item items number = list_any (λ item. item == number) items
+
+-- how often a number stands in a list
+abbrev pub times : ℕ → List ℕ → ℕ
+times number numbers = count_by (λ other. other == number) numbers

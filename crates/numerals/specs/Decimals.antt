@@ -1,0 +1,35 @@
+-- Decimal numbers (Release File Specification, "Relationship concrete values file"), each as so many times 10^-18.
+use Rattle.std.specs.Prelude.{ℕ, ◌+◌, ◌-◌, ◌*◌, ◌^◌, ℤ, pos, neg_ℤ, nat_eq, ◌&&◌, if◌then◌else◌, List, [], ◌∷◌, length, drop, codes, Option, None, Some, option_map}
+use Rattle.std.specs.List.{starts_with}
+use Rattle.numerals.specs.Numbers.{is_number, number_of}
+use Rattle.text_parts.specs.Parts.{parts_at}
+
+-- the byte between the whole part of a number and its fraction
+abbrev pub point : ℕ
+point = 46
+
+-- the numbers that the digits before the point and those behind it write, as so many times 10^-18
+abbrev pub whole_of : List ℕ → ℕ
+whole_of digits = number_of digits * 10 ^ 18
+
+abbrev pub fraction_of : List ℕ → ℕ
+fraction_of digits = number_of digits * 10 ^ (18 - length digits)
+
+-- the number whose parts stand between points: 1 to 18 digits, and behind a point another 1 to 18
+abbrev pub number_in : List (List ℕ) → Option ℕ
+number_in (whole ∷ []) =
+    if is_number 1 18 whole then Some (whole_of whole) else None
+number_in (whole ∷ fraction ∷ []) =
+    if is_number 1 18 whole && is_number 1 18 fraction then Some (whole_of whole + fraction_of fraction) else None
+number_in _ = None
+
+-- the number that a text without a sign writes
+abbrev pub unsigned_of : List ℕ → Option ℕ
+unsigned_of text = number_in (parts_at point text)
+
+-- the number that a text with a sign, or without one, writes
+abbrev pub decimal_of : List ℕ → Option ℤ
+decimal_of text =
+    if starts_with nat_eq text (codes "-") then option_map (λ number. neg_ℤ (pos number)) (unsigned_of (drop 1 text))
+    else if starts_with nat_eq text (codes "+") then option_map pos (unsigned_of (drop 1 text))
+    else option_map pos (unsigned_of text)

@@ -1,8 +1,0 @@
-use Rattle.std.proofs.lemmas.Bool.Decides.{nat_tests}
-use Rattle.std.proofs.lemmas.Grind.{common_steps}
-use Rattle.std.proofs.Common.{arith}
-use Rattle.sctid.proofs.Numerals.{front_small}
-use Rattle.rf2_rows.proofs.fields.digits.Goals as goal
-
-pub returns-clause-small : goal.returns-clause-small
-returns-clause-small c = grind (arith, common_steps, nat_tests, front_small)
