@@ -71,11 +71,10 @@ impl Indexes {
     pub fn build(alloc: Global, snapshot: &Snapshot) -> Result<Indexes, AllocError>
         ensures { IfOk result (λ indexes. IsIndexOf indexes snapshot.now.release) }
     {
-        // What is large comes late, so that each end lets go of little; but the hierarchy, which takes most memory
-        // while it is made, comes before the members.
-        let concepts = identifiers(alloc, snapshot)?;
+        // The hierarchy takes most memory while it is made, so nothing else is held then.
         let hierarchy = AncestorIndex::build(alloc, snapshot)?;
         let members = linked_lists(alloc, snapshot.concept_count(), snapshot.member_rows())?;
+        let concepts = identifiers(alloc, snapshot)?;
         let (rows, type_concepts) = typed_rows(alloc, snapshot, concepts.as_slice())?;
         Ok(Indexes {
             concepts,
