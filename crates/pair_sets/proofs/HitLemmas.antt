@@ -21,7 +21,9 @@ use Rattle.number_lists.proofs.ListLemmas.{IsOnce, same_place}
 use Rattle.postings.proofs.ValueLemmas.{concept_at}
 use Rattle.number_lists.specs.Members.{times}
 use Rattle.pair_sets.specs.inside.Hits.{AreHits, TellsTypes, value_of, counts_for_group, counts_for_source, counts_for_value}
-use Rattle.pair_sets.specs.inside.Hits.{has_source_in, is_in_some, picked}
+use Rattle.pair_sets.specs.inside.Hits.{AreOwners, owner_count, counts_for_owner, has_source_in, is_in_some, picked}
+use Rattle.pair_sets.specs.declared.hits.Owner.{Owner}
+use Rattle.pair_sets.specs.declared.hits.Owner.TheVariants as owners
 use Rattle.pair_sets.proofs.Normal.{same_by_number}
 use Rattle.number_lists.proofs.MemberLemmas.{times-append}
 use Rattle.pair_sets.proofs.TimesLemmas.{times-cons}
@@ -313,7 +315,7 @@ module _ (concepts : List ℕ) (entries : List Entry) (marks : List Flagged) (so
 module _ (kept : Attribute → Bool) (tells : ℕ → Bool) (entries : List Entry) (marks : List Flagged) (cells : List ℕ)
     (cells_long : length cells ≡ length entries)
     (told : (k : ℕ) → k < length entries → tells (get_or cells k 0) ≡ kept (get_or entries k an_entry).row) where
-  pub source_hits : (concepts : List ℕ) → IsStrictlyIncreasing concepts → AreSources concepts entries marks
+  source_hits : (concepts : List ℕ) → IsStrictlyIncreasing concepts → AreSources concepts entries marks
       → AreHits (length concepts) (counts_for_source concepts kept) entries
       (picked (λ mark cell. mark.is_first && tells cell) (λ mark cell. mark.number) marks cells)
   source_hits concepts rising sources =
@@ -330,7 +332,7 @@ module _ (kept : Attribute → Bool) (tells : ℕ → Bool) (entries : List Entr
           sym (same_by_number concepts rising (get_or marks k a_mark).number n (source_below concepts entries marks sources k within) inside)
           ∙ ap (λ (source : ℕ). source == get_or concepts n 0) (source_there concepts entries marks sources k within)
 
-  pub grouped_hits : (indexed : Indexed) → IsStrictlyIncreasing indexed.concepts → AreGroups (groups_in indexed) entries marks
+  grouped_hits : (indexed : Indexed) → IsStrictlyIncreasing indexed.concepts → AreGroups (groups_in indexed) entries marks
       → AreHits (length (groups_in indexed)) (counts_for_group (groups_in indexed) kept) entries
       (picked (λ mark cell. mark.is_first && tells cell) (λ mark cell. mark.number) marks cells)
   grouped_hits indexed rising groups =
@@ -358,6 +360,12 @@ module _ (kept : Attribute → Bool) (tells : ℕ → Bool) (entries : List Entr
       first_there k within =
           same_at (λ (mark : Flagged). mark.is_first) (λ (entry : Entry). entry.is_first_in_group) marks entries groups.firsts
           k a_mark an_entry within
+
+  pub owned_hits : (owner : Owner) (indexed : Indexed) → IsStrictlyIncreasing indexed.concepts → AreOwners owner indexed entries marks
+      → AreHits (owner_count owner indexed) (counts_for_owner owner indexed kept) entries
+      (picked (λ mark cell. mark.is_first && tells cell) (λ mark cell. mark.number) marks cells)
+  owned_hits owners.Source indexed rising sources = source_hits indexed.concepts rising sources
+  owned_hits owners.Group indexed rising groups = grouped_hits indexed rising groups
 
 -- read backwards, the source of each row is tested
 module _ (indexed : Indexed) (passes : Value → Bool)
@@ -430,7 +438,7 @@ cells_below test bound (mark ∷ marks) (cell ∷ cells) = by_case (cells_below 
     by_case rest true keeps = All-cons (λ n. n < bound) cell others (ltb-true cell bound (and_parts (ltb cell bound) (test mark) keeps).0) rest
     by_case rest false leaves = rest
 
-pub group_marks_below : (groups : List ConceptGroup) (entries : List Entry) (marks : List Flagged) → AreGroups groups entries marks
+group_marks_below : (groups : List ConceptGroup) (entries : List Entry) (marks : List Flagged) → AreGroups groups entries marks
     → All (λ (mark : Flagged). mark.number < length groups) marks
 group_marks_below groups entries marks are k d within =
     let long : length marks ≡ length entries
@@ -438,6 +446,18 @@ group_marks_below groups entries marks are k d within =
     slice_get_within groups (get_or marks k d).number (group_of (get_or entries k an_entry).row)
     (same_at (λ (mark : Flagged). slice_get groups mark.number) (λ (entry : Entry). Some (group_of entry.row)) marks entries are.groups
     k d an_entry (omega (arith, within, long)))
+
+pub owners_below : (owner : Owner) (indexed : Indexed) (entries : List Entry) (marks : List Flagged) → AreOwners owner indexed entries marks
+    → All (λ (mark : Flagged). mark.number < owner_count owner indexed) marks
+owners_below owners.Source indexed entries marks sources = sources.within
+owners_below owners.Group indexed entries marks groups = group_marks_below (groups_in indexed) entries marks groups
+
+-- there is one of them for each row
+pub owners_long : (owner : Owner) (indexed : Indexed) (entries : List Entry) (marks : List Flagged) → AreOwners owner indexed entries marks
+    → length marks ≡ length entries
+owners_long owners.Source indexed entries marks sources = sources_long indexed.concepts entries marks sources
+owners_long owners.Group indexed entries marks groups =
+    same_length (λ (mark : Flagged). mark.is_first) (λ (entry : Entry). entry.is_first_in_group) marks entries groups.firsts
 
 pub pushed_below : (bound : ℕ) (hits next more : List ℕ) → next ≡ hits ++ more → All (λ n. n < bound) hits → All (λ n. n < bound) more
     → All (λ n. n < bound) next

@@ -1,15 +1,17 @@
 //! Numbers that stand in a list once for each attribute row that counts for them.
-ghost use Rattle.std.specs.Prelude.{ℕ, ◌≡◌, ◌<◌, ◌+◌, ◌&&◌, ◌++◌, All, Bool, IfOk, OnOk, count_by, filter, length, nat_lt, slice_get};
+ghost use Rattle.std.specs.Prelude.{ℕ, ◌≡◌, ◌<◌, ◌+◌, ◌&&◌, ◌++◌, All, Bool, List, IfOk, OnOk, count_by, filter, length, nat_lt, slice_get};
 ghost use Rattle.rf2_rows.specs.Release.{concept_value};
 ghost use Rattle.constraint_tree.specs.Passing.{is_within};
 ghost use Rattle.number_lists.specs.Rising.{IsRisingBelow};
-ghost use Rattle.postings.specs.Entries.{entries_of};
+ghost use Rattle.postings.specs.Columns.{AreGroups, AreSources};
+ghost use Rattle.postings.specs.Entries.{Entry, entries_of};
 ghost use Rattle.postings.specs.Groups.{groups_in};
-ghost use Rattle.postings.specs.Indexed.{types_of};
+ghost use Rattle.postings.specs.Indexed.{Indexed, types_of};
 ghost use Rattle.pair_sets.specs.inside.Among.{at_entry};
 ghost use Rattle.number_lists.specs.Members.{times};
 ghost use Rattle.pair_sets.specs.inside.Hits.{AreHits, has_pair_in, is_type_in, picked, value_of};
-ghost use Rattle.pair_sets.specs.inside.Hits.{counts_for_concept, counts_for_group, counts_for_source, counts_for_value};
+ghost use Rattle.pair_sets.specs.inside.Hits.{AreOwners, owner_count, counts_for_owner};
+ghost use Rattle.pair_sets.specs.inside.Hits.{counts_for_concept, counts_for_group, counts_for_value};
 ghost use Rattle.pair_sets.specs.inside.Hits.{entries_with_sources, entries_with_types, entries_with_values};
 ghost use Rattle.pair_sets.specs.Tested.{IsTestBelow, is_one_of, passes_of};
 
@@ -20,6 +22,13 @@ use crate::types::is_typed;
 use idset::ConceptSet;
 use postings::{FlaggedNumber, Indexes, RowCells};
 use std::alloc::{AllocError, Global};
+
+// What a row counts for: its source, or its group.
+#[derive(Clone, Copy)]
+enum Owner {
+    Source,
+    Group,
+}
 
 /// By type: for each row with a type that is one of some and a value that passes, and that is the first with its pair, the
 /// number of its source. Read backwards, where its source passes, the number of its value where that is a concept.
@@ -38,7 +47,7 @@ pub fn hits_by_type<S: ConceptSet>(
     if back {
         values_by_type(alloc, indexes, ids, tested)
     } else {
-        sources_by_type(alloc, indexes, ids, tested)
+        owners_by_type(alloc, indexes, Owner::Source, ids, tested)
     }
 }
 
@@ -62,54 +71,74 @@ pub fn hits_by_value<S: ConceptSet>(
     if back {
         values_by_source(alloc, indexes, values, types)
     } else {
-        sources_by_value(alloc, indexes, values, types)
+        owners_by_value(alloc, indexes, Owner::Source, values, types)
     }
 }
 
-// By type: for each row of some types that is the first with its pair and whose value passes, the number of its source.
-fn sources_by_type<S: ConceptSet>(
+// By type: for each row of some types that is the first with its pair in its owner and whose value passes, the number of that
+// owner.
+fn owners_by_type<S: ConceptSet>(
     alloc: Global,
     indexes: &Indexes,
+    owner: Owner,
     ids: &[u64],
     tested: &Tested<S>,
 ) -> Result<Vec<u32>, AllocError>
     requires { IsTestBelow S.bound_of (length indexes.now.concepts) tested.now }
-    ensures within { IfOk result (λ hits. All (λ number. number < length indexes.now.concepts) hits.items) }
-    ensures hits { IfOk result (λ hits. AreHits (length indexes.now.concepts)
-        (counts_for_source indexes.now.concepts (λ row. passes_of S.items_of indexes.now.concepts tested.now row.value)) (entries_with_types indexes.now.rows ids.now) hits.items) }
+    ensures within { IfOk result (λ hits. All (λ number. number < owner_count owner indexes.now) hits.items) }
+    ensures hits { IfOk result (λ hits. AreHits (owner_count owner indexes.now)
+        (counts_for_owner owner indexes.now (λ row. passes_of S.items_of indexes.now.concepts tested.now row.value)) (entries_with_types indexes.now.rows ids.now) hits.items) }
 {
-    // the concepts rise, so none has two numbers
+    // the concepts rise, so no owner has two numbers
     indexes.concept_count();
     let mut hits = Vec::with_capacity(alloc, rows_of_types(indexes, ids) as usize)?;
     for id in ids {
         let columns = indexes.type_columns(*id);
-        push_passing(&mut hits, indexes, columns.sources, columns.values, tested)?;
+        let owners = owners_in(owner, columns.sources, columns.groups);
+        push_passing(&mut hits, indexes, owners, columns.values, tested)?;
     }
     Ok(hits)
 }
 
-// By value: for each row of some values that is the first with its pair and whose type is one of some, the number of its
-// source.
-fn sources_by_value<S: ConceptSet>(
+// By value: for each row of some values that is the first with its pair in its owner and whose type is one of some, the
+// number of that owner.
+fn owners_by_value<S: ConceptSet>(
     alloc: Global,
     indexes: &Indexes,
+    owner: Owner,
     values: &[u32],
     types: &S,
 ) -> Result<Vec<u32>, AllocError>
     requires types { S.bound_of types.now ≡ length indexes.now.concepts }
     requires values { All (λ number. number < length indexes.now.concepts) values.now }
-    ensures within { IfOk result (λ hits. All (λ number. number < length indexes.now.concepts) hits.items) }
-    ensures hits { IfOk result (λ hits. AreHits (length indexes.now.concepts)
-        (counts_for_source indexes.now.concepts (λ row. is_one_of indexes.now.concepts (S.items_of types.now) row.type_id)) (entries_with_values indexes.now values.now) hits.items) }
+    ensures within { IfOk result (λ hits. All (λ number. number < owner_count owner indexes.now) hits.items) }
+    ensures hits { IfOk result (λ hits. AreHits (owner_count owner indexes.now)
+        (counts_for_owner owner indexes.now (λ row. is_one_of indexes.now.concepts (S.items_of types.now) row.type_id)) (entries_with_values indexes.now values.now) hits.items) }
 {
-    // the concepts rise, so none has two numbers
+    // the concepts rise, so no owner has two numbers
     indexes.concept_count();
     let mut hits = Vec::new(alloc);
     for value in values {
         let columns = indexes.value_columns(*value);
-        push_typed(&mut hits, indexes, columns.sources, columns.types, types)?;
+        let owners = owners_in(owner, columns.sources, columns.groups);
+        push_typed(&mut hits, indexes, owners, columns.types, types)?;
     }
     Ok(hits)
+}
+
+// The column of the owners among the columns of some rows.
+fn owners_in<'a>(
+    owner: Owner,
+    sources: &'a [FlaggedNumber],
+    groups: &'a [FlaggedNumber],
+) -> &'a [FlaggedNumber]
+    ensures { (indexed : Indexed) (entries : List Entry) → AreSources indexed.concepts entries sources.now → AreGroups (groups_in indexed) entries groups.now
+        → AreOwners owner indexed entries result.now }
+{
+    match owner {
+        Owner::Source => sources,
+        Owner::Group => groups,
+    }
 }
 
 // By type, read backwards: for each row of some types that is the first with its pair and whose source passes, the number of
@@ -168,7 +197,7 @@ pub fn group_hits_by_type<S: ConceptSet>(
     ensures hits { IfOk result (λ hits. (one : ℕ → Bool) → ids.now ≡ filter one (types_of indexes.now.rows)
         → AreHits (length (groups_in indexes.now)) (counts_for_group (groups_in indexes.now) (has_pair_in one (passes_of S.items_of indexes.now.concepts tested.now))) (entries_of indexes.now.rows) hits.items) }
 {
-    groups_by_type(alloc, indexes, ids, tested)
+    owners_by_type(alloc, indexes, Owner::Group, ids, tested)
 }
 
 /// By value: the same, where the values that pass are some concepts, which rise.
@@ -186,54 +215,7 @@ pub fn group_hits_by_value<S: ConceptSet>(
 {
     // the concepts rise, so none has two numbers
     indexes.concept_count();
-    groups_by_value(alloc, indexes, values, types)
-}
-
-// By type: for each row of some types that is the first with its pair in its group and whose value passes, the number of
-// that group.
-fn groups_by_type<S: ConceptSet>(
-    alloc: Global,
-    indexes: &Indexes,
-    ids: &[u64],
-    tested: &Tested<S>,
-) -> Result<Vec<u32>, AllocError>
-    requires { IsTestBelow S.bound_of (length indexes.now.concepts) tested.now }
-    ensures within { IfOk result (λ hits. All (λ number. number < length (groups_in indexes.now)) hits.items) }
-    ensures hits { IfOk result (λ hits. AreHits (length (groups_in indexes.now))
-        (counts_for_group (groups_in indexes.now) (λ row. passes_of S.items_of indexes.now.concepts tested.now row.value)) (entries_with_types indexes.now.rows ids.now) hits.items) }
-{
-    // the concepts rise, so no group has two numbers
-    indexes.concept_count();
-    let mut hits = Vec::with_capacity(alloc, rows_of_types(indexes, ids) as usize)?;
-    for id in ids {
-        let columns = indexes.type_columns(*id);
-        push_passing(&mut hits, indexes, columns.groups, columns.values, tested)?;
-    }
-    Ok(hits)
-}
-
-// By value: for each row of some values that is the first with its pair in its group and whose type is one of some, the
-// number of that group.
-fn groups_by_value<S: ConceptSet>(
-    alloc: Global,
-    indexes: &Indexes,
-    values: &[u32],
-    types: &S,
-) -> Result<Vec<u32>, AllocError>
-    requires types { S.bound_of types.now ≡ length indexes.now.concepts }
-    requires values { All (λ number. number < length indexes.now.concepts) values.now }
-    ensures within { IfOk result (λ hits. All (λ number. number < length (groups_in indexes.now)) hits.items) }
-    ensures hits { IfOk result (λ hits. AreHits (length (groups_in indexes.now))
-        (counts_for_group (groups_in indexes.now) (λ row. is_one_of indexes.now.concepts (S.items_of types.now) row.type_id)) (entries_with_values indexes.now values.now) hits.items) }
-{
-    // the concepts rise, so no group has two numbers
-    indexes.concept_count();
-    let mut hits = Vec::new(alloc);
-    for value in values {
-        let columns = indexes.value_columns(*value);
-        push_typed(&mut hits, indexes, columns.groups, columns.types, types)?;
-    }
-    Ok(hits)
+    owners_by_value(alloc, indexes, Owner::Group, values, types)
 }
 
 // Pushes the numbers of the marks that are first and whose cell is the number of a value that passes.

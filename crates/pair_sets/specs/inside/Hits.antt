@@ -4,12 +4,14 @@ use Rattle.std.specs.Prelude.{count_by, length, slice_get, slice_index}
 use Rattle.std.specs.List.{flat_map}
 use Rattle.rf2_rows.specs.Pairs.{value_eq}
 use Rattle.rf2_rows.specs.Release.{Attribute, Value, concept_value}
-use Rattle.number_lists.specs.Members.{has_item, times}
-use Rattle.postings.specs.Columns.{Flagged}
+use Rattle.number_lists.specs.Members.{has, times}
+use Rattle.postings.specs.Columns.{AreGroups, AreSources, Flagged}
 use Rattle.postings.specs.Entries.{Entry, entries_where, entries_with_type, entries_with_value}
-use Rattle.postings.specs.Groups.{ConceptGroup, is_in_group}
+use Rattle.postings.specs.Groups.{ConceptGroup, groups_in, is_in_group}
 use Rattle.postings.specs.Indexed.{Indexed, types_of, value_at, values_of}
 use Rattle.pair_sets.specs.Tested.{is_one_of}
+use Rattle.pair_sets.specs.declared.hits.Owner.{Owner}
+use Rattle.pair_sets.specs.declared.hits.Owner.TheVariants as owners
 
 -- of marks and the cells beside them: a number for each place that is kept
 abbrev pub picked : (Flagged → ℕ → Bool) → (Flagged → ℕ → ℕ) → List Flagged → List ℕ → List ℕ
@@ -49,6 +51,20 @@ is_in_some (Some group) row = is_in_group group row
 abbrev pub counts_for_group : List ConceptGroup → (Attribute → Bool) → ℕ → Entry → Bool
 counts_for_group groups kept number entry =
     is_in_some (slice_get groups number) entry.row && (entry.is_first_in_group && kept entry.row)
+
+-- for what owns it, its source or its group: how many of these there are, for which of them a row counts, and which marks
+-- are their numbers
+abbrev pub owner_count : Owner → Indexed → ℕ
+owner_count owners.Source indexed = length indexed.concepts
+owner_count owners.Group indexed = length (groups_in indexed)
+
+abbrev pub counts_for_owner : Owner → Indexed → (Attribute → Bool) → ℕ → Entry → Bool
+counts_for_owner owners.Source indexed kept number entry = counts_for_source indexed.concepts kept number entry
+counts_for_owner owners.Group indexed kept number entry = counts_for_group (groups_in indexed) kept number entry
+
+abbrev pub AreOwners : Owner → Indexed → List Entry → List Flagged → Type 0
+AreOwners owners.Source indexed entries marks = AreSources indexed.concepts entries marks
+AreOwners owners.Group indexed entries marks = AreGroups (groups_in indexed) entries marks
 
 -- the rows of some types, type by type
 abbrev pub entries_with_types : List Attribute → List ℕ → List Entry
@@ -90,4 +106,4 @@ value_of indexed number = value_at (values_of indexed) number
 pub record ArePlacesOf (indexed : Indexed) (concepts places : List ℕ) : Type 0 where
   pub within : All (λ place. place < length (types_of indexed.rows)) places
   pub told : (place : ℕ) → place < length (types_of indexed.rows)
-      → has_item places place ≡ is_one_of indexed.concepts concepts (slice_index (types_of indexed.rows) place)
+      → has places place ≡ is_one_of indexed.concepts concepts (slice_index (types_of indexed.rows) place)

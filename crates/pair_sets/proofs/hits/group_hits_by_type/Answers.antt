@@ -14,9 +14,9 @@ returns-clause-hits g c =
     let indexed = c.args.indexes.now in
     let count : ℕ = length (groups_in indexed) in
     let passes : Value → Bool = passes_of g.S.ConceptSet.items_of indexed.concepts c.args.tested.now in
-    IfOk-weaker c.groups_by_type.result _ _
+    IfOk-weaker c.owners_by_type.result _ _
     (λ hits are one ids.
     of_types count (λ number (entry : Entry). is_in_some (slice_get (groups_in indexed) number) entry.row)
     (λ (entry : Entry). entry.is_first_in_group) (λ (entry : Entry). passes entry.row.value) indexed one hits.items
     c.args.ids.now ids are)
-    c.groups_by_type.ensures.hits
+    c.owners_by_type.ensures.hits

@@ -26,10 +26,10 @@ returns-else-back-clause-hits g c =
     let indexed = c.args.indexes.now in
     let count : ℕ = length indexed.concepts in
     let passes : Value → Bool = passes_of g.S.ConceptSet.items_of indexed.concepts c.args.tested.now in
-    IfOk-weaker c.sources_by_type.result _ _
+    IfOk-weaker c.owners_by_type.result _ _
     (λ hits are one ids.
     subst (λ (back : Bool). AreHits count (counts_for_concept back indexed.concepts one passes) (entries_of indexed.rows) hits.items) (sym c.if-back.false)
     (of_types count (λ number (entry : Entry). entry.row.source == get_or indexed.concepts number 0)
     (λ (entry : Entry). entry.is_first) (λ (entry : Entry). passes entry.row.value) indexed one hits.items
     c.args.ids.now ids are))
-    c.sources_by_type.ensures.hits
+    c.owners_by_type.ensures.hits

@@ -13,8 +13,8 @@ use Rattle.pair_sets.proofs.hits.hits_by_value.Goals as goal
 pub values_by_source-requires-clause-sources : goal.values_by_source-requires-clause-sources
 values_by_source-requires-clause-sources g c = all_below (length c.args.indexes.now.concepts) c.args.values.now c.requires.values
 
-pub sources_by_value-requires-clause-values : goal.sources_by_value-requires-clause-values
-sources_by_value-requires-clause-values g c = all_below (length c.args.indexes.now.concepts) c.args.values.now c.requires.values
+pub owners_by_value-requires-clause-values : goal.owners_by_value-requires-clause-values
+owners_by_value-requires-clause-values g c = all_below (length c.args.indexes.now.concepts) c.args.values.now c.requires.values
 
 pub returns-then-back-clause-hits : goal.returns-then-back-clause-hits
 returns-then-back-clause-hits g c =
@@ -35,11 +35,11 @@ returns-else-back-clause-hits g c =
     let indexed = c.args.indexes.now in
     let count : ℕ = length indexed.concepts in
     let one : ℕ → Bool = is_one_of indexed.concepts (g.S.ConceptSet.items_of c.args.types.now) in
-    IfOk-weaker c.sources_by_value.result _ _
+    IfOk-weaker c.owners_by_value.result _ _
     (λ hits are.
     subst (λ (back : Bool). AreHits count (counts_for_concept back indexed.concepts one (is_within (is_one_of indexed.concepts c.args.values.now)))
     (entries_of indexed.rows) hits.items) (sym c.if-back.false)
     (of_values count (λ number (entry : Entry). entry.row.source == get_or indexed.concepts number 0)
     (λ (entry : Entry). entry.is_first) indexed c.concept_count.ensures.rising one hits.items c.args.values.now c.requires.values
     are))
-    c.sources_by_value.ensures.hits
+    c.owners_by_value.ensures.hits

@@ -1,0 +1,13 @@
+use Rattle.std.proofs.Common.{◌<◌, All, take}
+use Rattle.pair_sets.specs.inside.Hits.{AreHits, counts_for_owner, entries_with_types, owner_count}
+use Rattle.pair_sets.specs.Tested.{passes_of}
+use Rattle.pair_sets.proofs.hits.owners_by_type.Given as goal
+
+-- the numbers so far are those of the types so far
+abbrev pub invariant-loop-id : goal.invariant-loop-id
+invariant-loop-id g l = record {
+  within : All (λ number. number < owner_count l.owner l.indexes) l.hits.items;
+  hits : AreHits (owner_count l.owner l.indexes)
+      (counts_for_owner l.owner l.indexes (λ row. passes_of g.S.ConceptSet.items_of l.indexes.concepts l.tested row.value))
+      (entries_with_types l.indexes.rows (take l.id-index l.ids)) l.hits.items;
+}
