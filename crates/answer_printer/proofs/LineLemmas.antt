@@ -39,7 +39,7 @@ pub record TwoWritten (given before : List ℕ) (one other : List (List ℕ)) (b
   pub lines : last ≡ given ++ with_bounds (before ∷ (one ++ other)) bounds
   pub behind : rest ≡ drop (suc (length (one ++ other))) bounds
 
-pub two_written : (given before : List ℕ) (one other : List (List ℕ)) (bounds : List ℕ) {line behind inner left last rest : List ℕ}
+two_written : (given before : List ℕ) (one other : List (List ℕ)) (bounds : List ℕ) {line behind inner left last rest : List ℕ}
     → line ≡ given ++ bound_line before (first_bound bounds) → behind ≡ drop 1 bounds
     → inner ≡ line ++ with_bounds one behind → left ≡ drop (length one) behind
     → last ≡ inner ++ with_bounds other left → rest ≡ drop (length other) left
@@ -62,6 +62,22 @@ two_written given before one other bounds line_is behind_is inner_is left_is las
           ∙ ap (λ (bounds : List ℕ). drop (length other) (drop (length one) bounds)) behind_is
           ∙ drop_both_behind one other bounds;
     }
+
+-- so it is of what two calls have written, by the spaces and choices that they were given
+pub parts_written : (given before : List ℕ) (first second : List ℕ → List Choice → List (List ℕ)) (spaces : List ℕ) (count : ℕ)
+    (choices : List Choice) (bounds : List ℕ) {line behind inner text left last rest : List ℕ} {asked later : List Choice}
+    → line ≡ given ++ bound_line before (first_bound bounds) → behind ≡ drop 1 bounds → inner ≡ spaces → asked ≡ choices
+    → text ≡ line ++ with_bounds (first inner asked) behind → later ≡ drop count asked → left ≡ drop (length (first inner asked)) behind
+    → last ≡ text ++ with_bounds (second inner later) left → rest ≡ drop (length (second inner later)) left
+    → TwoWritten given before (first spaces choices) (second spaces (drop count choices)) bounds last rest
+parts_written given before first second spaces count choices bounds {line} {behind} {text = text} {left = left}
+    line_is behind_is inner_is asked_is text_is later_is left_is last_is rest_is =
+    let later_are = later_is ∙ ap (drop count) asked_is in
+    two_written given before (first spaces choices) (second spaces (drop count choices)) bounds line_is behind_is
+    (text_is ∙ (λ i. line ++ with_bounds (first (inner_is i) (asked_is i)) behind))
+    (left_is ∙ (λ i. drop (length (first (inner_is i) (asked_is i))) behind))
+    (last_is ∙ (λ i. text ++ with_bounds (second (inner_is i) (later_are i)) left))
+    (rest_is ∙ (λ i. drop (length (second (inner_is i) (later_are i))) left))
 
 -- what stands before the bounds of the nodes of a part, of either sort
 abbrev pub Outlines : (Part : Type 0) → Sort Part → Type 0

@@ -1,7 +1,6 @@
-use Rattle.std.proofs.Common.{ℕ, ◌≡◌, ◌∙◌, ◌++◌, ◌∷◌, List, ap, drop, length, sym}
+use Rattle.std.proofs.Common.{◌≡◌, ◌∙◌, ◌++◌, ◌∷◌, ap, drop, length, refl, sym}
 use Rattle.set_algebra.specs.declared.plan.ConceptPlan.{ConceptPlan}
 use Rattle.set_algebra.specs.Plan.{Plan, PlanOfUnits, minus_plan, minus_units, pairs_plan, pairs_units, plan_of, plans_of, test_plan_of, unit_plan_of, values_plan}
-use Rattle.set_algebra.specs.declared.choice.Choice.{Choice}
 use Rattle.planner.specs.Leaves.{group_leaves, leaves, test_leaves}
 use Rattle.std.proofs.lemmas.List.{drop-drop}
 use Rattle.planner.proofs.ListLemmas.{drop_leaf}
@@ -9,7 +8,7 @@ use Rattle.planner.proofs.LoopLemmas.{rest_end, rest_turn}
 use Rattle.planner.proofs.PartLemmas.{values_are, values_behind}
 use Rattle.answer_printer.specs.inside.PlanLines.{before_bound, first_bound, with_bounds}
 use Rattle.answer_printer.specs.PlanText.{bound_line, group_outline, group_words, node_words, outline, plans_outline, test_outline}
-use Rattle.answer_printer.proofs.LineLemmas.{lines_end, lines_turn, two_written}
+use Rattle.answer_printer.proofs.LineLemmas.{lines_end, lines_turn, parts_written}
 use Rattle.answer_printer.proofs.plan.+write.Goals as goal
 
 pub write_parts-loop-place-preserved : goal.write_parts-loop-place-preserved
@@ -62,16 +61,11 @@ write_plan-returns-in-Values t c =
     let deeper = c.as_slice-inner.ensures.value ∙ c.in_ok-deeper.ensures in
     let from = c.in_ok-from-in-Values.ensures in
     let last = c.in_ok-last-in-Values.ensures in
-    let first = λ (spaces : List ℕ). outline before_bound spaces choices start in
-    let second = λ (spaces : List ℕ) (choices : List Choice). plans_outline before_bound spaces choices names in
-    let written = two_written given (spaces ++ node_words choices (values_plan start names)) (first (32 ∷ spaces))
-    (second (32 ∷ spaces) (drop (leaves start) choices)) bounds
+    let written = parts_written given (spaces ++ node_words choices (values_plan start names))
+    (λ spaces choices. outline before_bound spaces choices start) (λ spaces choices. plans_outline before_bound spaces choices names)
+    (32 ∷ spaces) (leaves start) choices bounds
     (c.in_ok-behind.ensures.text ∙ ap (λ (plan : Plan). given ++ bound_line (spaces ++ node_words choices plan) (first_bound bounds)) is)
-    c.in_ok-behind.ensures.behind
-    (from.text ∙ (λ i. c.write_line.new.text.items ++ with_bounds (first (deeper i)) c.in_ok-behind.behind.now))
-    (from.bounds ∙ (λ i. drop (length (first (deeper i))) c.in_ok-behind.behind.now))
-    (last.text ∙ (λ i. c.write_plan-in-Values.new.text.items ++ with_bounds (second (deeper i) (from.choices i)) c.in_ok-from-in-Values.from.bounds.now))
-    (last.bounds ∙ (λ i. drop (length (second (deeper i) (from.choices i))) c.in_ok-from-in-Values.from.bounds.now)) in
+    c.in_ok-behind.ensures.behind deeper refl from.text from.choices from.bounds last.text last.bounds in
     record {
       text = written.lines ∙ sym (ap (λ (plan : Plan). given ++ with_bounds (outline before_bound spaces choices plan) bounds) is);
       choices = values_behind start names choices is from.choices last.choices;
@@ -91,16 +85,11 @@ write_plan-returns-in-Minus t c =
     let deeper = c.as_slice-inner.ensures.value ∙ c.in_ok-deeper.ensures in
     let left = c.in_ok-left-in-Minus.ensures in
     let last = c.in_ok-last-in-Minus.ensures in
-    let first = λ (spaces : List ℕ). outline before_bound spaces choices one in
-    let second = λ (spaces : List ℕ) (choices : List Choice). outline before_bound spaces choices other in
-    let written = two_written given (spaces ++ node_words choices (minus_plan one other)) (first (32 ∷ spaces))
-    (second (32 ∷ spaces) (drop (leaves one) choices)) bounds
+    let written = parts_written given (spaces ++ node_words choices (minus_plan one other))
+    (λ spaces choices. outline before_bound spaces choices one) (λ spaces choices. outline before_bound spaces choices other)
+    (32 ∷ spaces) (leaves one) choices bounds
     (c.in_ok-behind.ensures.text ∙ ap (λ (plan : Plan). given ++ bound_line (spaces ++ node_words choices plan) (first_bound bounds)) is)
-    c.in_ok-behind.ensures.behind
-    (left.text ∙ (λ i. c.write_line.new.text.items ++ with_bounds (first (deeper i)) c.in_ok-behind.behind.now))
-    (left.bounds ∙ (λ i. drop (length (first (deeper i))) c.in_ok-behind.behind.now))
-    (last.text ∙ (λ i. c.write_plan.new.text.items ++ with_bounds (second (deeper i) (left.choices i)) c.in_ok-left-in-Minus.left.bounds.now))
-    (last.bounds ∙ (λ i. drop (length (second (deeper i) (left.choices i))) c.in_ok-left-in-Minus.left.bounds.now)) in
+    c.in_ok-behind.ensures.behind deeper refl left.text left.choices left.bounds last.text last.bounds in
     record {
       text = written.lines ∙ sym (ap (λ (plan : Plan). given ++ with_bounds (outline before_bound spaces choices plan) bounds) is);
       choices = last.choices
@@ -123,21 +112,15 @@ write_plan-returns-in-Pairs t c =
     let deeper = c.as_slice-inner.ensures.value ∙ c.in_ok-deeper.ensures in
     let left = c.in_ok-left-in-Pairs.ensures in
     let last = c.in_ok-last-in-Pairs.ensures in
-    let choices_left = left.choices ∙ ap (drop (leaves types)) c.after_first.ensures in
-    let first = λ (spaces : List ℕ) (choices : List Choice). outline before_bound spaces choices types in
-    let second = λ (spaces : List ℕ) (choices : List Choice). test_outline before_bound spaces choices test in
-    let written = two_written given (spaces ++ node_words choices (pairs_plan c.in-Pairs.back c.in-Pairs.count types test)) (first (32 ∷ spaces) (drop 1 choices))
-    (second (32 ∷ spaces) (drop (leaves types) (drop 1 choices))) bounds
+    let written = parts_written given (spaces ++ node_words choices (pairs_plan c.in-Pairs.back c.in-Pairs.count types test))
+    (λ spaces choices. outline before_bound spaces choices types) (λ spaces choices. test_outline before_bound spaces choices test)
+    (32 ∷ spaces) (leaves types) (drop 1 choices) bounds
     (c.in_ok-behind.ensures.text ∙ ap (λ (plan : Plan). given ++ bound_line (spaces ++ node_words choices plan) (first_bound bounds)) is)
-    c.in_ok-behind.ensures.behind
-    (left.text ∙ (λ i. c.write_line.new.text.items ++ with_bounds (first (deeper i) (c.after_first.ensures i)) c.in_ok-behind.behind.now))
-    (left.bounds ∙ (λ i. drop (length (first (deeper i) (c.after_first.ensures i))) c.in_ok-behind.behind.now))
-    (last.text ∙ (λ i. c.write_plan-in-Pairs.new.text.items ++ with_bounds (second (deeper i) (choices_left i)) c.in_ok-left-in-Pairs.left.bounds.now))
-    (last.bounds ∙ (λ i. drop (length (second (deeper i) (choices_left i))) c.in_ok-left-in-Pairs.left.bounds.now)) in
+    c.in_ok-behind.ensures.behind deeper c.after_first.ensures left.text left.choices left.bounds last.text last.bounds in
     record {
       text = written.lines ∙ sym (ap (λ (plan : Plan). given ++ with_bounds (outline before_bound spaces choices plan) bounds) is);
       choices = last.choices
-          ∙ ap (drop (test_leaves test)) choices_left
+          ∙ ap (drop (test_leaves test)) (left.choices ∙ ap (drop (leaves types)) c.after_first.ensures)
           ∙ drop_leaf (leaves types) (test_leaves test) choices
           ∙ sym (ap (λ (plan : Plan). drop (leaves plan) choices) is);
       bounds = written.behind ∙ sym (ap (λ (plan : Plan). drop (length (outline before_bound spaces choices plan)) bounds) is);
@@ -156,16 +139,11 @@ write_units-returns-in-Minus t c =
     let deeper = c.as_slice-inner.ensures.value ∙ c.in_ok-deeper.ensures in
     let left = c.in_ok-left-in-Minus.ensures in
     let last = c.in_ok-last-in-Minus.ensures in
-    let first = λ (spaces : List ℕ). group_outline before_bound spaces choices one in
-    let second = λ (spaces : List ℕ) (choices : List Choice). group_outline before_bound spaces choices other in
-    let written = two_written given (spaces ++ group_words choices (minus_units one other)) (first (32 ∷ spaces))
-    (second (32 ∷ spaces) (drop (group_leaves one) choices)) bounds
+    let written = parts_written given (spaces ++ group_words choices (minus_units one other))
+    (λ spaces choices. group_outline before_bound spaces choices one) (λ spaces choices. group_outline before_bound spaces choices other)
+    (32 ∷ spaces) (group_leaves one) choices bounds
     (c.in_ok-behind.ensures.text ∙ ap (λ (plan : PlanOfUnits). given ++ bound_line (spaces ++ group_words choices plan) (first_bound bounds)) is)
-    c.in_ok-behind.ensures.behind
-    (left.text ∙ (λ i. c.write_unit_line.new.text.items ++ with_bounds (first (deeper i)) c.in_ok-behind.behind.now))
-    (left.bounds ∙ (λ i. drop (length (first (deeper i))) c.in_ok-behind.behind.now))
-    (last.text ∙ (λ i. c.write_units.new.text.items ++ with_bounds (second (deeper i) (left.choices i)) c.in_ok-left-in-Minus.left.bounds.now))
-    (last.bounds ∙ (λ i. drop (length (second (deeper i) (left.choices i))) c.in_ok-left-in-Minus.left.bounds.now)) in
+    c.in_ok-behind.ensures.behind deeper refl left.text left.choices left.bounds last.text last.bounds in
     record {
       text = written.lines ∙ sym (ap (λ (plan : PlanOfUnits). given ++ with_bounds (group_outline before_bound spaces choices plan) bounds) is);
       choices = last.choices
@@ -188,21 +166,15 @@ write_units-returns t c =
     let deeper = c.as_slice-inner.ensures.value ∙ c.in_ok-deeper.ensures in
     let left = c.in_ok-left-in-Pairs.ensures in
     let last = c.in_ok-last-in-Pairs.ensures in
-    let choices_left = left.choices ∙ ap (drop (leaves types)) c.after_first.ensures in
-    let first = λ (spaces : List ℕ) (choices : List Choice). outline before_bound spaces choices types in
-    let second = λ (spaces : List ℕ) (choices : List Choice). test_outline before_bound spaces choices test in
-    let written = two_written given (spaces ++ group_words choices (pairs_units c.in-Pairs.count types test)) (first (32 ∷ spaces) (drop 1 choices))
-    (second (32 ∷ spaces) (drop (leaves types) (drop 1 choices))) bounds
+    let written = parts_written given (spaces ++ group_words choices (pairs_units c.in-Pairs.count types test))
+    (λ spaces choices. outline before_bound spaces choices types) (λ spaces choices. test_outline before_bound spaces choices test)
+    (32 ∷ spaces) (leaves types) (drop 1 choices) bounds
     (c.in_ok-behind.ensures.text ∙ ap (λ (plan : PlanOfUnits). given ++ bound_line (spaces ++ group_words choices plan) (first_bound bounds)) is)
-    c.in_ok-behind.ensures.behind
-    (left.text ∙ (λ i. c.write_unit_line.new.text.items ++ with_bounds (first (deeper i) (c.after_first.ensures i)) c.in_ok-behind.behind.now))
-    (left.bounds ∙ (λ i. drop (length (first (deeper i) (c.after_first.ensures i))) c.in_ok-behind.behind.now))
-    (last.text ∙ (λ i. c.write_plan.new.text.items ++ with_bounds (second (deeper i) (choices_left i)) c.in_ok-left-in-Pairs.left.bounds.now))
-    (last.bounds ∙ (λ i. drop (length (second (deeper i) (choices_left i))) c.in_ok-left-in-Pairs.left.bounds.now)) in
+    c.in_ok-behind.ensures.behind deeper c.after_first.ensures left.text left.choices left.bounds last.text last.bounds in
     record {
       text = written.lines ∙ sym (ap (λ (plan : PlanOfUnits). given ++ with_bounds (group_outline before_bound spaces choices plan) bounds) is);
       choices = last.choices
-          ∙ ap (drop (test_leaves test)) choices_left
+          ∙ ap (drop (test_leaves test)) (left.choices ∙ ap (drop (leaves types)) c.after_first.ensures)
           ∙ drop_leaf (leaves types) (test_leaves test) choices
           ∙ sym (ap (λ (plan : PlanOfUnits). drop (group_leaves plan) choices) is);
       bounds = written.behind ∙ sym (ap (λ (plan : PlanOfUnits). drop (length (group_outline before_bound spaces choices plan)) bounds) is);
