@@ -1,6 +1,6 @@
 //! The words of the command line.
-ghost use Rattle.std.specs.Prelude.{◌≡◌, ◌≤◌, IfErr, IfOk, false, length, map, string_bytes};
-ghost use Rattle.clap.specs.Words.{app_of, found_of, kind_of, rows_of, rule_of, subcommand_rows_of};
+ghost use Rattle.std.specs.Prelude.{◌≡◌, ◌≤◌, IfErr, IfOk, IsOkAnd, false, length, map, string_bytes};
+ghost use Rattle.clap.specs.Words.{app_of, found_of, kind_of, rows_of, rule_of, subcommand_rows_of, with_subcommand};
 ghost use Rattle.clap.specs.declared.error.kind.ErrorKind.TheVariants.{MissingSubcommand};
 ghost use Rattle.text_parts.specs.Parts.{texts_of};
 ghost use Rattle.command_line.specs.CommandLine.{AreOneToNine, CommandAsks, HasOwnArguments, IsFaultBy, IsFaultOfFolders, IsNoRequest, IsRefusal, IsRequest, TellsTooMany, bare_program, check_command, explain_command, folder_rule, folders_in, folders_of, lang_rule, program, query_command};
@@ -129,29 +129,63 @@ pub fn read_words<'a>(alloc: Global, words: &'a [&'a str]) -> Result<Request, Wo
     ensures none { length words.now ≤ 1 → IfErr result (λ fault. fault ≡ WordFault.Memory) }
 {
     if words.len() <= 1 {
+        let lang = String::from_str(alloc, DEFAULT_LANGUAGE)?;
         return Ok(Request {
             mode: Mode::Sample,
             folders: Vec::new(alloc),
-            lang: String::from_str(alloc, DEFAULT_LANGUAGE)?,
+            lang,
         });
     }
     let command = command_line(alloc)?;
     match command.try_get_matches_from(words) {
-        Ok(matches) => command_request(alloc, &matches),
-        Err(error) => Err(word_fault(alloc, &error)),
+        Ok(matches) => request_by(alloc, matches),
+        Err(error) => Err(fault_by(alloc, error)),
     }
+}
+
+// What is asked by matches, which are let go.
+fn request_by(alloc: Global, matches: ArgMatches<'_>) -> Result<Request, WordFault>
+    ensures asked { IfOk result (λ request. CommandAsks request.mode (subcommand_rows_of matches.entry) request) }
+    ensures refused { IfErr result (IsNoRequest (subcommand_rows_of matches.entry)) }
+{
+    let request = command_request(alloc, &matches);
+    drop(matches);
+    request
+}
+
+// The fault of words that clap refuses, by its error, which is let go.
+fn fault_by(alloc: Global, error: Error) -> WordFault
+    ensures { IsFaultBy (kind_of error) result }
+{
+    let fault = word_fault(alloc, &error);
+    drop(error);
+    fault
 }
 
 // What the program takes.
 fn command_line<'a>(alloc: Global) -> Result<Command<'a>, AllocError>
     ensures { IfOk result (λ command. app_of command ≡ program) }
 {
-    let query = query_command(alloc)?;
-    let explain = explain_command(alloc)?;
-    let check = check_command(alloc)?;
-    let with_query = bare_program(alloc)?.subcommand(query)?;
-    let with_explain = with_query.subcommand(explain)?;
-    with_explain.subcommand(check)
+    let named = bare_program(alloc)?;
+    let with_query = with(named, query_command(alloc))?;
+    let with_explain = with(with_query, explain_command(alloc))?;
+    with(with_explain, check_command(alloc))
+}
+
+// A program with one command more, if there was memory for it.
+fn with<'a>(
+    program: Command<'a>,
+    command: Result<Command<'a>, AllocError>,
+) -> Result<Command<'a>, AllocError>
+    ensures { IfOk result (λ whole. IsOkAnd command.entry (λ own. HasOwnArguments own → app_of whole ≡ with_subcommand (app_of program.entry) (app_of own).top)) }
+{
+    match command {
+        Ok(command) => program.subcommand(command),
+        Err(refused) => {
+            drop(program);
+            Err(refused)
+        }
+    }
 }
 
 // The program without its commands.

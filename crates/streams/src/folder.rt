@@ -225,13 +225,35 @@ impl Walk {
         let path = joined(rt.alloc(), folder, below)?;
         let attributes = fs::metadata(rt, path.as_str())?;
         if self.entered.insert((attributes.dev(), attributes.ino()))? {
-            for entry in entries(rt, path.as_str())? {
-                let mut name = String::from_str(rt.alloc(), below)?;
-                name.push_str(entry.as_str())?;
-                self.take(rt, folder, name)?;
-            }
+            self.take_all(rt, folder, below, entries(rt, path.as_str())?)?;
         }
         Ok(())
+    }
+
+    // Takes what has these names below a path.
+    fn take_all<R: FolderSystem>(
+        &mut self,
+        rt: &R,
+        folder: &str,
+        below: &str,
+        names: Vec<String>,
+    ) -> io::Result<()> {
+        for name in &names {
+            self.take_below(rt, folder, below, name.as_str())?;
+        }
+        Ok(())
+    }
+
+    fn take_below<R: FolderSystem>(
+        &mut self,
+        rt: &R,
+        folder: &str,
+        below: &str,
+        name: &str,
+    ) -> io::Result<()> {
+        let mut path = String::from_str(rt.alloc(), below)?;
+        path.push_str(name)?;
+        self.take(rt, folder, path)
     }
 
     // Takes a plain file or a folder by its path, or a link that leads nowhere, and nothing else.
@@ -273,11 +295,18 @@ impl Walk {
 // The names in a folder, in byte order.
 fn entries<R: FolderSystem>(rt: &R, path: &str) -> io::Result<Vec<String>> {
     let mut names = Vec::new(rt.alloc());
-    for entry in fs::read_dir(rt, path)? {
-        names.push(String::from_str(rt.alloc(), entry?.file_name())?)?;
-    }
+    push_entries(rt, path, &mut names)?;
     names.sort()?;
     Ok(names)
+}
+
+// Adds the names in a folder, in the order in which the system tells them.
+fn push_entries<R: FolderSystem>(rt: &R, path: &str, names: &mut Vec<String>) -> io::Result<()> {
+    for entry in fs::read_dir(rt, path)? {
+        let name = String::from_str(rt.alloc(), entry?.file_name())?;
+        names.push(name)?;
+    }
+    Ok(())
 }
 
 // A path below a folder. The folder itself is its word as it stands, so that an empty word is none.

@@ -1,15 +1,29 @@
-use Rattle.std.proofs.Common.{ap, ap₂, ◌≡◌, ◌∙◌}
+use Rattle.std.proofs.Common.{ap, ◌≡◌, ◌∙◌, Err, Ok, Result}
+use Rattle.std.specs.Prelude.{IfOk, IsOkAnd}
+use Rattle.std.specs.declared.alloc.AllocError.{AllocError}
 use Rattle.std.proofs.lemmas.Result.{IfOk-weaker}
 use Rattle.clap.specs.Words.{App, app_of, with_subcommand}
-use Rattle.command_line.specs.CommandLine.{bare_program, explain_command, query_command}
+use Rattle.clap.specs.declared.builder.command.Command.{Command}
+use Rattle.command_line.specs.CommandLine.{HasOwnArguments, bare_program, check_command, explain_command, query_command}
 use Rattle.command_line.proofs.words.command_line.Goals as goal
+
+-- a program with one more of the commands that it takes
+one_more : (whole so_far own : App) (command : Result Command AllocError)
+    → IsOkAnd command (λ own. HasOwnArguments own → whole ≡ with_subcommand so_far (app_of own).top)
+    → IfOk command (λ command. app_of command ≡ own) → IfOk command HasOwnArguments → whole ≡ with_subcommand so_far own.top
+one_more whole so_far own (Ok command) adds shape owns = adds owns ∙ ap (λ (app : App). with_subcommand so_far app.top) shape
+one_more whole so_far own (Err refused) adds shape owns = absurd adds
 
 pub returns : goal.returns
 returns c =
-    let top = λ (app : App). app.top in
     let with_query_is : app_of c.in_ok-with_query.with_query ≡ with_subcommand bare_program query_command.top =
-    c.in_ok-with_query.ensures.shape c.in_ok-query.ensures.own ∙ ap₂ with_subcommand c.in_ok-bare_program.ensures (ap top c.in_ok-query.ensures.shape) in
+    one_more (app_of c.in_ok-with_query.with_query) (app_of c.in_ok-named.named) query_command c.query_command.result c.in_ok-with_query.ensures
+    c.query_command.ensures.shape c.query_command.ensures.own
+    ∙ ap (λ (app : App). with_subcommand app query_command.top) c.in_ok-named.ensures in
     let with_explain_is : app_of c.in_ok-with_explain.with_explain ≡ with_subcommand (with_subcommand bare_program query_command.top) explain_command.top =
-    c.in_ok-with_explain.ensures.shape c.in_ok-explain.ensures.own ∙ ap₂ with_subcommand with_query_is (ap top c.in_ok-explain.ensures.shape) in
-    IfOk-weaker c.subcommand-3.result _ _
-    (λ command adds. adds.shape c.in_ok-check.ensures.own ∙ ap₂ with_subcommand with_explain_is (ap top c.in_ok-check.ensures.shape)) c.subcommand-3.ensures
+    one_more (app_of c.in_ok-with_explain.with_explain) (app_of c.in_ok-with_query.with_query) explain_command c.explain_command.result c.in_ok-with_explain.ensures
+    c.explain_command.ensures.shape c.explain_command.ensures.own
+    ∙ ap (λ (app : App). with_subcommand app explain_command.top) with_query_is in
+    IfOk-weaker c.with-3.result _ _
+    (λ command adds. one_more (app_of command) (app_of c.in_ok-with_explain.with_explain) check_command c.check_command.result adds c.check_command.ensures.shape c.check_command.ensures.own
+    ∙ ap (λ (app : App). with_subcommand app check_command.top) with_explain_is) c.with-3.ensures

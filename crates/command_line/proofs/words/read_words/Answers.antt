@@ -23,7 +23,7 @@ returns-in-Ok-clause-asked c =
     (c.in-Ok.ensures.matches (ap is_simple is ∙ program_is_simple)).1 ∙ ap (λ (app : App). subcommand_of app (texts_of c.args.words.now)) is in
     let clean : fault_of program (texts_of c.args.words.now) ≡ [] =
     subst (λ (app : App). fault_of app (texts_of c.args.words.now) ≡ []) is (c.in-Ok.ensures.kinds (ap is_simple_and_free is ∙ program_is_free)) in
-    request_is (texts_of c.args.words.now) (subcommand_rows_of c.in-Ok.matches) c.command_request.result named clean c.command_request.ensures.asked
+    request_is (texts_of c.args.words.now) (subcommand_rows_of c.in-Ok.matches) c.request_by.result named clean c.request_by.ensures.asked
 
 pub returns-in-Ok-clause-refused : goal.returns-in-Ok-clause-refused
 returns-in-Ok-clause-refused c =
@@ -32,11 +32,11 @@ returns-in-Ok-clause-refused c =
     (c.in-Ok.ensures.matches (ap is_simple is ∙ program_is_simple)).1 ∙ ap (λ (app : App). subcommand_of app (texts_of c.args.words.now)) is in
     let clean : fault_of program (texts_of c.args.words.now) ≡ [] =
     subst (λ (app : App). fault_of app (texts_of c.args.words.now) ≡ []) is (c.in-Ok.ensures.kinds (ap is_simple_and_free is ∙ program_is_free)) in
-    refusal_is (texts_of c.args.words.now) (subcommand_rows_of c.in-Ok.matches) c.command_request.result named clean c.command_request.ensures.refused
+    refusal_is (texts_of c.args.words.now) (subcommand_rows_of c.in-Ok.matches) c.request_by.result named clean c.request_by.ensures.refused
 
 pub returns-in-Err-clause-refused : goal.returns-in-Err-clause-refused
 returns-in-Err-clause-refused c =
     let is : app_of c.in_ok-command.command ≡ program = c.in_ok-command.ensures in
     let words = texts_of c.args.words.now in
-    refusal_by words (kind_of c.in-Err.error) c.word_fault.result c.word_fault.ensures
+    refusal_by words (kind_of c.in-Err.error) c.fault_by.result c.fault_by.ensures
     (subst (λ (app : App). HasKind (fault_of app words) c.in-Err.error) is (c.in-Err.ensures.kinds (ap is_simple_and_free is ∙ program_is_free)))
