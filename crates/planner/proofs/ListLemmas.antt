@@ -1,5 +1,5 @@
 -- Lists that are read from a place on, and lists in which a place is written later; numbers that stand still.
-use Rattle.std.proofs.Common.{ℕ, zero, suc, ◌+◌, ◌-◌, ◌*◌, ◌∷◌, ◌++◌, [], ◌≡◌, ◌≤◌, ◌^◌, ◌∙◌, List, length, drop, sym, ap, arith, append_assoc, inl, inr}
+use Rattle.std.proofs.Common.{ℕ, zero, suc, ◌+◌, ◌-◌, ◌*◌, ◌∷◌, ◌++◌, [], ◌≡◌, ◌≤◌, ◌<◌, ◌^◌, ◌∙◌, List, length, length-append, drop, sym, ap, arith, append_assoc, inl, inr}
 use Rattle.std.specs.List.{slice_set}
 use Rattle.std.proofs.Math.Nat.{mul-suc, mul_comm}
 use Rattle.std.proofs.Math.Seq.{drop-nil, set-append_seam}
@@ -30,6 +30,17 @@ closed_list given {behind = behind} {number = number} listed_is grown_is opened_
     ∙ (λ i. slice_set ((grown_is ∙ ap (λ (xs : List ℕ). xs ++ behind) opened_is) i) (at_is i) (own_is i))
     ∙ put_seam given behind 0 number
     ∙ ap (λ (xs : List ℕ). given ++ xs) (sym all_is)
+
+-- the place that was kept free stands behind what was given, and so it does once children have added theirs
+pub at_within : {X : Type 0} (given behind : List X) (free : X) {opened grown : List X} {at : ℕ} → at ≡ length given
+    → opened ≡ given ++ free ∷ [] → grown ≡ opened ++ behind → at < length grown
+at_within given behind free {opened = opened} at_is opened_is grown_is =
+    omega (arith, at_is, ap length opened_is, length-append given (free ∷ []), ap length grown_is, length-append opened behind)
+
+pub at_within_two : {X : Type 0} (given first last : List X) (free : X) {opened between grown : List X} {at : ℕ} → at ≡ length given
+    → opened ≡ given ++ free ∷ [] → between ≡ opened ++ first → grown ≡ between ++ last → at < length grown
+at_within_two given first last free {between = between} at_is opened_is between_is grown_is =
+    omega (arith, at_within given first free at_is opened_is between_is, ap length grown_is, length-append between last)
 
 -- what two children have added
 pub two_behind : (opened first last : List ℕ) {between grown : List ℕ} → grown ≡ between ++ last → between ≡ opened ++ first

@@ -11,7 +11,7 @@ use Rattle.planner.specs.Counts.{leaf_of, one_of}
 use Rattle.planner.specs.Leaves.{group_count, leaves, plan_count}
 use Rattle.planner.specs.Nodes.{group_list, plans_list, test_list}
 use Rattle.planner.specs.Sizes.{group_size, group_sizes, size, sizes, test_size, total, values_size}
-use Rattle.planner.proofs.ListLemmas.{capped_product, closed_list, put_seam_two, two_behind}
+use Rattle.planner.proofs.ListLemmas.{at_within, at_within_two, capped_product, closed_list, put_seam_two, two_behind}
 use Rattle.planner.proofs.LoopLemmas.{list_end, list_turn, rest_end, rest_turn, sizes_end, sizes_turn}
 use Rattle.planner.proofs.PartLemmas.{group_count-parts, plan_count-parts, values_are, values_behind}
 use Rattle.planner.proofs.bound_list.+list.Goals as goal
@@ -249,3 +249,44 @@ list_units-returns-in_ok-of_test-in-Pairs-clause-bounds t c =
     ((of_types.size ∙ ap (λ (rest : List Choice). size indexed rest types) inside) j)
     ((of_test.size ∙ ap (λ (rest : List Choice). test_size indexed rest test) behind) j))) i) (c.first_choice.ensures i))))
     (ap (group_list (own_list indexed) c.args.choices.now) is)
+
+pub list-closed-requires : goal.list-closed-requires
+list-closed-requires t c = at_within _ _ _ c.in_ok-at.ensures.at c.in_ok-at.ensures.bounds c.in_ok-inner-in-Walk.ensures.bounds
+
+pub list-closed-requires-in-Members : goal.list-closed-requires-in-Members
+list-closed-requires-in-Members t c = at_within _ _ _ c.in_ok-at.ensures.at c.in_ok-at.ensures.bounds c.in_ok-inner-in-Members.ensures.bounds
+
+pub list-closed-requires-in-And : goal.list-closed-requires-in-And
+list-closed-requires-in-And t c = at_within _ _ _ c.in_ok-at.ensures.at c.in_ok-at.ensures.bounds c.in_ok-inner-in-And.ensures.bounds
+
+pub list-closed-requires-in-Or : goal.list-closed-requires-in-Or
+list-closed-requires-in-Or t c = at_within _ _ _ c.in_ok-at.ensures.at c.in_ok-at.ensures.bounds c.in_ok-inner-in-Or.ensures.bounds
+
+pub list-closed-requires-in-Units : goal.list-closed-requires-in-Units
+list-closed-requires-in-Units t c = at_within _ _ _ c.in_ok-at.ensures.at c.in_ok-at.ensures.bounds c.in_ok-inner-in-Units.ensures.bounds
+
+pub list_units-closed-requires : goal.list_units-closed-requires
+list_units-closed-requires t c = at_within _ _ _ c.in_ok-at.ensures.at c.in_ok-at.ensures.bounds c.in_ok-inner-in-And.ensures.bounds
+
+pub list_units-closed-requires-in-Or : goal.list_units-closed-requires-in-Or
+list_units-closed-requires-in-Or t c = at_within _ _ _ c.in_ok-at.ensures.at c.in_ok-at.ensures.bounds c.in_ok-inner-in-Or.ensures.bounds
+
+pub list-closed-requires-in-Minus : goal.list-closed-requires-in-Minus
+list-closed-requires-in-Minus t c =
+    at_within_two _ _ _ _ c.in_ok-at.ensures.at c.in_ok-at.ensures.bounds c.in_ok-left-in-Minus.ensures.bounds c.in_ok-right-in-Minus.ensures.bounds
+
+pub list-closed-requires-in-Values : goal.list-closed-requires-in-Values
+list-closed-requires-in-Values t c =
+    at_within_two _ _ _ _ c.in_ok-at.ensures.at c.in_ok-at.ensures.bounds c.in_ok-from-in-Values.ensures.bounds c.in_ok-types-in-Values.ensures.bounds
+
+pub list-closed-requires-in-Pairs : goal.list-closed-requires-in-Pairs
+list-closed-requires-in-Pairs t c =
+    at_within_two _ _ _ _ c.in_ok-at.ensures.at c.in_ok-at.ensures.bounds c.in_ok-of_types-in-Pairs.ensures.bounds c.in_ok-of_test-in-Pairs.ensures.bounds
+
+pub list_units-closed-requires-in-Minus : goal.list_units-closed-requires-in-Minus
+list_units-closed-requires-in-Minus t c =
+    at_within_two _ _ _ _ c.in_ok-at.ensures.at c.in_ok-at.ensures.bounds c.in_ok-left-in-Minus.ensures.bounds c.in_ok-right-in-Minus.ensures.bounds
+
+pub list_units-closed-requires-in-Pairs : goal.list_units-closed-requires-in-Pairs
+list_units-closed-requires-in-Pairs t c =
+    at_within_two _ _ _ _ c.in_ok-at.ensures.at c.in_ok-at.ensures.bounds c.in_ok-of_types-in-Pairs.ensures.bounds c.in_ok-of_test-in-Pairs.ensures.bounds

@@ -8,7 +8,7 @@ use Rattle.planner.specs.Nodes.{group_list, node_list, plans_list}
 use Rattle.planner.specs.Sizes.{size, values_size}
 use Rattle.planner.proofs.ChoosingLemmas.{chosen_end, chosen_turn}
 use Rattle.planner.proofs.FrontLemmas.{drop_chosen, group_drop_chosen, group_leads_chosen, leads_chosen, leaf_leads, size_chosen}
-use Rattle.planner.proofs.ListLemmas.{two_behind}
+use Rattle.planner.proofs.ListLemmas.{at_within, at_within_two, two_behind}
 use Rattle.planner.proofs.PartLemmas.{plan_count-parts, values_are, values_behind}
 use Rattle.planner.proofs.choosing.+settle.Goals as goal
 
@@ -165,3 +165,19 @@ settle_units-returns-in_ok-of_test-in-Pairs-clause-leads t c =
     c.in_ok-at-in-Pairs.ensures.leads)
     c.in_ok-of_test-in-Pairs.ensures.leads
     ∙ sym (ap (λ (plan : PlanOfUnits). had ++ group_list (lead_list indexed) (group_chosen indexed asked others plan) plan) is)
+
+pub settle-put_lead-requires : goal.settle-put_lead-requires
+settle-put_lead-requires t c = at_within _ _ _ c.in_ok-at-in-And.ensures.at c.in_ok-at-in-And.ensures.leads c.in_ok-inner-in-And.ensures.leads
+
+pub settle-put_choice-requires : goal.settle-put_choice-requires
+settle-put_choice-requires t c =
+    at_within_two _ _ _ _ c.in_ok-at-in-Pairs.ensures.at c.in_ok-at-in-Pairs.ensures.choices c.in_ok-of_types-in-Pairs.ensures.choices
+    c.in_ok-of_test-in-Pairs.ensures.choices
+
+pub settle_units-put_lead-requires : goal.settle_units-put_lead-requires
+settle_units-put_lead-requires t c = at_within _ _ _ c.in_ok-at-in-And.ensures.at c.in_ok-at-in-And.ensures.leads c.in_ok-inner-in-And.ensures.leads
+
+pub settle_units-put_choice-requires : goal.settle_units-put_choice-requires
+settle_units-put_choice-requires t c =
+    at_within_two _ _ _ _ c.in_ok-at-in-Pairs.ensures.at c.in_ok-at-in-Pairs.ensures.choices c.in_ok-of_types-in-Pairs.ensures.choices
+    c.in_ok-of_test-in-Pairs.ensures.choices
