@@ -20,7 +20,7 @@ pub struct Line<'a> {
 
 /// The lines of a file in turn, after a leading byte order mark. A last part of no bytes, not even
 /// a CR, is no line. Contracts see the lines that are still to come.
-#[derive(Clone, Debug, Drop)]
+#[derive(Debug, Drop)]
 pub struct Lines<'a> {
     rest: &'a [u8],
     number: u64,
