@@ -1,17 +1,19 @@
 -- What is read of a release, where its rows were seen.
 use Rattle.std.proofs.lemmas.Grind.{common_steps}
-use Rattle.std.proofs.Common.{arith, rules, ℕ, ◌≡◌, ◌≤◌, ◌∙◌, List, [], ◌∷◌, length, Bool, Option, None, Some, ap, map, refl, suc, sym, subst, is_some, filter_map}
+use Rattle.std.proofs.Common.{Vec, arith, rules, ℕ, ◌≡◌, ◌≤◌, ◌∙◌, List, [], ◌∷◌, length, Bool, Option, None, Some, ap, map, refl, suc, sym, subst, is_some, filter_map}
+use Rattle.std.specs.Prelude.{MatchOption}
+use Rattle.std.specs.declared.alloc.Global.{Global}
 use Rattle.rf2_rows.specs.RowTexts.{RowText}
 use Rattle.release_rows.specs.Chosen.{choices, chosen, marked}
 use Rattle.release_rows.specs.Files.{text_of_row, Place, RowAt}
 use Rattle.release_rows.specs.Faults.{first_fault, first_of}
 use Rattle.release_rows.specs.ReadRows.{IsReadFrom, unmarked}
 use Rattle.release_rows.specs.inside.RowStore.{RowStore, nothing_kept}
-use Rattle.release_rows.specs.inside.Keys.{uuids_behind}
+use Rattle.release_rows.specs.inside.Keys.{AreSingle, uuids_behind}
 use Rattle.release_rows.specs.ReleaseLists.{ReleaseLists, attribute_listed, isa_listed, listed_of, listing_of, member_listed, name_listed}
 use Rattle.release_rows.specs.inside.ChosenLists.{in_list, items_chosen, listed_chosen, same_listing}
 use Rattle.release_rows.specs.Limits.{row_total}
-use Rattle.release_rows.specs.inside.FirstPass.{AreSeen, IsSeen, first_conflict, kept_rows, keys_behind}
+use Rattle.release_rows.specs.inside.FirstPass.{AreChoicesAmong, AreSeen, IsSeen, first_conflict, kept_rows, keys_behind}
 use Rattle.release_rows.specs.declared.fault.LoadFault.{LoadFault}
 use Rattle.release_rows.specs.declared.limits.Limits.{Limits}
 use Rattle.release_rows.specs.declared.row_lists.Listing.{Listing}
@@ -69,7 +71,7 @@ no_conflict-seen keyed seen same few =
     no_conflict [] seen (single-keys [] seen (subst (λ (keys : List ℕ). (key : ℕ) → times key keys ≤ 1) same few))
 
 -- all rows are chosen
-pub read-single : (limits : Limits) (places : List Place) (kept : RowStore) (count : ℕ) → IsSeen limits places kept None → count ≡ length kept.keyed.keys
+read-single : (limits : Limits) (places : List Place) (kept : RowStore) (count : ℕ) → IsSeen limits places kept None → count ≡ length kept.keyed.keys
     → ((key : ℕ) → times key kept.keyed.keys ≤ 1) → IsReadFrom limits places count kept.listed
 read-single limits places kept count all counted few =
     let single = single-keys [] all.seen (subst (λ (keys : List ℕ). (key : ℕ) → times key keys ≤ 1) (keyed-seen limits kept all.seen all.kept_is) few) in
@@ -81,7 +83,7 @@ read-single limits places kept count all counted few =
     }
 
 -- some rows are chosen
-pub read-chosen : (limits : Limits) (places : List Place) (kept : RowStore) (count : ℕ) (all : IsSeen limits places kept None) → count ≡ length kept.keyed.keys
+read-chosen : (limits : Limits) (places : List Place) (kept : RowStore) (count : ℕ) (all : IsSeen limits places kept None) → count ≡ length kept.keyed.keys
     → first_conflict [] all.seen ≡ None → (marks : List Bool) → marks ≡ choices all.seen [] all.seen
     → (listed : ReleaseLists) → listed ≡ listed_chosen kept.listed marks
     → IsReadFrom limits places count listed
@@ -97,6 +99,18 @@ read-chosen limits places kept count all counted none marks told listed same =
       lists-chosen,
       map-marked,
     )
+
+-- some are, or all where no choices are given
+pub read-found : (limits : Limits) (places : List Place) (kept : RowStore) (count : ℕ) → IsSeen limits places kept None → count ≡ length kept.keyed.keys
+    → (found : Option (Vec Bool Global))
+    → MatchOption found (AreSingle kept.keyed.keys) (λ chosen. AreChoicesAmong kept.keyed places chosen.items)
+    → (listed : ReleaseLists) → MatchOption found (listed ≡ kept.listed) (λ chosen. listed ≡ listed_chosen kept.listed chosen.items)
+    → IsReadFrom limits places count listed
+read-found limits places kept count all counted None single listed same =
+    subst (IsReadFrom limits places count) (sym same) (read-single limits places kept count all counted single)
+read-found limits places kept count all counted (Some chosen) told listed same =
+    let both = told all.seen all.beyond (are-seen limits places kept None all) in
+    read-chosen limits places kept count all counted both.0 chosen.items both.1 listed same
 
 -- the fault at which the first pass ended is the first, where no row conflicts
 pub fault-seen : (limits : Limits) (places : List Place) (kept : RowStore) (fault : LoadFault) (all : IsSeen limits places kept (Some fault))

@@ -1,7 +1,9 @@
 //! Reading the rows of a release, and choosing among those of components that have several.
-ghost use Rattle.std.specs.Prelude.{◌≡◌, ◌≢◌, ◌≤◌, ◌<◌, ◌+◌, ◌-◌, ◌^◌, IfErr, IfOk, IfSome, OnOk, false, true, length, min};
+ghost use Rattle.std.specs.Prelude.{◌≡◌, ◌≢◌, ◌≤◌, ◌<◌, ◌+◌, ◌-◌, ◌^◌, IfErr, IfOk, IfSome, MatchOption, OnOk, false, true, length, min};
 ghost use Rattle.std.specs.List.Sorted.{IsStrictlyIncreasing};
 ghost use Rattle.release_rows.specs.ReadRows.{AreFew, HasFirstFault, IsReadFrom, read_in};
+ghost use Rattle.release_rows.specs.inside.ChosenLists.{listed_chosen};
+ghost use Rattle.release_rows.specs.inside.Keys.{AreSingle};
 ghost use Rattle.release_rows.specs.inside.ListsInside.{listed_in};
 ghost use Rattle.release_rows.specs.Limits.{row_total};
 ghost use Rattle.release_rows.specs.inside.KeyedRows.{Covers};
@@ -19,7 +21,7 @@ use crate::repeated::repeated_keys;
 use crate::row_lists::RowLists;
 use crate::rows::Rows;
 use crate::versions::Versions;
-use std::alloc::Global;
+use std::alloc::{AllocError, Global};
 
 // No list of files that is told has more rows within the limits. Of one that is not told nothing is
 // known, so the rows are counted before they are numbered.
@@ -110,7 +112,7 @@ fn first_of_faults<P: PlaceSource>(
     if keys.keys().len() as u64 > MOST_ROWS + 1 {
         return TOO_MANY_ROWS;
     }
-    if let Err(conflict) = check_conflicts(alloc, files, keys) {
+    if let Err(conflict) = choices_among(alloc, files, keys) {
         return conflict;
     }
     fault
@@ -135,37 +137,57 @@ fn choose_rows<P: PlaceSource>(
     ensures told { P.told files.new ≡ P.told files.old }
     ensures reference { P.reference files.new ≡ P.reference files.old }
 {
+    if rows.keys.keys().len() as u64 > MOST_ROWS + 1 {
+        drop(rows);
+        return Err(TOO_MANY_ROWS);
+    }
+    match choices_among(alloc, files, &rows.keys) {
+        Ok(choices) => {
+            let read = keep_chosen(alloc, rows, choices)?;
+            Ok(read)
+        }
+        Err(fault) => {
+            drop(rows);
+            Err(fault)
+        }
+    }
+}
+
+// What the rows are made of that are chosen, or all of them where no choices are given.
+fn keep_chosen(
+    alloc: Global,
+    rows: Rows,
+    choices: Option<Vec<bool>>,
+) -> Result<ReadRows, AllocError>
+    ensures count { IfOk result (λ read. read.count ≡ length rows.keys.keys) }
+    ensures lists { IfOk result (λ read. MatchOption choices (listed_in read.lists ≡ listed_in rows.lists)
+        (λ choices. listed_in read.lists ≡ listed_chosen (listed_in rows.lists) choices.items)) }
+{
     let Rows {
         keys,
         mut lists,
         ..
     } = rows;
     let count = keys.keys().len() as u64;
-    if count > MOST_ROWS + 1 {
-        return Err(TOO_MANY_ROWS);
+    drop(keys);
+    if let Some(choices) = choices {
+        lists.choose(alloc, choices.as_slice())?;
     }
-    let repeated = repeated_keys(alloc, keys.keys())?;
-    if repeated.is_empty() {
-        return Ok(ReadRows { lists, count });
-    }
-    match compare(alloc, files, &keys, repeated) {
-        Ok(choices) => {
-            lists.choose(alloc, choices.as_slice())?;
-            Ok(ReadRows { lists, count })
-        }
-        Err(fault) => Err(fault),
-    }
+    Ok(ReadRows { lists, count })
 }
 
-// Whether none of the rows that were read, as far as they were, conflicts with an earlier one.
-fn check_conflicts<P: PlaceSource>(
+// Of each of the rows that were read, as far as they were, whether it is chosen, or the first conflict. `None` where
+// no key is repeated.
+fn choices_among<P: PlaceSource>(
     alloc: Global,
     files: &mut P,
     keys: &RowKeys,
-) -> Result<(), LoadFault>
+) -> Result<Option<Vec<bool>>, LoadFault>
     requires few { length keys.now.keys < 2 ^ 32 }
     requires some { 0 < P.file_count files.old }
-    ensures ok { IfSome (P.places files.old) (λ known. OnOk result (HaveNoConflict keys.now known)) }
+    ensures ok { IfSome (P.places files.old) (λ known. IfOk result (λ choices.
+        MatchOption choices (AreSingle keys.now.keys) (λ choices. AreChoicesAmong keys.now known choices.items))) }
+    ensures clear { IfSome (P.places files.old) (λ known. OnOk result (HaveNoConflict keys.now known)) }
     ensures err { FaultOf (P.places files.old) (IsFirstConflict keys.now) result }
     ensures device { FailsOnlyBelow (P.file_count files.old) result (P.failure_count files.old) (P.failure_count files.new) }
     ensures failures { P.failure_count files.old ≤ P.failure_count files.new }
@@ -179,10 +201,10 @@ fn check_conflicts<P: PlaceSource>(
 {
     let repeated = repeated_keys(alloc, keys.keys())?;
     if repeated.is_empty() {
-        return Ok(());
+        return Ok(None);
     }
     match compare(alloc, files, keys, repeated) {
-        Ok(_choices) => Ok(()),
+        Ok(choices) => Ok(Some(choices)),
         Err(fault) => Err(fault),
     }
 }

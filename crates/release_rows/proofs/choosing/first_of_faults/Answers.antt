@@ -30,6 +30,6 @@ pub returns-clause-first : goal.returns-clause-first
 returns-clause-first g c other own = if_told _ (g.P.PlaceSource.places c.args.files.now) (λ places told limits kept room same seen_by.
     let seen = seen_by other own in
     fault-seen limits places kept c.args.fault seen
-    (at_told _ _ places told c.in_default.ensures.ok seen.seen seen.beyond
+    (at_told _ _ places told c.in_default.ensures.clear seen.seen seen.beyond
     (subst (λ (keyed : Keyed). AreSeen keyed places seen.seen seen.beyond) same
     (are-seen limits places kept (Some c.args.fault) seen))))
