@@ -10,7 +10,7 @@ use Rattle.std.proofs.lemmas.Map.Steps.{length-le_from_distinct_below, le-length
 use Rattle.hierarchy.specs.Hierarchy.{IsWithin, Reaches, reaches}
 use Rattle.rf2_rows.specs.Release.{Release}
 use Rattle.hierarchy.proofs.HierarchyLemmas.{chain_from_test, test_from_chain}
-use Rattle.number_lists.specs.Members.{has_item}
+use Rattle.number_lists.specs.Members.{has}
 use Rattle.number_lists.specs.Rising.{listed_numbers, numbers_where}
 use Rattle.number_lists.proofs.WhereLemmas.{numbers_where-agree, there_where}
 use Rattle.number_lists.specs.KeyedLists.{AreItemsBelow, items_of, lists_by, list_of, turned, turned_from, with_key}
@@ -21,7 +21,7 @@ use Rattle.number_lists.proofs.KeyedLemmas.{items_of-append}
 use Rattle.snapshot.proofs.NumberingLemmas.{Reaches-map, numbers_again, row_by}
 use Rattle.number_lists.proofs.BlockLemmas.{Contains-map}
 use Rattle.release_rows.proofs.PlaceLemmas.{place_of, place_of-get_or}
-use Rattle.number_lists.proofs.MemberLemmas.{contains_had, had_contained, item_there, there_item}
+use Rattle.number_lists.proofs.MemberLemmas.{any-has, contains_had, had_contained}
 use Rattle.hierarchy.proofs.WayLemmas.{contained_items_of, items_of-contained}
 use Rattle.ancestor_index.specs.HierarchyLists.{hierarchy_of, is_child, lists_where}
 use Rattle.ancestor_index.specs.inside.Parents.{AreParentsBy}
@@ -48,17 +48,17 @@ map-map : (f : List ℕ → List ℕ) (g : ℕ → List ℕ) (xs : List ℕ) →
 map-map f g [] = refl
 map-map f g (x ∷ xs) = ap (λ (rest : List (List ℕ)). f (g x) ∷ rest) (map-map f g xs)
 
-has_parent : (rows : List (ℕ × ℕ)) (child parent : ℕ) → has_item (items_of rows child) parent ≡ is_child rows child parent
+has_parent : (rows : List (ℕ × ℕ)) (child parent : ℕ) → has (items_of rows child) parent ≡ is_child rows child parent
 has_parent rows child parent =
-    both_ways (has_item (items_of rows child) parent) (is_child rows child parent)
-    (λ told. there_row rows child parent (contained_items_of rows child parent (item_there (items_of rows child) parent told)))
-    (λ told. there_item (items_of rows child) parent (items_of-contained rows child parent (row_there rows child parent told)))
+    both_ways (has (items_of rows child) parent) (is_child rows child parent)
+    (λ told. there_row rows child parent (contained_items_of rows child parent (contains_had (items_of rows child) parent told)))
+    (λ told. had_contained (items_of rows child) parent (items_of-contained rows child parent (row_there rows child parent told)))
 
 pub parents_listed : (count : ℕ) (rows : List (ℕ × ℕ)) → map (listed_numbers count) (lists_by count rows) ≡ lists_where count (is_child rows)
 parents_listed count rows =
     map-map (listed_numbers count) (items_of rows) (range_with_len 0 count)
     ∙ same_maps (λ child. listed_numbers count (items_of rows child)) (λ child. numbers_where count (is_child rows child)) 0 count
-    (λ child from below. numbers_where-agree count (has_item (items_of rows child)) (is_child rows child) (λ parent near. has_parent rows child parent))
+    (λ child from below. numbers_where-agree count (has (items_of rows child)) (is_child rows child) (λ parent near. has_parent rows child parent))
 
 -- ---- lists turned round
 
@@ -174,8 +174,8 @@ same_child concepts rows isa rises within are a b near far =
 -- an order with parents first is as long as there are concepts
 pub order_count : (count : ℕ) (rows : List (ℕ × ℕ)) (order : List ℕ) → IsParentsFirst count rows order → length order ≡ count
 order_count count rows order first =
-    let most = length-le_from_distinct_below order count first.once (λ q told. (first.members q).0 (contains_had order q told)) in
-    let least = le-length_from_below order count (λ q below. had_contained order q ((first.members q).1 below)) in
+    let most = length-le_from_distinct_below order count first.once (λ q told. (first.members q).0 (contains_had order q (sym (any-has order q) ∙ told))) in
+    let least = le-length_from_below order count (λ q below. any-has order q ∙ had_contained order q ((first.members q).1 below)) in
     omega (arith, most, least)
 
 -- what the search for ancestors is given

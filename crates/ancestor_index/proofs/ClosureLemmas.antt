@@ -1,5 +1,5 @@
 -- The ancestors of a concept are its parents and the ancestors of these.
-use Rattle.std.proofs.Common.{ℕ, zero, suc, ◌==◌, ◌&&◌, ◌||◌, ◌≡◌, ◌<◌, ◌≤◌, ◌++◌, ◌∷◌, [], ◌∙◌, ◌⊎◌, ⊎_elim, Bool, true, false, List, length, get_or, map, take, refl, sym, ap, subst, arith, length-take, get_or-take}
+use Rattle.std.proofs.Common.{ℕ, zero, suc, ◌==◌, ◌&&◌, ◌≡◌, ◌<◌, ◌∷◌, [], ◌∙◌, ⊎_elim, Bool, true, false, List, length, get_or, map, take, refl, sym, ap, subst, arith, length-take, get_or-take}
 use Rattle.std.specs.Prelude.{All, Contains, flat_map}
 use Rattle.std.proofs.lemmas.Bool.{eq-eqb, eqb-true, or_cases, or_left, or_right}
 use Rattle.std.proofs.lemmas.List.{get_or-map, get_or_default, length-map, same_lists}
@@ -7,31 +7,31 @@ use Rattle.std.proofs.lemmas.List.Elements.{All-contains, Contains-append_right,
 use Rattle.std.proofs.lemmas.List.FromFn.{get_or-map-range_with_len, length-map-range_with_len}
 use Rattle.hierarchy.specs.Hierarchy.{Reaches, one_row, more_rows, reaches}
 use Rattle.hierarchy.proofs.HierarchyLemmas.{chain_from_test, test_from_chain}
-use Rattle.number_lists.specs.Members.{has_item}
+use Rattle.number_lists.specs.Members.{has}
 use Rattle.number_lists.specs.Rising.{listed_numbers, numbers_where}
 use Rattle.number_lists.proofs.ListLemmas.{both_ways}
-use Rattle.number_lists.proofs.MemberLemmas.{has_item-append, item_there, there_item}
-use Rattle.number_lists.proofs.WhereLemmas.{has_item-numbers_where, numbers_where-agree, there_where, where_there}
+use Rattle.number_lists.proofs.MemberLemmas.{has-append, contains_had, had_contained}
+use Rattle.number_lists.proofs.WhereLemmas.{has-numbers_where, numbers_where-agree, there_where, where_there}
 use Rattle.number_lists.specs.KeyedLists.{list_of}
 use Rattle.ancestor_index.specs.HierarchyLists.{is_child, lists_where}
 use Rattle.ancestor_index.specs.inside.Gathered.{gathered_by}
 use Rattle.ancestor_index.specs.inside.Parents.{AreParentsBy}
 
 -- ---- lists of the items of a list, one behind the other
-joined_there : (f : ℕ → List ℕ) (xs : List ℕ) (x : ℕ) → has_item (flat_map f xs) x ≡ true → (y : ℕ) × Contains xs y × (has_item (f y) x ≡ true)
+joined_there : (f : ℕ → List ℕ) (xs : List ℕ) (x : ℕ) → has (flat_map f xs) x ≡ true → (y : ℕ) × Contains xs y × (has (f y) x ≡ true)
 joined_there f [] x told = absurd (cc)
 joined_there f (y ∷ xs) x told = ⊎_elim
-    (λ (here : has_item (f y) x ≡ true). (y, (0, omega arith, refl), here))
-    (λ (rest : has_item (flat_map f xs) x ≡ true). let found = joined_there f xs x rest in
+    (λ (here : has (f y) x ≡ true). (y, (0, omega arith, refl), here))
+    (λ (rest : has (flat_map f xs) x ≡ true). let found = joined_there f xs x rest in
     (found.0, Contains-append_right (y ∷ []) xs found.0 found.1, found.2))
-    (or_cases (has_item (f y) x) (has_item (flat_map f xs) x) (sym (has_item-append (f y) (flat_map f xs) x) ∙ told))
+    (or_cases (has (f y) x) (has (flat_map f xs) x) (sym (has-append (f y) (flat_map f xs) x) ∙ told))
 
-there_joined : (f : ℕ → List ℕ) (xs : List ℕ) (x y : ℕ) → Contains xs y → has_item (f y) x ≡ true → has_item (flat_map f xs) x ≡ true
+there_joined : (f : ℕ → List ℕ) (xs : List ℕ) (x y : ℕ) → Contains xs y → has (f y) x ≡ true → has (flat_map f xs) x ≡ true
 there_joined f [] x y there told = absurd (omega (arith, there.1))
 there_joined f (z ∷ xs) x y (zero, within, is) told =
-    has_item-append (f z) (flat_map f xs) x ∙ or_left (has_item (f z) x) (has_item (flat_map f xs) x) (ap (λ (n : ℕ). has_item (f n) x) is ∙ told)
+    has-append (f z) (flat_map f xs) x ∙ or_left (has (f z) x) (has (flat_map f xs) x) (ap (λ (n : ℕ). has (f n) x) is ∙ told)
 there_joined f (z ∷ xs) x y (suc k, within, is) told =
-    has_item-append (f z) (flat_map f xs) x ∙ or_right (has_item (f z) x) (has_item (flat_map f xs) x) (there_joined f xs x y (k, omega arith, is) told)
+    has-append (f z) (flat_map f xs) x ∙ or_right (has (f z) x) (has (flat_map f xs) x) (there_joined f xs x y (k, omega arith, is) told)
 
 -- the test of a child tells whether there is such a row
 pub row_there : (rows : List (ℕ × ℕ)) (child parent : ℕ) → is_child rows child parent ≡ true → Contains rows (child, parent)
@@ -119,7 +119,7 @@ parent_placed {rows} {parents} {order} {places} {lists} {k} turn parent there =
 
 -- ---- what is gathered for it: its parents, each with its list
 gathered_told : {rows : List (ℕ × ℕ)} {parents : List (List ℕ)} {order places : List ℕ} {lists : List (List ℕ)} {k : ℕ} → Turn rows parents order places lists k
-    → (d : ℕ) → has_item (gathered_by places lists (numbers_where (length order) (is_child rows (get_or order k 0))))
+    → (d : ℕ) → has (gathered_by places lists (numbers_where (length order) (is_child rows (get_or order k 0))))
     d ≡ true → (d < length order) × Reaches rows (get_or order k 0) d
 gathered_told {rows} {parents} {order} {places} {lists} {k} turn d told =
     let count = length order in
@@ -132,22 +132,22 @@ gathered_told {rows} {parents} {order} {places} {lists} {k} turn d told =
     ⊎_elim
     (λ (same : (parent == d) ≡ true). let is = eqb-true parent d same in
     (omega (arith, child.0, is), subst (λ (n : ℕ). Reaches rows concept n) is (one_row row)))
-    (λ (above : has_item (list_of lists (get_or places parent 0)) d ≡ true).
+    (λ (above : has (list_of lists (get_or places parent 0)) d ≡ true).
     let there = there_where count (reaches rows parent) d
-    (item_there (numbers_where count (reaches rows parent)) d
-    (ap (λ (xs : List ℕ). has_item xs d) (sym placed.list) ∙ above)) in
+    (contains_had (numbers_where count (reaches rows parent)) d
+    (ap (λ (xs : List ℕ). has xs d) (sym placed.list) ∙ above)) in
     (there.0, more_rows row (chain_from_test rows parent d there.1)))
-    (or_cases (parent == d) (has_item (list_of lists (get_or places parent 0)) d) found.2)
+    (or_cases (parent == d) (has (list_of lists (get_or places parent 0)) d) found.2)
 
 told_gathered : {rows : List (ℕ × ℕ)} {parents : List (List ℕ)} {order places : List ℕ} {lists : List (List ℕ)} {k : ℕ} → Turn rows parents order places lists k
     → (concept d : ℕ) → concept ≡ get_or order k 0 → d < length order → Reaches rows concept d
-    → has_item (gathered_by places lists (numbers_where (length order) (is_child rows (get_or order k 0)))) d ≡ true
+    → has (gathered_by places lists (numbers_where (length order) (is_child rows (get_or order k 0)))) d ≡ true
 told_gathered {rows} {parents} {order} {places} {lists} {k} turn concept d is below (one_row row) =
     let count = length order in
     let there = where_there count (is_child rows (get_or order k 0)) d below
     (there_row rows (get_or order k 0) d (subst (λ (c : ℕ). Contains rows (c, d)) is row)) in
     there_joined (λ c. c ∷ list_of lists (get_or places c 0)) (numbers_where count (is_child rows (get_or order k 0))) d d there
-    (or_left (d == d) (has_item (list_of lists (get_or places d 0)) d) (eq-eqb d d refl))
+    (or_left (d == d) (has (list_of lists (get_or places d 0)) d) (eq-eqb d d refl))
 told_gathered {rows} {parents} {order} {places} {lists} {k} turn concept d is below (more_rows {parent = parent} row rest) =
     let count = length order in
     let own : Contains rows (get_or order k 0, parent) = subst (λ (c : ℕ). Contains rows (c, parent)) is row in
@@ -155,8 +155,8 @@ told_gathered {rows} {parents} {order} {places} {lists} {k} turn concept d is be
     let there = where_there count (is_child rows (get_or order k 0)) parent near (there_row rows (get_or order k 0) parent own) in
     let placed = parent_placed turn parent there in
     there_joined (λ c. c ∷ list_of lists (get_or places c 0)) (numbers_where count (is_child rows (get_or order k 0))) d parent there
-    (or_right (parent == d) (has_item (list_of lists (get_or places parent 0)) d)
-    (ap (λ (xs : List ℕ). has_item xs d) placed.list ∙ has_item-numbers_where count (reaches rows parent) d below ∙ test_from_chain rows rest))
+    (or_right (parent == d) (has (list_of lists (get_or places parent 0)) d)
+    (ap (λ (xs : List ℕ). has xs d) placed.list ∙ has-numbers_where count (reaches rows parent) d below ∙ test_from_chain rows rest))
 
 -- brought in order, that is its ancestors
 pub gathered_listed : {rows : List (ℕ × ℕ)} {parents : List (List ℕ)} {order places : List ℕ} {lists : List (List ℕ)}
@@ -164,9 +164,9 @@ pub gathered_listed : {rows : List (ℕ × ℕ)} {parents : List (List ℕ)} {or
     → listed_numbers (length order) (gathered_by places lists (numbers_where (length order)
     (is_child rows (get_or order k 0)))) ≡ numbers_where (length order) (reaches rows (get_or order k 0))
 gathered_listed {rows} {parents} {order} {places} {lists} {k} turn =
-    numbers_where-agree (length order) (has_item (gathered_by places lists
+    numbers_where-agree (length order) (has (gathered_by places lists
     (numbers_where (length order) (is_child rows (get_or order k 0))))) (reaches rows (get_or order k 0))
-    (λ d below. both_ways (has_item (gathered_by places lists (numbers_where (length order)
+    (λ d below. both_ways (has (gathered_by places lists (numbers_where (length order)
     (is_child rows (get_or order k 0)))) d) (reaches rows (get_or order k 0) d)
     (λ told. test_from_chain rows (gathered_told turn d told).1)
     (λ told. told_gathered turn (get_or order k 0) d refl below (chain_from_test rows (get_or order k 0) d told)))
@@ -176,7 +176,7 @@ pub gathered_below : {rows : List (ℕ × ℕ)} {parents : List (List ℕ)} {ord
     → All (λ number. number < length order) (gathered_by places lists (numbers_where (length order) (is_child rows (get_or order k 0))))
 gathered_below {rows} {parents} {order} {places} {lists} {k} turn i d within =
     let all = gathered_by places lists (numbers_where (length order) (is_child rows (get_or order k 0))) in
-    (gathered_told turn (get_or all i d) (there_item all (get_or all i d) (Contains-get_or all i d within))).0
+    (gathered_told turn (get_or all i d) (had_contained all (get_or all i d) (Contains-get_or all i d within))).0
 
 -- ---- from the order to the numbers
 

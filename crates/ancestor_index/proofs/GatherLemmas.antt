@@ -10,32 +10,32 @@ use Rattle.std.proofs.lemmas.List.Folds.{list_any-append}
 use Rattle.number_lists.specs.KeyedLists.{AreItemsBelow, list_of}
 use Rattle.number_lists.specs.Rising.{IsRisingBelow, listed_numbers, numbers_where}
 use Rattle.idset.specs.Sets.{all_items}
-use Rattle.number_lists.specs.Members.{has_item}
+use Rattle.number_lists.specs.Members.{has}
 use Rattle.number_lists.proofs.RisingLemmas.{numbers_where-rising, rising_is_where}
-use Rattle.number_lists.proofs.MemberLemmas.{has_item-append}
-use Rattle.number_lists.proofs.WhereLemmas.{there_where, has_item-numbers_where, numbers_where-agree}
+use Rattle.number_lists.proofs.MemberLemmas.{has-append}
+use Rattle.number_lists.proofs.WhereLemmas.{there_where, has-numbers_where, numbers_where-agree}
 use Rattle.idset.specs.Words.{is_set}
 use Rattle.ancestor_index.specs.inside.Gathered.{AreRisingBelow, gathered_by, joined_by}
 
 -- what a set has with the numbers of words
 pub with_words_has : (count number : ℕ) (others words : List ℕ) → number < count
-    → has_item (all_items count others (numbers_where count (is_set words))) number ≡ (has_item others number || is_set words number)
+    → has (all_items count others (numbers_where count (is_set words))) number ≡ (has others number || is_set words number)
 with_words_has count number others words below =
-    has_item-numbers_where count (λ n. has_item others n || has_item (numbers_where count (is_set words)) n) number below
-    ∙ ap (λ (is : Bool). has_item others number || is) (has_item-numbers_where count (is_set words) number below)
+    has-numbers_where count (λ n. has others n || has (numbers_where count (is_set words)) n) number below
+    ∙ ap (λ (is : Bool). has others number || is) (has-numbers_where count (is_set words) number below)
 
 -- a list is gathered in the set, or in the list
-pub gathered_words : (all list own : List ℕ) (number : ℕ) (joined now words : Bool) → has_item all number ≡ (has_item list number || joined)
-    → now ≡ (joined || words) → words ≡ has_item own number → has_item (all ++ own) number ≡ (has_item list number || now)
+pub gathered_words : (all list own : List ℕ) (number : ℕ) (joined now words : Bool) → has all number ≡ (has list number || joined)
+    → now ≡ (joined || words) → words ≡ has own number → has (all ++ own) number ≡ (has list number || now)
 gathered_words all list own number joined now words before with_words is = grind (arith, common_steps, nat_tests, list_any-append)
 
-pub gathered_list : (all list own : List ℕ) (number : ℕ) (joined : Bool) → has_item all number ≡ (has_item list number || joined)
-    → has_item (all ++ own) number ≡ (has_item (list ++ own) number || joined)
+pub gathered_list : (all list own : List ℕ) (number : ℕ) (joined : Bool) → has all number ≡ (has list number || joined)
+    → has (all ++ own) number ≡ (has (list ++ own) number || joined)
 gathered_list all list own number joined before = grind (arith, common_steps, nat_tests, list_any-append)
 
 -- a concept is gathered, and then its list
-pub gathered_item : (all list : List ℕ) (concept number : ℕ) (joined : Bool) → has_item all number ≡ (has_item list number || joined)
-    → has_item (all ++ concept ∷ []) number ≡ (has_item (list ++ concept ∷ []) number || joined)
+pub gathered_item : (all list : List ℕ) (concept number : ℕ) (joined : Bool) → has all number ≡ (has list number || joined)
+    → has (all ++ concept ∷ []) number ≡ (has (list ++ concept ∷ []) number || joined)
 gathered_item all list concept number joined before = grind (arith, common_steps, nat_tests, list_any-append)
 
 pub gathered_more : (places : List ℕ) (lists : List (List ℕ)) (concepts : List ℕ) (i : ℕ) → i < length concepts
@@ -51,9 +51,9 @@ gathered_more places lists concepts i within =
 
 -- a rising list with the items of a set
 pub joined_list : (count : ℕ) (test : ℕ → Bool) (items list : List ℕ) → list ≡ numbers_where count test
-    → all_items count items list ≡ numbers_where count (λ number. test number || has_item items number)
+    → all_items count items list ≡ numbers_where count (λ number. test number || has items number)
 joined_list count test items list is = numbers_where-agree count _ _ (λ number below.
-    grind (arith, common_steps, nat_tests, (ap (λ (xs : List ℕ). has_item xs number) is), (has_item-numbers_where count test number below)))
+    grind (arith, common_steps, nat_tests, (ap (λ (xs : List ℕ). has xs number) is), (has-numbers_where count test number below)))
 
 -- numbers below a count rise below the bound of a set
 pub rises_below : {S : Type 0} (bound_of : S → ℕ) (count : ℕ) (test : ℕ → Bool) (list : List ℕ) (joined : Option S)
@@ -79,7 +79,7 @@ items_more count lists list below own =
 -- concepts that rise are in order
 pub none_joined : (count : ℕ) (concepts : List ℕ) → IsRisingBelow count concepts → concepts ≡ listed_numbers count (concepts ++ [])
 none_joined count concepts rises =
-    rising_is_where count concepts (has_item (concepts ++ [])) rises (λ n below. ap (λ (xs : List ℕ). has_item xs n) (sym (append-nil concepts)))
+    rising_is_where count concepts (has (concepts ++ [])) rises (λ n below. ap (λ (xs : List ℕ). has xs n) (sym (append-nil concepts)))
 
 -- the lists of one concept more
 pub joined_more : (places : List ℕ) (lists : List (List ℕ)) (concepts : List ℕ) (i : ℕ) → i < length concepts
@@ -95,9 +95,9 @@ joined_more places lists concepts i within =
 pub listed_more : (count : ℕ) (concepts joined own : List ℕ)
     → all_items count (listed_numbers count (concepts ++ joined)) own ≡ listed_numbers count (concepts ++ (joined ++ own))
 listed_more count concepts joined own =
-    numbers_where-agree count (λ n. has_item (listed_numbers count (concepts ++ joined)) n || has_item own n) (has_item ((concepts ++ joined) ++ own))
-    (λ n below. (λ i. has_item-numbers_where count (has_item (concepts ++ joined)) n below i || has_item own n)
-    ∙ sym (has_item-append (concepts ++ joined) own n))
+    numbers_where-agree count (λ n. has (listed_numbers count (concepts ++ joined)) n || has own n) (has ((concepts ++ joined) ++ own))
+    (λ n below. (λ i. has-numbers_where count (has (concepts ++ joined)) n below i || has own n)
+    ∙ sym (has-append (concepts ++ joined) own n))
     ∙ ap (listed_numbers count) (append_assoc concepts joined own)
 
 -- the list at a place rises
@@ -110,7 +110,7 @@ pub joined_with : (count : ℕ) (all list own union : List ℕ) → list ≡ lis
     → ((bound : ℕ) → IsRisingBelow bound list → IsRisingBelow bound own → union ≡ all_items bound list own)
     → union ≡ all_items count (listed_numbers count all) own
 joined_with count all list own union is rises joined =
-    joined count (subst (IsRisingBelow count) (sym is) (numbers_where-rising count (has_item all))) rises ∙ (λ i. all_items count (is i) own)
+    joined count (subst (IsRisingBelow count) (sym is) (numbers_where-rising count (has all))) rises ∙ (λ i. all_items count (is i) own)
 
 -- one list more that rises
 pub rising_more : (count : ℕ) (lists : List (List ℕ)) (list : List ℕ) → AreRisingBelow count lists
@@ -128,20 +128,20 @@ swapped false false true d e is = refl
 swapped false false false d e is = is
 
 joined_gathered : (places : List ℕ) (lists : List (List ℕ)) (concepts : List ℕ) (n : ℕ)
-    → has_item (concepts ++ joined_by places lists concepts) n ≡ has_item (gathered_by places lists concepts) n
+    → has (concepts ++ joined_by places lists concepts) n ≡ has (gathered_by places lists concepts) n
 joined_gathered places lists [] n = refl
 joined_gathered places lists (concept ∷ concepts) n =
     let own = list_of lists (get_or places concept 0) in
     let joined = joined_by places lists concepts in
-    let rest : (has_item concepts n || has_item joined n) ≡ has_item (gathered_by places lists concepts) n =
-    sym (has_item-append concepts joined n) ∙ joined_gathered places lists concepts n in
-    ap (λ (b : Bool). (concept == n) || b) (has_item-append concepts (own ++ joined) n
-    ∙ ap (λ (b : Bool). has_item concepts n || b) (has_item-append own joined n))
-    ∙ swapped (concept == n) (has_item concepts n) (has_item own n) (has_item joined n) (has_item (gathered_by places lists concepts) n) rest
-    ∙ ap (λ (b : Bool). (concept == n) || b) (sym (has_item-append own (gathered_by places lists concepts) n))
+    let rest : (has concepts n || has joined n) ≡ has (gathered_by places lists concepts) n =
+    sym (has-append concepts joined n) ∙ joined_gathered places lists concepts n in
+    ap (λ (b : Bool). (concept == n) || b) (has-append concepts (own ++ joined) n
+    ∙ ap (λ (b : Bool). has concepts n || b) (has-append own joined n))
+    ∙ swapped (concept == n) (has concepts n) (has own n) (has joined n) (has (gathered_by places lists concepts) n) rest
+    ∙ ap (λ (b : Bool). (concept == n) || b) (sym (has-append own (gathered_by places lists concepts) n))
 
 pub joined_listed : (count : ℕ) (places : List ℕ) (lists : List (List ℕ)) (concepts : List ℕ)
     → listed_numbers count (concepts ++ joined_by places lists concepts) ≡ listed_numbers count (gathered_by places lists concepts)
 joined_listed count places lists concepts =
-    numbers_where-agree count (has_item (concepts ++ joined_by places lists concepts))
-    (has_item (gathered_by places lists concepts)) (λ n below. joined_gathered places lists concepts n)
+    numbers_where-agree count (has (concepts ++ joined_by places lists concepts))
+    (has (gathered_by places lists concepts)) (λ n below. joined_gathered places lists concepts n)

@@ -4,7 +4,7 @@ use Rattle.std.specs.Prelude.{All}
 use Rattle.std.specs.List.{slice_range}
 use Rattle.std.proofs.lemmas.Bool.{cases_eq, cases_lt}
 use Rattle.std.proofs.lemmas.List.{drop_at, take_all, get_or_append_left, get_or_push}
-use Rattle.number_lists.specs.Members.{has_item}
+use Rattle.number_lists.specs.Members.{has}
 use Rattle.idset.specs.Words.{MarkedBelow, words_for}
 use Rattle.number_lists.specs.KeyedLists.{list_of}
 use Rattle.number_lists.proofs.CutLemmas.{slice_range-append}
@@ -19,13 +19,13 @@ kept_more count list words added end (inr (some, wide, enough, within, marked)) 
       wide,
       enough,
       omega (arith, within, length-append words added),
-      subst (λ (part : List ℕ). MarkedBelow count part (has_item list))
+      subst (λ (part : List ℕ). MarkedBelow count part (has list))
           (sym (slice_range-append words added (end - words_for count) end (omega arith) within)) marked,
     )
 
 -- the words that were put behind others
 pub kept_new : (count : ℕ) (list words marks : List ℕ) (end : ℕ) → IsWide count list
-    → All (λ item. item < count) list → MarkedBelow count marks (has_item list) → end ≡ length words + length marks
+    → All (λ item. item < count) list → MarkedBelow count marks (has list) → end ≡ length words + length marks
     → IsKept count list (words ++ marks) end
 kept_new count list words marks end wide below marked is =
     let enough : length marks ≡ words_for count = marked.below.enough in
@@ -38,7 +38,7 @@ kept_new count list words marks end wide below marked is =
       wide,
       omega arith,
       omega (arith, length-append words marks),
-      subst (λ (found : List ℕ). MarkedBelow count found (has_item list)) (sym part) marked,
+      subst (λ (found : List ℕ). MarkedBelow count found (has list)) (sym part) marked,
     )
   where
     start : end - words_for count ≡ length words

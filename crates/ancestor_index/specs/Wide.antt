@@ -1,6 +1,6 @@
 -- Long lists once more as words of bits, a bit for each concept.
 use Rattle.std.specs.Prelude.{ℕ, ◌≡◌, ◌⊎◌, ◌*◌, ◌-◌, ◌≤◌, ◌<◌, List, length, slice_index, slice_range}
-use Rattle.number_lists.specs.Members.{has_item}
+use Rattle.number_lists.specs.Members.{has}
 use Rattle.idset.specs.Words.{MarkedBelow, words_for}
 use Rattle.number_lists.specs.KeyedLists.{list_of}
 
@@ -10,7 +10,7 @@ IsWide count list = count < 32 * length list
 
 -- words of bits mark the items of a list
 abbrev pub AreWordsOf : ℕ → List ℕ → List ℕ → Type 0
-AreWordsOf count list words = MarkedBelow count words (has_item list)
+AreWordsOf count list words = MarkedBelow count words (has list)
 
 -- the words of a list end at a place, or there are none, and the place is 0
 abbrev pub IsKept : ℕ → List ℕ → List ℕ → ℕ → Type 0

@@ -3,7 +3,7 @@ ghost use Rattle.std.specs.Prelude.{ℕ, ◌≡◌, ◌<◌, ◌^◌, ◌||◌, 
 ghost use Rattle.std.specs.List.{IsDistinct};
 ghost use Rattle.hierarchy.specs.Hierarchy.{reaches};
 ghost use Rattle.number_lists.specs.Rising.{IsRisingBelow, listed_numbers, numbers_where};
-ghost use Rattle.number_lists.specs.Members.{has_item};
+ghost use Rattle.number_lists.specs.Members.{has};
 ghost use Rattle.idset.specs.Words.{AreWordsBelow, MarkedBelow, is_set};
 ghost use Rattle.number_lists.specs.KeyedLists.{AreItemsBelow, list_of};
 ghost use Rattle.ancestor_index.specs.HierarchyLists.{lists_where};
@@ -217,7 +217,7 @@ fn add_list<S: ConceptSet>(
     words: Option<&[u64]>,
     count: u32,
 ) -> Result<Option<S>, AllocError>
-    requires words { IfSome words (λ words. MarkedBelow count words.now (has_item own.now)) }
+    requires words { IfSome words (λ words. MarkedBelow count words.now (has own.now)) }
     requires own { All (λ item. item < count) own.now }
     requires list { All (λ item. item < count) list.old.items }
     requires bound { IfSome joined (λ set. S.bound_of set ≡ count) }
@@ -248,7 +248,7 @@ fn with_words<S: ConceptSet>(
     requires words { AreWordsBelow count words.now }
     requires bound { IfSome joined (λ set. S.bound_of set ≡ count) }
     ensures items { IfOk result (λ set. (number : ℕ) → number < count
-        → has_item (S.items_of set) number ≡ (has_joined S.items_of joined number || is_set words.now number)) }
+        → has (S.items_of set) number ≡ (has_joined S.items_of joined number || is_set words.now number)) }
     ensures bound { IfOk result (λ set. S.bound_of set ≡ count) }
 {
     let set = S::from_words(alloc, words, count)?;

@@ -1,6 +1,6 @@
 //! Long lists once more as words of bits, which sets are made of without going through the list.
 ghost use Rattle.std.specs.Prelude.{ℕ, ◌≡◌, ◌↔◌, ◌<◌, ◌++◌, ◌∷◌, ◌^◌, [], List, All, IfOk, IfSome, IsSome, IsTrue, OnOk, length};
-ghost use Rattle.number_lists.specs.Members.{has_item};
+ghost use Rattle.number_lists.specs.Members.{has};
 ghost use Rattle.idset.specs.Words.{MarkedBelow};
 ghost use Rattle.number_lists.specs.KeyedLists.{AreItemsBelow, list_of};
 ghost use Rattle.ancestor_index.specs.Wide.{AreWide, IsKept, IsWide};
@@ -84,7 +84,7 @@ impl WideLists {
     pub fn of(&self, concept: u32, count: u32) -> Option<&[u64]>
         requires { (lists : List (List ℕ)) × AreWide count lists self.now.ends.items self.now.words.items × (concept < length lists) }
         ensures some { IfSome result (λ words. (lists : List (List ℕ)) → AreWide count lists self.now.ends.items self.now.words.items
-            → MarkedBelow count words.now (has_item (list_of lists concept))) }
+            → MarkedBelow count words.now (has (list_of lists concept))) }
         ensures wide { (lists : List (List ℕ)) → AreWide count lists self.now.ends.items self.now.words.items
             → (IsSome result ↔ IsWide count (list_of lists concept)) }
     {
@@ -95,7 +95,7 @@ impl WideLists {
 // The words that end at a place, if there are any.
 fn words_before(words: &[u64], end: usize, count: u32) -> Option<&[u64]>
     requires { (list : List ℕ) × IsKept count list words.now end }
-    ensures some { IfSome result (λ found. (list : List ℕ) → IsKept count list words.now end → MarkedBelow count found.now (has_item list)) }
+    ensures some { IfSome result (λ found. (list : List ℕ) → IsKept count list words.now end → MarkedBelow count found.now (has list)) }
     ensures wide { (list : List ℕ) → IsKept count list words.now end → (IsSome result ↔ IsWide count list) }
 {
     if end == 0 {

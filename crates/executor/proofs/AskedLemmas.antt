@@ -13,12 +13,12 @@ use Rattle.constraint_tree.specs.declared.operator.Operator.{Operator}
 use Rattle.constraint_tree.specs.declared.operator.Operator.TheVariants.{Descendants, DescendantsOrSelf, Children, ChildrenOrSelf, Ancestors, AncestorsOrSelf, Parents, ParentsOrSelf, Top, Bottom}
 use Rattle.number_lists.specs.Rising.{IsRisingBelow, listed_numbers, numbers_where}
 use Rattle.idset.specs.Sets.{all_items}
-use Rattle.number_lists.specs.Members.{has_item}
-use Rattle.number_lists.proofs.WhereLemmas.{filter-numbers_where, has_item-numbers_where, numbers_where-agree}
+use Rattle.number_lists.specs.Members.{has}
+use Rattle.number_lists.proofs.WhereLemmas.{filter-numbers_where, has-numbers_where, numbers_where-agree}
 use Rattle.number_lists.proofs.RisingLemmas.{numbers_where-rising, rising_is_numbers_where, all_below}
 use Rattle.number_lists.specs.KeyedLists.{list_of}
 use Rattle.ancestor_index.specs.HierarchyLists.{Hierarchy}
-use Rattle.number_lists.proofs.MemberLemmas.{item_there, there_item}
+use Rattle.number_lists.proofs.MemberLemmas.{contains_had, had_contained}
 use Rattle.executor.specs.inside.Asked.{AreEnough, asked_lists}
 use Rattle.executor.specs.inside.Joined.{back_of}
 use Rattle.executor.specs.inside.Steps.{IsOver, apart, joined, led_to, lists_of}
@@ -30,16 +30,16 @@ use Rattle.number_lists.proofs.ListLemmas.{any_agree}
 use Rattle.executor.proofs.JoinedLemmas.{over_list, stands}
 
 -- what is in the list of one of some concepts is in all of them, one behind the other
-in_joined : (each : ℕ → List ℕ) (concepts : List ℕ) (concept n : ℕ) → has_item concepts concept ≡ true → has_item (each concept) n ≡ true
-    → has_item (flat_map each concepts) n ≡ true
+in_joined : (each : ℕ → List ℕ) (concepts : List ℕ) (concept n : ℕ) → has concepts concept ≡ true → has (each concept) n ≡ true
+    → has (flat_map each concepts) n ≡ true
 in_joined each [] concept n there within = absurd (false≢true there)
 in_joined each (first ∷ rest) concept n there within =
     list_any-append (λ item. item == n) (each first) (flat_map each rest)
-    ∙ elim (or_cases (first == concept) (has_item rest concept) there) [
+    ∙ elim (or_cases (first == concept) (has rest concept) there) [
       | inl here ↦
-          or_left (has_item (each first) n) (has_item (flat_map each rest) n)
-          (ap (λ (k : ℕ). has_item (each k) n) (eqb-true first concept here) ∙ within)
-      | inr later ↦ or_right (has_item (each first) n) (has_item (flat_map each rest) n) (in_joined each rest concept n later within)
+          or_left (has (each first) n) (has (flat_map each rest) n)
+          (ap (λ (k : ℕ). has (each k) n) (eqb-true first concept here) ∙ within)
+      | inr later ↦ or_right (has (each first) n) (has (flat_map each rest) n) (in_joined each rest concept n later within)
     ]
 
 below_joined : (count : ℕ) (each : ℕ → List ℕ) (concepts : List ℕ) → All (λ concept. All (λ n. n < count) (each concept)) concepts
@@ -64,8 +64,8 @@ module _ (count : ℕ) (hierarchy : Hierarchy) (over : IsOver count hierarchy) w
 
   -- and they are enough for these
   pub with_lists_enough : (f : Family) (concepts : List ℕ) → All (λ concept. concept < count) concepts
-      → AreEnough (lists_of hierarchy f) (has_item concepts)
-      (has_item (listed_numbers count (flat_map (λ concept. concept ∷ list_of (lists_of hierarchy f) concept) concepts)))
+      → AreEnough (lists_of hierarchy f) (has concepts)
+      (has (listed_numbers count (flat_map (λ concept. concept ∷ list_of (lists_of hierarchy f) concept) concepts)))
   with_lists_enough f concepts below concept there = (
     known concept (in_joined each concepts concept concept there (or_left (concept == concept) _ (eq-eqb concept concept refl))),
     λ n listed. known n (in_joined each concepts concept n there (or_right (concept == n) _ listed)),
@@ -74,10 +74,10 @@ module _ (count : ℕ) (hierarchy : Hierarchy) (over : IsOver count hierarchy) w
       each : ℕ → List ℕ
       each c = c ∷ list_of (lists_of hierarchy f) c
 
-      known : (n : ℕ) → has_item (flat_map each concepts) n ≡ true → has_item (listed_numbers count (flat_map each concepts)) n ≡ true
+      known : (n : ℕ) → has (flat_map each concepts) n ≡ true → has (listed_numbers count (flat_map each concepts)) n ≡ true
       known n told =
-          let found = item_there (flat_map each concepts) n told in
-          has_item-numbers_where count (has_item (flat_map each concepts)) n
+          let found = contains_had (flat_map each concepts) n told in
+          has-numbers_where count (has (flat_map each concepts)) n
           (subst (λ (m : ℕ). m < count) found.2 (with_lists_below f concepts below found.0 n found.1))
           ∙ told
 
@@ -96,11 +96,11 @@ module _ (count : ℕ) (hierarchy : Hierarchy) (over : IsOver count hierarchy) w
 
   -- as many numbers below the count as it says are all of them, so that of these an operator leads to all that it leads to
   pub led_from_all : (operator : Operator) (items : List ℕ) → IsRisingBelow count items → length items ≡ count
-      → filter (has_item items) (led_to hierarchy count operator items) ≡ led_to hierarchy count operator items
+      → filter (has items) (led_to hierarchy count operator items) ≡ led_to hierarchy count operator items
   led_from_all operator items rises full =
-      ap (filter (has_item items)) (rising_is_numbers_where count led (operator_rises operator items rises))
-      ∙ filter-numbers_where count (has_item led) (has_item items)
-      ∙ numbers_where-agree count _ _ (λ n inside. with_all (has_item led n) (has_item items n) (each n inside))
+      ap (filter (has items)) (rising_is_numbers_where count led (operator_rises operator items rises))
+      ∙ filter-numbers_where count (has led) (has items)
+      ∙ numbers_where-agree count _ _ (λ n inside. with_all (has led n) (has items n) (each n inside))
       ∙ sym (rising_is_numbers_where count led (operator_rises operator items rises))
     where
       led : List ℕ
@@ -111,7 +111,7 @@ module _ (count : ℕ) (hierarchy : Hierarchy) (over : IsOver count hierarchy) w
       with_all false other there = refl
 
       others : List ℕ
-      others = numbers_where count (λ n. not (has_item items n))
+      others = numbers_where count (λ n. not (has items n))
 
       no_others : others ≡ []
       no_others =
@@ -119,14 +119,14 @@ module _ (count : ℕ) (hierarchy : Hierarchy) (over : IsOver count hierarchy) w
             arith,
             full,
             ap (λ (xs : List ℕ). length xs) (rising_is_numbers_where count items rises),
-            length-filter_both (has_item items) (λ n. not (has_item items n)) (λ n. refl) (range_with_len 0 count),
+            length-filter_both (has items) (λ n. not (has items n)) (λ n. refl) (range_with_len 0 count),
             length-range_with_len 0 count,
           ))
 
-      each : (n : ℕ) → n < count → has_item items n ≡ true
+      each : (n : ℕ) → n < count → has items n ≡ true
       each n inside =
-          told (has_item items n)
-          (sym (has_item-numbers_where count (λ m. not (has_item items m)) n inside) ∙ ap (λ (xs : List ℕ). has_item xs n) no_others)
+          told (has items n)
+          (sym (has-numbers_where count (λ m. not (has items m)) n inside) ∙ ap (λ (xs : List ℕ). has xs n) no_others)
         where
           told : (b : Bool) → not b ≡ false → b ≡ true
           told true none = refl
@@ -134,32 +134,32 @@ module _ (count : ℕ) (hierarchy : Hierarchy) (over : IsOver count hierarchy) w
 
   -- a part of a set that has, of some numbers, what the set has
   module _ (set part : List ℕ) (set_rises : IsRisingBelow count set) (part_rises : IsRisingBelow count part) (enough : ℕ → Bool)
-      (same : (n : ℕ) → enough n ≡ true → has_item part n ≡ has_item set n) where
+      (same : (n : ℕ) → enough n ≡ true → has part n ≡ has set n) where
     -- a list of such numbers has one of the part where it has one of the set
-    same_any : (list : List ℕ) → ((n : ℕ) → has_item list n ≡ true → enough n ≡ true) → list_any (has_item part) list ≡ list_any (has_item set) list
+    same_any : (list : List ℕ) → ((n : ℕ) → has list n ≡ true → enough n ≡ true) → list_any (has part) list ≡ list_any (has set) list
     same_any list all =
-        any_agree list (has_item part) (has_item set) 0
+        any_agree list (has part) (has set) 0
         (λ k within. same (get_or list k 0) (all (get_or list k 0)
-        (there_item list (get_or list k 0) (k, within, get_or_default list k (get_or list k 0) 0 within))))
+        (had_contained list (get_or list k 0) (k, within, get_or_default list k (get_or list k 0) 0 within))))
 
     module _ (f : Family) (concept : ℕ) (inside : concept < count) where
-      listed : ((n : ℕ) → has_item (list_of (lists_of hierarchy (back_of f)) concept) n ≡ true → enough n ≡ true)
-          → has_item (joined count (lists_of hierarchy f) part) concept ≡ has_item (joined count (lists_of hierarchy f) set) concept
+      listed : ((n : ℕ) → has (list_of (lists_of hierarchy (back_of f)) concept) n ≡ true → enough n ≡ true)
+          → has (joined count (lists_of hierarchy f) part) concept ≡ has (joined count (lists_of hierarchy f) set) concept
       listed all =
           sym (asked_back count hierarchy over part part_rises f concept inside)
           ∙ same_any (list_of (lists_of hierarchy (back_of f)) concept) all
           ∙ asked_back count hierarchy over set set_rises f concept inside
 
-      or_self : enough concept ≡ true → ((n : ℕ) → has_item (list_of (lists_of hierarchy (back_of f)) concept) n ≡ true → enough n ≡ true)
-          → has_item (all_items count part (joined count (lists_of hierarchy f) part)) concept
-          ≡ has_item (all_items count set (joined count (lists_of hierarchy f) set)) concept
+      or_self : enough concept ≡ true → ((n : ℕ) → has (list_of (lists_of hierarchy (back_of f)) concept) n ≡ true → enough n ≡ true)
+          → has (all_items count part (joined count (lists_of hierarchy f) part)) concept
+          ≡ has (all_items count set (joined count (lists_of hierarchy f) set)) concept
       or_self own all =
           sym (asked_or_self count hierarchy over part part_rises f concept inside)
           ∙ (λ i. same concept own i || listed all i)
           ∙ asked_or_self count hierarchy over set set_rises f concept inside
 
-      kept : enough concept ≡ true → ((n : ℕ) → has_item (list_of (lists_of hierarchy f) concept) n ≡ true → enough n ≡ true)
-          → has_item (apart (lists_of hierarchy f) part) concept ≡ has_item (apart (lists_of hierarchy f) set) concept
+      kept : enough concept ≡ true → ((n : ℕ) → has (list_of (lists_of hierarchy f) concept) n ≡ true → enough n ≡ true)
+          → has (apart (lists_of hierarchy f) part) concept ≡ has (apart (lists_of hierarchy f) set) concept
       kept own all =
           sym (asked_apart count hierarchy over part part_rises f concept inside)
           ∙ (λ i. same concept own i && not (same_any (list_of (lists_of hierarchy f) concept) all i))
@@ -167,8 +167,8 @@ module _ (count : ℕ) (hierarchy : Hierarchy) (over : IsOver count hierarchy) w
 
     -- an operator leads from the part to a concept for which the numbers are enough where it leads there from the set
     same_led : (operator : Operator) (concept : ℕ) → concept < count → enough concept ≡ true
-        → ((n : ℕ) → has_item (list_of (asked_lists hierarchy operator) concept) n ≡ true → enough n ≡ true)
-        → has_item (led_to hierarchy count operator part) concept ≡ has_item (led_to hierarchy count operator set) concept
+        → ((n : ℕ) → has (list_of (asked_lists hierarchy operator) concept) n ≡ true → enough n ≡ true)
+        → has (led_to hierarchy count operator part) concept ≡ has (led_to hierarchy count operator set) concept
     same_led Descendants concept inside own all = listed family.Descendants concept inside all
     same_led DescendantsOrSelf concept inside own all = or_self family.Descendants concept inside own all
     same_led Children concept inside own all = listed family.Children concept inside all
@@ -190,16 +190,16 @@ module _ (count : ℕ) (hierarchy : Hierarchy) (over : IsOver count hierarchy) w
         led items = led_to hierarchy count operator items
 
         kept_of : (items : List ℕ) → IsRisingBelow count items
-            → filter may (led items) ≡ numbers_where count (λ n. has_item (led items) n && may n)
+            → filter may (led items) ≡ numbers_where count (λ n. has (led items) n && may n)
         kept_of items rises =
             ap (filter may) (rising_is_numbers_where count (led items) (operator_rises operator items rises))
-            ∙ filter-numbers_where count (has_item (led items)) may
+            ∙ filter-numbers_where count (has (led items)) may
 
-        asked : (n : ℕ) → n < count → (b : Bool) → may n ≡ b → (has_item (led part) n && b) ≡ (has_item (led set) n && b)
+        asked : (n : ℕ) → n < count → (b : Bool) → may n ≡ b → (has (led part) n && b) ≡ (has (led set) n && b)
         asked n inside true told =
             let here = are_enough n told in
             ap (λ (there : Bool). there && true) (same_led operator n inside here.0 here.1)
-        asked n inside false told = and-false (has_item (led part) n) ∙ sym (and-false (has_item (led set) n))
+        asked n inside false told = and-false (has (led part) n) ∙ sym (and-false (has (led set) n))
 
-        each : (n : ℕ) → n < count → (has_item (led part) n && may n) ≡ (has_item (led set) n && may n)
+        each : (n : ℕ) → n < count → (has (led part) n && may n) ≡ (has (led set) n && may n)
         each n inside = asked n inside (may n) refl

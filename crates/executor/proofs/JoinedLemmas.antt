@@ -10,15 +10,15 @@ use Rattle.rf2_rows.specs.Release.{Release}
 use Rattle.hierarchy.proofs.HierarchyLemmas.{chain_from_test, chain_of_two, test_from_chain}
 use Rattle.number_lists.proofs.ListLemmas.{passing_item, some_item_passes}
 use Rattle.idset.specs.Sets.{all_items}
-use Rattle.number_lists.specs.Members.{has_item}
+use Rattle.number_lists.specs.Members.{has}
 use Rattle.number_lists.specs.Rising.{IsRisingBelow, numbers_where}
 use Rattle.idset.specs.Words.{is_set}
-use Rattle.number_lists.proofs.WhereLemmas.{has_item-numbers_where_any, numbers_where-agree, there_where, where_there}
+use Rattle.number_lists.proofs.WhereLemmas.{has-numbers_where_any, numbers_where-agree, there_where, where_there}
 use Rattle.idset.proofs.Places.{filter_step}
-use Rattle.number_lists.proofs.RisingLemmas.{has_item-past_bound, numbers_where-rising, rising_is_numbers_where, rising_is_where}
+use Rattle.number_lists.proofs.RisingLemmas.{has-past_bound, numbers_where-rising, rising_is_numbers_where, rising_is_where}
 use Rattle.number_lists.specs.KeyedLists.{list_of}
 use Rattle.ancestor_index.specs.HierarchyLists.{Hierarchy, hierarchy_of, is_child, lists_where}
-use Rattle.number_lists.proofs.MemberLemmas.{item_there, there_item}
+use Rattle.number_lists.proofs.MemberLemmas.{contains_had, had_contained}
 use Rattle.ancestor_index.proofs.ClosureLemmas.{length-where, list_of-where, row_there}
 use Rattle.std.proofs.lemmas.List.Folds.{list_any-append}
 use Rattle.executor.specs.inside.Joined.{AreJoined, is_long, is_whole, near_of, with_length}
@@ -65,17 +65,17 @@ over_rising count hierarchy over f concept below =
 
 -- what it has is so, and the other way round
 pub listed_stands : (count : ℕ) (hierarchy : Hierarchy) (over : IsOver count hierarchy) (f : Family) (concept n : ℕ) → concept < count
-    → has_item (list_of (lists_of hierarchy f) concept) n ≡ true → (n < count) × (stands over.release f concept n ≡ true)
+    → has (list_of (lists_of hierarchy f) concept) n ≡ true → (n < count) × (stands over.release f concept n ≡ true)
 listed_stands count hierarchy over f concept n below told =
     there_where count (stands over.release f concept) n
-    (item_there (numbers_where count (stands over.release f concept)) n
-    (ap (λ (xs : List ℕ). has_item xs n) (sym (over_list count hierarchy over f concept below)) ∙ told))
+    (contains_had (numbers_where count (stands over.release f concept)) n
+    (ap (λ (xs : List ℕ). has xs n) (sym (over_list count hierarchy over f concept below)) ∙ told))
 
 pub stands_listed : (count : ℕ) (hierarchy : Hierarchy) (over : IsOver count hierarchy) (f : Family) (concept n : ℕ) → concept < count → n < count
-    → stands over.release f concept n ≡ true → has_item (list_of (lists_of hierarchy f) concept) n ≡ true
+    → stands over.release f concept n ≡ true → has (list_of (lists_of hierarchy f) concept) n ≡ true
 stands_listed count hierarchy over f concept n below within holds =
-    ap (λ (xs : List ℕ). has_item xs n) (over_list count hierarchy over f concept below)
-    ∙ there_item (numbers_where count (stands over.release f concept)) n (where_there count (stands over.release f concept) n within holds)
+    ap (λ (xs : List ℕ). has xs n) (over_list count hierarchy over f concept below)
+    ∙ had_contained (numbers_where count (stands over.release f concept)) n (where_there count (stands over.release f concept) n within holds)
 
 -- the list of a concept that is in a list is in that list, if the family is whole
 stands_on : (release : Release) (f : Family) → is_whole f ≡ true → (a b c : ℕ) → stands release f a b ≡ true
@@ -90,8 +90,8 @@ stands_on release family.Parents whole a b c one other = absurd (false≢true wh
 stands_on release family.Children whole a b c one other = absurd (false≢true whole)
 
 pub over_whole : (count : ℕ) (hierarchy : Hierarchy) → IsOver count hierarchy → (f : Family) → is_whole f ≡ true → (a b n : ℕ) → a < count → b < count
-    → has_item (list_of (lists_of hierarchy f) a) b ≡ true → has_item (list_of (lists_of hierarchy f) b) n ≡ true
-    → has_item (list_of (lists_of hierarchy f) a) n ≡ true
+    → has (list_of (lists_of hierarchy f) a) b ≡ true → has (list_of (lists_of hierarchy f) b) n ≡ true
+    → has (list_of (lists_of hierarchy f) a) n ≡ true
 over_whole count hierarchy over f whole a b n a_below b_below one other =
     let first = listed_stands count hierarchy over f a b a_below one in
     let second = listed_stands count hierarchy over f b n b_below other in
@@ -111,9 +111,9 @@ pub over_near : (count : ℕ) (hierarchy : Hierarchy) → IsOver count hierarchy
 over_near count hierarchy over f concept below set told =
     let found = passing_item set (list_of (lists_of hierarchy (near_of f)) concept) told in
     let at = listed_stands count hierarchy over (near_of f) concept found.0 below
-    (there_item (list_of (lists_of hierarchy (near_of f)) concept) found.0 found.1) in
+    (had_contained (list_of (lists_of hierarchy (near_of f)) concept) found.0 found.1) in
     some_item_passes set (list_of (lists_of hierarchy f) concept) found.0
-    (item_there (list_of (lists_of hierarchy f) concept) found.0
+    (contains_had (list_of (lists_of hierarchy f) concept) found.0
     (stands_listed count hierarchy over f concept found.0 below at.0 (near_stands over.release f concept found.0 at.1)))
     found.2
 
@@ -124,38 +124,38 @@ or_nothing false = refl
 
 -- one list more
 any_more : (lists : List (List ℕ)) (before : List ℕ) (concept n : ℕ)
-    → list_any (λ c. has_item (list_of lists c) n) (before ++ concept ∷ [])
-    ≡ (list_any (λ c. has_item (list_of lists c) n) before || has_item (list_of lists concept) n)
+    → list_any (λ c. has (list_of lists c) n) (before ++ concept ∷ [])
+    ≡ (list_any (λ c. has (list_of lists c) n) before || has (list_of lists concept) n)
 any_more lists before concept n =
-    list_any-append (λ c. has_item (list_of lists c) n) before (concept ∷ [])
-    ∙ ap (λ (b : Bool). list_any (λ c. has_item (list_of lists c) n) before || b) (or_nothing (has_item (list_of lists concept) n))
+    list_any-append (λ c. has (list_of lists c) n) before (concept ∷ [])
+    ∙ ap (λ (b : Bool). list_any (λ c. has (list_of lists c) n) before || b) (or_nothing (has (list_of lists concept) n))
 
 -- what has a list added to it has what it had and what the list has
 pub has_all : (count : ℕ) (numbers list next : List ℕ) → IsRisingBelow count numbers → IsRisingBelow count list → next ≡ all_items count numbers list
-    → (n : ℕ) → has_item next n ≡ (has_item numbers n || has_item list n)
+    → (n : ℕ) → has next n ≡ (has numbers n || has list n)
 has_all count numbers list next rises list_rises next_is n =
-    ap (λ (xs : List ℕ). has_item xs n) next_is
-    ∙ has_item-numbers_where_any count (λ m. has_item numbers m || has_item list m) n
+    ap (λ (xs : List ℕ). has xs n) next_is
+    ∙ has-numbers_where_any count (λ m. has numbers m || has list m) n
     ∙ ⊎_elim
-    (λ (within : n < count) i. lt-ltb n count within i && (has_item numbers n || has_item list n))
+    (λ (within : n < count) i. lt-ltb n count within i && (has numbers n || has list n))
     (λ (past : count ≤ n).
-    let one : has_item numbers n ≡ false = has_item-past_bound 0 count numbers n rises past in
-    let other : has_item list n ≡ false = has_item-past_bound 0 count list n list_rises past in
-    (λ i. le-ltb n count past i && (has_item numbers n || has_item list n)) ∙ (λ i. sym one i || sym other i))
+    let one : has numbers n ≡ false = has-past_bound 0 count numbers n rises past in
+    let other : has list n ≡ false = has-past_bound 0 count list n list_rises past in
+    (λ i. le-ltb n count past i && (has numbers n || has list n)) ∙ (λ i. sym one i || sym other i))
     (cases_lt n count)
 
 pub join_list : (lists : List (List ℕ)) (before numbers list next : List ℕ) (count concept : ℕ) → IsRisingBelow count numbers → IsRisingBelow count list
     → list ≡ list_of lists concept → next ≡ all_items count numbers list → AreJoined lists before numbers → AreJoined lists (before ++ concept ∷ []) next
 join_list lists before numbers list next count concept rises list_rises is next_is joined n =
-    has_all count numbers list next rises list_rises next_is n ∙ (λ i. joined n i || has_item (is i) n) ∙ sym (any_more lists before concept n)
+    has_all count numbers list next rises list_rises next_is n ∙ (λ i. joined n i || has (is i) n) ∙ sym (any_more lists before concept n)
 
 -- the list of a concept that is there already brings nothing
 pub join_skipped : (count : ℕ) (hierarchy : Hierarchy) → IsOver count hierarchy → (f : Family) → is_whole f ≡ true
     → (before numbers : List ℕ) (concept : ℕ) → concept < count
-    → has_item numbers concept ≡ true → AreJoined (lists_of hierarchy f) before numbers → AreJoined (lists_of hierarchy f) (before ++ concept ∷ []) numbers
+    → has numbers concept ≡ true → AreJoined (lists_of hierarchy f) before numbers → AreJoined (lists_of hierarchy f) (before ++ concept ∷ []) numbers
 join_skipped count hierarchy over f whole before numbers concept below there joined n =
-    joined n ∙ sym (absorbed (list_any (λ c. has_item (list_of lists c) n) before)
-    (has_item (list_of lists concept) n) brings) ∙ sym (any_more lists before concept n)
+    joined n ∙ sym (absorbed (list_any (λ c. has (list_of lists c) n) before)
+    (has (list_of lists concept) n) brings) ∙ sym (any_more lists before concept n)
   where
     lists : List (List ℕ)
     lists = lists_of hierarchy f
@@ -165,15 +165,15 @@ join_skipped count hierarchy over f whole before numbers concept below there joi
     absorbed false true from = sym (from refl)
     absorbed false false from = refl
 
-    brings : has_item (list_of lists concept) n ≡ true → list_any (λ c. has_item (list_of lists c) n) before ≡ true
+    brings : has (list_of lists concept) n ≡ true → list_any (λ c. has (list_of lists c) n) before ≡ true
     brings told =
-        let found = passing_item (λ c. has_item (list_of lists c) concept) before (sym (joined concept) ∙ there) in
-        some_item_passes (λ c. has_item (list_of lists c) n) before found.0 found.1
+        let found = passing_item (λ c. has (list_of lists c) concept) before (sym (joined concept) ∙ there) in
+        some_item_passes (λ c. has (list_of lists c) n) before found.0 found.1
         (⊎_elim
         (λ (within : found.0 < count). over_whole count hierarchy over f whole found.0 concept n within below found.2 told)
         (λ (past : count ≤ found.0).
         let nothing : list_of lists found.0 ≡ [] = get_or_past lists found.0 [] (omega (arith, past, over_length count hierarchy over f)) in
-        absurd (false≢true (ap (λ (xs : List ℕ). has_item xs concept) (sym nothing) ∙ found.2)))
+        absurd (false≢true (ap (λ (xs : List ℕ). has xs concept) (sym nothing) ∙ found.2)))
         (cases_lt found.0 count))
 
 -- one concept more of those with long lists, or with short ones
@@ -226,34 +226,34 @@ any_split {X = X} test long (x ∷ xs) =
 pub both_joined : (lists : List (List ℕ)) (concepts numbers : List ℕ)
     → AreJoined lists (with_length lists true concepts ++ with_length lists false concepts) numbers → AreJoined lists concepts numbers
 both_joined lists concepts numbers joined n = joined n
-    ∙ any_split (λ concept. has_item (list_of lists concept) n) (λ concept. is_long (list_of lists concept)) concepts
+    ∙ any_split (λ concept. has (list_of lists concept) n) (λ concept. is_long (list_of lists concept)) concepts
 
 pub all_joined : (count : ℕ) (lists : List (List ℕ)) (concepts numbers : List ℕ) → IsRisingBelow count numbers → AreJoined lists concepts numbers
     → numbers ≡ joined count lists concepts
 all_joined count lists concepts numbers rises joined =
-    rising_is_where count numbers (λ n. list_any (λ concept. has_item (list_of lists concept) n) concepts) rises (λ n within. joined n)
+    rising_is_where count numbers (λ n. list_any (λ concept. has (list_of lists concept) n) concepts) rises (λ n within. joined n)
 
 -- ---- one list alone
-one_joined : (count : ℕ) (lists : List (List ℕ)) (concept : ℕ) → numbers_where count (has_item (list_of lists concept)) ≡ joined count lists (concept ∷ [])
+one_joined : (count : ℕ) (lists : List (List ℕ)) (concept : ℕ) → numbers_where count (has (list_of lists concept)) ≡ joined count lists (concept ∷ [])
 one_joined count lists concept =
-    numbers_where-agree count (has_item (list_of lists concept)) (λ n. list_any (λ c. has_item (list_of lists c) n) (concept ∷ []))
-    (λ n within. sym (or_nothing (has_item (list_of lists concept) n)))
+    numbers_where-agree count (has (list_of lists concept)) (λ n. list_any (λ c. has (list_of lists c) n) (concept ∷ []))
+    (λ n within. sym (or_nothing (has (list_of lists concept) n)))
 
 pub list_joined : (count : ℕ) (lists : List (List ℕ)) (concept : ℕ) (list : List ℕ) → IsRisingBelow count list
     → list ≡ list_of lists concept → list ≡ joined count lists (concept ∷ [])
 list_joined count lists concept list rises is =
-    rising_is_numbers_where count list rises ∙ ap (λ (xs : List ℕ). numbers_where count (has_item xs)) is ∙ one_joined count lists concept
+    rising_is_numbers_where count list rises ∙ ap (λ (xs : List ℕ). numbers_where count (has xs)) is ∙ one_joined count lists concept
 
-pub words_are : (count : ℕ) (words list : List ℕ) → ((n : ℕ) → is_set words n ≡ has_item list n)
-    → numbers_where count (is_set words) ≡ numbers_where count (has_item list)
-words_are count words list marked = numbers_where-agree count (is_set words) (has_item list) (λ n within. marked n)
+pub words_are : (count : ℕ) (words list : List ℕ) → ((n : ℕ) → is_set words n ≡ has list n)
+    → numbers_where count (is_set words) ≡ numbers_where count (has list)
+words_are count words list marked = numbers_where-agree count (is_set words) (has list) (λ n within. marked n)
 
 pub words_list : (count bound : ℕ) (words list : List ℕ) → bound ≡ count → IsRisingBelow count list
-    → ((n : ℕ) → is_set words n ≡ has_item list n) → numbers_where bound (is_set words) ≡ list
+    → ((n : ℕ) → is_set words n ≡ has list n) → numbers_where bound (is_set words) ≡ list
 words_list count bound words list is rises marked =
     ap (λ (n : ℕ). numbers_where n (is_set words)) is ∙ words_are count words list marked ∙ sym (rising_is_numbers_where count list rises)
 
 pub words_joined : (count : ℕ) (lists : List (List ℕ)) (concept : ℕ) (words : List ℕ)
-    → ((n : ℕ) → is_set words n ≡ has_item (list_of lists concept) n)
+    → ((n : ℕ) → is_set words n ≡ has (list_of lists concept) n)
     → numbers_where count (is_set words) ≡ joined count lists (concept ∷ [])
 words_joined count lists concept words marked = words_are count words (list_of lists concept) marked ∙ one_joined count lists concept

@@ -7,11 +7,11 @@ use Rattle.number_lists.specs.KeyedLists.{list_of}
 use Rattle.number_lists.proofs.ListLemmas.{passing_item, some_item_passes, both_ways}
 use Rattle.number_lists.specs.Rising.{IsRisingBelow}
 use Rattle.idset.specs.Sets.{all_items}
-use Rattle.number_lists.specs.Members.{has_item}
-use Rattle.number_lists.proofs.WhereLemmas.{filter-numbers_where, has_item-numbers_where}
+use Rattle.number_lists.specs.Members.{has}
+use Rattle.number_lists.proofs.WhereLemmas.{filter-numbers_where, has-numbers_where}
 use Rattle.number_lists.proofs.RisingLemmas.{numbers_where-rising, rises_within-filter, rising_is_numbers_where, all_below}
 use Rattle.ancestor_index.specs.HierarchyLists.{Hierarchy}
-use Rattle.number_lists.proofs.MemberLemmas.{item_there, there_item}
+use Rattle.number_lists.proofs.MemberLemmas.{contains_had, had_contained}
 use Rattle.executor.specs.inside.Joined.{AreJoined, back_of, is_whole, near_of}
 use Rattle.executor.specs.inside.Steps.{IsOver, apart, joined, lists_of, stepped}
 use Rattle.executor.specs.declared.family.Family.{Family}
@@ -50,72 +50,72 @@ module _ (count : ℕ) (hierarchy : Hierarchy) (over : IsOver count hierarchy) (
     abbrev own : List ℕ
     own = list_of (lists_of hierarchy (back_of f)) concept
 
-    there : list_any (λ other. has_item (list_of lists other) concept) items ≡ true → list_any (has_item items) own ≡ true
+    there : list_any (λ other. has (list_of lists other) concept) items ≡ true → list_any (has items) own ≡ true
     there told =
-        let from = passing_item (λ other. has_item (list_of lists other) concept) items told in
+        let from = passing_item (λ other. has (list_of lists other) concept) items told in
         let below : from.0 < count = subst (λ (n : ℕ). n < count) from.1.2 (all_below count items rises from.1.0 from.0 from.1.1) in
         let stood = listed_stands count hierarchy over f from.0 concept below from.2 in
-        some_item_passes (has_item items) own from.0
-        (item_there own from.0 (stands_listed count hierarchy over (back_of f) concept from.0 inside below
+        some_item_passes (has items) own from.0
+        (contains_had own from.0 (stands_listed count hierarchy over (back_of f) concept from.0 inside below
         (sym (stands_back over.release f from.0 concept) ∙ stood.1)))
-        (there_item items from.0 from.1)
+        (had_contained items from.0 from.1)
 
-    again : list_any (has_item items) own ≡ true → list_any (λ other. has_item (list_of lists other) concept) items ≡ true
+    again : list_any (has items) own ≡ true → list_any (λ other. has (list_of lists other) concept) items ≡ true
     again told =
-        let from = passing_item (has_item items) own told in
-        let stood = listed_stands count hierarchy over (back_of f) concept from.0 inside (there_item own from.0 from.1) in
-        some_item_passes (λ other. has_item (list_of lists other) concept) items from.0 (item_there items from.0 from.2)
+        let from = passing_item (has items) own told in
+        let stood = listed_stands count hierarchy over (back_of f) concept from.0 inside (had_contained own from.0 from.1) in
+        some_item_passes (λ other. has (list_of lists other) concept) items from.0 (contains_had items from.0 from.2)
         (stands_listed count hierarchy over f from.0 concept stood.0 inside (stands_back over.release f from.0 concept ∙ stood.1))
 
     -- it is in the list of one of them where one of them is in the list that leads back
-    pub asked_any : list_any (has_item items) own ≡ list_any (λ other. has_item (list_of lists other) concept) items
-    asked_any = both_ways (list_any (has_item items) own) (list_any (λ other. has_item (list_of lists other) concept) items) again there
+    pub asked_any : list_any (has items) own ≡ list_any (λ other. has (list_of lists other) concept) items
+    asked_any = both_ways (list_any (has items) own) (list_any (λ other. has (list_of lists other) concept) items) again there
 
-    pub asked_back : list_any (has_item items) own ≡ has_item (joined count lists items) concept
-    asked_back = asked_any ∙ sym (has_item-numbers_where count (λ n. list_any (λ other. has_item (list_of lists other) n) items) concept inside)
+    pub asked_back : list_any (has items) own ≡ has (joined count lists items) concept
+    asked_back = asked_any ∙ sym (has-numbers_where count (λ n. list_any (λ other. has (list_of lists other) n) items) concept inside)
 
-    pub asked_or_self : (has_item items concept || has_item (joined count lists items) concept)
-        ≡ has_item (all_items count items (joined count lists items)) concept
-    asked_or_self = sym (has_item-numbers_where count (λ n. has_item items n || has_item (joined count lists items) n) concept inside)
+    pub asked_or_self : (has items concept || has (joined count lists items) concept)
+        ≡ has (all_items count items (joined count lists items)) concept
+    asked_or_self = sym (has-numbers_where count (λ n. has items n || has (joined count lists items) n) concept inside)
 
-    pub asked_apart : (has_item items concept && not (list_any (has_item items) (list_of lists concept))) ≡ has_item (apart lists items) concept
-    asked_apart = sym (has_kept (λ other. not (list_any (has_item items) (list_of lists other))) items concept)
+    pub asked_apart : (has items concept && not (list_any (has items) (list_of lists concept))) ≡ has (apart lists items) concept
+    asked_apart = sym (has_kept (λ other. not (list_any (has items) (list_of lists other))) items concept)
 
   -- none of them is in its list where it is none of those that they lead back to
   pub asked_outside : (f : Family) (concept : ℕ) → concept < count → (found : List ℕ) → AreJoined (lists_of hierarchy (back_of f)) items found
-      → not (has_item found concept) ≡ not (list_any (has_item items) (list_of (lists_of hierarchy f) concept))
+      → not (has found concept) ≡ not (list_any (has items) (list_of (lists_of hierarchy f) concept))
   asked_outside f concept inside found joined =
       ap not (joined concept ∙ sym (asked_any (back_of f) concept inside)
-      ∙ (λ i. list_any (has_item items) (list_of (lists_of hierarchy (back_and_forth f i)) concept)))
+      ∙ (λ i. list_any (has items) (list_of (lists_of hierarchy (back_and_forth f i)) concept)))
 
   -- where none of them is in the list, none is one is-a row away
   pub apart_near : (f : Family) (concept : ℕ) → concept < count
-      → (not (list_any (has_item items) (list_of (lists_of hierarchy (near_of f)) concept))
-      && not (list_any (has_item items) (list_of (lists_of hierarchy f) concept)))
-      ≡ not (list_any (has_item items) (list_of (lists_of hierarchy f) concept))
+      → (not (list_any (has items) (list_of (lists_of hierarchy (near_of f)) concept))
+      && not (list_any (has items) (list_of (lists_of hierarchy f) concept)))
+      ≡ not (list_any (has items) (list_of (lists_of hierarchy f) concept))
   apart_near f concept inside =
-      by_near (list_any (has_item items) (list_of (lists_of hierarchy (near_of f)) concept))
-      (over_near count hierarchy over f concept inside (has_item items))
+      by_near (list_any (has items) (list_of (lists_of hierarchy (near_of f)) concept))
+      (over_near count hierarchy over f concept inside (has items))
     where
-      by_near : (near : Bool) → (near ≡ true → list_any (has_item items) (list_of (lists_of hierarchy f) concept) ≡ true)
-          → (not near && not (list_any (has_item items) (list_of (lists_of hierarchy f) concept)))
-          ≡ not (list_any (has_item items) (list_of (lists_of hierarchy f) concept))
+      by_near : (near : Bool) → (near ≡ true → list_any (has items) (list_of (lists_of hierarchy f) concept) ≡ true)
+          → (not near && not (list_any (has items) (list_of (lists_of hierarchy f) concept)))
+          ≡ not (list_any (has items) (list_of (lists_of hierarchy f) concept))
       by_near true far = sym (ap not (far refl))
       by_near false far = refl
 
   -- what a step leads to rises
   pub led_rises : (lists : List (List ℕ)) (reach : Reach) → IsRisingBelow count (stepped lists count reach items)
-  led_rises lists Listed = numbers_where-rising count (λ n. list_any (λ other. has_item (list_of lists other) n) items)
-  led_rises lists ListedOrSelf = numbers_where-rising count (λ n. has_item items n || has_item (joined count lists items) n)
-  led_rises lists Apart = rises_within-filter 0 count (λ concept. not (list_any (has_item items) (list_of lists concept))) items rises
+  led_rises lists Listed = numbers_where-rising count (λ n. list_any (λ other. has (list_of lists other) n) items)
+  led_rises lists ListedOrSelf = numbers_where-rising count (λ n. has items n || has (joined count lists items) n)
+  led_rises lists Apart = rises_within-filter 0 count (λ concept. not (list_any (has items) (list_of lists concept))) items rises
 
   -- those of a rising list that it leads to are those that it leads to of the list
   pub led_asked : (lists : List (List ℕ)) (reach : Reach) (wanted : List ℕ) → IsRisingBelow count wanted
-      → filter (has_item (stepped lists count reach items)) wanted ≡ filter (has_item wanted) (stepped lists count reach items)
+      → filter (has (stepped lists count reach items)) wanted ≡ filter (has wanted) (stepped lists count reach items)
   led_asked lists reach wanted wanted_rises =
-      ap (filter (has_item led)) (rising_is_numbers_where count wanted wanted_rises)
-      ∙ filter-numbers_where count (has_item wanted) (has_item led)
-      ∙ sym (restricted_to count (has_item wanted) (has_item led) led (filter (has_item wanted) led)
+      ap (filter (has led)) (rising_is_numbers_where count wanted wanted_rises)
+      ∙ filter-numbers_where count (has wanted) (has led)
+      ∙ sym (restricted_to count (has wanted) (has led) led (filter (has wanted) led)
       (rising_is_numbers_where count led (led_rises lists reach)) refl)
     where
       led : List ℕ

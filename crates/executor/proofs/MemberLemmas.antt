@@ -11,8 +11,8 @@ use Rattle.constraint_tree.specs.Walks.{has_concept}
 use Rattle.number_lists.proofs.ListLemmas.{passing_item, some_item_passes, both_ways, any_agree}
 use Rattle.constraint_tree.proofs.WalkLemmas.{tells_in_force}
 use Rattle.number_lists.specs.Rising.{IsRising, IsRisingBelow, listed_numbers, numbers_where}
-use Rattle.number_lists.specs.Members.{has_item}
-use Rattle.number_lists.proofs.WhereLemmas.{filter-numbers_where, has_item-numbers_where, numbers_where-agree, there_where, where_there}
+use Rattle.number_lists.specs.Members.{has}
+use Rattle.number_lists.proofs.WhereLemmas.{filter-numbers_where, has-numbers_where, numbers_where-agree, there_where, where_there}
 use Rattle.number_lists.proofs.RisingLemmas.{numbers_where-rising, rising_fits, rising_is_numbers_where, all_below}
 use Rattle.number_lists.specs.KeyedLists.{list_of}
 use Rattle.ancestor_index.specs.HierarchyLists.{is_child}
@@ -74,21 +74,21 @@ any_exchanged id (refset ∷ refsets) rows x =
     both from to some here = shared (from == to) some here ∙ ap (λ (b : Bool). (b || some) && here) (swapped from to)
 
 item_joined : (lists : List (List ℕ)) (concepts : List ℕ) (n : ℕ)
-    → has_item (flat_map (list_of lists) concepts) n ≡ list_any (λ concept. has_item (list_of lists concept) n) concepts
+    → has (flat_map (list_of lists) concepts) n ≡ list_any (λ concept. has (list_of lists concept) n) concepts
 item_joined lists [] n = refl
 item_joined lists (concept ∷ concepts) n =
     list_any-append (λ item. item == n) (list_of lists concept) (flat_map (list_of lists) concepts)
-    ∙ ap (λ (b : Bool). has_item (list_of lists concept) n || b) (item_joined lists concepts n)
+    ∙ ap (λ (b : Bool). has (list_of lists concept) n || b) (item_joined lists concepts n)
 
 -- whether a concept has a member row to another, by their numbers
 abbrev is_member : Release → ℕ → ℕ → Bool
 is_member release refset component = is_child release.members (get_or release.concepts refset 0) (get_or release.concepts component 0)
 
 member_told : (release : Release) (refset n : ℕ) → refset < length release.concepts → n < length release.concepts
-    → has_item (list_of (members_of release) refset) n ≡ is_member release refset n
+    → has (list_of (members_of release) refset) n ≡ is_member release refset n
 member_told release refset n below inside =
-    ap (λ (xs : List ℕ). has_item xs n) (list_of-where (length release.concepts) (is_member release) refset below)
-    ∙ has_item-numbers_where (length release.concepts) (is_member release refset) n inside
+    ap (λ (xs : List ℕ). has xs n) (list_of-where (length release.concepts) (is_member release) refset below)
+    ∙ has-numbers_where (length release.concepts) (is_member release refset) n inside
 
 -- a concept is in the list of one of some reference sets where it is a component of one of them
 component_told : (release : Release) (items : List ℕ) → All (λ item. item < length release.concepts) items
@@ -116,12 +116,12 @@ members_rise release refset below small =
 -- those of a rising list that are in the list of one of some reference sets are the components of these that are in it
 pub members_asked : (release : Release) (items : List ℕ) → All (λ item. item < length release.concepts) items
     → (wanted : List ℕ) → IsRisingBelow (length release.concepts) wanted
-    → filter (is_in_one_of (members_of release) items) wanted ≡ filter (has_item wanted) (components_of release items)
+    → filter (is_in_one_of (members_of release) items) wanted ≡ filter (has wanted) (components_of release items)
 members_asked release items below wanted rises =
     ap (filter asked) (rising_is_numbers_where count wanted rises)
-    ∙ filter-numbers_where count (has_item wanted) asked
-    ∙ numbers_where-agree count _ _ (λ n inside. ap (λ (there : Bool). has_item wanted n && there) (component_told release items below n inside))
-    ∙ sym (restricted_to count (has_item wanted) _ (components_of release items) (filter (has_item wanted) (components_of release items)) refl refl)
+    ∙ filter-numbers_where count (has wanted) asked
+    ∙ numbers_where-agree count _ _ (λ n inside. ap (λ (there : Bool). has wanted n && there) (component_told release items below n inside))
+    ∙ sym (restricted_to count (has wanted) _ (components_of release items) (filter (has wanted) (components_of release items)) refl refl)
   where
     count : ℕ
     count = length release.concepts

@@ -16,10 +16,10 @@ use Rattle.snapshot.specs.Numbering.{row_of_numbers}
 use Rattle.number_lists.proofs.ListLemmas.{passing_item, some_item_passes, both_ways}
 use Rattle.number_lists.specs.Rising.{IsRisingBelow}
 use Rattle.idset.specs.Sets.{all_items}
-use Rattle.number_lists.specs.Members.{has_item}
+use Rattle.number_lists.specs.Members.{has}
 use Rattle.ancestor_index.specs.HierarchyLists.{Hierarchy, hierarchy_of, is_child}
 use Rattle.ancestor_index.proofs.BuildLemmas.{same_child, same_reach}
-use Rattle.number_lists.proofs.MemberLemmas.{item_there, there_item}
+use Rattle.number_lists.proofs.MemberLemmas.{contains_had, had_contained}
 use Rattle.ancestor_index.proofs.ClosureLemmas.{row_there, there_row}
 use Rattle.executor.specs.inside.Joined.{AreJoined, is_whole, near_of, turn_of}
 use Rattle.executor.specs.inside.Steps.{IsOver, lists_of}
@@ -29,22 +29,22 @@ use Rattle.number_lists.proofs.RisingLemmas.{all_below}
 use Rattle.executor.proofs.JoinedLemmas.{has_all, listed_stands, near_stands, over_length, over_rising, over_whole, stands, stands_listed}
 
 -- where all of some numbers are among others, each is
-all_have : (items found : List ℕ) → list_all (has_item items) found ≡ true → (n : ℕ) → has_item found n ≡ true → has_item items n ≡ true
+all_have : (items found : List ℕ) → list_all (has items) found ≡ true → (n : ℕ) → has found n ≡ true → has items n ≡ true
 all_have items [] all n there = absurd (false≢true there)
 all_have items (x ∷ xs) all n there =
-    let both = and_parts (has_item items x) (list_all (has_item items) xs) all in
-    elim (or_cases (x == n) (has_item xs n) there) [
-      | inl here ↦ subst (λ (m : ℕ). has_item items m ≡ true) (eqb-true x n here) both.0
+    let both = and_parts (has items x) (list_all (has items) xs) all in
+    elim (or_cases (x == n) (has xs n) there) [
+      | inl here ↦ subst (λ (m : ℕ). has items m ≡ true) (eqb-true x n here) both.0
       | inr later ↦ all_have items xs both.1 n later
     ]
 
 -- what has been found before a turn: nothing but what items lead to; all that is one row away from an item; and of each concept that
 -- had its turn, if it is an item or was found, all that is one row away
 pub record IsPassed (lists near : List (List ℕ)) (at : ℕ → ℕ) (turn : ℕ) (items found : List ℕ) : Type 0 where
-  pub sound : (n : ℕ) → has_item found n ≡ true → list_any (λ concept. has_item (list_of lists concept) n) items ≡ true
-  pub full : (j : ℕ) → j < turn → (has_item items (at j) || has_item found (at j)) ≡ true
-      → (n : ℕ) → has_item (list_of near (at j)) n ≡ true → has_item found n ≡ true
-  pub own : (concept : ℕ) → has_item items concept ≡ true → (n : ℕ) → has_item (list_of near concept) n ≡ true → has_item found n ≡ true
+  pub sound : (n : ℕ) → has found n ≡ true → list_any (λ concept. has (list_of lists concept) n) items ≡ true
+  pub full : (j : ℕ) → j < turn → (has items (at j) || has found (at j)) ≡ true
+      → (n : ℕ) → has (list_of near (at j)) n ≡ true → has found n ≡ true
+  pub own : (concept : ℕ) → has items concept ≡ true → (n : ℕ) → has (list_of near concept) n ≡ true → has found n ≡ true
 
 module _ (release : Release) (rows : List (ℕ × ℕ)) (order : List ℕ) (rising : IsStrictlyIncreasing release.concepts)
     (within : IsWithin (length release.concepts) rows) (are : map (row_of_numbers release.concepts) rows ≡ release.isa)
@@ -125,7 +125,7 @@ module _ (release : Release) (rows : List (ℕ × ℕ)) (order : List ℕ) (risi
     below : (turn : ℕ) → turn < turns → at f turn < bound
     below turn inside = omega (arith, at_below f turn inside, counted)
 
-    near_listed : (concept n : ℕ) → concept < bound → has_item (list_of near concept) n ≡ true → has_item (list_of lists concept) n ≡ true
+    near_listed : (concept n : ℕ) → concept < bound → has (list_of near concept) n ≡ true → has (list_of lists concept) n ≡ true
     near_listed concept n inside told =
         let stood = listed_stands bound hierarchy over (near_of f) concept n inside told in
         stands_listed bound hierarchy over f concept n inside stood.0 (near_stands release f concept n stood.1)
@@ -138,16 +138,16 @@ module _ (release : Release) (rows : List (ℕ × ℕ)) (order : List ℕ) (risi
     near_rises turn inside = over_rising bound hierarchy over (near_of f) (at f turn) (below turn inside)
 
     -- what is one row away from a concept that is led to is led to
-    led_on : (found : List ℕ) → ((n : ℕ) → has_item found n ≡ true → list_any (λ concept. has_item (list_of lists concept) n) items ≡ true)
-        → (concept n : ℕ) → concept < bound → (has_item items concept || has_item found concept) ≡ true → has_item (list_of near concept) n ≡ true
-        → list_any (λ concept. has_item (list_of lists concept) n) items ≡ true
-    led_on found sound concept n inside told near_told = elim (or_cases (has_item items concept) (has_item found concept) told) [
+    led_on : (found : List ℕ) → ((n : ℕ) → has found n ≡ true → list_any (λ concept. has (list_of lists concept) n) items ≡ true)
+        → (concept n : ℕ) → concept < bound → (has items concept || has found concept) ≡ true → has (list_of near concept) n ≡ true
+        → list_any (λ concept. has (list_of lists concept) n) items ≡ true
+    led_on found sound concept n inside told near_told = elim (or_cases (has items concept) (has found concept) told) [
       | inl own ↦
-          some_item_passes (λ c. has_item (list_of lists c) n) items concept (item_there items concept own) (near_listed concept n inside near_told)
+          some_item_passes (λ c. has (list_of lists c) n) items concept (contains_had items concept own) (near_listed concept n inside near_told)
       | inr was ↦
-          let from = passing_item (λ c. has_item (list_of lists c) concept) items (sound concept was) in
+          let from = passing_item (λ c. has (list_of lists c) concept) items (sound concept was) in
           let from_below : from.0 < bound = subst (λ (m : ℕ). m < bound) (from.1.2) (all_below bound items items_rise from.1.0 from.0 from.1.1) in
-          some_item_passes (λ c. has_item (list_of lists c) n) items from.0 from.1
+          some_item_passes (λ c. has (list_of lists c) n) items from.0 from.1
           (over_whole bound hierarchy over f whole from.0 concept n from_below inside from.2 (near_listed concept n inside near_told))
     ]
 
@@ -157,54 +157,54 @@ module _ (release : Release) (rows : List (ℕ × ℕ)) (order : List ℕ) (risi
 
     -- the turn of a concept that was found
     pub passed_on : (turn : ℕ) (found list next : List ℕ) → turn < turns → IsRisingBelow bound found → list ≡ list_of near (at f turn)
-        → next ≡ all_items bound found list → (has_item found (at f turn) && not (has_item items (at f turn))) ≡ true
+        → next ≡ all_items bound found list → (has found (at f turn) && not (has items (at f turn))) ≡ true
         → Passed turn found → Passed (turn + 1) next
     passed_on turn found list next inside rises list_is next_is chosen passed = record {
-      sound = λ n told. elim (or_cases (has_item found n) (has_item (list_of near (at f turn)) n) (sym (grown n) ∙ told)) [
+      sound = λ n told. elim (or_cases (has found n) (has (list_of near (at f turn)) n) (sym (grown n) ∙ told)) [
         | inl before ↦ passed.sound n before
         | inr now ↦ led_on found passed.sound (at f turn) n (below turn inside)
-            (or_right (has_item items (at f turn)) (has_item found (at f turn))
-            (first_true (has_item found (at f turn)) (not (has_item items (at f turn))) chosen)) now
+            (or_right (has items (at f turn)) (has found (at f turn))
+            (first_true (has found (at f turn)) (not (has items (at f turn))) chosen)) now
       ];
       full = λ j less told n away. elim (cases_eq j turn) [
         | inl same ↦
-            grown n ∙ or_right (has_item found n) (has_item (list_of near (at f turn)) n)
-            (subst (λ (m : ℕ). has_item (list_of near (at f m)) n ≡ true) same away)
+            grown n ∙ or_right (has found n) (has (list_of near (at f turn)) n)
+            (subst (λ (m : ℕ). has (list_of near (at f m)) n ≡ true) same away)
         | inr other ↦
             let before : j < turn = omega (arith, less, other) in
-            grown n ∙ or_left (has_item found n) (has_item (list_of near (at f turn)) n) (passed.full j before (still j before told) n away)
+            grown n ∙ or_left (has found n) (has (list_of near (at f turn)) n) (passed.full j before (still j before told) n away)
       ];
       own = λ concept there n away.
-          grown n ∙ or_left (has_item found n) (has_item (list_of near (at f turn)) n) (passed.own concept there n away);
+          grown n ∙ or_left (has found n) (has (list_of near (at f turn)) n) (passed.own concept there n away);
     }
       where
-        grown : (n : ℕ) → has_item next n ≡ (has_item found n || has_item (list_of near (at f turn)) n)
+        grown : (n : ℕ) → has next n ≡ (has found n || has (list_of near (at f turn)) n)
         grown n =
             has_all bound found list next rises
             (subst (λ (xs : List ℕ). IsRisingBelow bound xs) (sym list_is) (near_rises turn inside)) next_is n
-            ∙ ap (λ (xs : List ℕ). has_item found n || has_item xs n) list_is
+            ∙ ap (λ (xs : List ℕ). has found n || has xs n) list_is
 
         -- what had its turn before is not found now
-        still : (j : ℕ) → j < turn → (has_item items (at f j) || has_item next (at f j)) ≡ true → (has_item items (at f j) || has_item found (at f j)) ≡ true
-        still j before told = elim (or_cases (has_item items (at f j)) (has_item next (at f j)) told) [
-          | inl own ↦ or_left (has_item items (at f j)) (has_item found (at f j)) own
-          | inr was ↦ elim (or_cases (has_item found (at f j)) (has_item (list_of near (at f turn)) (at f j)) (sym (grown (at f j)) ∙ was)) [
-            | inl then ↦ or_right (has_item items (at f j)) (has_item found (at f j)) then
+        still : (j : ℕ) → j < turn → (has items (at f j) || has next (at f j)) ≡ true → (has items (at f j) || has found (at f j)) ≡ true
+        still j before told = elim (or_cases (has items (at f j)) (has next (at f j)) told) [
+          | inl own ↦ or_left (has items (at f j)) (has found (at f j)) own
+          | inr was ↦ elim (or_cases (has found (at f j)) (has (list_of near (at f turn)) (at f j)) (sym (grown (at f j)) ∙ was)) [
+            | inl then ↦ or_right (has items (at f j)) (has found (at f j)) then
             | inr now ↦ absurd (no_turn_before f whole j turn before inside
                 (listed_stands bound hierarchy over (near_of f) (at f turn) (at f j) (below turn inside) now).1)
           ]
         ]
 
     -- and of one that was not found, or is an item
-    pub passed_over : (turn : ℕ) (found : List ℕ) → (has_item found (at f turn) && not (has_item items (at f turn))) ≡ false
+    pub passed_over : (turn : ℕ) (found : List ℕ) → (has found (at f turn) && not (has items (at f turn))) ≡ false
         → Passed turn found → Passed (turn + 1) found
     passed_over turn found not_chosen passed = record {
       sound = passed.sound;
       full = λ j less told n away. elim (cases_eq j turn) [
         | inl same ↦
             passed.own (at f j)
-            (an_item (has_item items (at f j)) (has_item found (at f j)) told
-            (subst (λ (m : ℕ). (has_item found (at f m) && not (has_item items (at f m))) ≡ false) (sym same) not_chosen)) n away
+            (an_item (has items (at f j)) (has found (at f j)) told
+            (subst (λ (m : ℕ). (has found (at f m) && not (has items (at f m))) ≡ false) (sym same) not_chosen)) n away
         | inr other ↦ passed.full j (omega (arith, less, other)) told n away
       ];
       own = passed.own;
@@ -219,26 +219,26 @@ module _ (release : Release) (rows : List (ℕ × ℕ)) (order : List ℕ) (risi
     pub passed_first : (found : List ℕ) → AreJoined near items found → Passed 0 found
     passed_first found joined = record {
       sound = λ n told.
-          let from = passing_item (λ c. has_item (list_of near c) n) items (sym (joined n) ∙ told) in
+          let from = passing_item (λ c. has (list_of near c) n) items (sym (joined n) ∙ told) in
           let from_below : from.0 < bound = subst (λ (m : ℕ). m < bound) from.1.2 (all_below bound items items_rise from.1.0 from.0 from.1.1) in
-          some_item_passes (λ c. has_item (list_of lists c) n) items from.0 from.1 (near_listed from.0 n from_below from.2);
+          some_item_passes (λ c. has (list_of lists c) n) items from.0 from.1 (near_listed from.0 n from_below from.2);
       full = λ j less. absurd (omega (arith, less));
       own = λ concept there n away.
-          joined n ∙ some_item_passes (λ c. has_item (list_of near c) n) items concept (item_there items concept there) away;
+          joined n ∙ some_item_passes (λ c. has (list_of near c) n) items concept (contains_had items concept there) away;
     }
 
     -- behind the last one all is found that items lead to
     pub passed_all : (turn : ℕ) (found : List ℕ) → turns ≤ turn → Passed turn found → AreJoined lists items found
-    passed_all turn found end passed n = both_ways (has_item found n) (list_any (λ concept. has_item (list_of lists concept) n) items) (passed.sound n) back
+    passed_all turn found end passed n = both_ways (has found n) (list_any (λ concept. has (list_of lists concept) n) items) (passed.sound n) back
       where
         -- one row on
-        one_on : (concept m : ℕ) → concept < count → m < count → (has_item items concept || has_item found concept) ≡ true
-            → stands release (near_of f) concept m ≡ true → has_item found m ≡ true
+        one_on : (concept m : ℕ) → concept < count → m < count → (has items concept || has found concept) ≡ true
+            → stands release (near_of f) concept m ≡ true → has found m ≡ true
         one_on concept m inside m_inside told away =
             let its = has_turn f whole concept inside in
             passed.full its.0 (omega (arith, its.1, end))
-            (subst (λ (c : ℕ). (has_item items c || has_item found c) ≡ true) (sym its.2) told) m
-            (ap (λ (c : ℕ). has_item (list_of near c) m) its.2
+            (subst (λ (c : ℕ). (has items c || has found c) ≡ true) (sym its.2) told) m
+            (ap (λ (c : ℕ). has (list_of near c) m) its.2
             ∙ stands_listed bound hierarchy over (near_of f) concept m (omega (arith, inside, counted)) (omega (arith, m_inside, counted)) away)
 
         ends : {a b : ℕ} → Contains rows (a, b) → (a < count) × (b < count)
@@ -248,43 +248,43 @@ module _ (release : Release) (rows : List (ℕ × ℕ)) (order : List ℕ) (risi
         child a b there =
             sym (same_child release.concepts rows release.isa rising within are a b (ends there).0 (ends there).1) ∙ there_row rows a b there
 
-        up : f ≡ family.Ancestors → {a b : ℕ} → Reaches rows a b → (has_item items a || has_item found a) ≡ true → has_item found b ≡ true
+        up : f ≡ family.Ancestors → {a b : ℕ} → Reaches rows a b → (has items a || has found a) ≡ true → has found b ≡ true
         up above {a} {b} (one_row there) told =
             one_on a b (ends there).0 (ends there).1 told (ap (λ (g : Family). stands release (near_of g) a b) above ∙ child a b there)
         up above {a} {b} (more_rows {parent = p} there chain) told =
-            up above chain (or_right (has_item items p) (has_item found p)
+            up above chain (or_right (has items p) (has found p)
             (one_on a p (ends there).0 (ends there).1 told (ap (λ (g : Family). stands release (near_of g) a p) above ∙ child a p there)))
 
-        down : f ≡ family.Descendants → {a b : ℕ} → Reaches rows a b → (has_item items b || has_item found b) ≡ true → has_item found a ≡ true
+        down : f ≡ family.Descendants → {a b : ℕ} → Reaches rows a b → (has items b || has found b) ≡ true → has found a ≡ true
         down beneath {a} {b} (one_row there) told =
             one_on b a (ends there).1 (ends there).0 told (ap (λ (g : Family). stands release (near_of g) b a) beneath ∙ child a b there)
         down beneath {a} {b} (more_rows {parent = p} there chain) told =
-            one_on p a (ends there).1 (ends there).0 (or_right (has_item items p) (has_item found p) (down beneath chain told))
+            one_on p a (ends there).1 (ends there).0 (or_right (has items p) (has found p) (down beneath chain told))
             (ap (λ (g : Family). stands release (near_of g) p a) beneath ∙ child a p there)
 
-        led : (g : Family) → f ≡ g → (concept : ℕ) → concept < count → n < count → has_item items concept ≡ true → stands release g concept n ≡ true
-            → has_item found n ≡ true
+        led : (g : Family) → f ≡ g → (concept : ℕ) → concept < count → n < count → has items concept ≡ true → stands release g concept n ≡ true
+            → has found n ≡ true
         led family.Ancestors same concept inside n_inside own stood =
             up same (chain_from_test rows concept n (same_reach release.concepts rows release.isa rising within are concept n inside n_inside ∙ stood))
-            (or_left (has_item items concept) (has_item found concept) own)
+            (or_left (has items concept) (has found concept) own)
         led family.Descendants same concept inside n_inside own stood =
             down same (chain_from_test rows n concept (same_reach release.concepts rows release.isa rising within are n concept n_inside inside ∙ stood))
-            (or_left (has_item items concept) (has_item found concept) own)
+            (or_left (has items concept) (has found concept) own)
         led family.Parents same concept inside n_inside own stood = absurd (false≢true (ap is_whole (sym same) ∙ whole))
         led family.Children same concept inside n_inside own stood = absurd (false≢true (ap is_whole (sym same) ∙ whole))
 
-        back : list_any (λ concept. has_item (list_of lists concept) n) items ≡ true → has_item found n ≡ true
+        back : list_any (λ concept. has (list_of lists concept) n) items ≡ true → has found n ≡ true
         back told =
-            let from = passing_item (λ c. has_item (list_of lists c) n) items told in
+            let from = passing_item (λ c. has (list_of lists c) n) items told in
             let from_below : from.0 < bound = subst (λ (m : ℕ). m < bound) (from.1.2) (all_below bound items items_rise from.1.0 from.0 from.1.1) in
             let stood = listed_stands bound hierarchy over f from.0 n from_below from.2 in
-            led f refl from.0 (omega (arith, from_below, counted)) (omega (arith, stood.0, counted)) (there_item items from.0 from.1) stood.1
+            led f refl from.0 (omega (arith, from_below, counted)) (omega (arith, stood.0, counted)) (had_contained items from.0 from.1) stood.1
 
     -- where all that is one row away from items is among them, no more is led to
-    pub all_among : (found : List ℕ) → AreJoined near items found → list_all (has_item items) found ≡ true → AreJoined lists items found
+    pub all_among : (found : List ℕ) → AreJoined near items found → list_all (has items) found ≡ true → AreJoined lists items found
     all_among found joined among = passed_all turns found (omega arith) (passed_by turns)
       where
-        inside : (n : ℕ) → (b : Bool) → has_item found n ≡ b → (b && not (has_item items n)) ≡ false
+        inside : (n : ℕ) → (b : Bool) → has found n ≡ b → (b && not (has items n)) ≡ false
         inside n true there = ap not (all_have items found among n there)
         inside n false there = refl
 
@@ -292,4 +292,4 @@ module _ (release : Release) (rows : List (ℕ × ℕ)) (order : List ℕ) (risi
         passed_by zero = passed_first found joined
         passed_by (suc turn) =
             subst (λ (t : ℕ). Passed t found) (omega arith)
-            (passed_over turn found (inside (at f turn) (has_item found (at f turn)) refl) (passed_by turn))
+            (passed_over turn found (inside (at f turn) (has found (at f turn)) refl) (passed_by turn))

@@ -12,11 +12,11 @@ use Rattle.constraint_tree.specs.declared.operator.Operator.{Operator}
 use Rattle.constraint_tree.specs.declared.operator.Operator.TheVariants.{Descendants, DescendantsOrSelf, Children, ChildrenOrSelf, Ancestors, AncestorsOrSelf, Parents, ParentsOrSelf, Top, Bottom}
 use Rattle.number_lists.proofs.ListLemmas.{passing_item, some_item_passes, both_ways}
 use Rattle.idset.specs.Sets.{all_items}
-use Rattle.number_lists.specs.Members.{has_item}
-use Rattle.number_lists.proofs.WhereLemmas.{filter-numbers_where, has_item-numbers_where, numbers_where-agree, there_where, where_there}
+use Rattle.number_lists.specs.Members.{has}
+use Rattle.number_lists.proofs.WhereLemmas.{filter-numbers_where, has-numbers_where, numbers_where-agree, there_where, where_there}
 use Rattle.number_lists.specs.KeyedLists.{list_of}
 use Rattle.ancestor_index.specs.HierarchyLists.{hierarchy_of, lists_where}
-use Rattle.number_lists.proofs.MemberLemmas.{item_there, there_item}
+use Rattle.number_lists.proofs.MemberLemmas.{contains_had, had_contained}
 use Rattle.ancestor_index.proofs.ClosureLemmas.{list_of-where}
 use Rattle.pair_sets.specs.Numbers.{numbers_in}
 use Rattle.executor.specs.inside.Steps.{apart, joined, led_to}
@@ -38,10 +38,10 @@ module _ (release : Release) (set : ℕ → Bool) (items : List ℕ) (is : items
 
   -- a number is in the list of an item where the concepts stand to each other as the lists say
   in_list : (test : ℕ → ℕ → Bool) (concept n : ℕ) → concept < count → n < count
-      → has_item (list_of (lists_where count (λ a b. test (id a) (id b))) concept) n ≡ test (id concept) (id n)
+      → has (list_of (lists_where count (λ a b. test (id a) (id b))) concept) n ≡ test (id concept) (id n)
   in_list test concept n below within =
-      ap (λ (xs : List ℕ). has_item xs n) (list_of-where count (λ a b. test (id a) (id b)) concept below)
-      ∙ has_item-numbers_where count (λ b. test (id concept) (id b)) n within
+      ap (λ (xs : List ℕ). has xs n) (list_of-where count (λ a b. test (id a) (id b)) concept below)
+      ∙ has-numbers_where count (λ b. test (id concept) (id b)) n within
 
   -- the joined lists of the items
   pub joined_is : (test : ℕ → ℕ → Bool)
@@ -54,23 +54,23 @@ module _ (release : Release) (set : ℕ → Bool) (items : List ℕ) (is : items
       lists : List (List ℕ)
       lists = lists_where count (λ a b. test (id a) (id b))
 
-      there : (n : ℕ) → n < count → list_any (λ concept. has_item (list_of lists concept) n) items ≡ true
+      there : (n : ℕ) → n < count → list_any (λ concept. has (list_of lists concept) n) items ≡ true
           → some_member release set (λ other. test other (id n)) ≡ true
       there n within holds =
-          let found = passing_item (λ concept. has_item (list_of lists concept) n) items holds in
+          let found = passing_item (λ concept. has (list_of lists concept) n) items holds in
           let at = member found.0 found.1 in
           some_item_passes (λ other. set other && test other (id n)) release.concepts (id found.0) (Contains-get_or release.concepts found.0 0 at.0)
           (and_from _ _ at.1 (sym (in_list test found.0 n at.0 within) ∙ found.2))
 
       back : (n : ℕ) → n < count → some_member release set (λ other. test other (id n)) ≡ true
-          → list_any (λ concept. has_item (list_of lists concept) n) items ≡ true
+          → list_any (λ concept. has (list_of lists concept) n) items ≡ true
       back n within holds =
           let found = passing_item (λ other. set other && test other (id n)) release.concepts holds in
           let k : ℕ = found.1.0 in
           let below : k < count = found.1.1 in
           let at : id k ≡ found.0 = get_or_default release.concepts k 0 found.0 below ∙ found.1.2 in
           let both = and_parts (set found.0) (test found.0 (id n)) found.2 in
-          some_item_passes (λ concept. has_item (list_of lists concept) n) items k (member_there k below (ap set at ∙ both.0))
+          some_item_passes (λ concept. has (list_of lists concept) n) items k (member_there k below (ap set at ∙ both.0))
           (in_list test k n below within ∙ ap (λ (other : ℕ). test other (id n)) at ∙ both.1)
 
   -- the items none of which is in their list
@@ -78,31 +78,31 @@ module _ (release : Release) (set : ℕ → Bool) (items : List ℕ) (is : items
       → apart (lists_where count (λ a b. test (id a) (id b))) items
       ≡ numbers_in release (λ concept. set concept && not (some_member release set (λ other. test concept other)))
   apart_is test =
-      ap (filter (λ concept. not (list_any (has_item items) (list_of lists concept)))) is
-      ∙ filter-numbers_where count (λ n. set (id n)) (λ concept. not (list_any (has_item items) (list_of lists concept)))
+      ap (filter (λ concept. not (list_any (has items) (list_of lists concept)))) is
+      ∙ filter-numbers_where count (λ n. set (id n)) (λ concept. not (list_any (has items) (list_of lists concept)))
       ∙ numbers_where-agree count _ (λ n. set (id n) && not (some_member release set (λ other. test (id n) other)))
       (λ n within i. set (id n) && not (both_ways _ _ (there n within) (back n within) i))
     where
       lists : List (List ℕ)
       lists = lists_where count (λ a b. test (id a) (id b))
 
-      there : (n : ℕ) → n < count → list_any (has_item items) (list_of lists n) ≡ true → some_member release set (λ other. test (id n) other) ≡ true
+      there : (n : ℕ) → n < count → list_any (has items) (list_of lists n) ≡ true → some_member release set (λ other. test (id n) other) ≡ true
       there n within holds =
-          let found = passing_item (has_item items) (list_of lists n) holds in
-          let at = member found.0 (item_there items found.0 found.2) in
+          let found = passing_item (has items) (list_of lists n) holds in
+          let at = member found.0 (contains_had items found.0 found.2) in
           some_item_passes (λ other. set other && test (id n) other) release.concepts (id found.0) (Contains-get_or release.concepts found.0 0 at.0)
-          (and_from _ _ at.1 (sym (in_list test n found.0 within at.0) ∙ there_item (list_of lists n) found.0 found.1))
+          (and_from _ _ at.1 (sym (in_list test n found.0 within at.0) ∙ had_contained (list_of lists n) found.0 found.1))
 
-      back : (n : ℕ) → n < count → some_member release set (λ other. test (id n) other) ≡ true → list_any (has_item items) (list_of lists n) ≡ true
+      back : (n : ℕ) → n < count → some_member release set (λ other. test (id n) other) ≡ true → list_any (has items) (list_of lists n) ≡ true
       back n within holds =
           let found = passing_item (λ other. set other && test (id n) other) release.concepts holds in
           let k : ℕ = found.1.0 in
           let below : k < count = found.1.1 in
           let at : id k ≡ found.0 = get_or_default release.concepts k 0 found.0 below ∙ found.1.2 in
           let both = and_parts (set found.0) (test (id n) found.0) found.2 in
-          some_item_passes (has_item items) (list_of lists n) k
-          (item_there (list_of lists n) k (in_list test n k within below ∙ ap (test (id n)) at ∙ both.1))
-          (there_item items k (member_there k below (ap set at ∙ both.0)))
+          some_item_passes (has items) (list_of lists n) k
+          (contains_had (list_of lists n) k (in_list test n k within below ∙ ap (test (id n)) at ∙ both.1))
+          (had_contained items k (member_there k below (ap set at ∙ both.0)))
 
   or_self : (lists : List (List ℕ)) (test : ℕ → Bool) → joined count lists items ≡ numbers_in release test
       → all_items count items (joined count lists items) ≡ numbers_in release (λ concept. set concept || test concept)

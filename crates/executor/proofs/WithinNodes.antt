@@ -9,9 +9,9 @@ use Rattle.rf2_rows.specs.Pairs.{Pair}
 use Rattle.rf2_rows.specs.Release.{Release}
 use Rattle.constraint_tree.specs.declared.operator.Operator.{Operator}
 use Rattle.number_lists.specs.Rising.{IsRisingBelow, numbers_where}
-use Rattle.number_lists.specs.Members.{has_item}
+use Rattle.number_lists.specs.Members.{has}
 use Rattle.idset.specs.Sets.{other_items}
-use Rattle.number_lists.proofs.WhereLemmas.{has_item-numbers_where, has_item-numbers_where_past, numbers_where-agree, numbers_where-all}
+use Rattle.number_lists.proofs.WhereLemmas.{has-numbers_where, has-numbers_where_past, numbers_where-agree, numbers_where-all}
 use Rattle.number_lists.proofs.RisingLemmas.{numbers_where-rising}
 use Rattle.ancestor_index.specs.HierarchyLists.{Hierarchy, hierarchy_of}
 use Rattle.postings.specs.Groups.{ConceptGroup, all_groups}
@@ -73,7 +73,7 @@ module _ (release : Release) (may : ℕ → Bool) where
 
   pub minus_node : (plan first second : Plan) (left right found : List ℕ) → plan ≡ minus_plan first second
       → left ≡ numbers_within release may (means release first)
-      → right ≡ numbers_within release (has_item left) (means release second)
+      → right ≡ numbers_within release (has left) (means release second)
       → found ≡ other_items left right → found ≡ numbers_within release may (means release plan)
   minus_node plan first second left right found is left_is right_is found_is =
       minus_within (length release.concepts) may (by_number (means release first)) (by_number (means release second)) left right found left_is right_is found_is
@@ -161,7 +161,7 @@ module _ (release : Release) (may : ℕ → Bool) where
 
   pub minus_groups : (plan first second : PlanOfUnits) (left right found : List ℕ) → plan ≡ minus_units first second
       → left ≡ groups_within release may (unit_means release first)
-      → right ≡ groups_within release (has_item left) (unit_means release second)
+      → right ≡ groups_within release (has left) (unit_means release second)
       → found ≡ other_items left right → found ≡ groups_within release may (unit_means release plan)
   minus_groups plan first second left right found is left_is right_is found_is =
       minus_within (length all) may (group_by_number (unit_means release first))
@@ -264,15 +264,15 @@ walk_of_part release child operator hierarchy count may enough part found over c
         subst (λ (bound : ℕ). IsRisingBelow bound (numbers_where (length release.concepts) test)) (sym counted)
         (numbers_where-rising (length release.concepts) test)
 
-    same : (n : ℕ) → enough n ≡ true → has_item part n ≡ has_item set n
+    same : (n : ℕ) → enough n ≡ true → has part n ≡ has set n
     same n told =
-        ap (λ (items : List ℕ). has_item items n) part_is
+        ap (λ (items : List ℕ). has items n) part_is
         ∙ elim (cases_lt n (length release.concepts)) [
           | inl below ↦
-              has_item-numbers_where (length release.concepts) (λ m. enough m && holds m) n below
+              has-numbers_where (length release.concepts) (λ m. enough m && holds m) n below
               ∙ ap (λ (b : Bool). b && holds n) told
-              ∙ sym (has_item-numbers_where (length release.concepts) holds n below)
+              ∙ sym (has-numbers_where (length release.concepts) holds n below)
           | inr past ↦
-              has_item-numbers_where_past (length release.concepts) (λ m. enough m && holds m) n past
-              ∙ sym (has_item-numbers_where_past (length release.concepts) holds n past)
+              has-numbers_where_past (length release.concepts) (λ m. enough m && holds m) n past
+              ∙ sym (has-numbers_where_past (length release.concepts) holds n past)
         ]

@@ -1,6 +1,6 @@
 //! The four families of lists of a hierarchy.
 ghost use Rattle.std.specs.Prelude.{◌≡◌, ◌↔◌, ◌<◌, IfSome, IsSome, length};
-ghost use Rattle.number_lists.specs.Members.{has_item};
+ghost use Rattle.number_lists.specs.Members.{has};
 ghost use Rattle.idset.specs.Words.{MarkedBelow};
 ghost use Rattle.number_lists.specs.KeyedLists.{list_of};
 ghost use Rattle.executor.specs.inside.Joined.{back_of, is_whole as is_whole_of, near_of, turn_of};
@@ -84,7 +84,7 @@ impl Family {
     /// The list of a concept as words of bits, if the index has them.
     pub fn words(self, index: &AncestorIndex, concept: u32) -> Option<&[u64]>
         requires { concept < length (lists_of index.now self) }
-        ensures some { IfSome result (λ words. MarkedBelow (length (lists_of index.now self)) words.now (has_item (list_of (lists_of index.now self) concept))) }
+        ensures some { IfSome result (λ words. MarkedBelow (length (lists_of index.now self)) words.now (has (list_of (lists_of index.now self) concept))) }
         ensures wide { IsSome result ↔ HasWords index.now self concept }
     {
         match self {

@@ -3,7 +3,7 @@ ghost use Rattle.std.specs.Prelude.{◌≡◌, ◌<◌, ◌∷◌, All, IfOk, fi
 ghost use Rattle.std.specs.List.{flat_map};
 ghost use Rattle.number_lists.specs.KeyedLists.{list_of};
 ghost use Rattle.idset.specs.Sets.{all_items};
-ghost use Rattle.number_lists.specs.Members.{has_item};
+ghost use Rattle.number_lists.specs.Members.{has};
 ghost use Rattle.executor.specs.inside.Asked.{AreEnough, asked_lists};
 ghost use Rattle.executor.specs.inside.Steps.{apart as apart_of, IsOf, IsOver, joined, led_to, lists_of, stepped};
 ghost use Rattle.pair_sets.specs.Within.{AreBelow, may_be};
@@ -67,7 +67,7 @@ pub fn led_among<S: ConceptSet>(
 ) -> Result<S, AllocError>
     requires over { IsOver (S.bound_of operand.now) index.now }
     requires wanted { S.bound_of wanted.now ≡ S.bound_of operand.now }
-    ensures items { IfOk result (λ found. S.items_of found ≡ filter (has_item (S.items_of wanted.now)) (led_to index.now (S.bound_of operand.now) operator (S.items_of operand.now))) }
+    ensures items { IfOk result (λ found. S.items_of found ≡ filter (has (S.items_of wanted.now)) (led_to index.now (S.bound_of operand.now) operator (S.items_of operand.now))) }
     ensures bound { IfOk result (λ found. S.bound_of found ≡ S.bound_of operand.now) }
 {
     let step = Step::of(operator);
@@ -84,7 +84,7 @@ pub fn enough_for<S: ConceptSet>(
     wanted: &S,
 ) -> Result<S, AllocError>
     requires { IsOver (S.bound_of wanted.now) index.now }
-    ensures enough { IfOk result (λ enough. AreEnough (asked_lists index.now operator) (has_item (S.items_of wanted.now)) (has_item (S.items_of enough))) }
+    ensures enough { IfOk result (λ enough. AreEnough (asked_lists index.now operator) (has (S.items_of wanted.now)) (has (S.items_of enough))) }
     ensures bound { IfOk result (λ enough. S.bound_of enough ≡ S.bound_of wanted.now) }
 {
     let family = Step::of(operator).asked();
@@ -123,7 +123,7 @@ fn those_led_to<S: ConceptSet>(
 ) -> Result<Vec<u32>, AllocError>
     requires over { IsOver (S.bound_of operand.now) index.now }
     requires below { All (λ concept. concept < S.bound_of operand.now) concepts.now }
-    ensures { IfOk result (λ kept. kept.items ≡ filter (has_item (stepped (lists_of index.now step.family) (S.bound_of operand.now) step.reach (S.items_of operand.now))) concepts.now) }
+    ensures { IfOk result (λ kept. kept.items ≡ filter (has (stepped (lists_of index.now step.family) (S.bound_of operand.now) step.reach (S.items_of operand.now))) concepts.now) }
 {
     let mut kept = Vec::new(alloc);
     for concept in concepts {
@@ -138,7 +138,7 @@ fn those_led_to<S: ConceptSet>(
 fn is_led_to<S: ConceptSet>(index: &AncestorIndex, step: Step, operand: &S, concept: u32) -> bool
     requires over { IsOver (S.bound_of operand.now) index.now }
     requires below { concept < S.bound_of operand.now }
-    ensures { result ≡ has_item (stepped (lists_of index.now step.family) (S.bound_of operand.now) step.reach (S.items_of operand.now)) concept }
+    ensures { result ≡ has (stepped (lists_of index.now step.family) (S.bound_of operand.now) step.reach (S.items_of operand.now)) concept }
 {
     let family = step.family;
     match step.reach {
@@ -157,7 +157,7 @@ fn is_listed<S: ConceptSet>(
 ) -> bool
     requires over { IsOver (S.bound_of operand.now) index.now }
     requires below { concept < S.bound_of operand.now }
-    ensures { result ≡ has_item (joined (S.bound_of operand.now) (lists_of index.now family) (S.items_of operand.now)) concept }
+    ensures { result ≡ has (joined (S.bound_of operand.now) (lists_of index.now family) (S.items_of operand.now)) concept }
 {
     meets(family.back().list(index, concept), operand)
 }
@@ -171,7 +171,7 @@ fn is_listed_or_self<S: ConceptSet>(
 ) -> bool
     requires over { IsOver (S.bound_of operand.now) index.now }
     requires below { concept < S.bound_of operand.now }
-    ensures { result ≡ has_item (all_items (S.bound_of operand.now) (S.items_of operand.now) (joined (S.bound_of operand.now) (lists_of index.now family) (S.items_of operand.now))) concept }
+    ensures { result ≡ has (all_items (S.bound_of operand.now) (S.items_of operand.now) (joined (S.bound_of operand.now) (lists_of index.now family) (S.items_of operand.now))) concept }
 {
     operand.has(concept) || is_listed(index, family, operand, concept)
 }
@@ -185,7 +185,7 @@ fn is_kept_apart<S: ConceptSet>(
 ) -> bool
     requires over { IsOver (S.bound_of operand.now) index.now }
     requires below { concept < S.bound_of operand.now }
-    ensures { result ≡ has_item (apart_of (lists_of index.now family) (S.items_of operand.now)) concept }
+    ensures { result ≡ has (apart_of (lists_of index.now family) (S.items_of operand.now)) concept }
 {
     operand.has(concept) && !meets(family.list(index, concept), operand)
 }

@@ -1,7 +1,7 @@
 //! What the concepts of a set reach, by one pass over the is-a rows.
 ghost use Rattle.std.specs.Prelude.{◌≡◌, ◌<◌, ◌&&◌, not, true, All, IfOk};
 ghost use Rattle.std.specs.List.{list_all};
-ghost use Rattle.number_lists.specs.Members.{has_item};
+ghost use Rattle.number_lists.specs.Members.{has};
 ghost use Rattle.executor.specs.inside.Joined.{AreJoined, is_whole as is_whole_of, turn_of};
 ghost use Rattle.executor.specs.inside.Steps.{IsOf, IsOver, lists_of};
 
@@ -52,7 +52,7 @@ pub fn reached<S: ConceptSet>(
 
 // Whether all items of a set are in another.
 fn contains_all<S: ConceptSet>(alloc: Global, set: &S, found: &WordSet) -> Result<bool, AllocError>
-    ensures { IfOk result (λ all. all ≡ list_all (has_item (S.items_of set.now)) (⟦<WordSet as ConceptSet>⟧.items_of found.now)) }
+    ensures { IfOk result (λ all. all ≡ list_all (has (S.items_of set.now)) (⟦<WordSet as ConceptSet>⟧.items_of found.now)) }
 {
     let items = found.items(alloc)?;
     Ok(items.iter().all(|item| set.has(*item)))
@@ -80,7 +80,7 @@ fn near_of_all(
 
 // Whether a number is in the first of two sets and not in the second.
 fn is_in_first_alone<S: ConceptSet, T: ConceptSet>(one: &S, other: &T, number: u32) -> bool
-    ensures { result ≡ (has_item (S.items_of one.now) number && not (has_item (T.items_of other.now) number)) }
+    ensures { result ≡ (has (S.items_of one.now) number && not (has (T.items_of other.now) number)) }
 {
     one.has(number) && !other.has(number)
 }

@@ -2,7 +2,7 @@
 ghost use Rattle.std.specs.Prelude.{◌≡◌, ◌<◌, All, IfOk, filter, length};
 ghost use Rattle.std.specs.List.{flat_map};
 ghost use Rattle.number_lists.specs.KeyedLists.{list_of};
-ghost use Rattle.number_lists.specs.Members.{has_item};
+ghost use Rattle.number_lists.specs.Members.{has};
 ghost use Rattle.postings.specs.Indexed.{IsIndexOf};
 ghost use Rattle.executor.specs.inside.Components.{components_of, is_in_one_of};
 ghost use Rattle.pair_sets.specs.Within.{AreBelow, may_be};
@@ -94,7 +94,7 @@ fn members_among<S: ConceptSet>(
     requires index { IsIndexOf indexes.now snapshot.now.release }
     requires below { All (λ refset. refset < length indexes.now.concepts) refsets.now }
     requires wanted { S.bound_of wanted.now ≡ length snapshot.now.release.concepts }
-    ensures items { IfOk result (λ found. S.items_of found ≡ filter (has_item (S.items_of wanted.now)) (components_of snapshot.now.release refsets.now)) }
+    ensures items { IfOk result (λ found. S.items_of found ≡ filter (has (S.items_of wanted.now)) (components_of snapshot.now.release refsets.now)) }
     ensures bound { IfOk result (λ found. S.bound_of found ≡ length snapshot.now.release.concepts) }
 {
     let own = wanted.items(alloc)?;

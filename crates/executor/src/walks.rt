@@ -2,7 +2,7 @@
 ghost use Rattle.std.specs.Prelude.{ℕ, ◌≡◌, ◌<◌, ◌++◌, ◌∷◌, [], false, not, true, List, All, IfOk, OnOk, filter};
 ghost use Rattle.std.specs.List.{list_any};
 ghost use Rattle.idset.specs.Sets.{all_items};
-ghost use Rattle.number_lists.specs.Members.{has_item};
+ghost use Rattle.number_lists.specs.Members.{has};
 ghost use Rattle.number_lists.specs.KeyedLists.{list_of};
 ghost use Rattle.executor.specs.inside.Joined.{AreJoined, is_long as is_long_of, is_whole as is_whole_of, with_length};
 ghost use Rattle.executor.specs.inside.Steps.{apart as apart_of, IsOf, IsOver, joined, lists_of, stepped};
@@ -329,7 +329,7 @@ fn kept_apart<S: ConceptSet>(
     requires whole { is_whole_of family ≡ true }
     requires concepts { concepts.now ≡ S.items_of set.now }
     requires below { All (λ concept. concept < S.bound_of set.now) concepts.now }
-    ensures { IfOk result (λ kept. kept.items ≡ filter (λ concept. not (list_any (has_item (S.items_of set.now)) (list_of (lists_of index.now family) concept))) concepts.now) }
+    ensures { IfOk result (λ kept. kept.items ≡ filter (λ concept. not (list_any (has (S.items_of set.now)) (list_of (lists_of index.now family) concept))) concepts.now) }
 {
     let Some(room) = near_first else {
         return kept_by_lists(alloc, index, family, concepts, set);
@@ -363,7 +363,7 @@ fn kept_in_room<S: ConceptSet>(
     requires whole { is_whole_of family ≡ true }
     requires own { own.now ≡ S.items_of set.now }
     requires below { All (λ concept. concept < S.bound_of set.now) concepts.now }
-    ensures { IfOk result (λ kept. kept.items ≡ filter (λ concept. not (list_any (has_item (S.items_of set.now)) (list_of (lists_of index.now family) concept))) concepts.now) }
+    ensures { IfOk result (λ kept. kept.items ≡ filter (λ concept. not (list_any (has (S.items_of set.now)) (list_of (lists_of index.now family) concept))) concepts.now) }
 {
     if items_of_lists(index, family, concepts, set.bound(), room) > room {
         let found = reached(alloc, snapshot, index, family.back(), set, own)?;
@@ -382,7 +382,7 @@ fn kept_by_lists<S: ConceptSet>(
 ) -> Result<Vec<u32>, AllocError>
     requires over { IsOver (S.bound_of set.now) index.now }
     requires below { All (λ concept. concept < S.bound_of set.now) concepts.now }
-    ensures { IfOk result (λ kept. kept.items ≡ filter (λ concept. not (list_any (has_item (S.items_of set.now)) (list_of (lists_of index.now family) concept))) concepts.now) }
+    ensures { IfOk result (λ kept. kept.items ≡ filter (λ concept. not (list_any (has (S.items_of set.now)) (list_of (lists_of index.now family) concept))) concepts.now) }
 {
     let mut kept = Vec::new(alloc);
     for concept in concepts {
@@ -399,7 +399,7 @@ fn kept_outside<S: ConceptSet>(
     concepts: &[u32],
     set: &S,
 ) -> Result<Vec<u32>, AllocError>
-    ensures { IfOk result (λ kept. kept.items ≡ filter (λ concept. not (has_item (S.items_of set.now) concept)) concepts.now) }
+    ensures { IfOk result (λ kept. kept.items ≡ filter (λ concept. not (has (S.items_of set.now) concept)) concepts.now) }
 {
     let mut kept = Vec::new(alloc);
     for concept in concepts {
@@ -412,7 +412,7 @@ fn kept_outside<S: ConceptSet>(
 
 /// Whether a set has one of the concepts of a list.
 pub fn meets<S: ConceptSet>(list: &[u32], set: &S) -> bool
-    ensures { result ≡ list_any (has_item (S.items_of set.now)) list.now }
+    ensures { result ≡ list_any (has (S.items_of set.now)) list.now }
 {
     list.iter().any(|concept| set.has(*concept))
 }

@@ -1,5 +1,5 @@
 -- The children of a concept that is done, one after another.
-use Rattle.std.proofs.Common.{ℕ, ◌+◌, ◌-◌, ◌==◌, ◌≡◌, ◌≢◌, ◌≤◌, ◌<◌, ◌↔◌, ◌++◌, ◌∷◌, [], ◌∙◌, ⊎_elim, cond, List, length, get_or, take, set, refl, arith, length-set, get_or-set_same, get_or-set_other}
+use Rattle.std.proofs.Common.{ℕ, ◌+◌, ◌-◌, ◌==◌, ◌≡◌, ◌≢◌, ◌≤◌, ◌<◌, ◌++◌, ◌∷◌, [], ◌∙◌, ⊎_elim, cond, List, length, get_or, take, set, refl, arith, length-set, get_or-set_same, get_or-set_other}
 use Rattle.std.specs.List.{IsDistinct}
 use Rattle.std.proofs.lemmas.Bool.{cases_eq}
 use Rattle.std.proofs.lemmas.List.{get_or_read}
@@ -7,7 +7,7 @@ use Rattle.std.proofs.lemmas.List.Sums.{sum_by_more}
 use Rattle.std.proofs.lemmas.Map.Keys.{IsDistinct-push}
 use Rattle.std.specs.Cmp.{nat_eq_equiv}
 use Rattle.number_lists.specs.Members.{times}
-use Rattle.number_lists.proofs.MemberLemmas.{had_not, members-push, times-own}
+use Rattle.number_lists.proofs.MemberLemmas.{any-has, had_not, members-push, times-own}
 use Rattle.hierarchy.specs.inside.Released.{IsReleased}
 use Rattle.std.proofs.lemmas.Grind.{common_steps}
 use Rattle.std.proofs.lemmas.Bool.Decides.{nat_tests}
@@ -47,7 +47,7 @@ release_next children i {before} {after} {added} {left} within below released en
         len = length-set after child (left - 1) ∙ released.len;
         less = less;
         once = IsDistinct-push nat_eq_equiv added child released.once
-            (had_not added child (λ there. absurd (omega (arith, waits, ((released.members child).0 there).1))));
+            (any-has added child ∙ had_not added child (λ there. absurd (omega (arith, waits, ((released.members child).0 there).1))));
         members = members-push (λ c. (0 < get_or before c 0) × (get_or (set after child (left - 1)) c 0 ≡ 0)) added child
             (omega (arith, released.less child, waits), get_or-set_same after child (left - 1) 0 below ∙ none) (λ c apart. grind (arith, get_or-set_other));
       }),

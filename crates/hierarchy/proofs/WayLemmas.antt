@@ -17,7 +17,7 @@ use Rattle.hierarchy.proofs.HierarchyLemmas.{chain_of_two}
 use Rattle.number_lists.proofs.ListLemmas.{contained_cases, first_contained, rest_contained}
 use Rattle.number_lists.proofs.KeyedLemmas.{items_of-append, length-lengths, length-lists_by, lengths, list_of-lists_by}
 use Rattle.hierarchy.proofs.OrderLemmas.{all_done, counted, open_all, open_count, open_less, some_open, times-children}
-use Rattle.number_lists.proofs.MemberLemmas.{contains_had, had_not, not_contained}
+use Rattle.number_lists.proofs.MemberLemmas.{any-has, contains_had, had_not, not_contained}
 
 -- the parents of a concept are those that its rows lead to
 pub items_of-contained : (rows : List (ℕ × ℕ)) (child parent : ℕ) → Contains rows (child, parent) → Contains (items_of rows child) parent
@@ -106,7 +106,7 @@ way_start {count} {rows} {waiting} {order} lengths_is parents_is same roots =
 module _ {count done : ℕ} {rows : List (ℕ × ℕ)} {waiting order : List ℕ} (way : OnWay count rows done waiting order) where
   -- the order is no longer than there are concepts
   pub order_fits : length order ≤ count
-  order_fits = length-le_from_distinct_below order count way.once (λ q told. ((way.members q).0 (contains_had order q told)).0)
+  order_fits = length-le_from_distinct_below order count way.once (λ q told. ((way.members q).0 (contains_had order q (sym (any-has order q) ∙ told))).0)
 
   -- what is not done yet is a concept, and each child waits for it as often as it is listed
   next_below : done < length order → get_or order done 0 < count
@@ -222,14 +222,14 @@ module _ {count done : ℕ} {rows : List (ℕ × ℕ)} {waiting order : List ℕ
       absurd (omega (
         arith,
         long,
-        length-le_from_distinct_below path count once (λ q told. (reach q (contains_had path q told)).0),
+        length-le_from_distinct_below path count once (λ q told. (reach q (contains_had path q (sym (any-has path q) ∙ told))).0),
       ))
   chain within full (suc steps) path concept long once reach near lost = ⊎_elim
       (λ (seen : has path concept ≡ true). (concept, near, (reach concept (contains_had path concept seen)).1))
       (λ (new : has path concept ≡ false).
       let next = stuck within full concept near lost in
       chain within full steps (path ++ concept ∷ []) next.0 (omega (arith, long, length-append path (concept ∷ [])))
-      (IsDistinct-push nat_eq_equiv path concept once new)
+      (IsDistinct-push nat_eq_equiv path concept once (any-has path concept ∙ new))
       (λ q there. ⊎_elim
       (λ (old : Contains path q). ((reach q old).0, chain_of_two (reach q old).1 (one_row next.1)))
       (λ (same : concept ≡ q). subst (λ (c : ℕ). (c < count) × Reaches rows c next.0) same (near, one_row next.1))

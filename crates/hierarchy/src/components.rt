@@ -18,13 +18,27 @@ pub fn component_ranks(
     requires few { length rows.now < 2 ^ 32 }
 {
     let up = KeyedLists::from_pairs(alloc, count, rows)?;
-    let down = up.turned(alloc, count)?;
     let finished = finish_order(alloc, &up, rows.len())?;
-    let mut ranks = vec![in alloc; u32::MAX; count as usize]?;
+    let down = up.turned(alloc, count)?;
+    drop(up);
+    let ranks = ranks_behind(alloc, finished.as_slice(), &down, count)?;
+    Ok(ranks)
+}
+
+// The ranks, where the search upwards is done with the concepts in this order.
+fn ranks_behind(
+    alloc: Global,
+    finished: &[u32],
+    down: &KeyedLists,
+    count: u32,
+) -> Result<Vec<u32>, AllocError>
+    requires { length down.now < 2 ^ 32 }
+{
     let mut stack = Vec::new(alloc);
+    let mut ranks = vec![in alloc; u32::MAX; count as usize]?;
     for (rank, root) in finished.iter().rev().enumerate() {
         let rank = u32::try_from(rank).unwrap_or(u32::MAX);
-        flood(&mut ranks, &mut stack, &down, *root, rank)?;
+        flood(&mut ranks, &mut stack, down, *root, rank)?;
     }
     Ok(ranks)
 }

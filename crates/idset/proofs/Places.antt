@@ -5,10 +5,10 @@ use Rattle.std.proofs.lemmas.Bool.{lt-ltb, le-ltb, eq-eqb, ne_eqb, ltb-true, cas
 use Rattle.std.proofs.lemmas.List.Elements.{filter_more}
 use Rattle.std.proofs.lemmas.List.Sums.{prefix_len-le-length, prefix_len_passes, prefix_len_stops}
 use Rattle.std.proofs.lemmas.List.Folds.{list_any_at}
-use Rattle.number_lists.specs.Members.{has_item}
+use Rattle.number_lists.specs.Members.{has}
 use Rattle.number_lists.specs.Rising.{rises_within, IsRising, IsRisingBelow}
 use Rattle.idset.specs.Sets.{place_of}
-use Rattle.number_lists.proofs.RisingLemmas.{get_or-rising, has_item-below_lowest, rises_from_on, rises_on}
+use Rattle.number_lists.proofs.RisingLemmas.{get_or-rising, has-below_lowest, rises_from_on, rises_on}
 
 pub place_le : (items : List ℕ) (n : ℕ) → place_of items n ≤ length items
 place_le items n = prefix_len-le-length (λ item. ltb item n) items
@@ -89,53 +89,53 @@ drop_place-rising lowest bound (item ∷ items) n rises =
     ]
 
 -- and has the members that are not below the number
-pub has_item-drop_place : (items : List ℕ) (n m : ℕ) → n ≤ m → has_item (drop (place_of items n) items) m ≡ has_item items m
-has_item-drop_place [] n m le = refl
-has_item-drop_place (item ∷ items) n m le =
+pub has-drop_place : (items : List ℕ) (n m : ℕ) → n ≤ m → has (drop (place_of items n) items) m ≡ has items m
+has-drop_place [] n m le = refl
+has-drop_place (item ∷ items) n m le =
     elim (cases_lt item n) [
       | inl lt ↦
           let apart : eqb item m ≡ false = ne_eqb item m (λ e. omega arith) in
-          (λ i. has_item (drop (place-cons_below item items n lt i) (item ∷ items)) m)
-          ∙ has_item-drop_place items n m le ∙ sym (λ i. apart i || has_item items m)
-      | inr ge ↦ (λ i. has_item (drop (place-cons_here item items n ge i) (item ∷ items)) m)
+          (λ i. has (drop (place-cons_below item items n lt i) (item ∷ items)) m)
+          ∙ has-drop_place items n m le ∙ sym (λ i. apart i || has items m)
+      | inr ge ↦ (λ i. has (drop (place-cons_here item items n ge i) (item ∷ items)) m)
     ]
 
 -- an item of the list is in it
-pub has_item-get_or : (items : List ℕ) (k : ℕ) → k < length items → has_item items (get_or items k 0) ≡ true
-has_item-get_or items k in' = list_any_at (λ item. eqb item (get_or items k 0)) items k 0 in' (eq-eqb (get_or items k 0) (get_or items k 0) refl)
+pub has-get_or : (items : List ℕ) (k : ℕ) → k < length items → has items (get_or items k 0) ≡ true
+has-get_or items k in' = list_any_at (λ item. eqb item (get_or items k 0)) items k 0 in' (eq-eqb (get_or items k 0) (get_or items k 0) refl)
 
 -- between a number and the item at its place there is none
 pub none_between : (bound : ℕ) (items : List ℕ) (n m : ℕ) → IsRisingBelow bound items → n ≤ m
-    → (place_of items n < length items → m < get_or items (place_of items n) 0) → has_item items m ≡ false
+    → (place_of items n < length items → m < get_or items (place_of items n) 0) → has items m ≡ false
 none_between bound items n m rises le before =
-    sym (has_item-drop_place items n m le) ∙ none_in 0 bound items n m rises le before
+    sym (has-drop_place items n m le) ∙ none_in 0 bound items n m rises le before
   where
     none_in : (lowest bound : ℕ) (items : List ℕ) (n m : ℕ) → rises_within lowest bound items ≡ true → n ≤ m
         → (place_of items n < length items → m < get_or items (place_of items n) 0)
-        → has_item (drop (place_of items n) items) m ≡ false
+        → has (drop (place_of items n) items) m ≡ false
     none_in lowest bound [] n m rises le before = refl
     none_in lowest bound (item ∷ items) n m rises le before =
         let on = rises_on lowest bound item items rises in
         elim (cases_lt item n) [
           | inl lt ↦
               let step = place-cons_below item items n lt in
-              (λ i. has_item (drop (step i) (item ∷ items)) m)
+              (λ i. has (drop (step i) (item ∷ items)) m)
               ∙ none_in (suc item) bound items n m on.rest le (λ in'. subst (λ (p : ℕ). m < get_or (item ∷ items) p 0) step (before (omega (arith, step))))
           | inr ge ↦
               let step = place-cons_here item items n ge in
               let above : m < item = subst (λ (p : ℕ). m < get_or (item ∷ items) p 0) step (before (omega (arith, step))) in
-              (λ i. has_item (drop (step i) (item ∷ items)) m)
-              ∙ has_item-below_lowest item bound (item ∷ items) m
+              (λ i. has (drop (step i) (item ∷ items)) m)
+              ∙ has-below_lowest item bound (item ∷ items) m
               (rises_from_on item bound item items (omega arith) on.below on.rest) above
         ]
 
 -- a number is in the list if it stands at its place
-pub has_item-place : (bound : ℕ) (items : List ℕ) (n : ℕ) → IsRisingBelow bound items
-    → has_item items n ≡ (ltb (place_of items n) (length items) && eqb (get_or items (place_of items n) 0) n)
-has_item-place bound items n rises =
+pub has-place : (bound : ℕ) (items : List ℕ) (n : ℕ) → IsRisingBelow bound items
+    → has items n ≡ (ltb (place_of items n) (length items) && eqb (get_or items (place_of items n) 0) n)
+has-place bound items n rises =
     elim (cases_lt (place_of items n) (length items)) [
       | inl lt ↦ (elim (cases_eq (get_or items (place_of items n) 0) n) [
-        | inl same ↦ subst (λ (m : ℕ). has_item items m ≡ true) same (has_item-get_or items (place_of items n) lt)
+        | inl same ↦ subst (λ (m : ℕ). has items m ≡ true) same (has-get_or items (place_of items n) lt)
             ∙ sym (eq-eqb (get_or items (place_of items n) 0) n same)
         | inr apart ↦ none_between bound items n n rises (omega arith) (λ _. omega (arith, at_place items n lt))
             ∙ sym (ne_eqb (get_or items (place_of items n) 0) n apart)
@@ -145,17 +145,17 @@ has_item-place bound items n rises =
     ]
 
 -- the two answers of the test, by the place
-pub has_item-here : (items : List ℕ) (n p : ℕ) → IsRising items → p ≡ place_of items n → p < length items → eqb (get_or items p 0) n ≡ has_item items n
-has_item-here items n p rises is lt =
+pub has-here : (items : List ℕ) (n p : ℕ) → IsRising items → p ≡ place_of items n → p < length items → eqb (get_or items p 0) n ≡ has items n
+has-here items n p rises is lt =
     let here : place_of items n < length items = omega arith in
     (λ i. eqb (get_or items (is i) 0) n)
-    ∙ sym (has_item-place (2 ^ 32) items n rises
+    ∙ sym (has-place (2 ^ 32) items n rises
     ∙ (λ i. lt-ltb (place_of items n) (length items) here i && eqb (get_or items (place_of items n) 0) n))
 
-pub has_item-gone : (items : List ℕ) (n p : ℕ) → IsRising items → p ≡ place_of items n → length items ≤ p → false ≡ has_item items n
-has_item-gone items n p rises is ge =
+pub has-gone : (items : List ℕ) (n p : ℕ) → IsRising items → p ≡ place_of items n → length items ≤ p → false ≡ has items n
+has-gone items n p rises is ge =
     let here : length items ≤ place_of items n = omega arith in
-    sym (has_item-place (2 ^ 32) items n rises ∙ (λ i. le-ltb (place_of items n) (length items) here i && eqb (get_or items (place_of items n) 0) n))
+    sym (has-place (2 ^ 32) items n rises ∙ (λ i. le-ltb (place_of items n) (length items) here i && eqb (get_or items (place_of items n) 0) n))
 
 -- what a reading of an item tells of the place
 pub read_below : (items : List ℕ) (n k : ℕ) → IsRising items → k < length items → get_or items k 0 < n → suc k ≤ place_of items n
@@ -167,7 +167,7 @@ read_reached items n k le here = omega (arith, place_at_most items n k here)
 pub read_all : (items : List ℕ) (n k : ℕ) → k ≤ place_of items n → length items ≤ k → k ≡ place_of items n
 read_all items n k le past = omega (arith, place_le items n)
 
-pub ruleset readings = (read_below, read_reached, read_all, place_le, place_at_most, has_item-here, has_item-gone)
+pub ruleset readings = (read_below, read_reached, read_all, place_le, place_at_most, has-here, has-gone)
 
 -- ---- a step of a loop over a rising list that looks each item up in another
 pub filter_step : (p : ℕ → Bool) (items out next : List ℕ) (i : ℕ) (kept : Bool) → i < length items

@@ -2,26 +2,26 @@
 use Rattle.std.proofs.Common.{ℕ, ◌≡◌, Bool, true, false, not, ◌&&◌, List, refl, sym, ◌∙◌}
 use Rattle.idset.specs.Sets.{common_items, other_items}
 use Rattle.idset.proofs.Normal.{common_items-numbers_where}
-use Rattle.number_lists.specs.Members.{has_item}
+use Rattle.number_lists.specs.Members.{has}
 use Rattle.number_lists.specs.Rising.{IsRisingBelow}
 use Rattle.number_lists.proofs.RisingLemmas.{numbers_where-rising, range_rising, rises_within-filter, rising_fits, rising_is_numbers_where}
 use Rattle.number_lists.proofs.WhereLemmas.{numbers_where-agree}
 
 -- the operations keep the rule
 pub common_items-rising : (bound : ℕ) (xs ys : List ℕ) → IsRisingBelow bound xs → IsRisingBelow bound (common_items xs ys)
-common_items-rising bound xs ys rises = rises_within-filter 0 bound (has_item ys) xs rises
+common_items-rising bound xs ys rises = rises_within-filter 0 bound (has ys) xs rises
 
 pub other_items-rising : (bound : ℕ) (xs ys : List ℕ) → IsRisingBelow bound xs → IsRisingBelow bound (other_items xs ys)
-other_items-rising bound xs ys rises = rises_within-filter 0 bound (λ n. not (has_item ys n)) xs rises
+other_items-rising bound xs ys rises = rises_within-filter 0 bound (λ n. not (has ys n)) xs rises
 
 -- what is common to two rising lists is so in either order
 pub common_items-swap : (bound : ℕ) (xs ys : List ℕ) → IsRisingBelow bound xs → IsRisingBelow bound ys → common_items xs ys ≡ common_items ys xs
 common_items-swap bound xs ys rises-x rises-y =
     let of-x = rising_is_numbers_where bound xs rises-x in
     let of-y = rising_is_numbers_where bound ys rises-y in
-    (λ i. common_items (of-x i) (of-y i)) ∙ common_items-numbers_where bound (has_item xs) (has_item ys)
-    ∙ numbers_where-agree bound (λ n. has_item xs n && has_item ys n) (λ n. has_item ys n && has_item xs n) (λ n _. and_swap (has_item xs n) (has_item ys n))
-    ∙ sym (common_items-numbers_where bound (has_item ys) (has_item xs)) ∙ sym (λ i. common_items (of-y i) (of-x i))
+    (λ i. common_items (of-x i) (of-y i)) ∙ common_items-numbers_where bound (has xs) (has ys)
+    ∙ numbers_where-agree bound (λ n. has xs n && has ys n) (λ n. has ys n && has xs n) (λ n _. and_swap (has xs n) (has ys n))
+    ∙ sym (common_items-numbers_where bound (has ys) (has xs)) ∙ sym (λ i. common_items (of-y i) (of-x i))
   where
     and_swap : (a b : Bool) → (a && b) ≡ (b && a)
     and_swap true true = refl

@@ -7,12 +7,12 @@ use Rattle.std.specs.Simd.Lanes.{zip2}
 use Rattle.std.proofs.lemmas.Bool.{lt-ltb, cases_lt}
 use Rattle.std.proofs.lemmas.List.{get_or_default}
 use Rattle.idset.specs.Sets.{all_items, common_items, other_items}
-use Rattle.number_lists.specs.Members.{has_item}
+use Rattle.number_lists.specs.Members.{has}
 use Rattle.number_lists.specs.Rising.{IsRisingBelow, numbers_where}
 use Rattle.idset.specs.Words.{AreWordsBelow, bit_minus, is_set, MarkedBelow}
 use Rattle.idset.proofs.Bits.{and_words_below, and_words_items, minus_words_below, minus_words_items, or_words_below, or_words_items}
-use Rattle.number_lists.proofs.WhereLemmas.{filter-numbers_where, has_item-numbers_where, has_item-numbers_where_past, numbers_where-agree, numbers_where-all}
-use Rattle.number_lists.proofs.RisingLemmas.{get_or-below, has_item-past_bound, numbers_where-rising, rising_is_numbers_where}
+use Rattle.number_lists.proofs.WhereLemmas.{filter-numbers_where, has-numbers_where, has-numbers_where_past, numbers_where-agree, numbers_where-all}
+use Rattle.number_lists.proofs.RisingLemmas.{get_or-below, has-past_bound, numbers_where-rising, rising_is_numbers_where}
 
 -- words of a set with the same bound
 pub below_too : (bound other_bound : ℕ) (words : List ℕ) → bound ≡ other_bound → AreWordsBelow other_bound words → AreWordsBelow bound words
@@ -68,9 +68,9 @@ pub items_below : (bound : ℕ) (items : List ℕ) → IsRisingBelow bound items
 items_below bound items rises k d in' = subst (λ (item : ℕ). item < bound) (get_or_default items k 0 d in') (get_or-below 0 bound items k rises in')
 
 pub marked_items : (bound : ℕ) (words items : List ℕ) → IsRisingBelow bound items
-    → MarkedBelow bound words (has_item items) → numbers_where bound (is_set words) ≡ items
+    → MarkedBelow bound words (has items) → numbers_where bound (is_set words) ≡ items
 marked_items bound words items rises marked =
-    numbers_where-agree bound (is_set words) (has_item items) (λ n _. marked.marked n) ∙ sym (rising_is_numbers_where bound items rises)
+    numbers_where-agree bound (is_set words) (has items) (λ n _. marked.marked n) ∙ sym (rising_is_numbers_where bound items rises)
 
 pub marked_numbers : (bound : ℕ) (words : List ℕ) (test : ℕ → Bool) → MarkedBelow bound words test
     → numbers_where bound (is_set words) ≡ numbers_where bound test
@@ -82,33 +82,33 @@ marked_every bound words marked =
 
 -- marks added to those of a set
 pub holds_more : (bound : ℕ) (words made items : List ℕ) → AreWordsBelow bound words → IsRisingBelow bound items
-    → length made ≡ length words → ((n : ℕ) → is_set made n ≡ (is_set words n || has_item items n))
+    → length made ≡ length words → ((n : ℕ) → is_set made n ≡ (is_set words n || has items n))
     → Holds bound made (all_items bound (numbers_where bound (is_set words)) items)
 holds_more bound words made items below rises long marked = record {
-  held = record { enough = long ∙ below.enough; clear = λ n past. marked n ∙ (λ i. below.clear n past i || has_item-past_bound 0 bound items n rises past i) };
+  held = record { enough = long ∙ below.enough; clear = λ n past. marked n ∙ (λ i. below.clear n past i || has-past_bound 0 bound items n rises past i) };
   rising = numbers_where-rising bound (is_set made);
   items = numbers_where-agree bound (is_set made)
-      (λ n. has_item (numbers_where bound (is_set words)) n || has_item items n)
-      (λ n lt. marked n ∙ (λ i. sym (has_item-numbers_where bound (is_set words) n lt) i || has_item items n));
+      (λ n. has (numbers_where bound (is_set words)) n || has items n)
+      (λ n lt. marked n ∙ (λ i. sym (has-numbers_where bound (is_set words) n lt) i || has items n));
 }
 
 -- a set has the numbers whose bit is set
-pub has_marked : (bound : ℕ) (words : List ℕ) (n : ℕ) → AreWordsBelow bound words → is_set words n ≡ has_item (numbers_where bound (is_set words)) n
+pub has_marked : (bound : ℕ) (words : List ℕ) (n : ℕ) → AreWordsBelow bound words → is_set words n ≡ has (numbers_where bound (is_set words)) n
 has_marked bound words n below =
     elim (cases_lt n bound) [
-      | inl lt ↦ sym (has_item-numbers_where bound (is_set words) n lt)
-      | inr past ↦ below.clear n past ∙ sym (has_item-numbers_where_past bound (is_set words) n past)
+      | inl lt ↦ sym (has-numbers_where bound (is_set words) n lt)
+      | inr past ↦ below.clear n past ∙ sym (has-numbers_where_past bound (is_set words) n past)
     ]
 
 -- marks taken from those of a set
 pub holds_less : (bound : ℕ) (words made items : List ℕ) → AreWordsBelow bound words → IsRisingBelow bound items
-    → length made ≡ length words → ((n : ℕ) → is_set made n ≡ (is_set words n && not (has_item items n)))
+    → length made ≡ length words → ((n : ℕ) → is_set made n ≡ (is_set words n && not (has items n)))
     → Holds bound made (other_items (numbers_where bound (is_set words)) items)
 holds_less bound words made items below rises long marked = record {
-  held = record { enough = long ∙ below.enough; clear = λ n past. marked n ∙ (λ i. below.clear n past i && not (has_item items n)) };
+  held = record { enough = long ∙ below.enough; clear = λ n past. marked n ∙ (λ i. below.clear n past i && not (has items n)) };
   rising = numbers_where-rising bound (is_set made);
-  items = numbers_where-agree bound (is_set made) (λ n. is_set words n && not (has_item items n)) (λ n _. marked n)
-      ∙ sym (filter-numbers_where bound (is_set words) (λ n. not (has_item items n)));
+  items = numbers_where-agree bound (is_set made) (λ n. is_set words n && not (has items n)) (λ n _. marked n)
+      ∙ sym (filter-numbers_where bound (is_set words) (λ n. not (has items n)));
 }
 
 -- the items of a list that are marked, and those that are not
@@ -123,13 +123,13 @@ beq_false false = refl
 pub kept_common : (bound : ℕ) (words items own kept : List ℕ) → AreWordsBelow bound words → items ≡ own
     → kept ≡ filter (λ n. beq (is_set words n) true) items → kept ≡ common_items own (numbers_where bound (is_set words))
 kept_common bound words items own kept below same is =
-    is ∙ filter_agree (λ n. beq (is_set words n) true) (has_item (numbers_where bound (is_set words)))
+    is ∙ filter_agree (λ n. beq (is_set words n) true) (has (numbers_where bound (is_set words)))
     (λ n. beq_true (is_set words n) ∙ has_marked bound words n below) items
-    ∙ ap (filter (has_item (numbers_where bound (is_set words)))) same
+    ∙ ap (filter (has (numbers_where bound (is_set words)))) same
 
 pub kept_other : (bound : ℕ) (words items own kept : List ℕ) → AreWordsBelow bound words → items ≡ own
     → kept ≡ filter (λ n. beq (is_set words n) false) items → kept ≡ other_items own (numbers_where bound (is_set words))
 kept_other bound words items own kept below same is =
-    is ∙ filter_agree (λ n. beq (is_set words n) false) (λ n. not (has_item (numbers_where bound (is_set words)) n))
+    is ∙ filter_agree (λ n. beq (is_set words n) false) (λ n. not (has (numbers_where bound (is_set words)) n))
     (λ n. beq_false (is_set words n) ∙ ap not (has_marked bound words n below)) items
-    ∙ ap (filter (λ n. not (has_item (numbers_where bound (is_set words)) n))) same
+    ∙ ap (filter (λ n. not (has (numbers_where bound (is_set words)) n))) same

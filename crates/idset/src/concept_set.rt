@@ -2,7 +2,7 @@
 ghost use Rattle.std.specs.Prelude.{◌≡◌, ◌<◌, ◌^◌, ℕ, List, All, IfOk, length, OnErr, OnOk};
 ghost use Rattle.std.specs.List.{range_with_len};
 ghost use Rattle.idset.specs.Sets.{all_items, common_items, missing_numbers, other_items};
-ghost use Rattle.number_lists.specs.Members.{has_item};
+ghost use Rattle.number_lists.specs.Members.{has};
 ghost use Rattle.number_lists.specs.Rising.{IsRisingBelow, listed_numbers, numbers_where};
 ghost use Rattle.idset.specs.Words.{AreWordsBelow, is_set};
 
@@ -98,7 +98,7 @@ pub trait ConceptSet: Drop {
 
     /// Whether a number is in the set; one that is not below the bound is not.
     fn has(&self, number: u32) -> bool
-        ensures { result ≡ has_item (items_of self.now) number };
+        ensures { result ≡ has (items_of self.now) number };
 
     /// How many items there are, which is the bound at the most.
     fn count(&self) -> u32

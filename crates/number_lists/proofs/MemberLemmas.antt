@@ -1,22 +1,28 @@
 -- Numbers in a list: whether, and how often.
-use Rattle.std.proofs.Common.{ℕ, zero, suc, ◌+◌, ◌==◌, ◌≡◌, ◌≢◌, ◌<◌, ◌↔◌, ◌++◌, ◌∷◌, [], ◌∙◌, ◌||◌, ⊎_elim, true, false, inl, inr}
-use Rattle.std.proofs.Common.{cond, List, length, get_or, take, refl, sym, arith, Contains, eq-eqb, eqb-true}
+use Rattle.std.proofs.Common.{ℕ, zero, suc, ◌+◌, ◌==◌, ◌≡◌, ◌≢◌, ◌<◌, ◌↔◌, ◌++◌, ◌∷◌, [], ◌||◌, ⊎_elim, true, false}
+use Rattle.std.proofs.Common.{cond, List, length, get_or, take, nat_eq, refl, arith, Contains, eq-eqb, eqb-true}
 use Rattle.std.specs.Cmp.{nat_eq_equiv}
-use Rattle.std.proofs.lemmas.Bool.{cases_eq, cases_Bool, ne_eqb, or_cases, or_left, or_right}
+use Rattle.std.specs.List.{list_any}
+use Rattle.std.proofs.lemmas.Bool.{cases_eq, cases_Bool, or_cases, or_left, or_right}
 use Rattle.std.proofs.lemmas.Bool.Decides.{nat_tests}
 use Rattle.std.proofs.lemmas.Grind.{common_steps}
 use Rattle.std.proofs.lemmas.List.Elements.{Contains-append_right}
 use Rattle.std.proofs.lemmas.List.Folds.{list_any-append}
 use Rattle.std.proofs.lemmas.List.Sums.{sum_by-append, count_by_more_yes}
-use Rattle.std.proofs.lemmas.Map.Views.{Contains-from_any, list_any-from_Contains}
-use Rattle.number_lists.specs.Members.{has, has_item, times}
+use Rattle.number_lists.specs.Members.{has, times}
 
 -- what a list has is in it, and the other way round
 pub contains_had : (xs : List ℕ) (x : ℕ) → has xs x ≡ true → Contains xs x
-contains_had xs x had = Contains-from_any eqb-true x xs had
+contains_had [] x told = absurd (cc)
+contains_had (y ∷ xs) x told = ⊎_elim
+    (λ (same : (y == x) ≡ true). (0, omega arith, eqb-true y x same))
+    (λ (rest : has xs x ≡ true). Contains-append_right (y ∷ []) xs x (contains_had xs x rest))
+    (or_cases (y == x) (has xs x) told)
 
 pub had_contained : (xs : List ℕ) (x : ℕ) → Contains xs x → has xs x ≡ true
-had_contained xs x there = list_any-from_Contains nat_eq_equiv x xs there
+had_contained [] x there = absurd (omega (arith, there.1))
+had_contained (y ∷ xs) x (zero, within, is) = or_left (y == x) (has xs x) (eq-eqb y x is)
+had_contained (y ∷ xs) x (suc k, within, is) = or_right (y == x) (has xs x) (had_contained xs x (k, omega arith, is))
 
 pub had_not : (xs : List ℕ) (x : ℕ) → (Contains xs x → ⊥) → has xs x ≡ false
 had_not xs x none = ⊎_elim (λ (had : has xs x ≡ true). absurd (none (contains_had xs x had))) (λ (told : has xs x ≡ false). told) (cases_Bool (has xs x))
@@ -24,33 +30,14 @@ had_not xs x none = ⊎_elim (λ (had : has xs x ≡ true). absurd (none (contai
 pub not_contained : (xs : List ℕ) (x : ℕ) → has xs x ≡ false → Contains xs x → ⊥
 not_contained xs x told there = absurd (cc (told, had_contained xs x there))
 
--- the same of the test with its sides the other way round
-pub item_there : (xs : List ℕ) (x : ℕ) → has_item xs x ≡ true → Contains xs x
-item_there [] x told = absurd (cc)
-item_there (y ∷ xs) x told = ⊎_elim
-    (λ (same : (y == x) ≡ true). (0, omega arith, eqb-true y x same))
-    (λ (rest : has_item xs x ≡ true). Contains-append_right (y ∷ []) xs x (item_there xs x rest))
-    (or_cases (y == x) (has_item xs x) told)
-
-pub there_item : (xs : List ℕ) (x : ℕ) → Contains xs x → has_item xs x ≡ true
-there_item [] x there = absurd (omega (arith, there.1))
-there_item (y ∷ xs) x (zero, within, is) = or_left (y == x) (has_item xs x) (eq-eqb y x is)
-there_item (y ∷ xs) x (suc k, within, is) = or_right (y == x) (has_item xs x) (there_item xs x (k, omega arith, is))
-
--- the two tests of being in a list are the same
-pub has_item-has : (xs : List ℕ) (n : ℕ) → has_item xs n ≡ has xs n
-has_item-has [] n = refl
-has_item-has (x ∷ xs) n = λ i. swapped i || has_item-has xs n i
-  where
-    swapped : (x == n) ≡ (n == x)
-    swapped = elim (cases_eq x n) [
-      | inl same ↦ eq-eqb x n same ∙ sym (eq-eqb n x (sym same))
-      | inr apart ↦ ne_eqb x n apart ∙ sym (ne_eqb n x (λ same. apart (sym same)))
-    ]
+-- a list has a number where std's test, which has the sides of each comparison the other way round, finds it there
+pub any-has : (xs : List ℕ) (n : ℕ) → list_any (nat_eq n) xs ≡ has xs n
+any-has [] n = refl
+any-has (x ∷ xs) n = λ i. nat_eq_equiv.symm n x i || any-has xs n i
 
 -- an item of joined lists is an item of one
-pub has_item-append : (xs ys : List ℕ) (x : ℕ) → has_item (xs ++ ys) x ≡ (has_item xs x || has_item ys x)
-has_item-append xs ys x = list_any-append (λ y. y == x) xs ys
+pub has-append : (xs ys : List ℕ) (x : ℕ) → has (xs ++ ys) x ≡ (has xs x || has ys x)
+has-append xs ys x = list_any-append (λ y. y == x) xs ys
 
 -- ---- how often
 pub times-append : (number : ℕ) (xs ys : List ℕ) → times number (xs ++ ys) ≡ times number xs + times number ys

@@ -5,9 +5,9 @@ use Rattle.std.specs.Prelude.{All}
 use Rattle.std.specs.List.{range_with_len, filter}
 use Rattle.std.proofs.lemmas.Bool.{lt-ltb, le-leb, eq-eqb, ne_eqb, ltb-true, leb-true, eqb-true, and_parts, and_from, cases_lt, or_cases, false≢true}
 use Rattle.std.proofs.lemmas.List.{get_or_default}
-use Rattle.number_lists.specs.Members.{has_item}
+use Rattle.number_lists.specs.Members.{has}
 use Rattle.number_lists.specs.Rising.{rises_within, IsRising, IsRisingBelow, numbers_where}
-use Rattle.number_lists.proofs.WhereLemmas.{has_item-numbers_where, has_item-numbers_where_past, numbers_where-agree}
+use Rattle.number_lists.proofs.WhereLemmas.{has-numbers_where, has-numbers_where_past, numbers_where-agree}
 
 -- what a rising list that is not empty says of its first item and of the rest
 pub record RisesOn (lowest bound item : ℕ) (items : List ℕ) : Type 0 where
@@ -37,41 +37,41 @@ rises_within-wider lowest bound lower higher (item ∷ items) le le' rises =
     (rises_within-wider (suc item) bound (suc item) higher items (omega arith) le' on.rest)
 
 -- nothing below the lowest, and nothing from the bound on
-pub has_item-below_lowest : (lowest bound : ℕ) (items : List ℕ) (n : ℕ) → rises_within lowest bound items ≡ true → n < lowest → has_item items n ≡ false
-has_item-below_lowest lowest bound [] n rises below = refl
-has_item-below_lowest lowest bound (item ∷ items) n rises below =
+pub has-below_lowest : (lowest bound : ℕ) (items : List ℕ) (n : ℕ) → rises_within lowest bound items ≡ true → n < lowest → has items n ≡ false
+has-below_lowest lowest bound [] n rises below = refl
+has-below_lowest lowest bound (item ∷ items) n rises below =
     let on = rises_on lowest bound item items rises in
     let apart : eqb item n ≡ false = ne_eqb item n (λ e. omega (arith, on.above)) in
-    (λ i. apart i || has_item-below_lowest (suc item) bound items n on.rest (omega (arith, on.above)) i)
+    (λ i. apart i || has-below_lowest (suc item) bound items n on.rest (omega (arith, on.above)) i)
 
-pub has_item-past_bound : (lowest bound : ℕ) (items : List ℕ) (n : ℕ) → rises_within lowest bound items ≡ true → bound ≤ n → has_item items n ≡ false
-has_item-past_bound lowest bound [] n rises past = refl
-has_item-past_bound lowest bound (item ∷ items) n rises past =
+pub has-past_bound : (lowest bound : ℕ) (items : List ℕ) (n : ℕ) → rises_within lowest bound items ≡ true → bound ≤ n → has items n ≡ false
+has-past_bound lowest bound [] n rises past = refl
+has-past_bound lowest bound (item ∷ items) n rises past =
     let on = rises_on lowest bound item items rises in
     let apart : eqb item n ≡ false = ne_eqb item n (λ e. omega (arith, on.below)) in
-    (λ i. apart i || has_item-past_bound (suc item) bound items n on.rest past i)
+    (λ i. apart i || has-past_bound (suc item) bound items n on.rest past i)
 
 -- an item is not below the lowest
-lowest_le : (lowest bound : ℕ) (items : List ℕ) (n : ℕ) → rises_within lowest bound items ≡ true → has_item items n ≡ true → lowest ≤ n
-lowest_le lowest bound items n rises has =
-    elim (cases_lt n lowest) [ inl below ↦ absurd (false≢true (sym (has_item-below_lowest lowest bound items n rises below) ∙ has)) | inr above ↦ above ]
+lowest_le : (lowest bound : ℕ) (items : List ℕ) (n : ℕ) → rises_within lowest bound items ≡ true → has items n ≡ true → lowest ≤ n
+lowest_le lowest bound items n rises there =
+    elim (cases_lt n lowest) [ inl below ↦ absurd (false≢true (sym (has-below_lowest lowest bound items n rises below) ∙ there)) | inr above ↦ above ]
 
 eqb-same : (n : ℕ) → eqb n n ≡ true
 eqb-same n = eq-eqb n n refl
 
-first_le : (lowest bound x y : ℕ) (xs ys : List ℕ) → rises_within lowest bound (y ∷ ys) ≡ true → has_item (x ∷ xs) x ≡ has_item (y ∷ ys) x → y ≤ x
+first_le : (lowest bound x y : ℕ) (xs ys : List ℕ) → rises_within lowest bound (y ∷ ys) ≡ true → has (x ∷ xs) x ≡ has (y ∷ ys) x → y ≤ x
 first_le lowest bound x y xs ys rises same =
     let on = rises_on lowest bound y ys rises in
-    let has : has_item (y ∷ ys) x ≡ true = sym same ∙ (λ i. eqb-same x i || has_item xs x) in
-    elim (or_cases (eqb y x) (has_item ys x) has)
+    let there : has (y ∷ ys) x ≡ true = sym same ∙ (λ i. eqb-same x i || has xs x) in
+    elim (or_cases (eqb y x) (has ys x) there)
     [ inl here ↦ omega (arith, eqb-true y x here) | inr later ↦ omega (arith, lowest_le (suc y) bound ys x on.rest later) ]
 
 -- two rising lists with the same members are one list
 pub same_rising : (lowest bound : ℕ) (xs ys : List ℕ) → rises_within lowest bound xs ≡ true
-    → rises_within lowest bound ys ≡ true → ((n : ℕ) → has_item xs n ≡ has_item ys n) → xs ≡ ys
+    → rises_within lowest bound ys ≡ true → ((n : ℕ) → has xs n ≡ has ys n) → xs ≡ ys
 same_rising lowest bound [] [] rises-x rises-y same = refl
-same_rising lowest bound [] (y ∷ ys) rises-x rises-y same = absurd (false≢true (same y ∙ (λ i. eqb-same y i || has_item ys y)))
-same_rising lowest bound (x ∷ xs) [] rises-x rises-y same = absurd (false≢true (sym (same x) ∙ (λ i. eqb-same x i || has_item xs x)))
+same_rising lowest bound [] (y ∷ ys) rises-x rises-y same = absurd (false≢true (same y ∙ (λ i. eqb-same y i || has ys y)))
+same_rising lowest bound (x ∷ xs) [] rises-x rises-y same = absurd (false≢true (sym (same x) ∙ (λ i. eqb-same x i || has xs x)))
 same_rising lowest bound (x ∷ xs) (y ∷ ys) rises-x rises-y same =
     let on-x = rises_on lowest bound x xs rises-x in
     let on-y = rises_on lowest bound y ys rises-y in
@@ -81,14 +81,14 @@ same_rising lowest bound (x ∷ xs) (y ∷ ys) rises-x rises-y same =
     (λ i. first i ∷ rest i)
   where
     rest_same : (lowest bound x y : ℕ) (xs ys : List ℕ) (n : ℕ) → x ≡ y → rises_within (suc x) bound xs ≡ true
-        → rises_within (suc x) bound ys ≡ true → has_item (x ∷ xs) n ≡ has_item (y ∷ ys) n → has_item xs n ≡ has_item ys n
+        → rises_within (suc x) bound ys ≡ true → has (x ∷ xs) n ≡ has (y ∷ ys) n → has xs n ≡ has ys n
     rest_same lowest bound x y xs ys n first rises-x rises-y same =
         elim (cases_lt x n) [
           | inl above ↦
               let not-x : eqb x n ≡ false = ne_eqb x n (λ e. omega arith) in
               let not-y : eqb y n ≡ false = ne_eqb y n (λ e. omega arith) in
-              sym (λ i. not-x i || has_item xs n) ∙ same ∙ (λ i. not-y i || has_item ys n)
-          | inr below ↦ has_item-below_lowest (suc x) bound xs n rises-x (omega arith) ∙ sym (has_item-below_lowest (suc x) bound ys n rises-y (omega arith))
+              sym (λ i. not-x i || has xs n) ∙ same ∙ (λ i. not-y i || has ys n)
+          | inr below ↦ has-below_lowest (suc x) bound xs n rises-x (omega arith) ∙ sym (has-below_lowest (suc x) bound ys n rises-y (omega arith))
         ]
 
 -- any filter of a rising list rises
@@ -113,18 +113,18 @@ pub numbers_where-rising : (bound : ℕ) (p : ℕ → Bool) → IsRisingBelow bo
 numbers_where-rising bound p = rises_within-filter 0 bound p (range_with_len 0 bound) (rises_within-range 0 bound 0 bound (omega arith) (omega arith))
 
 -- a rising list is what passes the test of being in it
-pub rising_is_numbers_where : (bound : ℕ) (items : List ℕ) → IsRisingBelow bound items → items ≡ numbers_where bound (has_item items)
+pub rising_is_numbers_where : (bound : ℕ) (items : List ℕ) → IsRisingBelow bound items → items ≡ numbers_where bound (has items)
 rising_is_numbers_where bound items rises =
-    same_rising 0 bound items (numbers_where bound (has_item items)) rises (numbers_where-rising bound (has_item items)) (λ n.
+    same_rising 0 bound items (numbers_where bound (has items)) rises (numbers_where-rising bound (has items)) (λ n.
     elim (cases_lt n bound) [
-      | inl below ↦ sym (has_item-numbers_where bound (has_item items) n below)
-      | inr past ↦ has_item-past_bound 0 bound items n rises past ∙ sym (has_item-numbers_where_past bound (has_item items) n past)
+      | inl below ↦ sym (has-numbers_where bound (has items) n below)
+      | inr past ↦ has-past_bound 0 bound items n rises past ∙ sym (has-numbers_where_past bound (has items) n past)
     ])
 
 -- a rising list whose members below the bound are those that pass a test
 pub rising_is_where : (bound : ℕ) (items : List ℕ) (p : ℕ → Bool) → IsRisingBelow bound items
-    → ((n : ℕ) → n < bound → has_item items n ≡ p n) → items ≡ numbers_where bound p
-rising_is_where bound items p rises same = rising_is_numbers_where bound items rises ∙ numbers_where-agree bound (has_item items) p same
+    → ((n : ℕ) → n < bound → has items n ≡ p n) → items ≡ numbers_where bound p
+rising_is_where bound items p rises same = rising_is_numbers_where bound items rises ∙ numbers_where-agree bound (has items) p same
 
 -- two rising stretches, the second from where the first ends
 pub rises_within-append : (lowest middle bound : ℕ) (xs ys : List ℕ) → lowest ≤ middle → middle ≤ bound

@@ -5,10 +5,10 @@ use Rattle.std.specs.List.{range_with_len, count_by, filter}
 use Rattle.std.proofs.lemmas.Bool.{lt-ltb, le-ltb, eq-eqb, ne_eqb, cases_lt, cases_eq}
 use Rattle.std.proofs.lemmas.List.Sums.{length-filter, count_by-le-length}
 use Rattle.std.proofs.lemmas.List.FromFn.{length-range_with_len}
-use Rattle.number_lists.specs.Members.{has_item}
+use Rattle.number_lists.specs.Members.{has}
 use Rattle.number_lists.specs.Rising.{numbers_where, listed_numbers}
 use Rattle.number_lists.proofs.BlockLemmas.{filter-twice}
-use Rattle.number_lists.proofs.MemberLemmas.{item_there, there_item}
+use Rattle.number_lists.proofs.MemberLemmas.{contains_had, had_contained}
 
 -- the numbers from one on, as many as told, that pass a test
 abbrev pub numbers_from : ℕ → ℕ → (ℕ → Bool) → List ℕ
@@ -29,55 +29,55 @@ pub numbers_where-agree : (bound : ℕ) (p q : ℕ → Bool) → ((n : ℕ) → 
 numbers_where-agree bound p q agree = numbers_from-agree 0 bound p q (λ n _ below. agree n (omega arith))
 
 -- nothing below the lowest is among the numbers
-has_item-below : (low count : ℕ) (p : ℕ → Bool) (n : ℕ) → n < low → has_item (numbers_from low count p) n ≡ false
-has_item-below low zero p n below = refl
-has_item-below low (suc count) p n below =
+has-below : (low count : ℕ) (p : ℕ → Bool) (n : ℕ) → n < low → has (numbers_from low count p) n ≡ false
+has-below low zero p n below = refl
+has-below low (suc count) p n below =
     let apart : eqb low n ≡ false = ne_eqb low n (λ e. omega arith) in
-    let rest : has_item (numbers_from (low + 1) count p) n ≡ false = has_item-below (low + 1) count p n (omega arith) in
-    elim (p low) as (λ b. has_item (cond b (low ∷ numbers_from (low + 1) count p) (numbers_from (low + 1) count p)) n
+    let rest : has (numbers_from (low + 1) count p) n ≡ false = has-below (low + 1) count p n (omega arith) in
+    elim (p low) as (λ b. has (cond b (low ∷ numbers_from (low + 1) count p) (numbers_from (low + 1) count p)) n
     ≡ false) [ true ↦ (λ i. apart i || rest i) | false ↦ rest ]
 
-has_item-from : (low count : ℕ) (p : ℕ → Bool) (n : ℕ) → low ≤ n → n < low + count → has_item (numbers_from low count p) n ≡ p n
-has_item-from low zero p n above below = absurd (omega arith)
-has_item-from low (suc count) p n above below =
+has-from : (low count : ℕ) (p : ℕ → Bool) (n : ℕ) → low ≤ n → n < low + count → has (numbers_from low count p) n ≡ p n
+has-from low zero p n above below = absurd (omega arith)
+has-from low (suc count) p n above below =
     elim (cases_eq low n) [
       | inl same ↦
-          let kept : has_item (numbers_from (low + 1) count p) n ≡ false = has_item-below (low + 1) count p n (omega arith) in
+          let kept : has (numbers_from (low + 1) count p) n ≡ false = has-below (low + 1) count p n (omega arith) in
           let here : eqb low n ≡ true = eq-eqb low n same in
-          (elim (p low) as (λ b. has_item (cond b (low ∷ numbers_from (low + 1) count p)
+          (elim (p low) as (λ b. has (cond b (low ∷ numbers_from (low + 1) count p)
           (numbers_from (low + 1) count p)) n ≡ b)
-          [ true ↦ (λ i. here i || has_item (numbers_from (low + 1) count p) n) | false ↦ kept ]) ∙ ap p same
+          [ true ↦ (λ i. here i || has (numbers_from (low + 1) count p) n) | false ↦ kept ]) ∙ ap p same
       | inr apart ↦
-          let rest : has_item (numbers_from (low + 1) count p) n ≡ p n = has_item-from (low + 1) count p n (omega arith) (omega arith) in
+          let rest : has (numbers_from (low + 1) count p) n ≡ p n = has-from (low + 1) count p n (omega arith) (omega arith) in
           let other : eqb low n ≡ false = ne_eqb low n apart in
-          (elim (p low) as (λ b. has_item (cond b (low ∷ numbers_from (low + 1) count p)
+          (elim (p low) as (λ b. has (cond b (low ∷ numbers_from (low + 1) count p)
           (numbers_from (low + 1) count p)) n ≡ p n)
-          [ true ↦ (λ i. other i || has_item (numbers_from (low + 1) count p) n) ∙ rest | false ↦ rest ])
+          [ true ↦ (λ i. other i || has (numbers_from (low + 1) count p) n) ∙ rest | false ↦ rest ])
     ]
 
 -- below the bound, being among the numbers is to pass the test
-pub has_item-numbers_where : (bound : ℕ) (p : ℕ → Bool) (n : ℕ) → n < bound → has_item (numbers_where bound p) n ≡ p n
-has_item-numbers_where bound p n below = has_item-from 0 bound p n (omega arith) (omega arith)
+pub has-numbers_where : (bound : ℕ) (p : ℕ → Bool) (n : ℕ) → n < bound → has (numbers_where bound p) n ≡ p n
+has-numbers_where bound p n below = has-from 0 bound p n (omega arith) (omega arith)
 
 -- at the bound and past it there is none
-has_item-past_from : (low count : ℕ) (p : ℕ → Bool) (n : ℕ) → low + count ≤ n → has_item (numbers_from low count p) n ≡ false
-has_item-past_from low zero p n past = refl
-has_item-past_from low (suc count) p n past =
+has-past_from : (low count : ℕ) (p : ℕ → Bool) (n : ℕ) → low + count ≤ n → has (numbers_from low count p) n ≡ false
+has-past_from low zero p n past = refl
+has-past_from low (suc count) p n past =
     let apart : eqb low n ≡ false = ne_eqb low n (λ e. omega arith) in
-    let rest : has_item (numbers_from (low + 1) count p) n ≡ false = has_item-past_from (low + 1) count p n (omega arith) in
-    elim (p low) as (λ b. has_item (cond b (low ∷ numbers_from (low + 1) count p) (numbers_from (low + 1) count p)) n
+    let rest : has (numbers_from (low + 1) count p) n ≡ false = has-past_from (low + 1) count p n (omega arith) in
+    elim (p low) as (λ b. has (cond b (low ∷ numbers_from (low + 1) count p) (numbers_from (low + 1) count p)) n
     ≡ false) [ true ↦ (λ i. apart i || rest i) | false ↦ rest ]
 
 -- a number that is no number below the bound is not among them
-pub has_item-numbers_where_past : (bound : ℕ) (p : ℕ → Bool) (n : ℕ) → bound ≤ n → has_item (numbers_where bound p) n ≡ false
-has_item-numbers_where_past bound p n past = has_item-past_from 0 bound p n (omega arith)
+pub has-numbers_where_past : (bound : ℕ) (p : ℕ → Bool) (n : ℕ) → bound ≤ n → has (numbers_where bound p) n ≡ false
+has-numbers_where_past bound p n past = has-past_from 0 bound p n (omega arith)
 
 -- being among the numbers, for any number
-pub has_item-numbers_where_any : (bound : ℕ) (p : ℕ → Bool) (n : ℕ) → has_item (numbers_where bound p) n ≡ (ltb n bound && p n)
-has_item-numbers_where_any bound p n =
+pub has-numbers_where_any : (bound : ℕ) (p : ℕ → Bool) (n : ℕ) → has (numbers_where bound p) n ≡ (ltb n bound && p n)
+has-numbers_where_any bound p n =
     elim (cases_lt n bound) [
-      | inl below ↦ has_item-numbers_where bound p n below ∙ (λ i. sym (lt-ltb n bound below) i && p n)
-      | inr past ↦ has_item-numbers_where_past bound p n past ∙ (λ i. sym (le-ltb n bound past) i && p n)
+      | inl below ↦ has-numbers_where bound p n below ∙ (λ i. sym (lt-ltb n bound below) i && p n)
+      | inr past ↦ has-numbers_where_past bound p n past ∙ (λ i. sym (le-ltb n bound past) i && p n)
     ]
 
 -- the numbers from one on, in two stretches
@@ -142,7 +142,7 @@ pub filter-numbers_where : (bound : ℕ) (p q : ℕ → Bool) → filter q (numb
 filter-numbers_where bound p q = filter-twice q p (range_with_len 0 bound)
 
 pub listed_numbers-numbers_where : (bound : ℕ) (p : ℕ → Bool) → listed_numbers bound (numbers_where bound p) ≡ numbers_where bound p
-listed_numbers-numbers_where bound p = numbers_where-agree bound (has_item (numbers_where bound p)) p (λ n below. has_item-numbers_where bound p n below)
+listed_numbers-numbers_where bound p = numbers_where-agree bound (has (numbers_where bound p)) p (λ n below. has-numbers_where bound p n below)
 
 -- ---- how many
 pub length-numbers_where : (bound : ℕ) (p : ℕ → Bool) → length (numbers_where bound p) ≡ count_by p (range_with_len 0 bound)
@@ -169,10 +169,10 @@ range_more bound = sym (numbers_where-all (bound + 1)) ∙ numbers_where-more bo
 -- ---- what is in such a list
 -- a number that passes a test is among the numbers, and only such
 pub where_there : (count : ℕ) (test : ℕ → Bool) (n : ℕ) → n < count → test n ≡ true → Contains (numbers_where count test) n
-where_there count test n below told = item_there (numbers_where count test) n (has_item-numbers_where count test n below ∙ told)
+where_there count test n below told = contains_had (numbers_where count test) n (has-numbers_where count test n below ∙ told)
 
 pub there_where : (count : ℕ) (test : ℕ → Bool) (n : ℕ) → Contains (numbers_where count test) n → (n < count) × (test n ≡ true)
 there_where count test n there = ⊎_elim
-    (λ (below : n < count). (below, sym (has_item-numbers_where count test n below) ∙ there_item (numbers_where count test) n there))
-    (λ (past : count ≤ n). absurd (cc (there_item (numbers_where count test) n there, has_item-numbers_where_past count test n past)))
+    (λ (below : n < count). (below, sym (has-numbers_where count test n below) ∙ had_contained (numbers_where count test) n there))
+    (λ (past : count ≤ n). absurd (cc (had_contained (numbers_where count test) n there, has-numbers_where_past count test n past)))
     (cases_lt n count)

@@ -4,11 +4,7 @@ use Rattle.std.specs.List.{list_any}
 
 -- a number is among others
 abbrev pub has : List ℕ → ℕ → Bool
-has numbers number = list_any (λ other. number == other) numbers
-
--- the same test of the items of a set, with the sides of each comparison the other way round
-abbrev pub has_item : List ℕ → ℕ → Bool
-has_item items number = list_any (λ item. item == number) items
+has numbers number = list_any (λ other. other == number) numbers
 
 -- how often a number stands in a list
 abbrev pub times : ℕ → List ℕ → ℕ

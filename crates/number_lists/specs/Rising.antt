@@ -1,7 +1,7 @@
 -- Lists of numbers that rise, and the numbers that pass a test as such a list.
 use Rattle.std.specs.Prelude.{ℕ, Bool, true, List, [], ◌∷◌, ◌&&◌, nat_lt, nat_le, suc, IsTrue, filter, ◌^◌}
 use Rattle.std.specs.List.{range_with_len}
-use Rattle.number_lists.specs.Members.{has_item}
+use Rattle.number_lists.specs.Members.{has}
 
 -- whether the items rise strictly, the first of them not below the lowest and all of them below the bound
 abbrev pub rises_within : ℕ → ℕ → List ℕ → Bool
@@ -23,4 +23,4 @@ numbers_where bound test = filter test (range_with_len 0 bound)
 
 -- the numbers below the bound that are in a list, which may hold them in any order and more than once
 abbrev pub listed_numbers : ℕ → List ℕ → List ℕ
-listed_numbers bound numbers = numbers_where bound (has_item numbers)
+listed_numbers bound numbers = numbers_where bound (has numbers)

@@ -8,7 +8,7 @@ use Rattle.rf2_rows.specs.Pairs.{value_eq}
 use Rattle.rf2_rows.specs.Release.{Attribute, Release, Value, concept_value}
 use Rattle.constraint_tree.specs.Passing.{lies_in}
 use Rattle.constraint_tree.specs.declared.operator.Cardinality.{Cardinality}
-use Rattle.number_lists.specs.Members.{has_item, has}
+use Rattle.number_lists.specs.Members.{has}
 use Rattle.number_lists.specs.Rising.{numbers_where}
 use Rattle.number_lists.proofs.WhereLemmas.{numbers_where-agree}
 use Rattle.postings.specs.Entries.{Entry, entries_of}
@@ -92,39 +92,39 @@ places_counted rows p test =
     zero_sum k = omega arith
 
 -- of what a filter keeps
-pub has_kept : (p : ℕ → Bool) (xs : List ℕ) (n : ℕ) → has_item (filter p xs) n ≡ (has_item xs n && p n)
+pub has_kept : (p : ℕ → Bool) (xs : List ℕ) (n : ℕ) → has (filter p xs) n ≡ (has xs n && p n)
 has_kept p [] n = refl
 has_kept p (x ∷ xs) n = elim (cases_eq x n) [
   | inl same ↦ by_same (has_kept p xs n) same (p x) refl
   | inr apart ↦ by_other (has_kept p xs n) (ne_eqb x n apart) (p x)
 ]
   where
-    by_same : has_item (filter p xs) n ≡ (has_item xs n && p n) → x ≡ n → (b : Bool) → p x ≡ b
-        → has_item (cond b (x ∷ filter p xs) (filter p xs)) n ≡ (((x == n) || has_item xs n) && p n)
-    by_same rest same true keeps = (λ i. eq-eqb x n same i || has_item (filter p xs) n)
-        ∙ sym (λ i. (eq-eqb x n same i || has_item xs n) && (ap p (sym same) ∙ keeps) i)
+    by_same : has (filter p xs) n ≡ (has xs n && p n) → x ≡ n → (b : Bool) → p x ≡ b
+        → has (cond b (x ∷ filter p xs) (filter p xs)) n ≡ (((x == n) || has xs n) && p n)
+    by_same rest same true keeps = (λ i. eq-eqb x n same i || has (filter p xs) n)
+        ∙ sym (λ i. (eq-eqb x n same i || has xs n) && (ap p (sym same) ∙ keeps) i)
     by_same rest same false leaves =
-        rest ∙ (λ i. has_item xs n && (ap p (sym same) ∙ leaves) i) ∙ and-false (has_item xs n)
-        ∙ sym ((λ i. (eq-eqb x n same i || has_item xs n) && (ap p (sym same) ∙ leaves) i))
+        rest ∙ (λ i. has xs n && (ap p (sym same) ∙ leaves) i) ∙ and-false (has xs n)
+        ∙ sym ((λ i. (eq-eqb x n same i || has xs n) && (ap p (sym same) ∙ leaves) i))
 
-    by_other : has_item (filter p xs) n ≡ (has_item xs n && p n) → (x == n) ≡ false → (b : Bool)
-        → has_item (cond b (x ∷ filter p xs) (filter p xs)) n ≡ (((x == n) || has_item xs n) && p n)
-    by_other rest apart true = (λ i. apart i || rest i) ∙ sym (λ i. (apart i || has_item xs n) && p n)
-    by_other rest apart false = rest ∙ sym (λ i. (apart i || has_item xs n) && p n)
+    by_other : has (filter p xs) n ≡ (has xs n && p n) → (x == n) ≡ false → (b : Bool)
+        → has (cond b (x ∷ filter p xs) (filter p xs)) n ≡ (((x == n) || has xs n) && p n)
+    by_other rest apart true = (λ i. apart i || rest i) ∙ sym (λ i. (apart i || has xs n) && p n)
+    by_other rest apart false = rest ∙ sym (λ i. (apart i || has xs n) && p n)
 
 -- the candidates that are kept by the rows of each are those with so many pairs
 module _ (indexed : Indexed) (release : Release) (is : IsIndexOf indexed release) (rising : IsStrictlyIncreasing release.concepts)
     (count : Cardinality) (one : ℕ → Bool) (passes : Value → Bool) where
   pub among_within : All (λ (row : Attribute). has release.concepts row.source ≡ true) release.attributes
       → (back : Bool) (bound : ℕ) → bound ≡ length release.concepts → (may : ℕ → Bool) (asked kept found : List ℕ)
-      → ((n : ℕ) → n < bound → has_item asked n ≡ may n)
+      → ((n : ℕ) → n < bound → has asked n ≡ may n)
       → kept ≡ filter (λ number. lies_in count (pairs_of_concept indexed back one passes number)) asked
-      → found ≡ numbers_where bound (has_item kept)
+      → found ≡ numbers_where bound (has kept)
       → found ≡ numbers_within release may (λ concept. has_pairs count one passes (pairs_of release back concept))
   among_within known back bound counted may asked kept found asked_are kept_is found_is =
       found_is
-      ∙ (λ i. numbers_where (counted i) (has_item (kept_is i)))
-      ∙ numbers_where-agree (length release.concepts) (has_item (filter keeps asked))
+      ∙ (λ i. numbers_where (counted i) (has (kept_is i)))
+      ∙ numbers_where-agree (length release.concepts) (has (filter keeps asked))
       (λ n. may n && has_pairs count one passes (pairs_of release back (get_or release.concepts n 0)))
       (λ n within. has_kept keeps asked n ∙ (λ i. asked_are n (omega (arith, within, counted)) i && ap (lies_in count) (own back n within) i))
     where
@@ -142,14 +142,14 @@ module _ (indexed : Indexed) (release : Release) (is : IsIndexOf indexed release
           ∙ sources_counted indexed release is rising one passes n within
 
   pub groups_among_within : (bound : ℕ) → bound ≡ length (groups_in indexed) → (may : ℕ → Bool) (asked kept found : List ℕ)
-      → ((n : ℕ) → n < bound → has_item asked n ≡ may n)
+      → ((n : ℕ) → n < bound → has asked n ≡ may n)
       → kept ≡ filter (λ number. lies_in count (pairs_among indexed true one passes (rows_of_unit indexed (slice_get (groups_in indexed) number)))) asked
-      → found ≡ numbers_where bound (has_item kept)
+      → found ≡ numbers_where bound (has kept)
       → found ≡ groups_within release may (has_pairs count one passes)
   groups_among_within bound counted may asked kept found asked_are kept_is found_is =
       found_is
-      ∙ (λ i. numbers_where (counted i) (has_item (kept_is i)))
-      ∙ numbers_where-agree (length (groups_in indexed)) (has_item (filter keeps asked))
+      ∙ (λ i. numbers_where (counted i) (has (kept_is i)))
+      ∙ numbers_where-agree (length (groups_in indexed)) (has (filter keeps asked))
       (λ n. may n && some_group_in release (has_pairs count one passes) (slice_get (groups_in indexed) n))
       (λ n within. has_kept keeps asked n
       ∙ (λ i. asked_are n (omega (arith, within, counted)) i && own n within (slice_get (groups_in indexed) n) refl i))

@@ -16,12 +16,12 @@ use Rattle.rf2_rows.specs.Release.{Attribute, Release, Value, concept_value}
 use Rattle.number_lists.proofs.DistinctLemmas.{keeps_each_number_once}
 use Rattle.constraint_tree.specs.Passing.{lies_in}
 use Rattle.constraint_tree.specs.declared.operator.Cardinality.{Cardinality}
-use Rattle.number_lists.specs.Members.{has_item, has, times}
+use Rattle.number_lists.specs.Members.{has, times}
 use Rattle.number_lists.specs.Rising.{numbers_where}
 use Rattle.number_lists.proofs.WhereLemmas.{numbers_where-agree}
 use Rattle.set_algebra.specs.Meaning.{has_pairs, pairs_of}
 use Rattle.snapshot.specs.AttributesBySource.{attributes_by_source}
-use Rattle.number_lists.proofs.MemberLemmas.{had_contained, item_there, there_item}
+use Rattle.number_lists.proofs.MemberLemmas.{had_contained, contains_had}
 use Rattle.number_lists.proofs.BlockLemmas.{Contains-map, filter-all}
 use Rattle.release_rows.proofs.RisingLemmas.{earlier_below}
 use Rattle.postings.specs.Entries.{Entry, entries_of}
@@ -81,9 +81,9 @@ module _ {X : Type 0} where
       by_case rest false false both = rest
 
 -- whether a key is none of some others
-pub none_of : (key : ℕ) (keys : List ℕ) → AllByRecursion (λ other. nat_eq key other ≡ false) keys → has_item keys key ≡ false
+pub none_of : (key : ℕ) (keys : List ℕ) → AllByRecursion (λ other. nat_eq key other ≡ false) keys → has keys key ≡ false
 none_of key [] apart = refl
-none_of key (other ∷ keys) apart = (λ i. (swapped other key ∙ apart.0) i || has_item keys key) ∙ none_of key keys apart.1
+none_of key (other ∷ keys) apart = (λ i. (swapped other key ∙ apart.0) i || has keys key) ∙ none_of key keys apart.1
   where
     swapped : (a b : ℕ) → (a == b) ≡ (b == a)
     swapped a b = both_ways (a == b) (b == a) (λ told. eq-eqb b a (sym (eqb-true a b told))) (λ told. eq-eqb a b (sym (eqb-true b a told)))
@@ -95,52 +95,52 @@ module _ {X : Type 0} (key : X → ℕ) (kept : ℕ → Bool) (test : X → Bool
 
   pub count_by_keys : (keys : List ℕ) → IsDistinct nat_eq keys
       → count_by test (flat_map (λ k. filter (λ x. key x == k) xs) (filter kept keys))
-      ≡ count_by (λ x. (has_item keys (key x) && kept (key x)) && test x) xs
+      ≡ count_by (λ x. (has keys (key x) && kept (key x)) && test x) xs
   unfolding IsDistinct
   count_by_keys [] distinct = sym (count_none (λ x. false) xs (λ x. refl))
   count_by_keys (k ∷ keys) distinct = by_case (count_by_keys keys distinct.1) (kept k) refl
     where
-      absent : (x : X) → key x ≡ k → has_item keys (key x) ≡ false
-      absent x same = ap (has_item keys) same ∙ none_of k keys distinct.0
+      absent : (x : X) → key x ≡ k → has keys (key x) ≡ false
+      absent x same = ap (has keys) same ∙ none_of k keys distinct.0
 
       by_case : count_by test (flat_map (λ j. filter (λ x. key x == j) xs) (filter kept keys))
-          ≡ count_by (λ x. (has_item keys (key x) && kept (key x)) && test x) xs → (b : Bool) → kept k ≡ b
+          ≡ count_by (λ x. (has keys (key x) && kept (key x)) && test x) xs → (b : Bool) → kept k ≡ b
           → count_by test (flat_map (λ j. filter (λ x. key x == j) xs) (cond b (k ∷ filter kept keys) (filter kept keys)))
-          ≡ count_by (λ x. (((k == key x) || has_item keys (key x)) && kept (key x)) && test x) xs
+          ≡ count_by (λ x. (((k == key x) || has keys (key x)) && kept (key x)) && test x) xs
       by_case rest true is =
           count-append test (filter (λ x. key x == k) xs) (flat_map (λ j. filter (λ x. key x == j) xs) (filter kept keys))
           ∙ (λ i. count_kept (λ x. key x == k) test xs i + rest i)
-          ∙ count_either (λ x. (key x == k) && test x) (λ x. (has_item keys (key x) && kept (key x)) && test x)
-          (λ x. (((k == key x) || has_item keys (key x)) && kept (key x)) && test x) xs
+          ∙ count_either (λ x. (key x == k) && test x) (λ x. (has keys (key x) && kept (key x)) && test x)
+          (λ x. (((k == key x) || has keys (key x)) && kept (key x)) && test x) xs
           (λ x. apart x) (λ x. either x)
         where
-          apart : (x : X) → (((key x == k) && test x) && ((has_item keys (key x) && kept (key x)) && test x)) ≡ false
+          apart : (x : X) → (((key x == k) && test x) && ((has keys (key x) && kept (key x)) && test x)) ≡ false
           apart x = elim (cases_eq (key x) k) [
             | inl same ↦ (λ i. ((key x == k) && test x) && ((absent x same i && kept (key x)) && test x)) ∙ and-false ((key x == k) && test x)
-            | inr other ↦ (λ i. (ne_eqb (key x) k other i && test x) && ((has_item keys (key x) && kept (key x)) && test x))
+            | inr other ↦ (λ i. (ne_eqb (key x) k other i && test x) && ((has keys (key x) && kept (key x)) && test x))
           ]
 
-          either : (x : X) → ((((k == key x) || has_item keys (key x)) && kept (key x)) && test x)
-              ≡ (((key x == k) && test x) || ((has_item keys (key x) && kept (key x)) && test x))
+          either : (x : X) → ((((k == key x) || has keys (key x)) && kept (key x)) && test x)
+              ≡ (((key x == k) && test x) || ((has keys (key x) && kept (key x)) && test x))
           either x = elim (cases_eq (key x) k) [
             | inl same ↦
                 (λ i. ((eq-eqb k (key x) (sym same) i || absent x same i) && (ap kept same ∙ is) i) && test x)
                 ∙ sym ((λ i. (eq-eqb (key x) k same i && test x) || ((absent x same i && kept (key x)) && test x)) ∙ or-false (test x))
             | inr other ↦
-                (λ i. ((ne_eqb k (key x) (λ same. other (sym same)) i || has_item keys (key x)) && kept (key x)) && test x)
-                ∙ sym (λ i. (ne_eqb (key x) k other i && test x) || ((has_item keys (key x) && kept (key x)) && test x))
+                (λ i. ((ne_eqb k (key x) (λ same. other (sym same)) i || has keys (key x)) && kept (key x)) && test x)
+                ∙ sym (λ i. (ne_eqb (key x) k other i && test x) || ((has keys (key x) && kept (key x)) && test x))
           ]
       by_case rest false is = rest
-          ∙ count_agree (λ x. (has_item keys (key x) && kept (key x)) && test x)
-          (λ x. (((k == key x) || has_item keys (key x)) && kept (key x)) && test x) xs
+          ∙ count_agree (λ x. (has keys (key x) && kept (key x)) && test x)
+          (λ x. (((k == key x) || has keys (key x)) && kept (key x)) && test x) xs
           (λ x there. skipped x)
         where
-          skipped : (x : X) → ((has_item keys (key x) && kept (key x)) && test x) ≡ ((((k == key x) || has_item keys (key x)) && kept (key x)) && test x)
+          skipped : (x : X) → ((has keys (key x) && kept (key x)) && test x) ≡ ((((k == key x) || has keys (key x)) && kept (key x)) && test x)
           skipped x = elim (cases_eq (key x) k) [
             | inl same ↦
                 (λ i. (absent x same i && kept (key x)) && test x)
-                ∙ sym ((λ i. ((eq-eqb k (key x) (sym same) i || has_item keys (key x)) && (ap kept same ∙ is) i) && test x))
-            | inr other ↦ sym (λ i. ((ne_eqb k (key x) (λ same. other (sym same)) i || has_item keys (key x)) && kept (key x)) && test x)
+                ∙ sym ((λ i. ((eq-eqb k (key x) (sym same) i || has keys (key x)) && (ap kept same ∙ is) i) && test x))
+            | inr other ↦ sym (λ i. ((ne_eqb k (key x) (λ same. other (sym same)) i || has keys (key x)) && kept (key x)) && test x)
           ]
 
 -- the types of rows stand once each
@@ -173,9 +173,9 @@ module _ (rows : List Attribute) (one : ℕ → Bool) where
   abbrev pub kept_types : List ℕ
   kept_types = filter one (types_of rows)
 
-  pub type_there : (entry : Entry) → Contains (entries_of rows) entry → has_item (types_of rows) entry.row.type_id ≡ true
+  pub type_there : (entry : Entry) → Contains (entries_of rows) entry → has (types_of rows) entry.row.type_id ≡ true
   type_there entry there =
-      there_item (types_of rows) entry.row.type_id
+      had_contained (types_of rows) entry.row.type_id
       (((keeps_each_number_once (map (λ (row : Attribute). row.type_id) rows)).1 entry.row.type_id).1
       (Contains-map (λ (row : Attribute). row.type_id) rows entry.row
       (subst (λ (all : List Attribute). Contains all entry.row) (rows_of_entries [] rows)
@@ -188,7 +188,7 @@ module _ (rows : List Attribute) (one : ℕ → Bool) where
       count_by_keys (λ (entry : Entry). entry.row.type_id) one (λ entry. belongs entry && (first entry && passes entry)) (entries_of rows) (types_of rows)
       (types_apart rows)
       ∙ count_agree
-      (λ (entry : Entry). (has_item (types_of rows) entry.row.type_id && one entry.row.type_id) && (belongs entry && (first entry && passes entry)))
+      (λ (entry : Entry). (has (types_of rows) entry.row.type_id && one entry.row.type_id) && (belongs entry && (first entry && passes entry)))
       (λ (entry : Entry). belongs entry && (first entry && (one entry.row.type_id && passes entry))) (entries_of rows)
       (λ entry there.
       (λ i. (type_there entry there i && one entry.row.type_id) && (belongs entry && (first entry && passes entry)))
@@ -331,12 +331,12 @@ pub sources_known : (release : Release) → IsStrictlyIncreasing release.concept
     → length (attributes_by_source release) ≡ length release.attributes
     → All (λ (row : Attribute). has release.concepts row.source ≡ true) release.attributes
 sources_known release rising all =
-    All-weaker (λ (row : Attribute). ((has_item release.concepts row.source && true) && true) ≡ true)
+    All-weaker (λ (row : Attribute). ((has release.concepts row.source && true) && true) ≡ true)
     (λ (row : Attribute). has release.concepts row.source ≡ true)
-    (λ row told. had_contained release.concepts row.source (item_there release.concepts row.source
-    (and_parts (has_item release.concepts row.source) true (and_parts (has_item release.concepts row.source && true) true told).0).0))
+    (λ row told. had_contained release.concepts row.source (contains_had release.concepts row.source
+    (and_parts (has release.concepts row.source) true (and_parts (has release.concepts row.source && true) true told).0).0))
     release.attributes
-    (count_full (λ (row : Attribute). (has_item release.concepts row.source && true) && true) release.attributes
+    (count_full (λ (row : Attribute). (has release.concepts row.source && true) && true) release.attributes
     (sym (count_by_keys (λ (row : Attribute). row.source) (λ id. true)
     (λ row. true) release.attributes release.concepts (concepts_apart release.concepts rising))
     ∙ (λ i. count_by (λ (row : Attribute). true) (flat_map (rows_of release) (filter-all (λ id. true) release.concepts (λ k d within. refl) i)))

@@ -12,11 +12,11 @@ use Rattle.rf2_rows.specs.Release.{Release}
 use Rattle.constraint_tree.specs.Walks.{has_concept}
 use Rattle.constraint_tree.proofs.WalkLemmas.{tells_in_force}
 use Rattle.idset.specs.Sets.{all_items}
-use Rattle.number_lists.specs.Members.{has_item}
+use Rattle.number_lists.specs.Members.{has}
 use Rattle.number_lists.specs.Rising.{IsRisingBelow}
 use Rattle.number_lists.proofs.RisingLemmas.{rises_from_on, rising_is_where}
 use Rattle.idset.proofs.Normal.{all_items-numbers_where}
-use Rattle.number_lists.proofs.WhereLemmas.{has_item-numbers_where_any, numbers_where-agree, numbers_where-all, numbers_where-none}
+use Rattle.number_lists.proofs.WhereLemmas.{has-numbers_where_any, numbers_where-agree, numbers_where-all, numbers_where-none}
 use Rattle.snapshot.specs.Numbering.{concept_number}
 use Rattle.release_rows.proofs.PlaceLemmas.{place_of}
 use Rattle.release_rows.proofs.RisingLemmas.{earlier_below}
@@ -53,9 +53,9 @@ none_in release = sym (numbers_where-none (length release.concepts))
 
 -- a number among them is that of a concept in the set
 pub member_in : (release : Release) (set : ℕ → Bool) (n : ℕ) → n < length release.concepts
-    → has_item (numbers_in release set) n ≡ set (get_or release.concepts n 0)
+    → has (numbers_in release set) n ≡ set (get_or release.concepts n 0)
 member_in release set n within =
-    has_item-numbers_where_any (length release.concepts) (λ m. set (get_or release.concepts m 0)) n ∙ below
+    has-numbers_where_any (length release.concepts) (λ m. set (get_or release.concepts m 0)) n ∙ below
   where
     below : (ltb n (length release.concepts) && set (get_or release.concepts n 0)) ≡ set (get_or release.concepts n 0)
     below i = lt-ltb n (length release.concepts) within i && set (get_or release.concepts n 0)

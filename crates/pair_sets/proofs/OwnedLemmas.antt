@@ -13,9 +13,9 @@ use Rattle.std.proofs.lemmas.List.FromFn.{get_or-range_with_len, length-range_wi
 use Rattle.std.proofs.lemmas.Grind.{flat_map-append}
 use Rattle.std.proofs.Math.Bool.{or-false}
 use Rattle.rf2_rows.specs.Release.{Release}
-use Rattle.number_lists.specs.Members.{has_item}
+use Rattle.number_lists.specs.Members.{has}
 use Rattle.number_lists.specs.Rising.{numbers_where}
-use Rattle.number_lists.proofs.WhereLemmas.{has_item-numbers_where}
+use Rattle.number_lists.proofs.WhereLemmas.{has-numbers_where}
 use Rattle.postings.specs.Groups.{ConceptGroup, GroupKey, all_groups, groups_among, groups_before, groups_in, keys_of, rows_alone}
 use Rattle.postings.specs.Indexed.{Indexed, IsIndexOf}
 use Rattle.postings.proofs.KeyLemmas.{group_with, groups_at}
@@ -24,12 +24,12 @@ use Rattle.pair_sets.specs.Owned.{HaveGroupsOf}
 use Rattle.pair_sets.proofs.LeafLemmas.{concepts_apart, groups_are}
 
 -- ---- ranges
-pub has_range : (start n g : ℕ) → start ≤ g → g < start + n → has_item (range_with_len start n) g ≡ true
+pub has_range : (start n g : ℕ) → start ≤ g → g < start + n → has (range_with_len start n) g ≡ true
 has_range start zero g from within = absurd (omega (arith, from, within))
 has_range start (suc n) g from within = elim (cases_eq start g) [
-  | inl same ↦ (λ i. eq-eqb start g same i || has_item (range_with_len (start + 1) n) g)
+  | inl same ↦ (λ i. eq-eqb start g same i || has (range_with_len (start + 1) n) g)
   | inr apart ↦
-      (λ i. ne_eqb start g apart i || has_item (range_with_len (start + 1) n) g)
+      (λ i. ne_eqb start g apart i || has (range_with_len (start + 1) n) g)
       ∙ has_range (start + 1) n g (omega (arith, from, apart)) (omega (arith, within))
 ]
 
@@ -48,22 +48,22 @@ range_next start (suc n) =
     ∙ ap (λ (m : ℕ). start ∷ (range_with_len (start + 1) n ++ m ∷ [])) last
 
 -- ---- an item of one of two lists
-pub has_sooner : (xs ys : List ℕ) (n : ℕ) → has_item xs n ≡ true → has_item (xs ++ ys) n ≡ true
-has_sooner xs ys n there = list_any-append (λ x. x == n) xs ys ∙ (λ i. there i || has_item ys n)
+pub has_sooner : (xs ys : List ℕ) (n : ℕ) → has xs n ≡ true → has (xs ++ ys) n ≡ true
+has_sooner xs ys n there = list_any-append (λ x. x == n) xs ys ∙ (λ i. there i || has ys n)
 
-pub has_later : (xs ys : List ℕ) (n : ℕ) → has_item ys n ≡ true → has_item (xs ++ ys) n ≡ true
-has_later xs ys n there = list_any-append (λ x. x == n) xs ys ∙ (λ i. has_item xs n || there i) ∙ always (has_item xs n)
+pub has_later : (xs ys : List ℕ) (n : ℕ) → has ys n ≡ true → has (xs ++ ys) n ≡ true
+has_later xs ys n there = list_any-append (λ x. x == n) xs ys ∙ (λ i. has xs n || there i) ∙ always (has xs n)
   where
     always : (b : Bool) → (b || true) ≡ true
     always true = refl
     always false = refl
 
-pub taken_more : (xs : List ℕ) (k n : ℕ) → k < length xs → has_item (take (k + 1) xs) n ≡ true → (has_item (take k xs) n ≡ true) ⊎ (get_or xs k 0 ≡ n)
+pub taken_more : (xs : List ℕ) (k n : ℕ) → k < length xs → has (take (k + 1) xs) n ≡ true → (has (take k xs) n ≡ true) ⊎ (get_or xs k 0 ≡ n)
 taken_more xs k n within there = elim (cases_eq (get_or xs k 0) n) [
   | inl same ↦ inr same
   | inr apart ↦
-      inl (sym (or-false (has_item (take k xs) n)) ∙ (λ i. has_item (take k xs) n || sym (ne_eqb (get_or xs k 0) n apart) i)
-      ∙ sym (item_more (take k xs) (get_or xs k 0) n) ∙ ap (λ (ys : List ℕ). has_item ys n) (sym (take_more xs k 0 within)) ∙ there)
+      inl (sym (or-false (has (take k xs) n)) ∙ (λ i. has (take k xs) n || sym (ne_eqb (get_or xs k 0) n apart) i)
+      ∙ sym (item_more (take k xs) (get_or xs k 0) n) ∙ ap (λ (ys : List ℕ). has ys n) (sym (take_more xs k 0 within)) ∙ there)
 ]
 
 -- ---- items of lists one behind the other
@@ -164,9 +164,9 @@ before_all indexed n =
 
 module _ (indexed : Indexed) (release : Release) (index : IsIndexOf indexed release) (rising : IsStrictlyIncreasing release.concepts) where
   pub owned : (items found : List ℕ)
-      → ((concept group : ℕ) → has_item items concept ≡ true → length (groups_before indexed concept) ≤ group
-      → group < length (groups_before indexed (concept + 1)) → has_item found group ≡ true)
-      → (groups : List ℕ) → groups ≡ numbers_where (length (groups_in indexed)) (has_item found)
+      → ((concept group : ℕ) → has items concept ≡ true → length (groups_before indexed concept) ≤ group
+      → group < length (groups_before indexed (concept + 1)) → has found group ≡ true)
+      → (groups : List ℕ) → groups ≡ numbers_where (length (groups_in indexed)) (has found)
       → HaveGroupsOf release items groups
   owned items found have groups groups_are_found number group is_item inside within same =
       let all : groups_in indexed ≡ all_groups release = groups_are indexed release index rising in
@@ -175,8 +175,8 @@ module _ (indexed : Indexed) (release : Release) (index : IsIndexOf indexed rele
       let span = spans (rows_alone indexed.concepts indexed.rows) indexed.concepts apart group number near
       (subst (λ (ids : List ℕ). number < length ids) (sym index.concepts) inside)
       (ap (λ (groups : List ConceptGroup). concept_in (slice_get groups group)) all ∙ same ∙ ap (λ (ids : List ℕ). get_or ids number 0) (sym index.concepts)) in
-      ap (λ (xs : List ℕ). has_item xs group) groups_are_found
-      ∙ has_item-numbers_where (length (groups_in indexed)) (has_item found) group near
+      ap (λ (xs : List ℕ). has xs group) groups_are_found
+      ∙ has-numbers_where (length (groups_in indexed)) (has found) group near
       ∙ have number group is_item span.0 (subst (λ (m : ℕ). group < length (groups_before indexed m)) next span.1)
     where
       next : suc number ≡ number + 1

@@ -10,7 +10,7 @@ use Rattle.std.proofs.lemmas.Bool.{cases_lt, le-leb, le-ltb, lt-leb, lt-ltb, ne_
 use Rattle.std.proofs.lemmas.List.{get_or-append_right, length-map}
 use Rattle.std.proofs.lemmas.List.Elements.{All-append, All-map, All-tail}
 use Rattle.std.proofs.Math.Bool.{and-false}
-use Rattle.number_lists.specs.Members.{has_item}
+use Rattle.number_lists.specs.Members.{has}
 use Rattle.constraint_tree.specs.declared.operator.Compare.{Compare}
 use Rattle.constraint_tree.specs.declared.operator.Compare.TheVariants as comparison
 use Rattle.constraint_tree.specs.Passing.{compares, is_number_that, is_outside, is_within}
@@ -26,7 +26,7 @@ use Rattle.pair_sets.proofs.Normal.{concept_number-None, same_by_number}
 -- ---- a concept by its number
 -- a concept is one of some where its number is
 pub one_by_number : (concepts : List ℕ) → IsStrictlyIncreasing concepts → (items : List ℕ) → All (λ item. item < length concepts) items
-    → (n : ℕ) → n < length concepts → is_one_of concepts items (get_or concepts n 0) ≡ has_item items n
+    → (n : ℕ) → n < length concepts → is_one_of concepts items (get_or concepts n 0) ≡ has items n
 one_by_number concepts rising items below n within =
     any_agree items (λ m. slice_index concepts m == get_or concepts n 0) (λ m. m == n) 0
     (λ k there. same_by_number concepts rising (get_or items k 0) n (below k 0 there) within)
@@ -40,11 +40,11 @@ none_by_number concepts (item ∷ items) below id at =
     ∙ none_by_number concepts items (All-tail (λ x. x < length concepts) item items below) id at
 
 -- a number that is not below a bound is not among some that are
-pub none_past : (bound : ℕ) (items : List ℕ) → All (λ item. item < bound) items → (n : ℕ) → bound ≤ n → has_item items n ≡ false
+pub none_past : (bound : ℕ) (items : List ℕ) → All (λ item. item < bound) items → (n : ℕ) → bound ≤ n → has items n ≡ false
 none_past bound [] below n past = refl
 none_past bound (item ∷ items) below n past =
     let first : item < bound = below 0 0 (omega arith) in
-    (λ i. ne_eqb item n (λ same. absurd (omega (arith, first, past, same))) i || has_item items n)
+    (λ i. ne_eqb item n (λ same. absurd (omega (arith, first, past, same))) i || has items n)
     ∙ none_past bound items (All-tail (λ x. x < bound) item items below) n past
 
 -- ---- values that are no concepts
@@ -80,7 +80,7 @@ module _ (indexed : Indexed) (rising : IsStrictlyIncreasing indexed.concepts) wh
   concept_here n within = concept_at indexed.concepts indexed.decimals indexed.texts n (text_value []) within
 
   pub within_told : (items : List ℕ) → All (λ item. item < length indexed.concepts) items
-      → (n : ℕ) → has_item items n ≡ is_within (is_one_of indexed.concepts items) (value n)
+      → (n : ℕ) → has items n ≡ is_within (is_one_of indexed.concepts items) (value n)
   within_told items below n = elim (cases_lt n (length indexed.concepts)) [
     | inl within ↦ sym (ap (is_within (is_one_of indexed.concepts items)) (concept_here n within)
         ∙ one_by_number indexed.concepts rising items below n within)
@@ -90,12 +90,12 @@ module _ (indexed : Indexed) (rising : IsStrictlyIncreasing indexed.concepts) wh
   ]
 
   pub outside_told : (items : List ℕ) → All (λ item. item < length indexed.concepts) items
-      → (n : ℕ) → (ltb n (length indexed.concepts) && not (has_item items n)) ≡ is_outside (is_one_of indexed.concepts items) (value n)
+      → (n : ℕ) → (ltb n (length indexed.concepts) && not (has items n)) ≡ is_outside (is_one_of indexed.concepts items) (value n)
   outside_told items below n = elim (cases_lt n (length indexed.concepts)) [
-    | inl within ↦ (λ i. lt-ltb n (length indexed.concepts) within i && not (has_item items n))
+    | inl within ↦ (λ i. lt-ltb n (length indexed.concepts) within i && not (has items n))
         ∙ sym (ap (is_outside (is_one_of indexed.concepts items)) (concept_here n within)
         ∙ ap not (one_by_number indexed.concepts rising items below n within))
-    | inr past ↦ (λ i. le-ltb n (length indexed.concepts) past i && not (has_item items n))
+    | inr past ↦ (λ i. le-ltb n (length indexed.concepts) past i && not (has items n))
         ∙ sym (behind_fails (is_outside (is_one_of indexed.concepts items)) (λ text. refl)
         indexed.concepts indexed.decimals indexed.texts (λ decimal. refl) n past)
   ]

@@ -6,7 +6,7 @@ use Rattle.std.proofs.lemmas.Bool.{cases_eq, cases_lt, eq-eqb, le-leb, leb-false
 use Rattle.std.proofs.lemmas.List.Sums.{length-filter}
 use Rattle.std.proofs.Math.Bool.{or-false}
 use Rattle.number_lists.proofs.ListLemmas.{both_ways}
-use Rattle.number_lists.specs.Members.{has_item, times}
+use Rattle.number_lists.specs.Members.{has, times}
 use Rattle.number_lists.proofs.MemberLemmas.{times-append}
 use Rattle.constraint_tree.specs.declared.operator.Cardinality.{Cardinality}
 use Rattle.constraint_tree.specs.Passing.{is_up_to, lies_in}
@@ -22,10 +22,10 @@ times-cons number x xs =
     ]
 
 -- a number is in a list where it stands there at least once
-pub has_times : (xs : List ℕ) (number : ℕ) → has_item xs number ≡ nat_le 1 (times number xs)
+pub has_times : (xs : List ℕ) (number : ℕ) → has xs number ≡ nat_le 1 (times number xs)
 has_times [] number = refl
 has_times (x ∷ xs) number =
-    elim (x == number) as (λ b. (b || has_item xs number) ≡ nat_le 1 (cond b (1 + times number xs) (times number xs))) [
+    elim (x == number) as (λ b. (b || has xs number) ≡ nat_le 1 (cond b (1 + times number xs) (times number xs))) [
       | true ↦ sym (le-leb 1 (1 + times number xs) (omega arith))
       | false ↦ has_times xs number
     ] ∙ ap (nat_le 1) (sym (times-cons number x xs))
@@ -34,14 +34,14 @@ has_times (x ∷ xs) number =
 times_more : (number x : ℕ) → times number (x ∷ []) ≡ cond (x == number) 1 0
 times_more number x = times-cons number x []
 
-there_once : (xs : List ℕ) (number : ℕ) → has_item xs number ≡ true → 1 ≤ times number xs
+there_once : (xs : List ℕ) (number : ℕ) → has xs number ≡ true → 1 ≤ times number xs
 there_once xs number there = leb-true 1 (times number xs) (sym (has_times xs number) ∙ there)
 
-not_there : (xs : List ℕ) (number : ℕ) → has_item xs number ≡ false → times number xs ≡ 0
+not_there : (xs : List ℕ) (number : ℕ) → has xs number ≡ false → times number xs ≡ 0
 not_there xs number absent = omega (arith, leb-false 1 (times number xs) (sym (has_times xs number) ∙ absent))
 
 -- of the numbers so far those that were there before are kept: one more that was there, and one that was not
-pub again_step : (xs left : List ℕ) (x number : ℕ) → has_item xs x ≡ true → times number left ≡ times number xs - 1
+pub again_step : (xs left : List ℕ) (x number : ℕ) → has xs x ≡ true → times number left ≡ times number xs - 1
     → times number (left ++ x ∷ []) ≡ times number (xs ++ x ∷ []) - 1
 again_step xs left x number there so_far =
     times-append number left (x ∷ []) ∙ by_case ∙ sym (ap (λ n. n - 1) (times-append number xs (x ∷ [])))
@@ -49,20 +49,20 @@ again_step xs left x number there so_far =
     by_case : times number left + times number (x ∷ []) ≡ (times number xs + times number (x ∷ [])) - 1
     by_case = elim (cases_eq x number) [
       | inl same ↦
-          let once : 1 ≤ times number xs = there_once xs number (ap (has_item xs) (sym same) ∙ there) in
+          let once : 1 ≤ times number xs = there_once xs number (ap (has xs) (sym same) ∙ there) in
           omega (arith, once, so_far)
       | inr other ↦ let none : times number (x ∷ []) ≡ 0
           = times_more number x ∙ ap (λ b. cond b 1 0) (ne_eqb x number other) in omega (arith, none, so_far)
     ]
 
-pub first_step : (xs left : List ℕ) (x number : ℕ) → has_item xs x ≡ false → times number left ≡ times number xs - 1
+pub first_step : (xs left : List ℕ) (x number : ℕ) → has xs x ≡ false → times number left ≡ times number xs - 1
     → times number left ≡ times number (xs ++ x ∷ []) - 1
 first_step xs left x number absent so_far = so_far ∙ by_case ∙ sym (ap (λ n. n - 1) (times-append number xs (x ∷ [])))
   where
     by_case : times number xs - 1 ≡ (times number xs + times number (x ∷ [])) - 1
     by_case = elim (cases_eq x number) [
       | inl same ↦
-          let none : times number xs ≡ 0 = not_there xs number (ap (has_item xs) (sym same) ∙ absent) in
+          let none : times number xs ≡ 0 = not_there xs number (ap (has xs) (sym same) ∙ absent) in
           let one : times number (x ∷ []) ≡ 1 = times_more number x ∙ ap (λ b. cond b 1 0) (eq-eqb x number same) in
           omega (arith, none, one)
       | inr other ↦ let none : times number (x ∷ []) ≡ 0
@@ -70,24 +70,24 @@ first_step xs left x number absent so_far = so_far ∙ by_case ∙ sym (ap (λ n
     ]
 
 -- a number more among those that there are
-pub item_more : (xs : List ℕ) (x number : ℕ) → has_item (xs ++ x ∷ []) number ≡ (has_item xs number || (x == number))
+pub item_more : (xs : List ℕ) (x number : ℕ) → has (xs ++ x ∷ []) number ≡ (has xs number || (x == number))
 item_more [] x number = or-false (x == number)
 item_more (y ∷ xs) x number =
     ap (λ (b : Bool). (y == number) || b) (item_more xs x number)
-    ∙ apart (y == number) (has_item xs number) (x == number)
+    ∙ apart (y == number) (has xs number) (x == number)
   where
     apart : (a b c : Bool) → (a || (b || c)) ≡ ((a || b) || c)
     apart true b c = refl
     apart false b c = refl
 
-pub marked_again : (xs : List ℕ) (x number : ℕ) → has_item xs x ≡ true → has_item xs number ≡ has_item (xs ++ x ∷ []) number
+pub marked_again : (xs : List ℕ) (x number : ℕ) → has xs x ≡ true → has xs number ≡ has (xs ++ x ∷ []) number
 marked_again xs x number there = sym (item_more xs x number ∙ by_case)
   where
-    by_case : (has_item xs number || (x == number)) ≡ has_item xs number
+    by_case : (has xs number || (x == number)) ≡ has xs number
     by_case = elim (cases_eq x number) [
       | inl same ↦
-          (λ i. ap (has_item xs) (sym same) i || (x == number)) ∙ (λ i. there i || (x == number)) ∙ sym there ∙ ap (has_item xs) same
-      | inr other ↦ (λ i. has_item xs number || ne_eqb x number other i) ∙ or-false (has_item xs number)
+          (λ i. ap (has xs) (sym same) i || (x == number)) ∙ (λ i. there i || (x == number)) ∙ sym there ∙ ap (has xs) same
+      | inr other ↦ (λ i. has xs number || ne_eqb x number other i) ∙ or-false (has xs number)
     ]
 
 pub one_below : (bound x : ℕ) → x < bound → All (λ n. n < bound) (x ∷ [])

@@ -10,7 +10,7 @@ use Rattle.std.proofs.lemmas.List.Quantifiers.{position-Some}
 use Rattle.std.proofs.lemmas.Map.Keys.{apart_from_distinct}
 use Rattle.std.proofs.lemmas.Option.{slice_get-get_or}
 use Rattle.rf2_rows.specs.Release.{Attribute}
-use Rattle.number_lists.specs.Members.{has_item}
+use Rattle.number_lists.specs.Members.{has}
 use Rattle.postings.specs.Indexed.{Indexed, concept_of_type, types_of}
 use Rattle.pair_sets.specs.inside.Hits.{TellsTypes, is_one_at, is_type_in}
 use Rattle.pair_sets.specs.Tested.{is_one_of}
@@ -58,8 +58,8 @@ module _ (types : List ℕ) (apart : IsDistinct nat_eq types) where
   -- one concept more
   pub places_more : (concepts numbers places : List ℕ) (k : ℕ) → k < length numbers → (id : ℕ) → id ≡ get_or concepts (get_or numbers k 0) 0
       → (found : Option ℕ) → position (nat_eq id) types ≡ found
-      → ((place : ℕ) → place < length types → has_item places place ≡ is_one_of concepts (take k numbers) (get_or types place 0))
-      → (place : ℕ) → place < length types → has_item (with_place places found) place ≡ is_one_of concepts (take (k + 1) numbers) (get_or types place 0)
+      → ((place : ℕ) → place < length types → has places place ≡ is_one_of concepts (take k numbers) (get_or types place 0))
+      → (place : ℕ) → place < length types → has (with_place places found) place ≡ is_one_of concepts (take (k + 1) numbers) (get_or types place 0)
   places_more concepts numbers places k within id is found at told place inside =
       added found
       ∙ (λ i. told place inside i || only_place id place inside found at i)
@@ -68,16 +68,16 @@ module _ (types : List ℕ) (apart : IsDistinct nat_eq types) where
       ∙ ap (λ (b : Bool). is_one_of concepts (take k numbers) (get_or types place 0) || b)
       (or_nothing (get_or concepts (get_or numbers k 0) 0 == get_or types place 0) ∙ ap (λ (n : ℕ). n == get_or types place 0) (sym is)))
     where
-      added : (found : Option ℕ) → has_item (with_place places found) place ≡ (has_item places place || is_place found place)
-      added None = sym (or_nothing (has_item places place))
+      added : (found : Option ℕ) → has (with_place places found) place ≡ (has places place || is_place found place)
+      added None = sym (or_nothing (has places place))
       added (Some p) = item_more places p place
 
 -- the types of rows stand once each
 pub places_more_of : (rows : List Attribute) (concepts numbers places : List ℕ) (k : ℕ) → k < length numbers → (id : ℕ)
     → id ≡ get_or concepts (get_or numbers k 0) 0
     → (found : Option ℕ) → position (nat_eq id) (types_of rows) ≡ found
-    → ((place : ℕ) → place < length (types_of rows) → has_item places place ≡ is_one_of concepts (take k numbers) (get_or (types_of rows) place 0))
-    → (place : ℕ) → place < length (types_of rows) → has_item (with_place places found) place
+    → ((place : ℕ) → place < length (types_of rows) → has places place ≡ is_one_of concepts (take k numbers) (get_or (types_of rows) place 0))
+    → (place : ℕ) → place < length (types_of rows) → has (with_place places found) place
     ≡ is_one_of concepts (take (k + 1) numbers) (get_or (types_of rows) place 0)
 places_more_of rows = places_more (types_of rows) (types_apart rows)
 
@@ -97,7 +97,7 @@ module _ (indexed : Indexed) (items : List ℕ) (below : All (λ item. item < le
   no_typed (Some id) none = sym (none_by_number indexed.concepts items below id none)
 
 pub typed : (indexed : Indexed) → IsStrictlyIncreasing indexed.concepts → (items : List ℕ) → All (λ item. item < length indexed.concepts) items
-    → (at : Option ℕ) (concept : ℕ) → concept_of_type indexed at ≡ Some concept → has_item items concept ≡ is_one_at indexed.concepts items at
+    → (at : Option ℕ) (concept : ℕ) → concept_of_type indexed at ≡ Some concept → has items concept ≡ is_one_at indexed.concepts items at
 typed indexed rising items below None concept none = absurd cc
 typed indexed rising items below (Some id) concept is =
     let found = concept_number-Some indexed.concepts id concept is in

@@ -20,7 +20,7 @@ use Rattle.set_algebra.specs.Meaning.{has_groups}
 use Rattle.postings.specs.Groups.{ConceptGroup, all_groups, groups_among, keys_of, pairs_of_group}
 use Rattle.postings.proofs.CountLemmas.{groups_count}
 use Rattle.postings.proofs.KeyLemmas.{group_with, groups_at}
-use Rattle.number_lists.specs.Members.{times, has_item}
+use Rattle.number_lists.specs.Members.{times, has}
 use Rattle.pair_sets.specs.Groups.{concept_in, groups_where, some_group_in}
 use Rattle.pair_sets.specs.Numbers.{numbers_in}
 use Rattle.pair_sets.specs.Owned.{HaveGroupsOf, groups_owned}
@@ -195,18 +195,18 @@ module _ (release : Release) (rising : IsStrictlyIncreasing release.concepts) wh
 
   -- and of candidates those of them with so many
   pub units_within : (count : Cardinality) (set : List Pair → Bool) (wanted own items some found : List ℕ) → HaveGroupsOf release wanted own
-      → items ≡ groups_within release (has_item own) set
+      → items ≡ groups_within release (has own) set
       → some ≡ numbers_where (length release.concepts) (λ n. lies_in count (groups_owned release items n))
-      → found ≡ filter (has_item wanted) some
-      → found ≡ numbers_within release (has_item wanted) (has_groups release count set)
+      → found ≡ filter (has wanted) some
+      → found ≡ numbers_within release (has wanted) (has_groups release count set)
   units_within count set wanted own items some found have items_are some_is found_is =
-      restricted_to (length release.concepts) (has_item wanted) (λ n. lies_in count (groups_owned release items n)) some found some_is found_is
+      restricted_to (length release.concepts) (has wanted) (λ n. lies_in count (groups_owned release items n)) some found some_is found_is
       ∙ numbers_where-agree (length release.concepts)
-      (λ n. has_item wanted n && lies_in count (groups_owned release items n))
-      (λ n. has_item wanted n && has_groups release count set (get_or release.concepts n 0))
-      (λ n within. of_wanted (has_item wanted n) _ _
+      (λ n. has wanted n && lies_in count (groups_owned release items n))
+      (λ n. has wanted n && has_groups release count set (get_or release.concepts n 0))
+      (λ n within. of_wanted (has wanted n) _ _
       (λ is_wanted. ap (lies_in count) (ap (λ (groups : List ℕ). groups_owned release groups n) items_are
-      ∙ owned_counted set (has_item own) n within (λ k inside same. have n k is_wanted within inside same))))
+      ∙ owned_counted set (has own) n within (λ k inside same. have n k is_wanted within inside same))))
     where
       of_wanted : (a b c : Bool) → (a ≡ true → b ≡ c) → (a && b) ≡ (a && c)
       of_wanted true b c same = same refl

@@ -6,10 +6,10 @@ use Rattle.std.proofs.Math.Bool.{and-false}
 use Rattle.rf2_rows.specs.Pairs.{Pair}
 use Rattle.rf2_rows.specs.Release.{Release}
 use Rattle.idset.specs.Sets.{all_items, other_items}
-use Rattle.number_lists.specs.Members.{has_item}
+use Rattle.number_lists.specs.Members.{has}
 use Rattle.number_lists.specs.Rising.{numbers_where}
 use Rattle.idset.proofs.Normal.{all_items-numbers_where, other_items-numbers_where}
-use Rattle.number_lists.proofs.WhereLemmas.{filter-numbers_where, has_item-numbers_where, numbers_where-agree, numbers_where-none}
+use Rattle.number_lists.proofs.WhereLemmas.{filter-numbers_where, has-numbers_where, numbers_where-agree, numbers_where-none}
 use Rattle.postings.specs.Groups.{all_groups}
 use Rattle.pair_sets.specs.Groups.{groups_where, some_group_in}
 use Rattle.pair_sets.specs.Numbers.{numbers_in}
@@ -44,17 +44,17 @@ none_within bound may set found none is =
 
 -- what is left where a second set was asked for what the first has
 pub asked_of : (bound : ℕ) (start set : ℕ → Bool) (found next : List ℕ) → found ≡ numbers_where bound start
-    → next ≡ numbers_where bound (λ n. has_item found n && set n)
+    → next ≡ numbers_where bound (λ n. has found n && set n)
     → next ≡ numbers_where bound (λ n. start n && set n)
 asked_of bound start set found next found_is next_is =
     next_is
-    ∙ numbers_where-agree bound (λ n. has_item found n && set n) (λ n. start n && set n)
-    (λ n within. ap (λ (b : Bool). b && set n) (ap (λ (xs : List ℕ). has_item xs n) found_is ∙ has_item-numbers_where bound start n within))
+    ∙ numbers_where-agree bound (λ n. has found n && set n) (λ n. start n && set n)
+    (λ n within. ap (λ (b : Bool). b && set n) (ap (λ (xs : List ℕ). has xs n) found_is ∙ has-numbers_where bound start n within))
 
 -- the first set without the second, of candidates
 pub minus_within : (bound : ℕ) (may one other : ℕ → Bool) (left right found : List ℕ)
     → left ≡ numbers_where bound (λ n. may n && one n)
-    → right ≡ numbers_where bound (λ n. has_item left n && other n)
+    → right ≡ numbers_where bound (λ n. has left n && other n)
     → found ≡ other_items left right
     → found ≡ numbers_where bound (λ n. may n && (one n && not (other n)))
 minus_within bound may one other left right found left_is right_is found_is =
@@ -79,7 +79,7 @@ module _ {X : Type 0} (bound : ℕ) (test : X → ℕ → Bool) (parts : List X)
   -- one part more, asked of what is left
   pub all_within : (start : ℕ → Bool) (found next : List ℕ)
       → found ≡ numbers_where bound (λ n. start n && list_all (λ part. test part n) (take k parts))
-      → next ≡ numbers_where bound (λ n. has_item found n && test (get_or parts k d) n)
+      → next ≡ numbers_where bound (λ n. has found n && test (get_or parts k d) n)
       → next ≡ numbers_where bound (λ n. start n && list_all (λ part. test part n) (take (k + 1) parts))
   all_within start found next found_is next_is =
       asked_of bound (λ n. start n && list_all (λ part. test part n) (take k parts)) (test (get_or parts k d)) found next found_is next_is

@@ -1,15 +1,15 @@
 -- The groups of concepts, by the numbers of both.
 use Rattle.std.specs.Prelude.{ℕ, ◌≡◌, ◌<◌, ◌==◌, true, List, count_by, length, slice_get, slice_index}
 use Rattle.rf2_rows.specs.Release.{Release}
-use Rattle.number_lists.specs.Members.{has_item}
+use Rattle.number_lists.specs.Members.{has}
 use Rattle.postings.specs.Groups.{all_groups}
 use Rattle.pair_sets.specs.Groups.{concept_in}
 
 -- some groups have among them all groups of some concepts
 abbrev pub HaveGroupsOf : Release → List ℕ → List ℕ → Type 0
 HaveGroupsOf release concepts groups =
-    (number group : ℕ) → has_item concepts number ≡ true → number < length release.concepts → group < length (all_groups release)
-    → concept_in (slice_get (all_groups release) group) ≡ slice_index release.concepts number → has_item groups group ≡ true
+    (number group : ℕ) → has concepts number ≡ true → number < length release.concepts → group < length (all_groups release)
+    → concept_in (slice_get (all_groups release) group) ≡ slice_index release.concepts number → has groups group ≡ true
 
 -- how many of some groups are of a concept
 abbrev pub groups_owned : Release → List ℕ → ℕ → ℕ

@@ -2,7 +2,7 @@
 use Rattle.std.specs.Prelude.{ℕ, ◌≡◌, ◌&&◌, Bool, true, List, length, slice_get, slice_index}
 use Rattle.rf2_rows.specs.Pairs.{Pair}
 use Rattle.rf2_rows.specs.Release.{Release}
-use Rattle.number_lists.specs.Members.{has_item}
+use Rattle.number_lists.specs.Members.{has}
 use Rattle.number_lists.specs.Rising.{numbers_where}
 use Rattle.postings.specs.Groups.{all_groups}
 use Rattle.pair_sets.specs.Groups.{some_group_in}
@@ -12,7 +12,7 @@ use Rattle.pair_sets.specs.declared.candidates.Candidates.TheVariants as candida
 -- whether a number is a candidate
 abbrev pub may_be : {S : Type 0} → (S → List ℕ) → Candidates S → ℕ → Bool
 may_be items_of candidates.All number = true
-may_be items_of (candidates.Within set extent) number = has_item (items_of set.now) number
+may_be items_of (candidates.Within set extent) number = has (items_of set.now) number
 
 -- the candidates are among so many numbers
 abbrev pub AreBelow : {S : Type 0} → (S → ℕ) → ℕ → Candidates S → Type 0

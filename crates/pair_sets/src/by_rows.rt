@@ -3,7 +3,7 @@ ghost use Rattle.std.specs.Prelude.{ℕ, ◌≡◌, ◌<◌, All, Bool, IfOk, fi
 ghost use Rattle.std.specs.List.{range_with_len};
 ghost use Rattle.constraint_tree.specs.Passing.{is_within};
 ghost use Rattle.number_lists.specs.Rising.{IsRisingBelow};
-ghost use Rattle.number_lists.specs.Members.{has_item};
+ghost use Rattle.number_lists.specs.Members.{has};
 ghost use Rattle.postings.specs.Groups.{all_groups};
 ghost use Rattle.postings.specs.Indexed.{IsIndexOf, types_of};
 ghost use Rattle.set_algebra.specs.Meaning.{has_pairs, pairs_of};
@@ -174,7 +174,7 @@ fn numbers_asked<S: ConceptSet>(
 ) -> Result<Vec<u32>, AllocError>
     requires { AreBelow S.bound_of bound candidates.now }
     ensures within { IfOk result (λ numbers. All (λ number. number < bound) numbers.items) }
-    ensures asked { IfOk result (λ numbers. (number : ℕ) → number < bound → has_item numbers.items number ≡ may_be S.items_of candidates.now number) }
+    ensures asked { IfOk result (λ numbers. (number : ℕ) → number < bound → has numbers.items number ≡ may_be S.items_of candidates.now number) }
 {
     match candidates {
         Candidates::All => {

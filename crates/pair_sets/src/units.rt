@@ -5,7 +5,7 @@ ghost use Rattle.postings.specs.Indexed.{IsIndexOf};
 ghost use Rattle.pair_sets.specs.Groups.{concept_in};
 ghost use Rattle.pair_sets.specs.Owned.{HaveGroupsOf, groups_owned};
 ghost use Rattle.constraint_tree.specs.Passing.{lies_in};
-ghost use Rattle.number_lists.specs.Members.{has_item};
+ghost use Rattle.number_lists.specs.Members.{has};
 ghost use Rattle.number_lists.specs.Rising.{numbers_where};
 ghost use Rattle.std.specs.List.{range_with_len};
 
@@ -77,8 +77,8 @@ fn numbers_of_groups(
 ) -> Result<Vec<u32>, AllocError>
     requires { All (λ concept. concept < length indexes.now.concepts) concepts.now }
     ensures within { IfOk result (λ found. All (λ group. group < length (groups_in indexes.now)) found.items) }
-    ensures all { IfOk result (λ found. (concept group : ℕ) → has_item concepts.now concept ≡ true → length (groups_before indexes.now concept) ≤ group
-        → group < length (groups_before indexes.now (concept + 1)) → has_item found.items group ≡ true) }
+    ensures all { IfOk result (λ found. (concept group : ℕ) → has concepts.now concept ≡ true → length (groups_before indexes.now concept) ≤ group
+        → group < length (groups_before indexes.now (concept + 1)) → has found.items group ≡ true) }
 {
     let mut found = Vec::new(alloc);
     for concept in concepts {

@@ -30,6 +30,7 @@ use Rattle.number_lists.specs.Members.{has}
 use Rattle.release_rows.specs.InForce.{rising}
 use Rattle.release_rows.proofs.SortLemmas.{keeps_rising}
 use Rattle.number_lists.proofs.ListLemmas.{both_ways}
+use Rattle.number_lists.proofs.MemberLemmas.{any-has}
 use Rattle.postings.specs.Entries.{Entry, entries_of, is_alike, is_alike_in_group}
 use Rattle.postings.specs.Groups.{ConceptGroup, GroupKey, all_groups, groups_among, is_in_group, keys_of, numbered, pairs_of_group}
 use Rattle.postings.specs.Groups.{rows_alone, ungrouped}
@@ -317,7 +318,8 @@ any_by_source test concepts rows known =
         → list_any (λ concept. list_any test (filter (λ (row : Attribute). row.source == concept) rows)) concepts ≡ list_any test rows
     along [] known = list_any_none (λ concept. false) concepts (λ k d below. refl)
     along (row ∷ rows) known =
-        let here : has concepts row.source ≡ true = All-head (λ (row : Attribute). has concepts row.source ≡ true) row rows known in
+        let here : list_any (nat_eq row.source) concepts ≡ true = any-has concepts row.source
+        ∙ All-head (λ (row : Attribute). has concepts row.source ≡ true) row rows known in
         let rest = along rows (All-tail (λ (row : Attribute). has concepts row.source ≡ true) row rows known) in
         any-within (λ concept. list_any test (filter (λ (row : Attribute). row.source == concept) (row ∷ rows)))
         (λ concept. ((row.source == concept) && test row) || list_any test (filter (λ (row : Attribute). row.source == concept) rows))

@@ -10,11 +10,11 @@ use Rattle.rf2_rows.specs.Pairs.{Pair, pair_of}
 use Rattle.number_lists.specs.Distinct.{distinct}
 use Rattle.rf2_rows.specs.Release.{Value}
 use Rattle.number_lists.proofs.DistinctLemmas.{keeps_each_number_once}
-use Rattle.number_lists.specs.Members.{has_item}
+use Rattle.number_lists.specs.Members.{has}
 use Rattle.number_lists.proofs.WhereLemmas.{numbers_where-agree}
 use Rattle.release_rows.specs.InForce.{rising}
 use Rattle.number_lists.proofs.ListLemmas.{both_ways, some_item_passes}
-use Rattle.number_lists.proofs.MemberLemmas.{item_there, there_item}
+use Rattle.number_lists.proofs.MemberLemmas.{contains_had, had_contained}
 use Rattle.postings.specs.inside.Coded.{code_eq, group_codes, ungrouped_pairs, numbers_of_groups, pair_code, place_in_source, row_coded}
 use Rattle.postings.specs.Groups.{GroupKey, key_of, numbered, ungrouped}
 use Rattle.postings.specs.Indexed.{value_at}
@@ -22,7 +22,8 @@ use Rattle.postings.specs.declared.rows.CodedRow.{CodedRow}
 use Rattle.number_lists.proofs.BlockLemmas.{Contains-filter, Contains-map}
 use Rattle.postings.proofs.DistinctLemmas.{All-distinct}
 use Rattle.postings.proofs.OnceLemmas.{distinct-keeps, position-within}
-use Rattle.postings.proofs.RisingLemmas.{has_item-rising, rising_is_listed, some_bound}
+use Rattle.postings.proofs.RisingLemmas.{rising_is_listed, some_bound}
+use Rattle.release_rows.proofs.SortLemmas.{has-rising}
 
 -- the members of a list in rising order are the same whether repeats leave before
 pub rising_distinct : (numbers : List ℕ) → rising (distinct nat_eq numbers) ≡ rising numbers
@@ -30,10 +31,10 @@ rising_distinct numbers =
     let bound = some_bound numbers in
     let low = All-distinct nat_eq (λ id. id < bound.0) numbers bound.1 in
     rising_is_listed bound.0 (distinct nat_eq numbers) low
-    ∙ numbers_where-agree bound.0 (has_item (distinct nat_eq numbers)) (has_item numbers)
-    (λ number less. both_ways (has_item (distinct nat_eq numbers) number) (has_item numbers number)
-    (λ told. there_item numbers number (((keeps_each_number_once numbers).1 number).0 (item_there (distinct nat_eq numbers) number told)))
-    (λ told. there_item (distinct nat_eq numbers) number (((keeps_each_number_once numbers).1 number).1 (item_there numbers number told))))
+    ∙ numbers_where-agree bound.0 (has (distinct nat_eq numbers)) (has numbers)
+    (λ number less. both_ways (has (distinct nat_eq numbers) number) (has numbers number)
+    (λ told. had_contained numbers number (((keeps_each_number_once numbers).1 number).0 (contains_had (distinct nat_eq numbers) number told)))
+    (λ told. had_contained (distinct nat_eq numbers) number (((keeps_each_number_once numbers).1 number).1 (contains_had numbers number told))))
     ∙ sym (rising_is_listed bound.0 numbers bound.1)
 
 -- the test of pairs of numbers tells which are the same
@@ -56,10 +57,10 @@ number_place rows row there some =
     let numbers = filter (λ group. not (group == 0)) (map (λ (row : CodedRow). row.group) rows) in
     let among : Contains numbers row.group = Contains-filter (λ group. not (group == 0)) (map (λ (row : CodedRow). row.group) rows)
     row.group (ap not some) (Contains-map (λ (row : CodedRow). row.group) rows row there) in
-    let listed : has_item (numbers_of_groups rows) row.group ≡ true =
-    has_item-rising numbers row.group ∙ there_item numbers row.group among in
+    let listed : has (numbers_of_groups rows) row.group ≡ true =
+    has-rising numbers row.group ∙ had_contained numbers row.group among in
     let found : list_any (λ group. row.group == group) (numbers_of_groups rows) ≡ true =
-    some_item_passes (λ group. row.group == group) (numbers_of_groups rows) row.group (item_there (numbers_of_groups rows) row.group listed)
+    some_item_passes (λ group. row.group == group) (numbers_of_groups rows) row.group (contains_had (numbers_of_groups rows) row.group listed)
     (eq-eqb row.group row.group refl) in
     let within = position-within (λ group. row.group == group) (numbers_of_groups rows) found in (
       within,

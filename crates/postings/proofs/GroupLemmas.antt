@@ -11,15 +11,15 @@ use Rattle.std.proofs.lemmas.List.Sums.{position_or_len_is, prefix_len-le-length
 use Rattle.std.proofs.lemmas.Map.Views.{any-filter_same}
 use Rattle.number_lists.specs.Distinct.{distinct}
 use Rattle.number_lists.specs.Rising.{IsRising}
-use Rattle.number_lists.specs.Members.{has_item}
+use Rattle.number_lists.specs.Members.{has}
 use Rattle.idset.specs.Sets.{place_of}
-use Rattle.idset.proofs.Places.{below_place, has_item-place, place_le}
+use Rattle.idset.proofs.Places.{below_place, has-place, place_le}
 use Rattle.snapshot.proofs.FinishLemmas.{length-rising}
 use Rattle.postings.specs.inside.Coded.{code_eq, group_codes, ungrouped_pairs, numbers_of_groups, pair_code, place_in_source}
 use Rattle.postings.specs.declared.rows.CodedRow.{CodedRow}
 use Rattle.postings.proofs.DistinctLemmas.{filter-map_agree, length-distinct, position-distinct}
 use Rattle.postings.proofs.MarkLemmas.{code_eq_equiv}
-use Rattle.postings.proofs.RisingLemmas.{has_item-rising}
+use Rattle.release_rows.proofs.SortLemmas.{has-rising}
 
 -- the numbers of the groups of some rows, row by row, and the rows that have no group
 abbrev groups_at : List CodedRow → List ℕ
@@ -78,11 +78,11 @@ place_in_source-le rows row =
 
 -- the number of a row's group is among those of the groups
 group_there : (before : List CodedRow) (row : CodedRow) (behind : List CodedRow) → row.group ≢ 0
-    → has_item (numbers_of_groups (before ++ row ∷ behind)) row.group ≡ true
+    → has (numbers_of_groups (before ++ row ∷ behind)) row.group ≡ true
 group_there before row behind numbered =
     let rows : List CodedRow = before ++ row ∷ behind in
     let is_own : ℕ → Bool = λ group. group == row.group in
-    has_item-rising (filter (λ group. not (group == 0)) (groups_at rows)) row.group
+    has-rising (filter (λ group. not (group == 0)) (groups_at rows)) row.group
     ∙ any-filter_same is_own (λ group. not (group == 0)) true
     (λ group own. ap not (ne_eqb group 0 (λ none. numbered (sym (eqb-true group row.group own) ∙ none)))) (groups_at rows)
     ∙ ap (list_any is_own) (map-append (λ (row : CodedRow). row.group) before (row ∷ behind))
@@ -91,12 +91,12 @@ group_there before row behind numbered =
     (or_left (row.group == row.group) (list_any is_own (groups_at behind)) (eq-eqb row.group row.group refl))
 
 -- the place of a number that is in a rising list is where it stands
-place_of-there : (numbers : List ℕ) (number : ℕ) → IsRising numbers → has_item numbers number ≡ true
+place_of-there : (numbers : List ℕ) (number : ℕ) → IsRising numbers → has numbers number ≡ true
     → place_of numbers number ≡ position_or_len (λ other. number == other) numbers
 place_of-there numbers number rises there =
     let place : ℕ = place_of numbers number in
     let parts = and_parts (ltb place (length numbers)) (eqb (get_or numbers place 0) number)
-    (sym (has_item-place (2 ^ 32) numbers number rises) ∙ there) in
+    (sym (has-place (2 ^ 32) numbers number rises) ∙ there) in
     sym (position_or_len_is (λ other. number == other) numbers place 0 (place_le numbers number)
     (λ k before. ne_eqb number (get_or numbers k 0) (λ same. omega (arith, below_place numbers number k before)))
     (λ within. eq-eqb number (get_or numbers place 0) (sym (eqb-true (get_or numbers place 0) number parts.1))))
@@ -115,7 +115,7 @@ pub numbered_place : (before : List CodedRow) (row : CodedRow) (behind : List Co
 unfolding place_by
 numbered_place before row behind numbers numbered rises are =
     let rows : List CodedRow = before ++ row ∷ behind in
-    place_of-there numbers row.group rises (ap (λ (numbers : List ℕ). has_item numbers row.group) are
+    place_of-there numbers row.group rises (ap (λ (numbers : List ℕ). has numbers row.group) are
     ∙ group_there before row behind numbered)
     ∙ ap (position_or_len (λ group. row.group == group)) are
     ∙ ap (λ (is_ungrouped : Bool). place_by is_ungrouped rows row) (sym (ne_eqb row.group 0 numbered))

@@ -8,8 +8,8 @@ use Rattle.std.proofs.lemmas.List.Elements.{All-tail}
 use Rattle.std.proofs.lemmas.List.FromFn.{get_or-map-range_with_len, length-map-range_with_len}
 use Rattle.std.proofs.lemmas.List.Sums.{length-filter}
 use Rattle.number_lists.specs.Rising.{IsRisingBelow, numbers_where}
-use Rattle.number_lists.specs.Members.{has_item}
-use Rattle.number_lists.proofs.WhereLemmas.{has_item-numbers_where, numbers_from}
+use Rattle.number_lists.specs.Members.{has}
+use Rattle.number_lists.proofs.WhereLemmas.{has-numbers_where, numbers_from}
 use Rattle.number_lists.proofs.RisingLemmas.{get_or-below, numbers_where-rising}
 use Rattle.number_lists.specs.KeyedLists.{list_of}
 use Rattle.postings.specs.inside.Coded.{of_source}
@@ -50,11 +50,11 @@ module _ {X : Type 0} where
       (get_or-below 0 (length xs) (places_where test xs) k (places_where-rising test xs) within)
 
   -- a number below the length is among the places exactly where the item there passes
-  pub has_item-places_where : (test : X → Bool) (xs : List X) (place : ℕ) (d : X) → place < length xs
-      → has_item (places_where test xs) place ≡ test (get_or xs place d)
-  has_item-places_where test xs place d within =
-      ap (λ places. has_item places place) (places_where-numbers test xs d)
-      ∙ has_item-numbers_where (length xs) (λ at. test (get_or xs at d)) place within
+  pub has-places_where : (test : X → Bool) (xs : List X) (place : ℕ) (d : X) → place < length xs
+      → has (places_where test xs) place ≡ test (get_or xs place d)
+  has-places_where test xs place d within =
+      ap (λ places. has places place) (places_where-numbers test xs d)
+      ∙ has-numbers_where (length xs) (λ at. test (get_or xs at d)) place within
 
 -- ---- other tests and other items
 module _ {X : Type 0} where

@@ -1,14 +1,13 @@
 -- Numbers brought in rising order, each once.
-use Rattle.std.proofs.Common.{ℕ, suc, ◌+◌, ◌==◌, ◌≡◌, ◌≤◌, ◌<◌, ◌||◌, ◌∷◌, [], ◌∙◌, inl, inr}
+use Rattle.std.proofs.Common.{ℕ, suc, ◌+◌, ◌≡◌, ◌≤◌, ◌<◌, ◌∷◌, [], ◌∙◌, inl, inr}
 use Rattle.std.proofs.Common.{true, List, refl, sym, arith}
 use Rattle.std.specs.Prelude.{All}
 use Rattle.std.proofs.lemmas.Bool.{cases_order, eq-eqb, le-ltb, lt-ltb, ne_eqb}
 use Rattle.std.proofs.lemmas.List.Elements.{All-cons, All-head, All-nil, All-tail, All-weaker}
 use Rattle.number_lists.specs.Rising.{IsRisingBelow, listed_numbers, rises_within}
-use Rattle.number_lists.specs.Members.{has_item}
+use Rattle.number_lists.specs.Members.{has}
 use Rattle.number_lists.proofs.RisingLemmas.{rises_from_on, rises_on, rising_is_where}
 use Rattle.release_rows.specs.InForce.{put, rising}
-use Rattle.number_lists.proofs.MemberLemmas.{has_item-has}
 use Rattle.release_rows.proofs.SortLemmas.{has-rising}
 
 -- a number put into a rising list leaves one that rises within the same limits
@@ -32,14 +31,10 @@ rising-rises bound (x ∷ xs) below =
     rises_within-put 0 bound x (rising xs) (omega arith) (All-head (λ id. id < bound) x xs below)
     (rising-rises bound xs (All-tail (λ id. id < bound) x xs below))
 
--- bringing a list in order keeps its members
-pub has_item-rising : (xs : List ℕ) (n : ℕ) → has_item (rising xs) n ≡ has_item xs n
-has_item-rising xs n = has_item-has (rising xs) n ∙ has-rising xs n ∙ sym (has_item-has xs n)
-
 -- the numbers below a bound that are in a list below it are its members in rising order
 pub rising_is_listed : (bound : ℕ) (xs : List ℕ) → All (λ id. id < bound) xs → rising xs ≡ listed_numbers bound xs
-rising_is_listed bound xs below = rising_is_where bound (rising xs) (has_item xs) (rising-rises bound xs below)
-    (λ n _. has_item-rising xs n)
+rising_is_listed bound xs below = rising_is_where bound (rising xs) (has xs) (rising-rises bound xs below)
+    (λ n _. has-rising xs n)
 
 -- all numbers of a list are below some bound
 pub some_bound : (xs : List ℕ) → (bound : ℕ) × All (λ id. id < bound) xs

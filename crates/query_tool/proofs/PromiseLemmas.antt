@@ -8,8 +8,8 @@ use Rattle.std.proofs.lemmas.Grind.{common_steps}
 use Rattle.std.proofs.lemmas.List.Kept.{IsStrictlyIncreasing-filter}
 use Rattle.std.specs.Io.KnownBytes.{Appends}
 use Rattle.std.specs.List.Sorted.{IsStrictlyIncreasing}
-use Rattle.number_lists.specs.Members.{has_item}
-use Rattle.number_lists.proofs.MemberLemmas.{item_there, there_item}
+use Rattle.number_lists.specs.Members.{has}
+use Rattle.number_lists.proofs.MemberLemmas.{contains_had, had_contained}
 use Rattle.constraint_tree.specs.Denotation.{denotation, denotes}
 use Rattle.release_files.specs.Source.{FileText}
 use Rattle.snapshot.specs.Contents.{Contents, contents_of, load_of, loaded_from, unless_faulty}
@@ -53,7 +53,7 @@ concepts_rise rises language files contents loads =
     subst (λ (own : Contents). IsStrictlyIncreasing own.release.concepts) (sym whole)
     (rises (map (λ (row : ConceptRow). row.id) (filter (λ (row : ConceptRow). row.active) (concept_rows (map text_of_row (chosen (rows_of places))))))).0
 
-has_kept : (test : ℕ → Bool) (numbers : List ℕ) (number : ℕ) → has_item (filter test numbers) number ≡ (has_item numbers number && test number)
+has_kept : (test : ℕ → Bool) (numbers : List ℕ) (number : ℕ) → has (filter test numbers) number ≡ (has numbers number && test number)
 has_kept test [] number = refl
 has_kept test (first ∷ numbers) number = grind (arith, common_steps, nat_tests, (has_kept test numbers number))
 
@@ -64,10 +64,10 @@ true_both one other is is_other = grind arith
 kept : (test : ℕ → Bool) (numbers : List ℕ) (number : ℕ) → Contains (filter test numbers) number ↔ (Contains numbers number × IsTrue (test number))
 kept test numbers number = (
   λ there.
-      let both = and_parts (has_item numbers number) (test number) (sym (has_kept test numbers number) ∙ there_item (filter test numbers) number there) in
-      (item_there numbers number both.0, both.1),
-  λ both. item_there (filter test numbers) number
-      (has_kept test numbers number ∙ true_both (has_item numbers number) (test number) (there_item numbers number both.0) both.1),
+      let both = and_parts (has numbers number) (test number) (sym (has_kept test numbers number) ∙ had_contained (filter test numbers) number there) in
+      (contains_had numbers number both.0, both.1),
+  λ both. contains_had (filter test numbers) number
+      (has_kept test numbers number ∙ true_both (has numbers number) (test number) (had_contained numbers number both.0) both.1),
 )
 
 -- the answer to a line, in the words of the promise

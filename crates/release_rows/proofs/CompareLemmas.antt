@@ -1,7 +1,7 @@
 -- What comparing rows by their keys says of the rows.
 use Rattle.std.proofs.lemmas.Bool.Decides.{nat_tests}
 use Rattle.std.proofs.lemmas.Grind.{common_steps}
-use Rattle.std.proofs.Common.{All, ℕ, ◌≡◌, ◌^◌, ◌<◌, ◌∙◌, ◌==◌, List, [], ◌∷◌, ◌++◌, length, get_or, true, false, Bool, Option, None, Some, append_assoc, ap, arith, map, refl, sym, subst, append-nil}
+use Rattle.std.proofs.Common.{All, ℕ, ◌≡◌, ◌^◌, ◌<◌, ◌∙◌, ◌==◌, List, [], ◌∷◌, ◌++◌, length, get_or, true, false, Bool, Option, None, Some, append_assoc, ap, arith, map, nat_eq, refl, sym, subst, append-nil}
 use Rattle.std.specs.List.{cons_option, list_any}
 use Rattle.std.proofs.lemmas.List.{get_or-map, length-map, map-append}
 use Rattle.std.proofs.lemmas.List.Elements.{All-cons, All-nil, All-push, All-tail}
@@ -17,7 +17,7 @@ use Rattle.release_rows.specs.inside.VersionTable.{HasTaken, VersionTable}
 use Rattle.release_rows.specs.Traversal.{StopsAt, TakesAll, next, taken}
 use Rattle.release_rows.specs.declared.fault.LoadFault.{LoadFault}
 use Rattle.release_rows.specs.inside.FirstPass.{AreSeen, AreShort, first_conflict, keys_behind, uuids_after}
-use Rattle.number_lists.proofs.MemberLemmas.{had_contained}
+use Rattle.number_lists.proofs.MemberLemmas.{any-has, had_contained}
 use Rattle.release_rows.proofs.PlaceLemmas.{get_or-place_of, place_below, place_of}
 use Rattle.release_rows.proofs.SingleLemmas.{any-none, key-twice, met-seen}
 use Rattle.release_rows.proofs.KindLemmas.{kind_same}
@@ -27,8 +27,14 @@ use Rattle.release_rows.specs.inside.KeyedRows as by_key
 
 -- ---- keys tell components
 -- UUIDs that were met are below the number of them, and at their own places
-pos-apart : (n m : ℕ) (uuids : List ℕ) → has uuids n ≡ true → has uuids m ≡ true → place_of uuids n ≡ place_of uuids m → n ≡ m
-pos-apart n m uuids there other same = sym (get_or-place_of uuids n there) ∙ ap (λ (place : ℕ). get_or uuids place 0) same ∙ get_or-place_of uuids m other
+met_among : (n : ℕ) (uuids : List ℕ) → list_any (nat_eq n) uuids ≡ true → has uuids n ≡ true
+met_among n uuids met = sym (any-has uuids n) ∙ met
+
+pos-apart : (n m : ℕ) (uuids : List ℕ) → list_any (nat_eq n) uuids ≡ true → list_any (nat_eq m) uuids ≡ true
+    → place_of uuids n ≡ place_of uuids m → n ≡ m
+pos-apart n m uuids met met' same =
+    sym (get_or-place_of uuids n (met_among n uuids met)) ∙ ap (λ (place : ℕ). get_or uuids place 0) same
+    ∙ get_or-place_of uuids m (met_among m uuids met')
 
 -- a row whose key is known by the UUIDs that were met
 abbrev pub IsKnown : List ℕ → RowAt → Type 0
@@ -47,7 +53,7 @@ any-noted uuids p q (row ∷ rows) known same =
 
 module _ (uuids : List ℕ) (few : length uuids < 2 ^ 63) where
   tells : (one other : RowAt) → IsKnown uuids one → IsKnown uuids other → ((noted_of uuids one).key == (noted_of uuids other).key) ≡ same_component one other
-  tells one other known known' = grind (arith, nat_tests, place_below, pos-apart)
+  tells one other known known' = grind (arith, nat_tests, met_among, place_below, pos-apart)
 
   choices-noted : (rows earlier later : List RowAt) → AreKnown uuids rows → AreKnown uuids earlier → AreKnown uuids later
       → by_key.choices (map (noted_of uuids) rows) (map (noted_of uuids) earlier) (map (noted_of uuids) later) ≡ choices rows earlier later

@@ -1,5 +1,5 @@
 -- Lists in strictly rising order: a number stands at one place alone.
-use Rattle.std.proofs.Common.{ℕ, inl, inr, ◌≡◌, ◌<◌, ◌≤◌, ◌-◌, ◌∙◌, List, length, get_or, false, nat_eq, Ok, Err, sym, arith, Result, is_ok, nat_cmp, eq-eqb}
+use Rattle.std.proofs.Common.{ℕ, inl, inr, ◌==◌, ◌≡◌, ◌<◌, ◌≤◌, ◌-◌, ◌∙◌, List, length, get_or, false, Ok, Err, sym, arith, Result, is_ok, nat_cmp, eq-eqb}
 use Rattle.std.specs.List.Sorted.{IsBinarySearchResult, IsStrictlyIncreasing}
 use Rattle.std.proofs.lemmas.List.Kept.{AllPairs-from_increasing}
 use Rattle.std.proofs.lemmas.List.Folds.{list_any_at}
@@ -27,7 +27,7 @@ has-none xs id i above below = had_not xs id (λ there.
 
 -- a binary search finds a number exactly where it is among them
 pub has-searched : (xs : List ℕ) → IsStrictlyIncreasing xs → (id : ℕ) (r : Result ℕ ℕ) → IsBinarySearchResult (λ y. nat_cmp y id) xs r → is_ok r ≡ has xs id
-has-searched xs rising id (Ok i) found = grind (arith, searched xs id (Ok i) found (not_falling xs rising), list_any_at (nat_eq id) xs i 0, eq-eqb)
+has-searched xs rising id (Ok i) found = grind (arith, searched xs id (Ok i) found (not_falling xs rising), list_any_at (λ other. other == id) xs i 0, eq-eqb)
 has-searched xs rising id (Err i) found = let at = searched xs id (Err i) found (not_falling xs rising) in
     sym (has-none xs id i (λ k before within. at.1 k before) at.2)
 

@@ -1,6 +1,6 @@
 -- Where no key stands twice no row conflicts with another, and each is chosen.
 use Rattle.std.proofs.lemmas.Grind.{common_steps}
-use Rattle.std.proofs.Common.{◌||◌, ℕ, ◌≡◌, ◌≤◌, ◌∙◌, ◌==◌, List, [], ◌∷◌, ◌++◌, true, false, Bool, Option, None, append_assoc, ap, arith, refl, not, cond}
+use Rattle.std.proofs.Common.{◌||◌, ℕ, ◌≡◌, ◌≤◌, ◌∙◌, ◌==◌, List, [], ◌∷◌, ◌++◌, true, false, Bool, Option, None, append_assoc, ap, arith, nat_eq, refl, not, cond}
 use Rattle.std.specs.Prelude.{⊤}
 use Rattle.std.specs.List.{list_any, position_or_len}
 use Rattle.std.proofs.lemmas.Bool.{and_left, false_from_ne_true}
@@ -11,27 +11,27 @@ use Rattle.rf2_rows.specs.RowTexts.{RowText, of_concept, of_concrete, of_descrip
 use Rattle.rf2_rows.specs.Versions.{member_number}
 use Rattle.release_rows.specs.Chosen.{choices, is_later, marked, same_component}
 use Rattle.release_rows.specs.Files.{text_of_row, RowAt}
-use Rattle.number_lists.specs.Members.{has, times}
+use Rattle.number_lists.specs.Members.{times}
 use Rattle.release_rows.specs.inside.Keys.{IsMet, key_in, uuids_behind}
 use Rattle.release_rows.specs.inside.FirstPass.{first_conflict, keys_behind, uuids_after}
 use Rattle.release_rows.proofs.KindLemmas.{kind_same}
 use Rattle.number_lists.proofs.MemberLemmas.{times-append, times-own}
 
 -- a number that was met, or is put behind the others, stays at its place
-pos-kept : (n more : ℕ) (uuids : List ℕ) → (has uuids n || n == more) ≡ true
+pos-kept : (n more : ℕ) (uuids : List ℕ) → (list_any (nat_eq n) uuids || n == more) ≡ true
     → position_or_len (λ other. n == other) (uuids ++ more ∷ []) ≡ position_or_len (λ other. n == other) uuids
 pos-kept n more [] there = grind (arith, nat_tests, there)
-pos-kept n more (other ∷ uuids) there = grind (arith, nat_tests, has, position_or_len, cond, not, (pos-kept n more uuids))
+pos-kept n more (other ∷ uuids) there = grind (arith, nat_tests, list_any, position_or_len, cond, not, (pos-kept n more uuids))
 
 -- a longer list has a number, at the place that it has or would have in a list
 abbrev StaysIn : ℕ → List ℕ → List ℕ → Type 0
-StaysIn n uuids more = (has more n ≡ true) × (position_or_len (λ other. n == other) more ≡ position_or_len (λ other. n == other) uuids)
+StaysIn n uuids more = (list_any (nat_eq n) more ≡ true) × (position_or_len (λ other. n == other) more ≡ position_or_len (λ other. n == other) uuids)
 
 -- so it is where a number that is none of them is put behind the others, and behind later rows
-met-own : (n : ℕ) (uuids : List ℕ) → StaysIn n uuids (cond (has uuids n) uuids (uuids ++ n ∷ []))
+met-own : (n : ℕ) (uuids : List ℕ) → StaysIn n uuids (cond (list_any (nat_eq n) uuids) uuids (uuids ++ n ∷ []))
 met-own n uuids = grind (arith, common_steps, nat_tests, (pos-kept n n uuids), list_any-append)
 
-met-after : (n : ℕ) (uuids : List ℕ) (rows : List RowAt) → has uuids n ≡ true → StaysIn n uuids (uuids_after uuids rows)
+met-after : (n : ℕ) (uuids : List ℕ) (rows : List RowAt) → list_any (nat_eq n) uuids ≡ true → StaysIn n uuids (uuids_after uuids rows)
 met-after n uuids [] there = (there, refl)
 met-after n uuids (row ∷ rows) there =
     grind (arith, text_of_row, uuids_behind, pos-kept, list_any-append, (met-after n (uuids_behind uuids (text_of_row row)) rows))

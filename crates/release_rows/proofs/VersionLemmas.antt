@@ -1,6 +1,6 @@
 -- The versions of components that have several rows: their codes, their first rows, the latest ones, and the choices.
 use Rattle.std.proofs.lemmas.Grind.{common_steps}
-use Rattle.std.proofs.Common.{ℕ, ◌≡◌, ◌<◌, ◌≤◌, ◌/◌, ◌^◌, ◌&&◌, ◌==◌, List, get_or, true, nat_lt, Option, arith, lit≤, IfSome, eq-eqb, All, map, rules, [], ◌∷◌, ◌++◌, length, Bool, false, not, None, Some, position, sym, ◌∙◌, ap, refl, append_assoc, append-nil, Contains, eqb-true, ◌+◌, set, take, suc, length-set, ◌||◌}
+use Rattle.std.proofs.Common.{ℕ, ◌≡◌, ◌<◌, ◌≤◌, ◌/◌, ◌^◌, ◌&&◌, ◌==◌, List, get_or, true, nat_lt, Option, arith, lit≤, IfSome, eq-eqb, All, map, rules, [], ◌∷◌, ◌++◌, length, Bool, false, not, None, Some, position, sym, ◌∙◌, ap, refl, append_assoc, append-nil, Contains, eqb-true, nat_eq, ◌+◌, set, take, suc, length-set, ◌||◌}
 use Rattle.std.specs.List.Sorted.{IsStrictlyIncreasing}
 use Rattle.std.proofs.lemmas.Bool.Decides.{nat_tests}
 use Rattle.std.proofs.lemmas.List.Folds.{list_any_at, Any-from_list_any, list_any_more, list_any-append}
@@ -24,7 +24,7 @@ use Rattle.first_met.specs.FirstMet.{keys_behind}
 use Rattle.rf2_rows.specs.Rows.{row_fault}
 use Rattle.rf2_rows.specs.Versions.{same_row, same_time}
 use Rattle.rf2_rows.proofs.VersionLemmas.{same_row-refl, same_row-sym, same_row-trans}
-use Rattle.number_lists.proofs.MemberLemmas.{had_contained, not_contained, times-append}
+use Rattle.number_lists.proofs.MemberLemmas.{any-has, had_contained, not_contained, times-append}
 use Rattle.release_rows.proofs.SplitLemmas.{Contains-cut, any_of, one_first, one_at}
 use Rattle.std.proofs.Math.Bool.{and-false, or-false, or-true}
 use Rattle.rf2_rows.specs.declared.kind.FileKind.TheVariants.{Concept}
@@ -161,15 +161,16 @@ module _ (taken : VersionTable) (rising : IsStrictlyIncreasing taken.repeated) (
 
   module _ (code : ℕ) (is : IsCodeOf taken.repeated row code) where
     -- of a version that was not seen no row is before it
-    pub new_not_repeated : has taken.codes code ≡ false → is_repeated rows row ≡ false
+    pub new_not_repeated : list_any (nat_eq code) taken.codes ≡ false → is_repeated rows row ≡ false
     new_not_repeated new = false_from_ne_true _ (λ repeated.
         let other = some_of (λ other. same_version other row) rows repeated in
         let of = version_before other.0 other.1 code is other.2 in
         false≢true (sym new ∙ rw (before.codes, ← of.3)
-        (had_contained (map (λ (version : Version). version.code) taken.versions) of.0.code
+        (any-has (map (λ (version : Version). version.code) taken.versions) of.0.code
+        ∙ had_contained (map (λ (version : Version). version.code) taken.versions) of.0.code
         (Contains-map (λ (version : Version). version.code) taken.versions of.0 of.1))))
 
-    pub new_conflicts : has taken.codes code ≡ false → list_any (λ earlier. conflicts earlier row) rows ≡ false
+    pub new_conflicts : list_any (nat_eq code) taken.codes ≡ false → list_any (λ earlier. conflicts earlier row) rows ≡ false
     new_conflicts new = any-none (λ other. same_version other row) (λ other. conflicts other row) rows
         (λ other. and_left (same_version other row) _) (new_not_repeated new)
 
@@ -251,7 +252,7 @@ module _ (taken : VersionTable) (rising : IsStrictlyIncreasing taken.repeated) (
           (λ repeated. (version, Contains-get_or taken.versions number default placed.0, record { code = row_code; same = same })) before
 
     -- the first row of a version is taken
-    pub taken_first : (codes : List ℕ) (versions : List Version) (chosen : List Bool) → has taken.codes code ≡ false
+    pub taken_first : (codes : List ℕ) (versions : List Version) (chosen : List Bool) → list_any (nat_eq code) taken.codes ≡ false
         → row_fault row.kind row.text ≡ None → codes ≡ keys_behind taken.codes code
         → versions ≡ taken.versions
         ++ record { code = code; place = length taken.chosen; kind = row.kind; text = row.text } ∷ []

@@ -1,5 +1,5 @@
 //! The versions of components that have several rows: which of their rows conflict, and which is chosen.
-ghost use Rattle.std.specs.Prelude.{◌≡◌, ◌<◌, ◌≤◌, ◌+◌, ◌/◌, ◌^◌, ◌&&◌, ◌++◌, ◌∷◌, [], ℕ, List, All, IfOk, OnOk, OnErr, MatchOption, None, true, false, not, length, map, nat_lt, slice_index, slice_index_or};
+ghost use Rattle.std.specs.Prelude.{◌≡◌, ◌<◌, ◌≤◌, ◌+◌, ◌/◌, ◌^◌, ◌&&◌, ◌++◌, ◌∷◌, [], ℕ, List, All, IfOk, OnOk, OnErr, MatchOption, None, true, false, not, length, map, nat_eq, nat_lt, slice_index, slice_index_or};
 ghost use Rattle.std.specs.Option.{ForSome};
 ghost use Rattle.std.specs.List.{list_any};
 ghost use Rattle.std.specs.List.Sorted.{IsStrictlyIncreasing};
@@ -238,7 +238,7 @@ impl Versions {
     fn add_version(&mut self, code: u64, row: &NotedRow<'_>) -> Result<(), AllocError>
         requires accepted { row_fault row.now.kind row.now.text.now ≡ None }
         requires code { IsCodeOf self.old.repeated (noted row.now) code }
-        requires new { has self.old.codes code ≡ false }
+        requires new { list_any (nat_eq code) self.old.codes ≡ false }
         ensures repeated { self.new.repeated ≡ self.old.repeated }
         ensures taken { OnOk result ((rows : List KeyedRow) → HasTaken self.old rows → HasTaken self.new (rows ++ noted row.now ∷ [])) }
     {

@@ -5,7 +5,7 @@ use Rattle.std.proofs.lemmas.Grind.{common_steps}
 use Rattle.std.specs.List.{list_any}
 use Rattle.std.proofs.lemmas.List.Sums.{length-filter}
 use Rattle.release_files.specs.Source.{FileText}
-use Rattle.rf2_rows.specs.Release.{Name}
+use Rattle.rf2_rows.specs.Release.{Attribute, Name}
 use Rattle.rf2_rows.specs.RowTexts.{RowText}
 use Rattle.rf2_rows.specs.Rows.{DescriptionText, concrete_row, fields_of, text_in}
 use Rattle.rf2_rows.specs.Values.{value_of}
@@ -17,7 +17,7 @@ use Rattle.snapshot.specs.Contents.{contents_of, load_of, loaded_from}
 use Rattle.release_rows.specs.Files.{text_of_row, Place, RowAt, is_concept_file, is_concept_kind, has_kind, places_from}
 use Rattle.rf2_rows.specs.Files.{file_kind_of}
 use Rattle.number_lists.specs.Members.{has}
-use Rattle.release_rows.specs.InForce.{attributes_in_force, concept_in, concept_rows, concepts_in_force, description_in, is_in_force, is_member_in_force, is_name, isa_in_force, member_in, members_in_force, name_on, names_in_force, relationship_in, release_of, rows_among}
+use Rattle.release_rows.specs.InForce.{attribute_in, attributes_in_force, concept_in, concept_rows, concepts_in_force, description_in, is_in_force, is_member_in_force, is_name, isa_in_force, member_in, members_in_force, name_on, names_in_force, relationship_in, release_of, rows_among}
 use Rattle.release_rows.specs.ReadRows.{IsReadFrom}
 use Rattle.snapshot.specs.inside.Finished.{attributes_among, contents_from, finished, names_among, release_from}
 use Rattle.snapshot.specs.ValuesInForce.{is_value_among}
@@ -98,9 +98,15 @@ module _ (concepts : List ℕ) where
       (is_member_in_force concepts) (λ (row : MemberRow). row.active) between (λ row. grind arith) rows
 
   -- the attributes in force are those listed of concepts in force
+  attribute-kept : (row : RowAt) → attribute_in concepts (text_of_row row)
+      ≡ kept (λ (attribute : Attribute). has concepts attribute.source && is_value_among concepts attribute.value) (attribute_listed (text_of_row row))
+  attribute-kept row = search (rules, and_false, concrete_value-among)
+
   attributes_in_force-is : (rows : List RowAt)
       → attributes_in_force concepts (map text_of_row rows) ≡ attributes_among concepts (filter_map attribute_listed (map text_of_row rows))
-  attributes_in_force-is rows = search (rules, and_false, concrete_value-among, kept-listed)
+  attributes_in_force-is rows =
+      kept-listed (λ (attribute : Attribute). has concepts attribute.source && is_value_among concepts attribute.value)
+      (attribute_in concepts) attribute_listed attribute-kept rows
 
 -- the release of rows is made of what is listed of them
 pub release_of-listed : (rows : List RowAt) → release_of (map text_of_row rows) ≡ release_from (listed_of (map text_of_row rows))

@@ -9,6 +9,7 @@ use Rattle.first_met.proofs.PlaceLemmas.{behind_all}
 use Rattle.snapshot.specs.inside.SortedInside.{row_in}
 use Rattle.release_rows.specs.Spans.{Extends}
 use Rattle.snapshot.specs.declared.sorted_attributes.SortedRow.{SortedRow}
+use Rattle.number_lists.proofs.MemberLemmas.{any-has}
 use Rattle.release_rows.proofs.PlaceLemmas.{get_or-place_of, place_below}
 
 -- the place of a key is no further than there are keys
@@ -22,8 +23,9 @@ placed_type types id = by (list_any (nat_eq id) types) refl
     by : (known : Bool) → list_any (nat_eq id) types ≡ known
         → slice_get (cond known types (types ++ id ∷ [])) (position_or_len (nat_eq id) types) ≡ Some id
     by true had =
-        slice_get-get_or types (position_or_len (nat_eq id) types) 0 (place_below types id had)
-        ∙ ap (λ (id : ℕ). Some id) (get_or-place_of types id had)
+        let there = sym (any-has types id) ∙ had in
+        slice_get-get_or types (position_or_len (nat_eq id) types) 0 (place_below types id there)
+        ∙ ap (λ (id : ℕ). Some id) (get_or-place_of types id there)
     by false new =
         ap (slice_get (types ++ id ∷ [])) (behind_all types id new)
         ∙ slice_get-get_or (types ++ id ∷ []) (length types) 0 (omega (arith, length_push types id))

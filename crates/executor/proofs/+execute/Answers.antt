@@ -11,7 +11,7 @@ use Rattle.pair_sets.specs.declared.candidates.Candidates.{Candidates}
 use Rattle.pair_sets.proofs.UnitLemmas.{units_found, units_within as units_of_candidates}
 use Rattle.set_algebra.specs.Plan.{PlanOfUnits, Plan, and_units, and_plan, unit_plan_of, unit_plans_of, members_plan, minus_units, minus_plan, or_units, or_plan, outside_plan, pairs_units, pairs_plan, plan_of, plans_of, test_plan_of, units_plan, values_plan, walk_plan, within_plan}
 use Rattle.set_algebra.proofs.PlanLemmas.{unit_plan_of-And, unit_plan_of-Or, plan_of-And, plan_of-Or, plan_of-Values}
-use Rattle.number_lists.specs.Members.{has_item}
+use Rattle.number_lists.specs.Members.{has}
 use Rattle.number_lists.specs.Rising.{numbers_where}
 use Rattle.postings.specs.Groups.{all_groups}
 use Rattle.pair_sets.specs.Groups.{groups_where, some_group_in}
@@ -188,7 +188,7 @@ joined_plans::in_all-loop-place-preserved g t c =
                 (g.S.ConceptSet.items_of c.loop-place.found) (g.S.ConceptSet.items_of w.in_ok-next.next)
                 c.loop-place.invariant.items
                 (w.in_ok-next.ensures.items
-                ∙ ap (λ (p : ConceptPlan). numbers_within release (has_item (g.S.ConceptSet.items_of c.loop-place.found))
+                ∙ ap (λ (p : ConceptPlan). numbers_within release (has (g.S.ConceptSet.items_of c.loop-place.found))
                 (means release (plan_of p))) c.index-parts-place.is);
             bound = ap (λ (found : _). g.S.ConceptSet.bound_of found) w.found-is ∙ w.in_ok-next.ensures.bound;
             work = all_turn c.loop-place.invariant.work c.index-parts-place.result c.loop-place-test.true c.index-parts-place.is
@@ -539,7 +539,7 @@ unit_plans::groups_in_all-loop-place-preserved g t c =
                 (g.S.ConceptSet.items_of c.loop-place.groups) (g.S.ConceptSet.items_of w.in_ok-next.next)
                 c.loop-place.invariant.items
                 (w.in_ok-next.ensures.items
-                ∙ ap (λ (p : UnitPlan). groups_within release (has_item (g.S.ConceptSet.items_of c.loop-place.groups))
+                ∙ ap (λ (p : UnitPlan). groups_within release (has (g.S.ConceptSet.items_of c.loop-place.groups))
                 (unit_means release (unit_plan_of p))) c.index-parts-place.is);
             bound = ap (λ (found : _). g.S.ConceptSet.bound_of found) w.groups-is ∙ w.in_ok-next.ensures.bound;
             work = all_turn c.loop-place.invariant.work c.index-parts-place.result c.loop-place-test.true c.index-parts-place.is

@@ -1,6 +1,6 @@
 -- What of a set must be known, where it is asked whether an operator leads to some concepts from it, each by a list of its own.
 use Rattle.std.specs.Prelude.{ℕ, ◌≡◌, Bool, true, List}
-use Rattle.number_lists.specs.Members.{has_item}
+use Rattle.number_lists.specs.Members.{has}
 use Rattle.number_lists.specs.KeyedLists.{list_of}
 use Rattle.ancestor_index.specs.HierarchyLists.{Hierarchy}
 use Rattle.constraint_tree.specs.declared.operator.Operator.{Operator}
@@ -23,4 +23,4 @@ asked_lists hierarchy Bottom = hierarchy.descendants
 abbrev pub AreEnough : List (List ℕ) → (ℕ → Bool) → (ℕ → Bool) → Type 0
 AreEnough lists wanted enough =
     (concept : ℕ) → wanted concept ≡ true
-    → (enough concept ≡ true) × ((number : ℕ) → has_item (list_of lists concept) number ≡ true → enough number ≡ true)
+    → (enough concept ≡ true) × ((number : ℕ) → has (list_of lists concept) number ≡ true → enough number ≡ true)

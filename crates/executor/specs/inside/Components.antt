@@ -3,7 +3,7 @@
 use Rattle.std.specs.Prelude.{ℕ, Bool, ◌==◌, ◌&&◌, List, length, slice_index}
 use Rattle.std.specs.List.{list_any}
 use Rattle.rf2_rows.specs.Release.{Release}
-use Rattle.number_lists.specs.Members.{has_item}
+use Rattle.number_lists.specs.Members.{has}
 use Rattle.number_lists.specs.Rising.{numbers_where}
 use Rattle.number_lists.specs.KeyedLists.{list_of}
 
@@ -16,4 +16,4 @@ components_of release refsets =
 
 -- whether a number is in the list of one of some reference sets
 abbrev pub is_in_one_of : List (List ℕ) → List ℕ → ℕ → Bool
-is_in_one_of lists refsets number = list_any (λ refset. has_item (list_of lists refset) number) refsets
+is_in_one_of lists refsets number = list_any (λ refset. has (list_of lists refset) number) refsets

@@ -2,7 +2,7 @@
 use Rattle.std.specs.Prelude.{ℕ, ◌≡◌, ◌+◌, ◌-◌, Bool, true, false, List, filter, length, nat_le}
 use Rattle.std.specs.Bool.{beq}
 use Rattle.std.specs.List.{list_any}
-use Rattle.number_lists.specs.Members.{has_item}
+use Rattle.number_lists.specs.Members.{has}
 use Rattle.number_lists.specs.KeyedLists.{list_of}
 use Rattle.executor.specs.declared.family.Family.{Family}
 use Rattle.executor.specs.declared.family.Family.TheVariants as family
@@ -47,4 +47,4 @@ with_length lists long concepts = filter (λ concept. beq (is_long (list_of list
 -- a number is among some exactly where it is in the list of one of some concepts
 abbrev pub AreJoined : List (List ℕ) → List ℕ → List ℕ → Type 0
 AreJoined lists concepts numbers =
-    (number : ℕ) → has_item numbers number ≡ list_any (λ concept. has_item (list_of lists concept) number) concepts
+    (number : ℕ) → has numbers number ≡ list_any (λ concept. has (list_of lists concept) number) concepts

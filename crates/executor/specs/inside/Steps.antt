@@ -6,7 +6,7 @@ use Rattle.rf2_rows.specs.Release.{Release}
 use Rattle.constraint_tree.specs.declared.operator.Operator.{Operator}
 use Rattle.constraint_tree.specs.declared.operator.Operator.TheVariants.{Descendants, DescendantsOrSelf, Children, ChildrenOrSelf, Ancestors, AncestorsOrSelf, Parents, ParentsOrSelf, Top, Bottom}
 use Rattle.idset.specs.Sets.{all_items}
-use Rattle.number_lists.specs.Members.{has_item}
+use Rattle.number_lists.specs.Members.{has}
 use Rattle.number_lists.specs.Rising.{numbers_where}
 use Rattle.number_lists.specs.KeyedLists.{list_of}
 use Rattle.ancestor_index.specs.HierarchyLists.{Hierarchy, hierarchy_of}
@@ -36,11 +36,11 @@ HasWords hierarchy family.Children concept = ⊥
 -- the numbers below a count that are in the list of one of some concepts
 abbrev pub joined : ℕ → List (List ℕ) → List ℕ → List ℕ
 joined count lists concepts =
-    numbers_where count (λ number. list_any (λ concept. has_item (list_of lists concept) number) concepts)
+    numbers_where count (λ number. list_any (λ concept. has (list_of lists concept) number) concepts)
 
 -- those of some concepts none of which is in their list
 abbrev pub apart : List (List ℕ) → List ℕ → List ℕ
-apart lists concepts = filter (λ concept. not (list_any (has_item concepts) (list_of lists concept))) concepts
+apart lists concepts = filter (λ concept. not (list_any (has concepts) (list_of lists concept))) concepts
 
 -- where an operator leads from some concepts, all of them below a count
 abbrev pub led_to : Hierarchy → ℕ → Operator → List ℕ → List ℕ

@@ -1,5 +1,5 @@
 use Rattle.std.proofs.Common.{ℕ, List, ◌∙◌, ◌++◌, ◌∷◌, [], ap, get_or, subst, sym, take}
-use Rattle.number_lists.specs.Members.{has_item}
+use Rattle.number_lists.specs.Members.{has}
 use Rattle.ancestor_index.specs.inside.Gathered.{AreGathered, gathered_by, has_joined}
 use Rattle.ancestor_index.proofs.GatherLemmas.{gathered_item, gathered_more}
 use Rattle.ancestor_index.proofs.closure.gather.Goals as goal
@@ -15,10 +15,10 @@ loop-concept-preserved g c =
     (has_joined items_of c.loop-concept.joined number) (c.loop-concept.invariant.gathered number below)) in
     record {
       gathered = λ number below.
-          ap (λ (all : List ℕ). has_item all number)
+          ap (λ (all : List ℕ). has all number)
           (gathered_more c.args.places.now c.args.lists.now c.args.concepts.now c.loop-concept.concept-index
           c.loop-concept-test.true)
-          ∙ ap (λ (own : List ℕ). has_item ((before ++ concept ∷ []) ++ own) number) (sym c.of.ensures)
+          ∙ ap (λ (own : List ℕ). has ((before ++ concept ∷ []) ++ own) number) (sym c.of.ensures)
           ∙ c.in_ok-joined.ensures.gathered (before ++ concept ∷ []) pushed number below;
       below = c.in_ok-joined.ensures.below;
       bound = c.in_ok-joined.ensures.bound;

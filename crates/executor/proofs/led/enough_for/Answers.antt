@@ -3,7 +3,7 @@ use Rattle.std.specs.Prelude.{All}
 use Rattle.std.specs.List.{flat_map}
 use Rattle.std.proofs.lemmas.Result.{IfOk-weaker}
 use Rattle.number_lists.specs.KeyedLists.{list_of}
-use Rattle.number_lists.specs.Members.{has_item}
+use Rattle.number_lists.specs.Members.{has}
 use Rattle.number_lists.specs.Rising.{listed_numbers}
 use Rattle.executor.specs.inside.Asked.{AreEnough}
 use Rattle.executor.specs.inside.Steps.{lists_of}
@@ -40,9 +40,9 @@ returns-clause-enough g c =
     let numbers : c.as_slice-2.result.now ≡ flat_map each wanted = c.as_slice-2.ensures.value ∙ c.in_ok-numbers.ensures ∙ ap (flat_map each) own in
     IfOk-weaker c.from_numbers.result _ _
     (λ enough is.
-    subst (λ (lists : List (List ℕ)). AreEnough lists (has_item wanted) (has_item (g.S.ConceptSet.items_of enough)))
+    subst (λ (lists : List (List ℕ)). AreEnough lists (has wanted) (has (g.S.ConceptSet.items_of enough)))
     (ap (lists_of hierarchy) c.asked-family.ensures ∙ c.of.ensures.asked hierarchy)
-    (subst (λ (items : List ℕ). AreEnough (lists_of hierarchy family) (has_item wanted) (has_item items))
+    (subst (λ (items : List ℕ). AreEnough (lists_of hierarchy family) (has wanted) (has items))
     (sym (is ∙ (λ i. listed_numbers (c.bound-2.ensures i) (numbers i))))
     (with_lists_enough count hierarchy c.requires family wanted (all_below count wanted (g.met.S.ConceptSet.rising c.args.wanted.now)))))
     c.from_numbers.ensures.items

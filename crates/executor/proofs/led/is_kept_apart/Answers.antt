@@ -1,7 +1,7 @@
 use Rattle.std.proofs.Common.{◌≡◌, ◌∙◌, ◌&&◌, true, false, not, sym, ap, arith}
 use Rattle.std.specs.List.{list_any}
 use Rattle.number_lists.specs.KeyedLists.{list_of}
-use Rattle.number_lists.specs.Members.{has_item}
+use Rattle.number_lists.specs.Members.{has}
 use Rattle.executor.specs.inside.Steps.{lists_of}
 use Rattle.executor.proofs.JoinedLemmas.{over_length}
 use Rattle.executor.proofs.LedLemmas.{asked_apart}
@@ -13,17 +13,17 @@ list-requires g c = omega (arith, c.requires.below, over_length (g.S.ConceptSet.
 pub returns-then-has : goal.returns-then-has
 returns-then-has g c =
     let items = g.S.ConceptSet.items_of c.args.operand.now in
-    let own : has_item items c.args.concept ≡ true = sym c.has.ensures ∙ c.if-has.true in
-    ap not (c.meets.ensures ∙ ap (list_any (has_item items)) c.list.ensures)
-    ∙ sym (λ i. own i && not (list_any (has_item items) (list_of (lists_of c.args.index.now c.args.family) c.args.concept)))
+    let own : has items c.args.concept ≡ true = sym c.has.ensures ∙ c.if-has.true in
+    ap not (c.meets.ensures ∙ ap (list_any (has items)) c.list.ensures)
+    ∙ sym (λ i. own i && not (list_any (has items) (list_of (lists_of c.args.index.now c.args.family) c.args.concept)))
     ∙ asked_apart (g.S.ConceptSet.bound_of c.args.operand.now) c.args.index.now c.requires.over items (g.met.S.ConceptSet.rising c.args.operand.now)
     c.args.family c.args.concept c.requires.below
 
 pub returns-else-has : goal.returns-else-has
 returns-else-has g c =
     let items = g.S.ConceptSet.items_of c.args.operand.now in
-    let own : has_item items c.args.concept ≡ false = sym c.has.ensures ∙ c.if-has.false in
+    let own : has items c.args.concept ≡ false = sym c.has.ensures ∙ c.if-has.false in
     c.if-has.false
-    ∙ sym (λ i. own i && not (list_any (has_item items) (list_of (lists_of c.args.index.now c.args.family) c.args.concept)))
+    ∙ sym (λ i. own i && not (list_any (has items) (list_of (lists_of c.args.index.now c.args.family) c.args.concept)))
     ∙ asked_apart (g.S.ConceptSet.bound_of c.args.operand.now) c.args.index.now c.requires.over items (g.met.S.ConceptSet.rising c.args.operand.now)
     c.args.family c.args.concept c.requires.below

@@ -1,7 +1,7 @@
 use Rattle.std.proofs.Common.{◌∙◌, arith}
 use Rattle.std.specs.List.{list_any}
 use Rattle.number_lists.specs.KeyedLists.{list_of}
-use Rattle.number_lists.specs.Members.{has_item}
+use Rattle.number_lists.specs.Members.{has}
 use Rattle.executor.specs.inside.Steps.{lists_of}
 use Rattle.executor.proofs.JoinedLemmas.{over_length}
 use Rattle.executor.proofs.LedLemmas.{asked_back}
@@ -14,7 +14,7 @@ pub returns : goal.returns
 returns g c =
     let items = g.S.ConceptSet.items_of c.args.operand.now in
     c.meets.ensures
-    ∙ (λ i. list_any (has_item items) (c.list.ensures i))
-    ∙ (λ i. list_any (has_item items) (list_of (lists_of c.args.index.now (c.back.ensures i)) c.args.concept))
+    ∙ (λ i. list_any (has items) (c.list.ensures i))
+    ∙ (λ i. list_any (has items) (list_of (lists_of c.args.index.now (c.back.ensures i)) c.args.concept))
     ∙ asked_back (g.S.ConceptSet.bound_of c.args.operand.now) c.args.index.now c.requires.over items
     (g.met.S.ConceptSet.rising c.args.operand.now) c.args.family c.args.concept c.requires.below

@@ -1,5 +1,5 @@
 use Rattle.std.proofs.Common.{ℕ, Vec, Bool, true, false, ◌∙◌, sym, ap, append-nil}
-use Rattle.number_lists.specs.Members.{has_item}
+use Rattle.number_lists.specs.Members.{has}
 use Rattle.idset.proofs.Places.{filter_step}
 use Rattle.executor.specs.inside.Steps.{lists_of, stepped}
 use Rattle.executor.proofs.led.those_led_to.Goals as goal
@@ -11,7 +11,7 @@ is_led_to-requires-clause-below g c = c.requires.below c.loop-concept.concept-in
 pub loop-concept-preserved : goal.loop-concept-preserved
 loop-concept-preserved g c =
     let test : ℕ → Bool =
-    has_item (stepped (lists_of c.args.index.now c.args.step.family) (g.S.ConceptSet.bound_of c.args.operand.now)
+    has (stepped (lists_of c.args.index.now c.args.step.family) (g.S.ConceptSet.bound_of c.args.operand.now)
     c.args.step.reach (g.S.ConceptSet.items_of c.args.operand.now)) in
     let k = c.loop-concept.concept-index in
     elim c.if-is_led_to.branch [

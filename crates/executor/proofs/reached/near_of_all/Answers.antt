@@ -2,7 +2,7 @@ use Rattle.std.proofs.Common.{ℕ, List, ◌<◌, ◌∙◌, get_or, take, sym, 
 use Rattle.std.proofs.lemmas.List.{take_all, take_more}
 use Rattle.number_lists.specs.Rising.{IsRisingBelow, numbers_where}
 use Rattle.idset.specs.Sets.{all_items}
-use Rattle.number_lists.specs.Members.{has_item}
+use Rattle.number_lists.specs.Members.{has}
 use Rattle.idset.specs.Words.{is_set}
 use Rattle.executor.specs.inside.Joined.{AreJoined}
 use Rattle.executor.specs.inside.Steps.{lists_of}
@@ -11,7 +11,7 @@ use Rattle.executor.proofs.reached.near_of_all.Goals as goal
 
 pub loop-concept-init : goal.loop-concept-init
 loop-concept-init c = record {
-  joined = λ n. ap (λ (xs : List ℕ). has_item xs n) c.in_ok-found.ensures.items;
+  joined = λ n. ap (λ (xs : List ℕ). has xs n) c.in_ok-found.ensures.items;
   bound = c.in_ok-found.ensures.bound;
 }
 

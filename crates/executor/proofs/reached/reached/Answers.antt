@@ -3,7 +3,7 @@ use Rattle.std.specs.Prelude.{All}
 use Rattle.number_lists.specs.KeyedLists.{list_of}
 use Rattle.number_lists.specs.Rising.{IsRisingBelow, numbers_where}
 use Rattle.idset.specs.Sets.{all_items}
-use Rattle.number_lists.specs.Members.{has_item}
+use Rattle.number_lists.specs.Members.{has}
 use Rattle.idset.specs.Words.{is_set}
 use Rattle.executor.specs.inside.Joined.{AreJoined, near_of, turn_of}
 use Rattle.executor.specs.inside.Steps.{lists_of}
@@ -68,8 +68,8 @@ loop-turn-preserved g c =
     let turn = c.loop-turn.turn in
     let found : List ℕ = numbers_where c.loop-turn.found.bound (is_set c.loop-turn.found.words.items) in
     let concept : ℕ = get_or order (turn_of f (length order) turn) 0 in
-    let asked : (has_item found concept && not (has_item items concept)) ≡ c.is_in_first_alone.result =
-    (λ i. has_item found (get_or order (sym c.place_of_turn.ensures i) 0) && not (has_item items (get_or order (sym c.place_of_turn.ensures i) 0)))
+    let asked : (has found concept && not (has items concept)) ≡ c.is_in_first_alone.result =
+    (λ i. has found (get_or order (sym c.place_of_turn.ensures i) 0) && not (has items (get_or order (sym c.place_of_turn.ensures i) 0)))
     ∙ sym c.is_in_first_alone.ensures in
     elim c.if-is_in_first_alone.branch [
       | then-is_in_first_alone+in_ok-add_all w ↦ record {

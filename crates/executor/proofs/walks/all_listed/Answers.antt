@@ -1,5 +1,5 @@
 use Rattle.std.proofs.Common.{ℕ, List, true, ◌∙◌, [], All, ◌<◌, sym, ap, subst}
-use Rattle.number_lists.specs.Members.{has_item}
+use Rattle.number_lists.specs.Members.{has}
 use Rattle.number_lists.specs.Rising.{numbers_where}
 use Rattle.idset.specs.Words.{is_set}
 use Rattle.executor.specs.inside.Joined.{AreJoined, with_length}
@@ -16,7 +16,7 @@ returns-clause-joined g c =
     let items : List ℕ = numbers_where found.bound (is_set found.words.items) in
     let first = c.in_ok-found.found in
     let none : AreJoined lists [] (numbers_where first.bound (is_set first.words.items)) =
-    λ n. ap (λ (xs : List ℕ). has_item xs n) c.in_ok-found.ensures.items in
+    λ n. ap (λ (xs : List ℕ). has xs n) c.in_ok-found.ensures.items in
     subst (λ (own : List ℕ). AreJoined lists own items) c.requires.concepts
     (both_joined lists concepts items
     (c.in_ok-short.ensures.joined c.if-not-short.false (with_length lists true concepts) (c.in_ok-long.ensures.joined c.if-not-long.false [] none)))

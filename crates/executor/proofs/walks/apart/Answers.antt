@@ -1,7 +1,7 @@
 use Rattle.std.proofs.Common.{ℕ, List, Bool, not, ◌≡◌, ◌<◌, ◌∙◌, sym, ap, subst}
 use Rattle.std.specs.Prelude.{All, filter}
 use Rattle.std.specs.List.{list_any}
-use Rattle.number_lists.specs.Members.{has_item}
+use Rattle.number_lists.specs.Members.{has}
 use Rattle.number_lists.specs.Rising.{IsRisingBelow}
 use Rattle.number_lists.proofs.RisingLemmas.{rises_within-filter, all_below}
 use Rattle.number_lists.specs.KeyedLists.{list_of}
@@ -15,7 +15,7 @@ kept_apart-requires-clause-below g c =
 
 pub from_items-requires : goal.from_items-requires
 from_items-requires g c =
-    let test : ℕ → Bool = λ concept. not (list_any (has_item (g.S.ConceptSet.items_of c.args.operand.now))
+    let test : ℕ → Bool = λ concept. not (list_any (has (g.S.ConceptSet.items_of c.args.operand.now))
     (list_of (lists_of c.args.index.now c.args.family) concept)) in
     let kept : c.as_slice.result.now ≡ filter test (g.S.ConceptSet.items_of c.args.operand.now) =
     c.as_slice.ensures.value ∙ c.in_ok-kept.ensures ∙ ap (filter test) c.requires.concepts in

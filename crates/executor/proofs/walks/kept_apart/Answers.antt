@@ -4,7 +4,7 @@ use Rattle.std.specs.List.{list_any}
 use Rattle.std.proofs.lemmas.Result.{IfOk-weaker}
 use Rattle.std.proofs.lemmas.List.Elements.{All-filter}
 use Rattle.number_lists.specs.KeyedLists.{list_of}
-use Rattle.number_lists.specs.Members.{has_item}
+use Rattle.number_lists.specs.Members.{has}
 use Rattle.number_lists.proofs.BlockLemmas.{filter-twice, filter-within}
 use Rattle.executor.specs.inside.Joined.{near_of}
 use Rattle.executor.specs.inside.Steps.{IsOver, lists_of}
@@ -15,7 +15,7 @@ use Rattle.executor.proofs.walks.kept_apart.Goals as goal
 -- those that are left are some of the concepts
 pub kept_in_room-requires-clause-below : goal.kept_in_room-requires-clause-below
 kept_in_room-requires-clause-below g c =
-    let set = has_item (g.S.ConceptSet.items_of c.args.set.now) in
+    let set = has (g.S.ConceptSet.items_of c.args.set.now) in
     subst (λ (concepts : List ℕ). All (λ concept. concept < g.S.ConceptSet.bound_of c.args.set.now) concepts)
     (sym (c.as_slice.ensures.value ∙ c.in_ok-left.ensures))
     (All-filter (λ concept. not (list_any set (list_of (lists_of c.args.index.now c.near.result) concept)))
@@ -30,7 +30,7 @@ returns g c =
       hierarchy_is = c.requires.over.hierarchy_is;
       count_is = c.requires.over.count_is;
     } in
-    let none : Family → ℕ → Bool = λ family concept. not (list_any (has_item items) (list_of (lists_of c.args.index.now family) concept)) in
+    let none : Family → ℕ → Bool = λ family concept. not (list_any (has items) (list_of (lists_of c.args.index.now family) concept)) in
     let near = none (near_of c.args.family) in
     let far = none c.args.family in
     IfOk-weaker c.kept_in_room.result _ _

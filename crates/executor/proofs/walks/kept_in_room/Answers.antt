@@ -3,7 +3,7 @@ use Rattle.std.specs.Prelude.{slice_index_or}
 use Rattle.std.specs.List.{list_any}
 use Rattle.std.proofs.lemmas.Result.{IfOk-weaker}
 use Rattle.number_lists.specs.KeyedLists.{list_of}
-use Rattle.number_lists.specs.Members.{has_item}
+use Rattle.number_lists.specs.Members.{has}
 use Rattle.number_lists.specs.Rising.{numbers_where}
 use Rattle.idset.specs.Words.{is_set}
 use Rattle.number_lists.proofs.BlockLemmas.{filter-within}
@@ -32,8 +32,8 @@ returns-then-items_of_lists-room g c =
     IfOk-weaker c.kept_outside.result _ _
     (λ kept same.
     same
-    ∙ filter-within (λ concept. not (has_item found concept))
-    (λ concept. not (list_any (has_item items) (list_of (lists_of c.args.index.now c.args.family) concept))) c.args.concepts.now
+    ∙ filter-within (λ concept. not (has found concept))
+    (λ concept. not (list_any (has items) (list_of (lists_of c.args.index.now c.args.family) concept))) c.args.concepts.now
     (λ k d inside.
     asked_outside count c.args.index.now over items (g.met.S.ConceptSet.rising c.args.set.now) c.args.family
     (slice_index_or c.args.concepts.now k d) (c.requires.below k d inside) found joined))

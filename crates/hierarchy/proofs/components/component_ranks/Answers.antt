@@ -25,8 +25,8 @@ finish_order-requires c =
       c.ranges.count.fits,
     )
 
-pub flood-requires : goal.flood-requires
-flood-requires c = omega (
+pub ranks_behind-requires : goal.ranks_behind-requires
+ranks_behind-requires c = omega (
   arith,
   ap (λ (xs : List (List ℕ)). length xs) c.in_ok-down.ensures,
   length-lists_by c.args.count (turned_from 0 c.in_ok-up.up),

@@ -1,6 +1,6 @@
 use Rattle.std.proofs.Common.{ℕ, List, ◌≡◌, ◌<◌, ◌∙◌, All, true, sym, ap, subst}
-use Rattle.number_lists.specs.Members.{has_item}
-use Rattle.number_lists.proofs.WhereLemmas.{has_item-numbers_where, numbers_where-all}
+use Rattle.number_lists.specs.Members.{has}
+use Rattle.number_lists.proofs.WhereLemmas.{has-numbers_where, numbers_where-all}
 use Rattle.number_lists.proofs.RisingLemmas.{range_rising, all_below}
 use Rattle.pair_sets.specs.declared.candidates.Candidates.{Candidates}
 use Rattle.pair_sets.specs.Within.{AreBelow, may_be}
@@ -12,8 +12,8 @@ returns-in_ok-numbers-in-All-clause-within g c =
 
 pub returns-in_ok-numbers-in-All-clause-asked : goal.returns-in_ok-numbers-in-All-clause-asked
 returns-in_ok-numbers-in-All-clause-asked g c = λ number within.
-    ap (λ (numbers : List ℕ). has_item numbers number) (c.in_ok-numbers-in-All.ensures ∙ sym (numbers_where-all c.args.bound))
-    ∙ has_item-numbers_where c.args.bound (λ n. true) number within
+    ap (λ (numbers : List ℕ). has numbers number) (c.in_ok-numbers-in-All.ensures ∙ sym (numbers_where-all c.args.bound))
+    ∙ has-numbers_where c.args.bound (λ n. true) number within
     ∙ ap (λ (candidates : Candidates _). may_be g.S.ConceptSet.items_of candidates number) (sym c.in-All.is)
 
 pub returns-in_ok-numbers-in-Within-clause-within : goal.returns-in_ok-numbers-in-Within-clause-within

@@ -1,6 +1,6 @@
 use Rattle.std.proofs.Common.{ℕ, Bool, List, ◌<◌, ◌∙◌, All, length, sym, ap, subst}
 use Rattle.std.proofs.lemmas.Result.{IfOk-weaker}
-use Rattle.number_lists.specs.Members.{has_item}
+use Rattle.number_lists.specs.Members.{has}
 use Rattle.rf2_rows.specs.Release.{Value}
 use Rattle.pair_sets.specs.Tested.{is_one_of, passes_of}
 use Rattle.pair_sets.specs.Within.{may_be}
@@ -28,7 +28,7 @@ returns-clause-items g c =
     (sources_known release rising c.attribute_count.ensures.by_source) c.args.back
     c.concept_count-concept_count.result c.concept_count-concept_count.ensures.count (may_be g.S.ConceptSet.items_of c.args.candidates.now)
     c.as_slice.result.now c.as_slice-2.result.now (g.S.ConceptSet.items_of found)
-    (λ n within. ap (λ (asked : List ℕ). has_item asked n) c.as_slice.ensures.value ∙ c.in_ok-asked.ensures.asked n within)
+    (λ n within. ap (λ (asked : List ℕ). has asked n) c.as_slice.ensures.value ∙ c.in_ok-asked.ensures.asked n within)
     (c.as_slice-2.ensures.value
     ∙ c.in_ok-kept.ensures.kept)
     found_is)

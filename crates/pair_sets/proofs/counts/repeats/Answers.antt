@@ -2,7 +2,7 @@ use Rattle.std.proofs.Common.{ℕ, Vec, ◌≡◌, ◌∙◌, ◌+◌, ◌-◌, 
 use Rattle.std.proofs.Common.{List, drop, [], ◌∷◌, ◌++◌, ◌||◌, ◌==◌, length, get_or, take, sym, ap, subst}
 use Rattle.std.proofs.lemmas.List.{take_all, take_at, take_more}
 use Rattle.std.proofs.lemmas.List.Elements.{All-append}
-use Rattle.number_lists.specs.Members.{has_item, times}
+use Rattle.number_lists.specs.Members.{has, times}
 use Rattle.idset.specs.Words.{is_set}
 use Rattle.pair_sets.proofs.TimesLemmas.{again_step, first_step, item_more, marked_again, one_below}
 use Rattle.pair_sets.proofs.counts.repeats.Goals as goal
@@ -23,12 +23,12 @@ loop-number-preserved c =
     let x = get_or numbers k 0 in
     let before = take k numbers in
     let step : take (k + 1) numbers ≡ before ++ x ∷ [] = take_more numbers k 0 c.loop-number-test.true in
-    let tested : c.is_marked.result ≡ has_item before x =
+    let tested : c.is_marked.result ≡ has before x =
     c.is_marked.ensures ∙ ap (λ (words : List ℕ). is_set words x) c.deref.ensures.value ∙ c.loop-number.invariant.marked x in
     elim c.if-is_marked.branch [
       | then-is_marked+in_ok-push w ↦ record {
         marked = λ n. ap (λ (seen : Vec ℕ _). is_set seen.items n) w.seen-is ∙ c.loop-number.invariant.marked n
-            ∙ marked_again before x n (sym tested ∙ w.if-is_marked.true) ∙ ap (λ (xs : List ℕ). has_item xs n) (sym step);
+            ∙ marked_again before x n (sym tested ∙ w.if-is_marked.true) ∙ ap (λ (xs : List ℕ). has xs n) (sym step);
         long = ap (λ (seen : Vec ℕ _). length seen.items) w.seen-is ∙ c.loop-number.invariant.long;
         within = subst (λ (left : Vec ℕ _). All (λ n. n < c.args.bound) left.items) (sym w.left-is)
             (subst (All (λ n. n < c.args.bound)) (sym w.in_ok-push.ensures.items)
@@ -45,7 +45,7 @@ loop-number-preserved c =
             (omega (arith, w.mark.auto.words, w.deref_mut.ensures.len)))
             ∙ w.mark.ensures n
             ∙ (λ i. is_set (w.deref_mut.ensures.value i) n || (x == n)) ∙ (λ i. c.loop-number.invariant.marked n i || (x == n))
-            ∙ sym (item_more before x n) ∙ ap (λ (xs : List ℕ). has_item xs n) (sym step);
+            ∙ sym (item_more before x n) ∙ ap (λ (xs : List ℕ). has xs n) (sym step);
         long = ap (λ (seen : Vec ℕ _). length seen.items) w.seen-is
             ∙ ap (λ (words : List ℕ). length words)
             (take_at w.mark.new.words (drop (length w.mark.new.words) c.loop-number.seen.items) c.loop-number.seen.len

@@ -2,7 +2,7 @@ use Rattle.std.proofs.Common.{ℕ, ◌≡◌, ◌<◌, ◌∙◌, ◌&&◌, leng
 use Rattle.std.specs.Prelude.{All}
 use Rattle.std.proofs.lemmas.Bool.{le-ltb, lt-ltb}
 use Rattle.pair_sets.specs.declared.tested.Tested.{Tested}
-use Rattle.number_lists.specs.Members.{has_item}
+use Rattle.number_lists.specs.Members.{has}
 use Rattle.pair_sets.specs.inside.Hits.{value_of}
 use Rattle.pair_sets.specs.Tested.{IsTestBelow, passes_of}
 use Rattle.number_lists.proofs.RisingLemmas.{all_below}
@@ -33,7 +33,7 @@ returns-then-value-concepts g c =
     (all_below (g.S.ConceptSet.bound_of set) items (g.met.S.ConceptSet.rising set)) in
     let within = subst (λ (count : ℕ). c.args.value < count) c.concept_count-concepts.ensures.count c.if-value-concepts.true in
     ap not c.has-then-value-concepts.ensures
-    ∙ sym (λ i. lt-ltb c.args.value (length indexed.concepts) within i && not (has_item items c.args.value))
+    ∙ sym (λ i. lt-ltb c.args.value (length indexed.concepts) within i && not (has items c.args.value))
     ∙ outside_told indexed c.concept_count-concepts.ensures.rising items below c.args.value
     ∙ ap (λ (tested : Tested _). passes_of g.S.ConceptSet.items_of indexed.concepts tested (value_of indexed c.args.value)) (sym c.in-Outside.is)
 
@@ -50,6 +50,6 @@ returns-else-value-concepts g c =
     let past : ltb c.args.value (length indexed.concepts) ≡ ltb c.args.value c.concept_count-concepts.result = ap (ltb c.args.value) (sym is) in
     let none = le-ltb c.args.value c.concept_count-concepts.result c.if-value-concepts.false in
     none
-    ∙ sym (λ i. (past ∙ none) i && not (has_item items c.args.value))
+    ∙ sym (λ i. (past ∙ none) i && not (has items c.args.value))
     ∙ outside_told indexed c.concept_count-concepts.ensures.rising items below c.args.value
     ∙ ap (λ (tested : Tested _). passes_of g.S.ConceptSet.items_of indexed.concepts tested (value_of indexed c.args.value)) (sym c.in-Outside.is)

@@ -2,7 +2,7 @@ use Rattle.std.proofs.Common.{ℕ, Vec, List, ◌≡◌, ◌<◌, ◌∙◌, ◌
 use Rattle.std.specs.Prelude.{All, None, Some, nat_eq, position}
 use Rattle.std.proofs.lemmas.List.{take_all}
 use Rattle.std.proofs.lemmas.List.Elements.{All-append, All-nil}
-use Rattle.number_lists.specs.Members.{has_item}
+use Rattle.number_lists.specs.Members.{has}
 use Rattle.postings.specs.Indexed.{types_of}
 use Rattle.pair_sets.specs.inside.Hits.{ArePlacesOf}
 use Rattle.pair_sets.proofs.TimesLemmas.{one_below}
@@ -14,7 +14,7 @@ pub loop-concept-init : goal.loop-concept-init
 loop-concept-init c = record {
   within = subst (All (λ place. place < length (types_of c.args.indexes.now.rows))) (sym c.new-places.ensures.items)
       (All-nil (λ place. place < length (types_of c.args.indexes.now.rows)));
-  told = λ place within. ap (λ (places : List ℕ). has_item places place) c.new-places.ensures.items;
+  told = λ place within. ap (λ (places : List ℕ). has places place) c.new-places.ensures.items;
 }
 
 pub id_at-requires : goal.id_at-requires
@@ -38,7 +38,7 @@ loop-concept-preserved c =
                 (All-append (λ place. place < length types) c.loop-concept.places.items (w.in-Some.place ∷ []) c.loop-concept.invariant.within
                 (one_below (length types) w.in-Some.place (place_below types c.number.result w.in-Some.place found)));
             told = λ place within.
-                ap (λ (places : List ℕ). has_item places place) items
+                ap (λ (places : List ℕ). has places place) items
                 ∙ places_more_of c.args.indexes.now.rows c.args.indexes.now.concepts c.args.concepts.now c.loop-concept.places.items k c.loop-concept-test.true
                 c.number.result named (Some w.in-Some.place) found c.loop-concept.invariant.told place within;
           }
@@ -47,7 +47,7 @@ loop-concept-preserved c =
           record {
             within = subst (λ (places : Vec ℕ _). All (λ place. place < length types) places.items) (sym w.places-is) c.loop-concept.invariant.within;
             told = λ place within.
-                ap (λ (places : Vec ℕ _). has_item places.items place) w.places-is
+                ap (λ (places : Vec ℕ _). has places.items place) w.places-is
                 ∙ places_more_of c.args.indexes.now.rows c.args.indexes.now.concepts c.args.concepts.now c.loop-concept.places.items k c.loop-concept-test.true
                 c.number.result named None found c.loop-concept.invariant.told place within;
           }

@@ -1,9 +1,9 @@
 use Rattle.std.proofs.Common.{ℕ, Vec, Bool, List, true, false, ◌≡◌, ◌<◌, ◌∙◌, length, get_or, append-nil, sym, ap, subst, arith}
 use Rattle.std.specs.Prelude.{All}
 use Rattle.std.proofs.lemmas.List.{get_or_default}
-use Rattle.number_lists.specs.Members.{has_item}
+use Rattle.number_lists.specs.Members.{has}
 use Rattle.number_lists.specs.Rising.{numbers_where}
-use Rattle.number_lists.proofs.WhereLemmas.{has_item-numbers_where}
+use Rattle.number_lists.proofs.WhereLemmas.{has-numbers_where}
 use Rattle.number_lists.proofs.RisingLemmas.{numbers_where-rising, all_below}
 use Rattle.postings.proofs.IndexLemmas.{few_types}
 use Rattle.pair_sets.specs.Tested.{is_one_of}
@@ -45,7 +45,7 @@ returns g c =
           (subst (λ (count : ℕ). All (λ place. place < count) (numbers_where c.loop-place.place at)) long
           (all_below c.loop-place.place (numbers_where c.loop-place.place at) (numbers_where-rising c.loop-place.place at))));
       told = λ place within.
-          ap (λ (places : List ℕ). has_item places place) c.loop-place.invariant
-          ∙ has_item-numbers_where c.loop-place.place at place (omega (arith, within, long, ap (λ (ids : List ℕ). length ids) c.types-types.ensures))
+          ap (λ (places : List ℕ). has places place) c.loop-place.invariant
+          ∙ has-numbers_where c.loop-place.place at place (omega (arith, within, long, ap (λ (ids : List ℕ). length ids) c.types-types.ensures))
           ∙ ap (λ (ids : List ℕ). test (get_or ids place 0)) c.types-types.ensures;
     }

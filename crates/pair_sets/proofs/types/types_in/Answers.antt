@@ -1,6 +1,6 @@
 use Rattle.std.proofs.Common.{ℕ, Bool, List, ◌≡◌, ◌<◌, ◌∙◌, length, get_or, sym, ap, subst, arith}
 use Rattle.std.specs.Prelude.{All, filter}
-use Rattle.number_lists.specs.Members.{has_item}
+use Rattle.number_lists.specs.Members.{has}
 use Rattle.idset.specs.Words.{is_set}
 use Rattle.postings.proofs.IndexLemmas.{few_types}
 use Rattle.postings.specs.Indexed.{types_of}
@@ -27,7 +27,7 @@ returns g c =
     let one : ℕ → Bool = is_one_of c.args.indexes.now.concepts (g.S.ConceptSet.items_of c.args.set.now) in
     let told : (place : ℕ) → place < length types → is_set c.in_ok-places.places.items place ≡ one (get_or types place 0) =
     λ place within. c.in_ok-places.ensures.marked place
-    ∙ ap (λ (places : List ℕ). has_item places place) c.as_slice.ensures.value ∙ c.in_ok-numbers.ensures.told place within in
+    ∙ ap (λ (places : List ℕ). has places place) c.as_slice.ensures.value ∙ c.in_ok-numbers.ensures.told place within in
     c.in_ok-ids.ensures one
     (λ place within. ap (λ (words : List ℕ). is_set words place) c.deref.ensures.value
     ∙ told place (subst (λ (all : List ℕ). place < length all) c.types-types.ensures within)

@@ -1,6 +1,6 @@
 use Rattle.std.proofs.Common.{ℕ, List, ◌<◌, ◌∙◌, All, length, sym, ap, subst}
 use Rattle.std.proofs.lemmas.Result.{IfOk-weaker}
-use Rattle.number_lists.specs.Members.{has_item}
+use Rattle.number_lists.specs.Members.{has}
 use Rattle.number_lists.specs.Rising.{numbers_where}
 use Rattle.postings.specs.Groups.{ConceptGroup, groups_in}
 use Rattle.number_lists.proofs.RisingLemmas.{all_below}
@@ -23,11 +23,11 @@ returns-clause-groups g c =
     owned c.args.indexes.now c.args.snapshot.now.release c.requires.index c.concept_count.ensures.rising
     (g.S.ConceptSet.items_of c.args.concepts.now) c.in_ok-numbers.numbers.items
     (λ concept group is_item. c.in_ok-numbers.ensures.all concept group
-    (ap (λ (xs : List ℕ). has_item xs concept) (c.as_slice.ensures.value ∙ c.in_ok-own.ensures) ∙ is_item))
+    (ap (λ (xs : List ℕ). has xs concept) (c.as_slice.ensures.value ∙ c.in_ok-own.ensures) ∙ is_item))
     (g.S.ConceptSet.items_of groups)
     (listed
-    ∙ ap (λ (bound : ℕ). numbers_where bound (has_item c.as_slice-2.result.now)) c.group_count.ensures.count
-    ∙ ap (λ (xs : List ℕ). numbers_where (length (groups_in c.args.indexes.now)) (has_item xs)) c.as_slice-2.ensures.value))
+    ∙ ap (λ (bound : ℕ). numbers_where bound (has c.as_slice-2.result.now)) c.group_count.ensures.count
+    ∙ ap (λ (xs : List ℕ). numbers_where (length (groups_in c.args.indexes.now)) (has xs)) c.as_slice-2.ensures.value))
     c.from_numbers.ensures.items
 
 pub returns-clause-bound : goal.returns-clause-bound

@@ -1,7 +1,7 @@
 use Rattle.std.proofs.Common.{ℕ, List, ◌≡◌, ◌≤◌, ◌<◌, ◌+◌, ◌-◌, ◌∙◌, ◌++◌, All, length, get_or, inl, inr, sym, ap, subst, arith}
 use Rattle.std.specs.List.{range_with_len}
 use Rattle.std.proofs.lemmas.List.Elements.{All-append}
-use Rattle.number_lists.specs.Members.{has_item}
+use Rattle.number_lists.specs.Members.{has}
 use Rattle.postings.specs.Groups.{groups_before, groups_in}
 use Rattle.pair_sets.proofs.OwnedLemmas.{before_all, has_later, has_sooner, has_range, range_below, taken_more}
 use Rattle.pair_sets.proofs.units.numbers_of_groups.Goals as goal
@@ -20,7 +20,7 @@ loop-concept-preserved c =
           (range_below units.start units.end (length (groups_in indexed))
           (subst (λ (n : ℕ). n ≤ length (groups_in indexed)) (sym c.units_of-units.ensures.end) (before_all indexed (get_or concepts k 0 + 1)))));
       all = λ concept group there from below.
-          ap (λ (xs : List ℕ). has_item xs group) pushed
+          ap (λ (xs : List ℕ). has xs group) pushed
           ∙ elim (taken_more concepts k concept c.loop-concept-test.true there) [
             | inl before ↦ has_sooner c.loop-concept.found.items more group (c.loop-concept.invariant.all concept group before from below)
             | inr same ↦

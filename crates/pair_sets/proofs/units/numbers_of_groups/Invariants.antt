@@ -1,11 +1,11 @@
 use Rattle.std.proofs.Common.{ℕ, ◌≡◌, ◌≤◌, ◌<◌, ◌+◌, true, All, length, take}
-use Rattle.number_lists.specs.Members.{has_item}
+use Rattle.number_lists.specs.Members.{has}
 use Rattle.postings.specs.Groups.{groups_before, groups_in}
 use Rattle.pair_sets.proofs.units.numbers_of_groups.Given as goal
 
 abbrev pub invariant-loop-concept : goal.invariant-loop-concept
 invariant-loop-concept l = record {
   within : All (λ group. group < length (groups_in l.indexes)) l.found.items;
-  all : (concept group : ℕ) → has_item (take l.concept-index l.concepts) concept ≡ true → length (groups_before l.indexes concept) ≤ group
-      → group < length (groups_before l.indexes (concept + 1)) → has_item l.found.items group ≡ true;
+  all : (concept group : ℕ) → has (take l.concept-index l.concepts) concept ≡ true → length (groups_before l.indexes concept) ≤ group
+      → group < length (groups_before l.indexes (concept + 1)) → has l.found.items group ≡ true;
 }

@@ -1,6 +1,6 @@
 use Rattle.std.proofs.Common.{◌∙◌, ◌||◌, List, ℕ, sym, ap, subst, arith, drop, length}
 use Rattle.std.proofs.lemmas.List.{take_at}
-use Rattle.number_lists.specs.Members.{has_item}
+use Rattle.number_lists.specs.Members.{has}
 use Rattle.number_lists.specs.Rising.{numbers_where, IsRisingBelow}
 use Rattle.idset.specs.Words.{AreWordsBelow, is_set}
 use Rattle.idset.proofs.WordLemmas.{holds_more, items_below}
@@ -18,7 +18,7 @@ invariant_of-self c =
     let whole = take_at made (drop (length made) mine.words.items) mine.words.len (omega (arith, c.mark_all.auto.words, c.deref_mut.ensures.len)) in
     let holds = holds_more mine.bound mine.words.items made c.args.items.now mine.held c.requires
     (c.mark_all.auto.words ∙ ap length c.deref_mut.ensures.value)
-    (λ n. c.mark_all.ensures n ∙ (λ i. is_set (c.deref_mut.ensures.value i) n || has_item c.args.items.now n)) in
+    (λ n. c.mark_all.ensures n ∙ (λ i. is_set (c.deref_mut.ensures.value i) n || has c.args.items.now n)) in
     record {
       held = subst (λ (words : List ℕ). AreWordsBelow mine.bound words) (sym whole) holds.held;
       small = mine.small;
@@ -32,5 +32,5 @@ returns-clause-items c =
     let whole = take_at made (drop (length made) mine.words.items) mine.words.len (omega (arith, c.mark_all.auto.words, c.deref_mut.ensures.len)) in
     let holds = holds_more mine.bound mine.words.items made c.args.items.now mine.held c.requires
     (c.mark_all.auto.words ∙ ap length c.deref_mut.ensures.value)
-    (λ n. c.mark_all.ensures n ∙ (λ i. is_set (c.deref_mut.ensures.value i) n || has_item c.args.items.now n)) in
+    (λ n. c.mark_all.ensures n ∙ (λ i. is_set (c.deref_mut.ensures.value i) n || has c.args.items.now n)) in
     (λ i. numbers_where mine.bound (is_set (whole i))) ∙ holds.items
