@@ -9,6 +9,7 @@ pub mod GroupLemmas
 pub mod GroupRuleLemmas
 pub mod KeepingLemmas
 pub mod ListLemmas
+pub mod PartLemmas
 pub mod RuleLemmas
 pub mod SimplifiedLemmas
 pub mod SimplifiedLists

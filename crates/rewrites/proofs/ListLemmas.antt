@@ -1,11 +1,12 @@
 -- The plans of lists joined, and of a list made of another.
-use Rattle.std.proofs.Common.{ℕ, ◌≡◌, ◌<◌, ◌+◌, List, [], ◌∷◌, ◌++◌, length, get_or, take, refl, sym, ap, ◌∙◌}
-use Rattle.std.proofs.lemmas.List.{take_more}
+use Rattle.std.proofs.Common.{ℕ, ◌≡◌, ◌<◌, ◌≤◌, ◌+◌, List, [], ◌∷◌, ◌++◌, length, get_or, take, map, refl}
+use Rattle.std.proofs.Common.{sym, ap, ◌∙◌}
+use Rattle.std.proofs.lemmas.List.{take_all, map_push, map_more}
 use Rattle.set_algebra.specs.declared.plan.ConceptPlan.{ConceptPlan}
 use Rattle.set_algebra.specs.declared.plan.UnitPlan.{UnitPlan}
-use Rattle.set_algebra.specs.Plan.{Plan, Plans, no_plans, plan_of, plans_of, plan_then, PlanOfUnits, PlansOfUnits}
-use Rattle.set_algebra.specs.Plan.{no_unit_plans, unit_plan_then, unit_plan_of, unit_plans_of}
-use Rattle.rewrites.specs.PlanLists.{plans_joined, plans_then, plans_each, groups_joined, groups_then, groups_each}
+use Rattle.set_algebra.specs.Plan.{Plan, plans_from, plan_of, plans_of, plan_then, PlanOfUnits, units_from}
+use Rattle.set_algebra.specs.Plan.{unit_plan_then, unit_plan_of, unit_plans_of}
+use Rattle.rewrites.specs.PlanLists.{plans_joined, plans_each, groups_joined, groups_each}
 use Rattle.rewrites.specs.PlanLists.{groups_of_each, plans_of_each}
 
 -- the plans of one list after another
@@ -14,117 +15,50 @@ pub plans_of_joined : (parts others : List ConceptPlan)
 plans_of_joined [] others = refl
 plans_of_joined (first ∷ rest) others = ap (plan_then (plan_of first)) (plans_of_joined rest others)
 
--- the plans of a list with one more at its end
-pub plans_of_then : (parts : List ConceptPlan) (last : ConceptPlan)
-    → plans_of (parts ++ last ∷ []) ≡ plans_then (plans_of parts) (plan_of last)
-plans_of_then [] last = refl
-plans_of_then (first ∷ rest) last = ap (plan_then (plan_of first)) (plans_of_then rest last)
-
-pub ruleset lists = (plans_of_joined, plans_of_then)
-
--- what is made of a list with one more at its end
-each_then : (make : Plan → Plan) (parts : Plans) (last : Plan)
-    → plans_each make (plans_then parts last) ≡ plans_then (plans_each make parts) (make last)
-each_then make no_plans last = refl
-each_then make (plan_then first rest) last = ap (plan_then (make first)) (each_then make rest last)
-
--- one more turn of a loop that makes a plan of each part
-pub made_more :
-    (make : Plan → Plan) (made next : List ConceptPlan) (new : ConceptPlan) (parts : List ConceptPlan) (i : ℕ)
-    (part : ConceptPlan)
-    → next ≡ made ++ new ∷ [] → i < length parts → part ≡ get_or parts i part
-    → plans_of made ≡ plans_each make (plans_of (take i parts)) → plan_of new ≡ make (plan_of part)
-    → plans_of next ≡ plans_each make (plans_of (take (i + 1) parts))
-made_more make made next new parts i part next_is within part_is so_far one =
-    let taken : plans_of (take (i + 1) parts) ≡ plans_then (plans_of (take i parts)) (plan_of part) =
-    rw (take_more parts i part within, ← part_is) (plans_of_then (take i parts) part) in
-    ap plans_of next_is ∙ plans_of_then made new
-    ∙ ap (λ (plans : Plans). plans_then plans (plan_of new)) so_far
-    ∙ ap (plans_then (plans_each make (plans_of (take i parts)))) one
-    ∙ sym (ap (plans_each make) taken ∙ each_then make (plans_of (take i parts)) (plan_of part))
-
--- the same of lists of plans of groups, and where a plan of the one sort is made of each of the other
 pub unit_plans_of_joined : (parts others : List UnitPlan)
     → unit_plans_of (parts ++ others) ≡ groups_joined (unit_plans_of parts) (unit_plans_of others)
 unit_plans_of_joined [] others = refl
 unit_plans_of_joined (first ∷ rest) others = ap (unit_plan_then (unit_plan_of first)) (unit_plans_of_joined rest others)
 
-pub unit_plans_of_then : (parts : List UnitPlan) (last : UnitPlan)
-    → unit_plans_of (parts ++ last ∷ []) ≡ groups_then (unit_plans_of parts) (unit_plan_of last)
-unit_plans_of_then [] last = refl
-unit_plans_of_then (first ∷ rest) last = ap (unit_plan_then (unit_plan_of first)) (unit_plans_of_then rest last)
+-- A loop that makes an item of each part of a list: `look` tells the plan of an item, and `make` which it is to be.
+module _ {Part Made P : Type 0} (look : Made → P) (make : Part → P) (made : List Made) (parts : List Part)
+    (i : ℕ) where
+  -- one more turn
+  pub made_more :
+      (next : List Made) (new : Made) (part : Part)
+      → next ≡ made ++ new ∷ [] → i < length parts → part ≡ get_or parts i part
+      → map look made ≡ map make (take i parts) → look new ≡ make part
+      → map look next ≡ map make (take (i + 1) parts)
+  made_more next new part next_is within part_is so_far one =
+      ap (map look) next_is
+      ∙ map_push look made new
+      ∙ ap (λ (plans : List P). plans ++ look new ∷ []) so_far
+      ∙ ap (λ (plan : P). map make (take i parts) ++ plan ∷ []) (one ∙ ap make part_is)
+      ∙ sym (map_more make parts i part within)
 
-pub ruleset group_lists = (unit_plans_of_joined, unit_plans_of_then)
+  -- after the last turn an item is made of each
+  pub all_made : length parts ≤ i → map look made ≡ map make (take i parts) → map look made ≡ map make parts
+  all_made past so_far = so_far ∙ ap (map make) (take_all i parts past)
 
--- the plans of one more item of a list
-taken_plans : (parts : List ConceptPlan) (i : ℕ) (part : ConceptPlan) → i < length parts → part ≡ get_or parts i part
-    → plans_of (take (i + 1) parts) ≡ plans_then (plans_of (take i parts)) (plan_of part)
-taken_plans parts i part within part_is =
-    rw (take_more parts i part within, ← part_is) (plans_of_then (take i parts) part)
+-- what is made of the plan of each item of a list: plans of concepts of plans of concepts, groups of groups, and
+-- across the sorts
+pub plans_made : (make : Plan → Plan) (parts : List ConceptPlan)
+    → plans_from (map (λ part. make (plan_of part)) parts) ≡ plans_each make (plans_of parts)
+plans_made make [] = refl
+plans_made make (first ∷ rest) = ap (plan_then (make (plan_of first))) (plans_made make rest)
 
--- and of a list of plans of groups
-taken_units : (parts : List UnitPlan) (i : ℕ) (part : UnitPlan) → i < length parts → part ≡ get_or parts i part
-    → unit_plans_of (take (i + 1) parts) ≡ groups_then (unit_plans_of (take i parts)) (unit_plan_of part)
-taken_units parts i part within part_is =
-    rw (take_more parts i part within, ← part_is) (unit_plans_of_then (take i parts) part)
+pub groups_made : (make : PlanOfUnits → PlanOfUnits) (parts : List UnitPlan)
+    → units_from (map (λ part. make (unit_plan_of part)) parts) ≡ groups_each make (unit_plans_of parts)
+groups_made make [] = refl
+groups_made make (first ∷ rest) = ap (unit_plan_then (make (unit_plan_of first))) (groups_made make rest)
 
--- one more, of a list of plans of concepts made of plans of groups
-braces_then : (make : PlanOfUnits → Plan) (parts : PlansOfUnits) (last : PlanOfUnits)
-    → plans_of_each make (groups_then parts last) ≡ plans_then (plans_of_each make parts) (make last)
-braces_then make no_unit_plans last = refl
-braces_then make (unit_plan_then first rest) last = ap (plan_then (make first)) (braces_then make rest last)
+pub groups_made_of_plans : (make : Plan → PlanOfUnits) (parts : List ConceptPlan)
+    → units_from (map (λ part. make (plan_of part)) parts) ≡ groups_of_each make (plans_of parts)
+groups_made_of_plans make [] = refl
+groups_made_of_plans make (first ∷ rest) = ap (unit_plan_then (make (plan_of first))) (groups_made_of_plans make rest)
 
--- so one more turn of its loop
-pub braced_more :
-    (make : PlanOfUnits → Plan) (made next : List ConceptPlan) (new : ConceptPlan) (parts : List UnitPlan) (i : ℕ)
-    (part : UnitPlan)
-    → next ≡ made ++ new ∷ [] → i < length parts → part ≡ get_or parts i part
-    → plans_of made ≡ plans_of_each make (unit_plans_of (take i parts)) → plan_of new ≡ make (unit_plan_of part)
-    → plans_of next ≡ plans_of_each make (unit_plans_of (take (i + 1) parts))
-braced_more make made next new parts i part next_is within part_is so_far one =
-    ap plans_of next_is ∙ plans_of_then made new
-    ∙ ap (λ (plans : Plans). plans_then plans (plan_of new)) so_far
-    ∙ ap (plans_then (plans_of_each make (unit_plans_of (take i parts)))) one
-    ∙ sym
-    (ap (plans_of_each make) (taken_units parts i part within part_is) ∙ braces_then make (unit_plans_of (take i parts)) (unit_plan_of part))
-
--- one more, of a list of plans of groups made of plans of groups
-groups_each_then : (make : PlanOfUnits → PlanOfUnits) (parts : PlansOfUnits) (last : PlanOfUnits)
-    → groups_each make (groups_then parts last) ≡ groups_then (groups_each make parts) (make last)
-groups_each_then make no_unit_plans last = refl
-groups_each_then make (unit_plan_then first rest) last = ap (unit_plan_then (make first)) (groups_each_then make rest last)
-
--- so one more turn of its loop
-pub units_more :
-    (make : PlanOfUnits → PlanOfUnits) (made next : List UnitPlan) (new : UnitPlan) (parts : List UnitPlan) (i : ℕ)
-    (part : UnitPlan)
-    → next ≡ made ++ new ∷ [] → i < length parts → part ≡ get_or parts i part
-    → unit_plans_of made ≡ groups_each make (unit_plans_of (take i parts))
-    → unit_plan_of new ≡ make (unit_plan_of part)
-    → unit_plans_of next ≡ groups_each make (unit_plans_of (take (i + 1) parts))
-units_more make made next new parts i part next_is within part_is so_far one =
-    ap unit_plans_of next_is ∙ unit_plans_of_then made new
-    ∙ ap (λ (plans : PlansOfUnits). groups_then plans (unit_plan_of new)) so_far
-    ∙ ap (groups_then (groups_each make (unit_plans_of (take i parts)))) one
-    ∙ sym
-    (ap (groups_each make) (taken_units parts i part within part_is) ∙ groups_each_then make (unit_plans_of (take i parts)) (unit_plan_of part))
-
--- one more, of a list of plans of groups made of plans of concepts
-in_groups_then : (make : Plan → PlanOfUnits) (parts : Plans) (last : Plan)
-    → groups_of_each make (plans_then parts last) ≡ groups_then (groups_of_each make parts) (make last)
-in_groups_then make no_plans last = refl
-in_groups_then make (plan_then first rest) last = ap (unit_plan_then (make first)) (in_groups_then make rest last)
-
--- so one more turn of its loop
-pub in_groups_more :
-    (make : Plan → PlanOfUnits) (made next : List UnitPlan) (new : UnitPlan) (parts : List ConceptPlan) (i : ℕ)
-    (part : ConceptPlan)
-    → next ≡ made ++ new ∷ [] → i < length parts → part ≡ get_or parts i part
-    → unit_plans_of made ≡ groups_of_each make (plans_of (take i parts)) → unit_plan_of new ≡ make (plan_of part)
-    → unit_plans_of next ≡ groups_of_each make (plans_of (take (i + 1) parts))
-in_groups_more make made next new parts i part next_is within part_is so_far one =
-    ap unit_plans_of next_is ∙ unit_plans_of_then made new
-    ∙ ap (λ (plans : PlansOfUnits). groups_then plans (unit_plan_of new)) so_far
-    ∙ ap (groups_then (groups_of_each make (plans_of (take i parts)))) one
-    ∙ sym
-    (ap (groups_of_each make) (taken_plans parts i part within part_is) ∙ in_groups_then make (plans_of (take i parts)) (plan_of part))
+pub plans_made_of_groups : (make : PlanOfUnits → Plan) (parts : List UnitPlan)
+    → plans_from (map (λ part. make (unit_plan_of part)) parts) ≡ plans_of_each make (unit_plans_of parts)
+plans_made_of_groups make [] = refl
+plans_made_of_groups make (first ∷ rest) =
+    ap (plan_then (make (unit_plan_of first))) (plans_made_of_groups make rest)

@@ -1,46 +1,15 @@
 -- Lists of plans of which a part is dropped or simplified.
-use Rattle.std.proofs.Common.{ℕ, zero, suc, ◌≡◌, ◌<◌, ◌+◌, Bool, true, None, List, [], ◌∷◌, length}
-use Rattle.std.proofs.Common.{get_or, refl, sym, ap, ◌∙◌, arith, add-one}
-use Rattle.std.specs.Prelude.{slice_set, remove, unwrap_or}
-use Rattle.std.proofs.lemmas.Bool.{false≢true}
+use Rattle.std.proofs.Common.{ℕ, zero, suc, ◌≡◌, ◌<◌, ◌+◌, None, List, [], ◌∷◌, length}
+use Rattle.std.proofs.Common.{get_or, refl, ap, ◌∙◌, arith, add-one}
+use Rattle.std.specs.Prelude.{slice_set}
 use Rattle.set_algebra.specs.declared.plan.ConceptPlan.{ConceptPlan}
 use Rattle.set_algebra.specs.declared.plan.UnitPlan.{UnitPlan}
-use Rattle.set_algebra.specs.EqualLaws.{decides_plan, decides_group}
-use Rattle.set_algebra.specs.Plan.{Plan, Plans, no_plans, plan_then, and_plan, or_plan, plan_of, plans_of, PlanOfUnits}
-use Rattle.set_algebra.specs.Plan.{PlansOfUnits, no_unit_plans, unit_plan_then, and_units, or_units, unit_plan_of}
+use Rattle.set_algebra.specs.Plan.{Plan, Plans, no_plans, plan_then, plan_of, plans_of, PlanOfUnits}
+use Rattle.set_algebra.specs.Plan.{PlansOfUnits, no_unit_plans, unit_plan_then, unit_plan_of}
 use Rattle.set_algebra.specs.Plan.{unit_plans_of}
 use Rattle.set_algebra.specs.inside.Views.{only_part, only_group_part}
-use Rattle.rewrites.specs.declared.rule.Rule.TheVariants.{Same}
-use Rattle.rewrites.specs.Counts.{only_if}
-use Rattle.rewrites.specs.Simplified.{tried, tried_group, begins_twice, group_begins_twice, simplified, all_simplified}
+use Rattle.rewrites.specs.Simplified.{simplified, all_simplified}
 use Rattle.rewrites.specs.Simplified.{group_simplified, all_groups_simplified}
-
--- without the first of two equal plans
-pub first_dropped_and : (items new : List ConceptPlan) → begins_twice (plans_of items) ≡ true → new ≡ remove items 0
-    → and_plan (plans_of new) ≡ tried Same (and_plan (plans_of items))
-first_dropped_and [] new twice is = absurd (false≢true twice)
-first_dropped_and (first ∷ []) new twice is = absurd (false≢true twice)
-first_dropped_and (first ∷ (second ∷ rest)) new twice is =
-    let same : plan_of first ≡ plan_of second = (decides_plan (plan_of first) (plan_of second)).0 twice in
-    ap (λ (plans : List ConceptPlan). and_plan (plans_of plans)) is
-    ∙ ap (λ (plan : Plan). and_plan (plan_then plan (plans_of rest))) (sym same)
-    ∙ ap
-    (λ (b : Bool). unwrap_or (only_if b (and_plan (plan_then (plan_of first) (plans_of rest))))
-    (and_plan (plan_then (plan_of first) (plan_then (plan_of second) (plans_of rest)))))
-    (sym twice)
-
-pub first_dropped_or : (items new : List ConceptPlan) → begins_twice (plans_of items) ≡ true → new ≡ remove items 0
-    → or_plan (plans_of new) ≡ tried Same (or_plan (plans_of items))
-first_dropped_or [] new twice is = absurd (false≢true twice)
-first_dropped_or (first ∷ []) new twice is = absurd (false≢true twice)
-first_dropped_or (first ∷ (second ∷ rest)) new twice is =
-    let same : plan_of first ≡ plan_of second = (decides_plan (plan_of first) (plan_of second)).0 twice in
-    ap (λ (plans : List ConceptPlan). or_plan (plans_of plans)) is
-    ∙ ap (λ (plan : Plan). or_plan (plan_then plan (plans_of rest))) (sym same)
-    ∙ ap
-    (λ (b : Bool). unwrap_or (only_if b (or_plan (plan_then (plan_of first) (plans_of rest))))
-    (or_plan (plan_then (plan_of first) (plan_then (plan_of second) (plans_of rest)))))
-    (sym twice)
 
 -- a list of another length has no only plan
 pub not_only : (items : List ConceptPlan) → (length items ≡ 1 → ⊥) → only_part (plans_of items) ≡ None
@@ -84,35 +53,6 @@ all_here (first ∷ rest) zero is = absurd (omega arith)
 all_here (first ∷ rest) (suc i) is = ap (plan_then (simplified (plan_of first))) (all_here rest i (omega arith))
 
 -- plans of groups
--- without the first of two equal plans
-pub first_group_dropped_and : (items new : List UnitPlan) → group_begins_twice (unit_plans_of items) ≡ true
-    → new ≡ remove items 0 → and_units (unit_plans_of new) ≡ tried_group Same (and_units (unit_plans_of items))
-first_group_dropped_and [] new twice is = absurd (false≢true twice)
-first_group_dropped_and (first ∷ []) new twice is = absurd (false≢true twice)
-first_group_dropped_and (first ∷ (second ∷ rest)) new twice is =
-    let same : unit_plan_of first ≡ unit_plan_of second =
-    (decides_group (unit_plan_of first) (unit_plan_of second)).0 twice in
-    ap (λ (plans : List UnitPlan). and_units (unit_plans_of plans)) is
-    ∙ ap (λ (plan : PlanOfUnits). and_units (unit_plan_then plan (unit_plans_of rest))) (sym same)
-    ∙ ap
-    (λ (b : Bool). unwrap_or (only_if b (and_units (unit_plan_then (unit_plan_of first) (unit_plans_of rest))))
-    (and_units (unit_plan_then (unit_plan_of first) (unit_plan_then (unit_plan_of second) (unit_plans_of rest)))))
-    (sym twice)
-
-pub first_group_dropped_or : (items new : List UnitPlan) → group_begins_twice (unit_plans_of items) ≡ true
-    → new ≡ remove items 0 → or_units (unit_plans_of new) ≡ tried_group Same (or_units (unit_plans_of items))
-first_group_dropped_or [] new twice is = absurd (false≢true twice)
-first_group_dropped_or (first ∷ []) new twice is = absurd (false≢true twice)
-first_group_dropped_or (first ∷ (second ∷ rest)) new twice is =
-    let same : unit_plan_of first ≡ unit_plan_of second =
-    (decides_group (unit_plan_of first) (unit_plan_of second)).0 twice in
-    ap (λ (plans : List UnitPlan). or_units (unit_plans_of plans)) is
-    ∙ ap (λ (plan : PlanOfUnits). or_units (unit_plan_then plan (unit_plans_of rest))) (sym same)
-    ∙ ap
-    (λ (b : Bool). unwrap_or (only_if b (or_units (unit_plan_then (unit_plan_of first) (unit_plans_of rest))))
-    (or_units (unit_plan_then (unit_plan_of first) (unit_plan_then (unit_plan_of second) (unit_plans_of rest)))))
-    (sym twice)
-
 -- a list of another length has no only plan
 pub not_only_group_part : (items : List UnitPlan) → (length items ≡ 1 → ⊥)
     → only_group_part (unit_plans_of items) ≡ None

@@ -53,14 +53,13 @@ fn new_plan(
     ensures too_deep { IfErr result (λ fault. fault ≡ TooDeep → MakesTooDeep rule place.now (plan_of plan.now)) }
 {
     let mut new = plan.copy(alloc)?;
-    let fits = change(alloc, &mut new, rule, place)?;
-    if !fits {
-        return Err(ApplyFault::NotApplicable);
-    }
-    if new.depth() > DEEPEST {
-        return Err(ApplyFault::TooDeep);
-    }
-    Ok(new)
+    let fault = match change(alloc, &mut new, rule, place) {
+        Ok(true) if new.depth() <= DEEPEST => return Ok(new),
+        Ok(true) => ApplyFault::TooDeep,
+        Ok(false) => ApplyFault::NotApplicable,
+        Err(AllocError) => ApplyFault::Memory,
+    };
+    Err(fault)
 }
 
 /// The plan after the steps in their order, and how many of them were used. A step that `apply` answers with

@@ -6,7 +6,7 @@ ghost use Rattle.rewrites.specs.PlanLists.{plans_of_each};
 ghost use Rattle.rewrites.specs.Rules.{rewritten};
 ghost use Rattle.rewrites.specs.declared.rule.Rule.TheVariants.{BraceOr, BraceOne, BraceGuard};
 
-use crate::counts::{asks_none, asks_some, at_least, fits};
+use crate::counts::{asks_none, asks_some, at_least};
 use crate::fault::RuleFault;
 use crate::made::{both, pairs, units};
 use constraint_tree::Cardinality;
@@ -18,13 +18,17 @@ use std::alloc::{AllocError, Global};
 pub(crate) fn brace_or(alloc: Global, plan: &ConceptPlan) -> Result<ConceptPlan, RuleFault>
     ensures { Gives (rewritten BraceOr (plan_of plan.now)) result }
 {
-    let (count, groups) = units_of(plan)?;
-    let parts = unit_or_of(groups)?;
-    if asks_some(count) {
-        return Ok(ConceptPlan::Or(each_units(alloc, count, parts)?));
+    if let Ok((count, groups)) = units_of(plan)
+        && let Ok(parts) = unit_or_of(groups)
+    {
+        if asks_some(count) {
+            return Ok(ConceptPlan::Or(each_units(alloc, count, parts)?));
+        }
+        if asks_none(count) {
+            return Ok(ConceptPlan::And(each_units(alloc, count, parts)?));
+        }
     }
-    fits(asks_none(count))?;
-    Ok(ConceptPlan::And(each_units(alloc, count, parts)?))
+    Err(RuleFault::NotApplicable)
 }
 
 fn each_units(
@@ -45,22 +49,29 @@ fn each_units(
 pub(crate) fn brace_one(alloc: Global, plan: &ConceptPlan) -> Result<ConceptPlan, RuleFault>
     ensures { Gives (rewritten BraceOne (plan_of plan.now)) result }
 {
-    let (count, groups) = units_of(plan)?;
-    let (some, types, test) = unit_pairs_of(groups)?;
-    fits(asks_some(some))?;
-    fits(asks_some(count) || asks_none(count))?;
-    Ok(pairs(alloc, false, count, types, test)?)
+    if let Ok((count, groups)) = units_of(plan)
+        && let Ok((some, types, test)) = unit_pairs_of(groups)
+        && (asks_some(count) || asks_none(count))
+        && asks_some(some)
+    {
+        return Ok(pairs(alloc, false, count, types, test)?);
+    }
+    Err(RuleFault::NotApplicable)
 }
 
 pub(crate) fn brace_guard(alloc: Global, plan: &ConceptPlan) -> Result<ConceptPlan, RuleFault>
     ensures { Gives (rewritten BraceGuard (plan_of plan.now)) result }
 {
-    let (count, groups) = units_of(plan)?;
-    let (first, _rest) = first_unit_of(unit_and_of(groups)?)?;
-    let (some, types, test) = unit_pairs_of(first)?;
-    fits(count.min >= 1)?;
-    fits(some.min >= 1)?;
-    let guard = pairs(alloc, false, at_least(1), types, test)?;
-    let guarded = units(alloc, count, groups)?;
-    Ok(both(alloc, guard, guarded)?)
+    if let Ok((count, groups)) = units_of(plan)
+        && let Ok(parts) = unit_and_of(groups)
+        && let Ok((first, _rest)) = first_unit_of(parts)
+        && let Ok((some, types, test)) = unit_pairs_of(first)
+        && count.min >= 1
+        && some.min >= 1
+    {
+        let guard = pairs(alloc, false, at_least(1), types, test)?;
+        let guarded = units(alloc, count, groups)?;
+        return Ok(both(alloc, guard, guarded)?);
+    }
+    Err(RuleFault::NotApplicable)
 }

@@ -31,19 +31,17 @@ pub(crate) fn change(
     };
     let number = *number;
     match plan {
-        ConceptPlan::Walk(_, operand) if number == 0 => Ok(change(alloc, operand, rule, rest)?),
-        ConceptPlan::Members(operand) if number == 0 => Ok(change(alloc, operand, rule, rest)?),
-        ConceptPlan::And(parts) => Ok(change_part(alloc, parts, rule, number, rest)?),
-        ConceptPlan::Or(parts) => Ok(change_part(alloc, parts, rule, number, rest)?),
-        ConceptPlan::Minus(first, _) if number == 0 => Ok(change(alloc, first, rule, rest)?),
-        ConceptPlan::Minus(_, second) if number == 1 => Ok(change(alloc, second, rule, rest)?),
-        ConceptPlan::Values(start, _) if number == 0 => Ok(change(alloc, start, rule, rest)?),
-        ConceptPlan::Values(_, names) => { Ok(change_part(alloc, names, rule, number - 1, rest)?) }
-        ConceptPlan::Pairs { types, .. } if number == 0 => Ok(change(alloc, types, rule, rest)?),
-        ConceptPlan::Pairs { test, .. } => Ok(change_test(alloc, test, rule, number - 1, rest)?),
-        ConceptPlan::Units { units, .. } if number == 0 => {
-            Ok(change_unit(alloc, units, rule, rest)?)
-        }
+        ConceptPlan::Walk(_, operand) if number == 0 => change(alloc, operand, rule, rest),
+        ConceptPlan::Members(operand) if number == 0 => change(alloc, operand, rule, rest),
+        ConceptPlan::And(parts) => change_part(alloc, parts, rule, number, rest),
+        ConceptPlan::Or(parts) => change_part(alloc, parts, rule, number, rest),
+        ConceptPlan::Minus(first, _) if number == 0 => change(alloc, first, rule, rest),
+        ConceptPlan::Minus(_, second) if number == 1 => change(alloc, second, rule, rest),
+        ConceptPlan::Values(start, _) if number == 0 => change(alloc, start, rule, rest),
+        ConceptPlan::Values(_, names) => change_part(alloc, names, rule, number - 1, rest),
+        ConceptPlan::Pairs { types, .. } if number == 0 => change(alloc, types, rule, rest),
+        ConceptPlan::Pairs { test, .. } => change_test(alloc, test, rule, number - 1, rest),
+        ConceptPlan::Units { units, .. } if number == 0 => { change_unit(alloc, units, rule, rest) }
         _ => Ok(false),
     }
 }
@@ -96,8 +94,8 @@ fn change_test(
     ensures unit { IfOk result (λ fits. (count : Cardinality) (types : Plan) → only_if fits (group_node (pairs_units count types (test_plan_of test.new))) ≡ rewritten_at rule (suc number ∷ place.now) (group_node (pairs_units count types (test_plan_of test.old)))) }
 {
     match test {
-        ValueTest::Within(operand) if number == 0 => Ok(change(alloc, operand, rule, place)?),
-        ValueTest::Outside(operand) if number == 0 => Ok(change(alloc, operand, rule, place)?),
+        ValueTest::Within(operand) if number == 0 => change(alloc, operand, rule, place),
+        ValueTest::Outside(operand) if number == 0 => change(alloc, operand, rule, place),
         _ => Ok(false),
     }
 }
@@ -119,12 +117,12 @@ fn change_unit(
     };
     let number = *number;
     match plan {
-        UnitPlan::And(parts) => Ok(change_unit_part(alloc, parts, rule, number, rest)?),
-        UnitPlan::Or(parts) => Ok(change_unit_part(alloc, parts, rule, number, rest)?),
-        UnitPlan::Minus(first, _) if number == 0 => Ok(change_unit(alloc, first, rule, rest)?),
-        UnitPlan::Minus(_, second) if number == 1 => Ok(change_unit(alloc, second, rule, rest)?),
-        UnitPlan::Pairs { types, .. } if number == 0 => Ok(change(alloc, types, rule, rest)?),
-        UnitPlan::Pairs { test, .. } => Ok(change_test(alloc, test, rule, number - 1, rest)?),
+        UnitPlan::And(parts) => change_unit_part(alloc, parts, rule, number, rest),
+        UnitPlan::Or(parts) => change_unit_part(alloc, parts, rule, number, rest),
+        UnitPlan::Minus(first, _) if number == 0 => change_unit(alloc, first, rule, rest),
+        UnitPlan::Minus(_, second) if number == 1 => change_unit(alloc, second, rule, rest),
+        UnitPlan::Pairs { types, .. } if number == 0 => change(alloc, types, rule, rest),
+        UnitPlan::Pairs { test, .. } => change_test(alloc, test, rule, number - 1, rest),
         _ => Ok(false),
     }
 }

@@ -1,22 +1,8 @@
 //! Cardinalities that rules ask for and make.
-ghost use Rattle.std.specs.Prelude.{◌≡◌, true, false, Some, None, MatchResult};
-ghost use Rattle.constraint_tree.specs.declared.operator.Cardinality.{Cardinality};
+ghost use Rattle.std.specs.Prelude.{◌≡◌};
 ghost use Rattle.rewrites.specs.Counts.{asks_some, asks_none, asks_nothing, asks_too_much, at_least, up_to, split, complement};
-ghost use Rattle.rewrites.specs.declared.fault.RuleFault.TheVariants.{NotApplicable};
 
-use crate::fault::RuleFault;
 use constraint_tree::Cardinality;
-
-// That the condition of a rule holds.
-pub(crate) fn fits(holds: bool) -> Result<(), RuleFault>
-    ensures { MatchResult result (λ _. holds ≡ true) (λ fault. (fault ≡ NotApplicable) × (holds ≡ false)) }
-{
-    if holds {
-        Ok(())
-    } else {
-        Err(RuleFault::NotApplicable)
-    }
-}
 
 // Whether it is [1..*].
 pub(crate) fn asks_some(count: Cardinality) -> bool
@@ -68,27 +54,21 @@ fn up_to(most: u64) -> Cardinality
 }
 
 // [m..*] and [0..k] of [m..k], where m is at least 1.
-pub(crate) fn split(count: Cardinality) -> Result<(Cardinality, Cardinality), RuleFault>
-    ensures { MatchResult result (λ both. split {X = Cardinality × Cardinality} (λ least most. (least, most)) count ≡ Some both) (λ fault. (fault ≡ NotApplicable) × (split {X = Cardinality × Cardinality} (λ least most. (least, most)) count ≡ None)) }
+pub(crate) fn split(count: Cardinality) -> Option<(Cardinality, Cardinality)>
+    ensures { result ≡ split (λ least most. (least, most)) count }
 {
     match count.max {
-        Some(most) => {
-            fits(count.min >= 1)?;
-            Ok((at_least(count.min), up_to(most)))
-        }
-        None => Err(RuleFault::NotApplicable),
+        Some(most) if count.min >= 1 => Some((at_least(count.min), up_to(most))),
+        _ => None,
     }
 }
 
 // [k+1..*] of [0..k], where k is below the largest number.
-pub(crate) fn complement(count: Cardinality) -> Result<Cardinality, RuleFault>
-    ensures { MatchResult result (λ above. complement (λ above. above) count ≡ Some above) (λ fault. (fault ≡ NotApplicable) × (complement (λ above. above) count ≡ None)) }
+pub(crate) fn complement(count: Cardinality) -> Option<Cardinality>
+    ensures { result ≡ complement (λ above. above) count }
 {
     match count.max {
-        Some(most) => {
-            fits(count.min == 0 && most < u64::MAX)?;
-            Ok(at_least(most + 1))
-        }
-        None => Err(RuleFault::NotApplicable),
+        Some(most) if count.min == 0 && most < u64::MAX => Some(at_least(most + 1)),
+        _ => None,
     }
 }

@@ -46,7 +46,7 @@ impl From<AllocError> for ApplyFault {
 
 // Why a rule makes no plan of a node: it has another form or does not meet the rule's condition, or memory ran
 // out.
-#[derive(Clone, Copy, Debug, PartialEq, Eq)]
+#[derive(Clone, Copy)]
 pub(crate) enum RuleFault {
     NotApplicable,
     Memory,

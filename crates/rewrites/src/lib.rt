@@ -4,6 +4,7 @@
 mod applying;
 mod braces;
 mod changing;
+mod connective;
 mod counts;
 mod fault;
 mod laws;

@@ -1,14 +1,14 @@
 //! Lists of plans, made of copies.
 ghost use Rattle.std.specs.Prelude.{◌≡◌, IfOk};
-ghost use Rattle.set_algebra.specs.Plan.{plan_of, plans_of, no_plans, plan_then, and_plan};
-ghost use Rattle.rewrites.specs.PlanLists.{plans_joined, plans_then, plans_each};
+ghost use Rattle.set_algebra.specs.Plan.{plan_of, plans_of, plan_then, and_plan};
+ghost use Rattle.rewrites.specs.PlanLists.{plans_joined, plans_each};
 
 use set_algebra::ConceptPlan;
 use set_algebra::copy::each;
 use std::alloc::{AllocError, Global};
 
 // One list after another.
-#[tactic(auto, using(crate::proofs::ListLemmas::lists))]
+#[tactic(auto, using(crate::proofs::ListLemmas::plans_of_joined))]
 pub(crate) fn joined(
     alloc: Global,
     parts: &[ConceptPlan],
@@ -22,22 +22,8 @@ pub(crate) fn joined(
     Ok(both)
 }
 
-// A list with one more at its end.
-#[tactic(auto, using(crate::proofs::ListLemmas::lists))]
-pub(crate) fn with_last(
-    alloc: Global,
-    parts: &[ConceptPlan],
-    last: &ConceptPlan,
-) -> Result<Vec<ConceptPlan>, AllocError>
-    ensures { IfOk result (λ all. plans_of all.items ≡ plans_then (plans_of parts.now) (plan_of last.now)) }
-{
-    let mut all = each(alloc, parts)?;
-    all.push(last.copy(alloc)?)?;
-    Ok(all)
-}
-
 // A list with one more at its front.
-#[tactic(auto, using(crate::proofs::ListLemmas::lists))]
+#[tactic(auto, using(crate::proofs::ListLemmas::plans_of_joined))]
 pub(crate) fn with_first(
     alloc: Global,
     first: ConceptPlan,
@@ -49,18 +35,6 @@ pub(crate) fn with_first(
     let mut others = each(alloc, rest)?;
     all.append(&mut others)?;
     Ok(all)
-}
-
-pub(crate) fn two(
-    alloc: Global,
-    one: &ConceptPlan,
-    other: &ConceptPlan,
-) -> Result<Vec<ConceptPlan>, AllocError>
-    ensures { IfOk result (λ both. plans_of both.items ≡ plan_then (plan_of one.now) (plan_then (plan_of other.now) no_plans)) }
-{
-    let one = one.copy(alloc)?;
-    let other = other.copy(alloc)?;
-    Ok(vec![in alloc; one, other]?)
 }
 
 // The `And` of a plan and further ones.
@@ -77,7 +51,6 @@ pub(crate) fn and_first(
 }
 
 // The `And` of each plan and further ones.
-#[tactic(auto, using(set_algebra::proofs::PlanLemmas::plans_of_items))]
 pub(crate) fn each_with(
     alloc: Global,
     parts: &[ConceptPlan],

@@ -93,13 +93,13 @@ pub(crate) fn both_units(
 pub(crate) fn all_but(alloc: Global, plan: ConceptPlan) -> Result<ConceptPlan, AllocError>
     ensures { IfOk result (λ new. plan_of new ≡ minus_plan all_plan (plan_of plan)) }
 {
-    let all = Box::new(alloc, ConceptPlan::All)?;
-    Ok(ConceptPlan::Minus(all, Box::new(alloc, plan)?))
+    let plan = Box::new(alloc, plan)?;
+    Ok(ConceptPlan::Minus(Box::new(alloc, ConceptPlan::All)?, plan))
 }
 
 pub(crate) fn every_but(alloc: Global, plan: UnitPlan) -> Result<UnitPlan, AllocError>
     ensures { IfOk result (λ new. unit_plan_of new ≡ minus_units every_unit (unit_plan_of plan)) }
 {
-    let every = Box::new(alloc, UnitPlan::Every)?;
-    Ok(UnitPlan::Minus(every, Box::new(alloc, plan)?))
+    let plan = Box::new(alloc, plan)?;
+    Ok(UnitPlan::Minus(Box::new(alloc, UnitPlan::Every)?, plan))
 }

@@ -6,7 +6,7 @@ ghost use Rattle.rewrites.specs.PlanLists.{plans_each};
 ghost use Rattle.rewrites.specs.Rules.{rewritten};
 ghost use Rattle.rewrites.specs.declared.rule.Rule.TheVariants.{TypesOr, TestOr};
 
-use crate::counts::{asks_some, fits};
+use crate::counts::asks_some;
 use crate::fault::RuleFault;
 use crate::made::pairs;
 use constraint_tree::Cardinality;
@@ -19,10 +19,13 @@ use std::alloc::{AllocError, Global};
 pub(crate) fn types_or(alloc: Global, plan: &ConceptPlan) -> Result<ConceptPlan, RuleFault>
     ensures { Gives (rewritten TypesOr (plan_of plan.now)) result }
 {
-    let (back, count, types, test) = pairs_of(plan)?;
-    let parts = or_of(types)?;
-    fits(asks_some(count))?;
-    Ok(ConceptPlan::Or(each_type(alloc, back, count, parts, test)?))
+    if let Ok((back, count, types, test)) = pairs_of(plan)
+        && let Ok(parts) = or_of(types)
+        && asks_some(count)
+    {
+        return Ok(ConceptPlan::Or(each_type(alloc, back, count, parts, test)?));
+    }
+    Err(RuleFault::NotApplicable)
 }
 
 fn each_type(
@@ -46,10 +49,14 @@ fn each_type(
 pub(crate) fn test_or(alloc: Global, plan: &ConceptPlan) -> Result<ConceptPlan, RuleFault>
     ensures { Gives (rewritten TestOr (plan_of plan.now)) result }
 {
-    let (back, count, types, test) = pairs_of(plan)?;
-    let parts = or_of(within_of(test)?)?;
-    fits(asks_some(count))?;
-    Ok(ConceptPlan::Or(each_value(alloc, back, count, types, parts)?))
+    if let Ok((back, count, types, test)) = pairs_of(plan)
+        && let Ok(operand) = within_of(test)
+        && let Ok(parts) = or_of(operand)
+        && asks_some(count)
+    {
+        return Ok(ConceptPlan::Or(each_value(alloc, back, count, types, parts)?));
+    }
+    Err(RuleFault::NotApplicable)
 }
 
 fn each_value(

@@ -1,7 +1,8 @@
 //! Rules of counts: RangeSplit, RangeTurn and RangeAll.
-ghost use Rattle.std.specs.Prelude.{◌≡◌, option_map};
+ghost use Rattle.std.specs.Prelude.{◌≡◌, option_map, IfOk};
 ghost use Rattle.set_algebra.specs.Plan.{plan_of, all_plan, empty_plan};
 ghost use Rattle.rewrites.specs.Counts.{settled};
+ghost use Rattle.rewrites.specs.inside.Counted.{count_of, with_count};
 ghost use Rattle.rewrites.specs.inside.Gives.{Gives};
 ghost use Rattle.rewrites.specs.Rules.{rewritten};
 ghost use Rattle.rewrites.specs.declared.rule.Rule.TheVariants.{RangeSplit, RangeTurn, RangeAll};
@@ -11,51 +12,61 @@ use crate::fault::RuleFault;
 use crate::made::{all_but, both, pairs, units};
 use constraint_tree::Cardinality;
 use set_algebra::ConceptPlan;
-use std::alloc::Global;
+use std::alloc::{AllocError, Global};
 
 pub(crate) fn range_split(alloc: Global, plan: &ConceptPlan) -> Result<ConceptPlan, RuleFault>
     ensures { Gives (rewritten RangeSplit (plan_of plan.now)) result }
 {
-    match plan {
-        ConceptPlan::Pairs {
-            back,
-            count,
-            types,
-            test,
-        } => {
-            let (least, most) = split(*count)?;
-            let one = pairs(alloc, *back, least, types, test)?;
-            let other = pairs(alloc, *back, most, types, test)?;
-            Ok(both(alloc, one, other)?)
-        }
-        ConceptPlan::Units { count, units: plan } => {
-            let (least, most) = split(*count)?;
-            let one = units(alloc, least, plan)?;
-            let other = units(alloc, most, plan)?;
-            Ok(both(alloc, one, other)?)
-        }
-        _ => Err(RuleFault::NotApplicable),
+    if let Some(count) = count_of(plan)
+        && let Some((least, most)) = split(count)
+    {
+        let one = with_count(alloc, plan, least)?;
+        let other = with_count(alloc, plan, most)?;
+        return Ok(both(alloc, one, other)?);
     }
+    Err(RuleFault::NotApplicable)
 }
 
 pub(crate) fn range_turn(alloc: Global, plan: &ConceptPlan) -> Result<ConceptPlan, RuleFault>
     ensures { Gives (rewritten RangeTurn (plan_of plan.now)) result }
 {
+    if let Some(count) = count_of(plan)
+        && let Some(above) = complement(count)
+    {
+        let more = with_count(alloc, plan, above)?;
+        return Ok(all_but(alloc, more)?);
+    }
+    Err(RuleFault::NotApplicable)
+}
+
+// The count of `Pairs` or `Units`.
+fn count_of(plan: &ConceptPlan) -> Option<Cardinality>
+    ensures { result ≡ count_of (plan_of plan.now) }
+{
+    match plan {
+        ConceptPlan::Pairs { count, .. } => Some(*count),
+        ConceptPlan::Units { count, .. } => Some(*count),
+        _ => None,
+    }
+}
+
+// A copy of `Pairs` or `Units` with another count.
+fn with_count(
+    alloc: Global,
+    plan: &ConceptPlan,
+    count: Cardinality,
+) -> Result<ConceptPlan, AllocError>
+    ensures { IfOk result (λ new. plan_of new ≡ with_count count (plan_of plan.now)) }
+{
     match plan {
         ConceptPlan::Pairs {
             back,
-            count,
             types,
             test,
-        } => {
-            let more = pairs(alloc, *back, complement(*count)?, types, test)?;
-            Ok(all_but(alloc, more)?)
-        }
-        ConceptPlan::Units { count, units: plan } => {
-            let more = units(alloc, complement(*count)?, plan)?;
-            Ok(all_but(alloc, more)?)
-        }
-        _ => Err(RuleFault::NotApplicable),
+            ..
+        } => pairs(alloc, *back, count, types, test),
+        ConceptPlan::Units { units: groups, .. } => units(alloc, count, groups),
+        _ => plan.copy(alloc),
     }
 }
 

@@ -116,7 +116,7 @@ fn fewer(parts: Vec<ConceptPlan>) -> Vec<ConceptPlan>
 }
 
 // Whether the first two are equal.
-fn begins_twice(parts: &[ConceptPlan]) -> bool
+pub(crate) fn begins_twice(parts: &[ConceptPlan]) -> bool
     ensures { result ≡ begins_twice (plans_of parts.now) }
 {
     let Ok((first, others)) = first_of(parts) else {

@@ -1,14 +1,14 @@
 //! Lists of plans of groups, made of copies.
 ghost use Rattle.std.specs.Prelude.{◌≡◌, IfOk};
-ghost use Rattle.set_algebra.specs.Plan.{unit_plan_of, unit_plans_of, no_unit_plans, unit_plan_then, and_units};
-ghost use Rattle.rewrites.specs.PlanLists.{groups_joined, groups_then, groups_each};
+ghost use Rattle.set_algebra.specs.Plan.{unit_plan_of, unit_plans_of, unit_plan_then, and_units};
+ghost use Rattle.rewrites.specs.PlanLists.{groups_joined, groups_each};
 
 use set_algebra::UnitPlan;
 use set_algebra::copy::each_unit;
 use std::alloc::{AllocError, Global};
 
 // One list after another.
-#[tactic(auto, using(crate::proofs::ListLemmas::group_lists))]
+#[tactic(auto, using(crate::proofs::ListLemmas::unit_plans_of_joined))]
 pub(crate) fn joined(
     alloc: Global,
     parts: &[UnitPlan],
@@ -22,22 +22,8 @@ pub(crate) fn joined(
     Ok(both)
 }
 
-// A list with one more at its end.
-#[tactic(auto, using(crate::proofs::ListLemmas::group_lists))]
-pub(crate) fn with_last(
-    alloc: Global,
-    parts: &[UnitPlan],
-    last: &UnitPlan,
-) -> Result<Vec<UnitPlan>, AllocError>
-    ensures { IfOk result (λ all. unit_plans_of all.items ≡ groups_then (unit_plans_of parts.now) (unit_plan_of last.now)) }
-{
-    let mut all = each_unit(alloc, parts)?;
-    all.push(last.copy(alloc)?)?;
-    Ok(all)
-}
-
 // A list with one more at its front.
-#[tactic(auto, using(crate::proofs::ListLemmas::group_lists))]
+#[tactic(auto, using(crate::proofs::ListLemmas::unit_plans_of_joined))]
 pub(crate) fn with_first(
     alloc: Global,
     first: UnitPlan,
@@ -49,18 +35,6 @@ pub(crate) fn with_first(
     let mut others = each_unit(alloc, rest)?;
     all.append(&mut others)?;
     Ok(all)
-}
-
-pub(crate) fn two(
-    alloc: Global,
-    one: &UnitPlan,
-    other: &UnitPlan,
-) -> Result<Vec<UnitPlan>, AllocError>
-    ensures { IfOk result (λ both. unit_plans_of both.items ≡ unit_plan_then (unit_plan_of one.now) (unit_plan_then (unit_plan_of other.now) no_unit_plans)) }
-{
-    let one = one.copy(alloc)?;
-    let other = other.copy(alloc)?;
-    Ok(vec![in alloc; one, other]?)
 }
 
 // The `And` of a plan and further ones.
@@ -77,7 +51,6 @@ pub(crate) fn and_first(
 }
 
 // The `And` of each plan and further ones.
-#[tactic(auto, using(set_algebra::proofs::PlanLemmas::plans_of_items))]
 pub(crate) fn each_with(
     alloc: Global,
     parts: &[UnitPlan],

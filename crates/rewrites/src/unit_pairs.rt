@@ -7,7 +7,7 @@ ghost use Rattle.rewrites.specs.PlanLists.{groups_of_each};
 ghost use Rattle.rewrites.specs.Rules.{rewritten_group};
 ghost use Rattle.rewrites.specs.declared.rule.Rule.TheVariants.{TypesOr, TestOr, RangeSplit, RangeTurn, RangeAll};
 
-use crate::counts::{asks_nothing, asks_some, asks_too_much, complement, fits, split};
+use crate::counts::{asks_nothing, asks_some, asks_too_much, complement, split};
 use crate::fault::RuleFault;
 use crate::made::{both_units, every_but, unit_pairs};
 use constraint_tree::Cardinality;
@@ -20,10 +20,13 @@ use std::alloc::{AllocError, Global};
 pub(crate) fn types_or(alloc: Global, plan: &UnitPlan) -> Result<UnitPlan, RuleFault>
     ensures { GivesGroup (rewritten_group TypesOr (unit_plan_of plan.now)) result }
 {
-    let (count, types, test) = unit_pairs_of(plan)?;
-    let parts = or_of(types)?;
-    fits(asks_some(count))?;
-    Ok(UnitPlan::Or(each_type(alloc, count, parts, test)?))
+    if let Ok((count, types, test)) = unit_pairs_of(plan)
+        && let Ok(parts) = or_of(types)
+        && asks_some(count)
+    {
+        return Ok(UnitPlan::Or(each_type(alloc, count, parts, test)?));
+    }
+    Err(RuleFault::NotApplicable)
 }
 
 fn each_type(
@@ -46,10 +49,14 @@ fn each_type(
 pub(crate) fn test_or(alloc: Global, plan: &UnitPlan) -> Result<UnitPlan, RuleFault>
     ensures { GivesGroup (rewritten_group TestOr (unit_plan_of plan.now)) result }
 {
-    let (count, types, test) = unit_pairs_of(plan)?;
-    let parts = or_of(within_of(test)?)?;
-    fits(asks_some(count))?;
-    Ok(UnitPlan::Or(each_value(alloc, count, types, parts)?))
+    if let Ok((count, types, test)) = unit_pairs_of(plan)
+        && let Ok(operand) = within_of(test)
+        && let Ok(parts) = or_of(operand)
+        && asks_some(count)
+    {
+        return Ok(UnitPlan::Or(each_value(alloc, count, types, parts)?));
+    }
+    Err(RuleFault::NotApplicable)
 }
 
 fn each_value(
@@ -86,19 +93,26 @@ fn pairs_within(
 pub(crate) fn range_split(alloc: Global, plan: &UnitPlan) -> Result<UnitPlan, RuleFault>
     ensures { GivesGroup (rewritten_group RangeSplit (unit_plan_of plan.now)) result }
 {
-    let (count, types, test) = unit_pairs_of(plan)?;
-    let (least, most) = split(count)?;
-    let one = unit_pairs(alloc, least, types, test)?;
-    let other = unit_pairs(alloc, most, types, test)?;
-    Ok(both_units(alloc, one, other)?)
+    if let Ok((count, types, test)) = unit_pairs_of(plan)
+        && let Some((least, most)) = split(count)
+    {
+        let one = unit_pairs(alloc, least, types, test)?;
+        let other = unit_pairs(alloc, most, types, test)?;
+        return Ok(both_units(alloc, one, other)?);
+    }
+    Err(RuleFault::NotApplicable)
 }
 
 pub(crate) fn range_turn(alloc: Global, plan: &UnitPlan) -> Result<UnitPlan, RuleFault>
     ensures { GivesGroup (rewritten_group RangeTurn (unit_plan_of plan.now)) result }
 {
-    let (count, types, test) = unit_pairs_of(plan)?;
-    let more = unit_pairs(alloc, complement(count)?, types, test)?;
-    Ok(every_but(alloc, more)?)
+    if let Ok((count, types, test)) = unit_pairs_of(plan)
+        && let Some(above) = complement(count)
+    {
+        let more = unit_pairs(alloc, above, types, test)?;
+        return Ok(every_but(alloc, more)?);
+    }
+    Err(RuleFault::NotApplicable)
 }
 
 pub(crate) fn range_all(plan: &UnitPlan) -> Result<UnitPlan, RuleFault>

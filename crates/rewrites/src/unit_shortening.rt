@@ -59,7 +59,7 @@ fn fewer(parts: Vec<UnitPlan>) -> Vec<UnitPlan>
 }
 
 // Whether the first two are equal.
-fn begins_twice(parts: &[UnitPlan]) -> bool
+pub(crate) fn begins_twice(parts: &[UnitPlan]) -> bool
     ensures { result ≡ group_begins_twice (unit_plans_of parts.now) }
 {
     let Ok((first, others)) = first_unit_of(parts) else {

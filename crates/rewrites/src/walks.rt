@@ -6,7 +6,6 @@ ghost use Rattle.rewrites.specs.PlanLists.{plans_each};
 ghost use Rattle.rewrites.specs.Rules.{rewritten, goes_through, walk_of_walk};
 ghost use Rattle.rewrites.specs.declared.rule.Rule.TheVariants.{WalkOr, WalkTwice};
 
-use crate::counts::fits;
 use crate::fault::RuleFault;
 use constraint_tree::Operator;
 use set_algebra::ConceptPlan;
@@ -20,13 +19,18 @@ pub(crate) fn walk_or(alloc: Global, plan: &ConceptPlan) -> Result<ConceptPlan, 
 {
     match plan {
         ConceptPlan::Walk(operator, operand) => {
-            let parts = or_of(operand)?;
-            fits(goes_through(*operator))?;
-            Ok(ConceptPlan::Or(each_walk(alloc, *operator, parts)?))
+            if let Ok(parts) = or_of(operand)
+                && goes_through(*operator)
+            {
+                return Ok(ConceptPlan::Or(each_walk(alloc, *operator, parts)?));
+            }
+            Err(RuleFault::NotApplicable)
         }
         ConceptPlan::Members(operand) => {
-            let parts = or_of(operand)?;
-            Ok(ConceptPlan::Or(each_members(alloc, parts)?))
+            if let Ok(parts) = or_of(operand) {
+                return Ok(ConceptPlan::Or(each_members(alloc, parts)?));
+            }
+            Err(RuleFault::NotApplicable)
         }
         _ => Err(RuleFault::NotApplicable),
     }
@@ -71,10 +75,13 @@ fn each_members(alloc: Global, parts: &[ConceptPlan]) -> Result<Vec<ConceptPlan>
 pub(crate) fn walk_twice(alloc: Global, plan: &ConceptPlan) -> Result<ConceptPlan, RuleFault>
     ensures { Gives (rewritten WalkTwice (plan_of plan.now)) result }
 {
-    let (outer, walk) = walk_of(plan)?;
-    let (inner, operand) = walk_of(walk)?;
-    let operator = walk_of_walk(outer, inner).ok_or(RuleFault::NotApplicable)?;
-    Ok(ConceptPlan::Walk(operator, boxed(alloc, operand)?))
+    if let Ok((outer, walk)) = walk_of(plan)
+        && let Ok((inner, operand)) = walk_of(walk)
+        && let Some(operator) = walk_of_walk(outer, inner)
+    {
+        return Ok(ConceptPlan::Walk(operator, boxed(alloc, operand)?));
+    }
+    Err(RuleFault::NotApplicable)
 }
 
 // The one walk that a walk of a walk is.

@@ -1,9 +1,8 @@
-use Rattle.std.proofs.Common.{◌≡◌, take}
-use Rattle.set_algebra.specs.Plan.{plans_of, plan_then, and_plan}
-use Rattle.rewrites.specs.PlanLists.{plans_each}
+use Rattle.std.proofs.Common.{◌≡◌, map, take}
+use Rattle.set_algebra.specs.Plan.{plan_of, plans_of, plan_then, and_plan}
 use Rattle.rewrites.proofs.lists.each_with.Given as goal
 
 abbrev pub invariant-loop-part : goal.invariant-loop-part
 invariant-loop-part l =
-    plans_of l.made.items ≡ plans_each (λ part. and_plan (plan_then part (plans_of l.rest)))
-    (plans_of (take l.part-index l.parts))
+    map plan_of l.made.items ≡
+    map (λ part. and_plan (plan_then (plan_of part) (plans_of l.rest))) (take l.part-index l.parts)

@@ -1,7 +1,12 @@
-use Rattle.rewrites.proofs.ListLemmas.{units_more}
+use Rattle.std.proofs.Common.{◌∙◌, ap, arith}
+use Rattle.set_algebra.specs.Plan.{units_from}
+use Rattle.rewrites.proofs.ListLemmas.{made_more, all_made, groups_made}
 use Rattle.rewrites.proofs.unit_lists.each_with.Goals as goal
 
 pub loop-part-preserved : goal.loop-part-preserved
 loop-part-preserved c =
-    units_more _ _ _ _ _ _ _ c.in_ok-push.ensures.items c.loop-part-test.true c.part-item.is c.loop-part.invariant
+    made_more _ _ _ _ _ _ _ _ c.in_ok-push.ensures.items c.loop-part-test.true c.part-item.is c.loop-part.invariant
     c.in_ok-new.ensures
+
+pub returns : goal.returns
+returns c = ap units_from (all_made _ _ _ _ _ (omega arith) c.loop-part.invariant) ∙ groups_made _ _

@@ -1,8 +1,9 @@
-use Rattle.std.proofs.Common.{◌≡◌, true, List, sym, ap, ◌∙◌}
+use Rattle.std.proofs.Common.{◌≡◌, true, List, Option, unwrap_or, sym, ap, ◌∙◌}
 use Rattle.set_algebra.specs.declared.plan.UnitPlan.{UnitPlan}
-use Rattle.set_algebra.specs.Plan.{unit_plans_of}
+use Rattle.set_algebra.specs.Plan.{PlanOfUnits, unit_plans_of, and_units, or_units}
+use Rattle.rewrites.specs.declared.connective.Connective.TheVariants.{And, Or}
 use Rattle.rewrites.specs.Simplified.{group_begins_twice}
-use Rattle.rewrites.proofs.SimplifiedLists.{first_group_dropped_and, first_group_dropped_or}
+use Rattle.rewrites.proofs.PartLemmas.{group_dropped}
 use Rattle.rewrites.proofs.unit_shortening.fewer.Goals as goal
 
 twice : (items seen : List UnitPlan) (result : _) → seen ≡ items → result ≡ group_begins_twice (unit_plans_of seen)
@@ -12,10 +13,16 @@ twice items seen result is told holds =
 
 pub returns-then-begins_twice-clause-and : goal.returns-then-begins_twice-clause-and
 returns-then-begins_twice-clause-and c =
-    first_group_dropped_and c.args.parts.items c.remove.new.self.items
-    (twice _ _ _ c.deref.ensures.value c.begins_twice.ensures c.if-begins_twice.true) c.remove.ensures.items
+    ap (λ (items : List UnitPlan). and_units (unit_plans_of items)) c.remove.ensures.by_index.2
+    ∙ sym
+    (ap (λ (made : Option PlanOfUnits). unwrap_or made (and_units (unit_plans_of c.args.parts.items)))
+    (group_dropped And c.args.parts.items
+    (twice _ _ _ c.deref.ensures.value c.begins_twice.ensures c.if-begins_twice.true)))
 
 pub returns-then-begins_twice-clause-or : goal.returns-then-begins_twice-clause-or
 returns-then-begins_twice-clause-or c =
-    first_group_dropped_or c.args.parts.items c.remove.new.self.items
-    (twice _ _ _ c.deref.ensures.value c.begins_twice.ensures c.if-begins_twice.true) c.remove.ensures.items
+    ap (λ (items : List UnitPlan). or_units (unit_plans_of items)) c.remove.ensures.by_index.2
+    ∙ sym
+    (ap (λ (made : Option PlanOfUnits). unwrap_or made (or_units (unit_plans_of c.args.parts.items)))
+    (group_dropped Or c.args.parts.items
+    (twice _ _ _ c.deref.ensures.value c.begins_twice.ensures c.if-begins_twice.true)))

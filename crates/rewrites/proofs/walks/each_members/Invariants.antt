@@ -1,7 +1,7 @@
-use Rattle.std.proofs.Common.{◌≡◌, take}
-use Rattle.set_algebra.specs.Plan.{plans_of, members_plan}
-use Rattle.rewrites.specs.PlanLists.{plans_each}
+use Rattle.std.proofs.Common.{◌≡◌, map, take}
+use Rattle.set_algebra.specs.Plan.{plan_of, members_plan}
 use Rattle.rewrites.proofs.walks.each_members.Given as goal
 
 abbrev pub invariant-loop-part : goal.invariant-loop-part
-invariant-loop-part l = plans_of l.made.items ≡ plans_each members_plan (plans_of (take l.part-index l.parts))
+invariant-loop-part l =
+    map plan_of l.made.items ≡ map (λ part. members_plan (plan_of part)) (take l.part-index l.parts)

@@ -1,0 +1,184 @@
+-- The rules that are the same of And and Or, by the list of the parts.
+use Rattle.std.proofs.Common.{◌≡◌, ◌<◌, ◌≤◌, Bool, true, false, Some, None, List, [], ◌∷◌, length, take, drop, refl, ap}
+use Rattle.std.proofs.Common.{◌∙◌, arith}
+use Rattle.std.proofs.lemmas.Bool.{false≢true}
+use Rattle.set_algebra.specs.declared.plan.ConceptPlan.{ConceptPlan}
+use Rattle.set_algebra.specs.declared.plan.UnitPlan.{UnitPlan}
+use Rattle.set_algebra.specs.EqualLaws.{decides_plan, decides_group}
+use Rattle.set_algebra.specs.Plan.{Plan, Plans, no_plans, plan_then, and_plan, or_plan, plan_of, plans_of, PlanOfUnits}
+use Rattle.set_algebra.specs.Plan.{PlansOfUnits, no_unit_plans, unit_plan_then, and_units, or_units, unit_plan_of}
+use Rattle.set_algebra.specs.Plan.{unit_plans_of}
+use Rattle.rewrites.specs.declared.connective.Connective.{Connective}
+use Rattle.rewrites.specs.declared.connective.Connective.TheVariants.{And, Or}
+use Rattle.rewrites.specs.declared.rule.Rule.TheVariants.{Turn, Pair, Same}
+use Rattle.rewrites.specs.Counts.{only_if}
+use Rattle.rewrites.specs.inside.Connected.{connected, connected_groups}
+use Rattle.rewrites.specs.PlanLists.{plans_then, plans_joined, groups_then, groups_joined}
+use Rattle.rewrites.specs.Rules.{rewritten, rewritten_group}
+use Rattle.rewrites.specs.Simplified.{begins_twice, group_begins_twice}
+
+-- one more at the end is a list of one after the others
+last_joined : (parts : Plans) (last : Plan) → plans_then parts last ≡ plans_joined parts (plan_then last no_plans)
+last_joined no_plans last = refl
+last_joined (plan_then first rest) last = ap (plan_then first) (last_joined rest last)
+
+-- Turn puts the first of two parts or more after the others, and makes nothing of fewer
+pub turned : (connective : Connective) (parts : List ConceptPlan) → 2 ≤ length parts
+    → rewritten Turn (connected connective (plans_of parts))
+    ≡ Some (connected connective (plans_joined (plans_of (drop 1 parts)) (plans_of (take 1 parts))))
+turned connective [] long = absurd (omega arith)
+turned connective (one ∷ []) long = absurd (omega arith)
+turned And (one ∷ (other ∷ more)) long =
+    ap (λ plans. Some (and_plan plans)) (last_joined (plans_of (other ∷ more)) (plan_of one))
+turned Or (one ∷ (other ∷ more)) long =
+    ap (λ plans. Some (or_plan plans)) (last_joined (plans_of (other ∷ more)) (plan_of one))
+
+pub not_turned : (connective : Connective) (parts : List ConceptPlan) → length parts < 2
+    → rewritten Turn (connected connective (plans_of parts)) ≡ None
+not_turned And [] few = refl
+not_turned Or [] few = refl
+not_turned And (first ∷ []) few = refl
+not_turned Or (first ∷ []) few = refl
+not_turned connective (first ∷ (second ∷ rest)) few = absurd (omega arith)
+
+pub ruleset turning = (turned, not_turned)
+
+-- Pair takes the first two of three parts or more together, and makes nothing of fewer
+pub paired : (connective : Connective) (parts : List ConceptPlan) → 3 ≤ length parts
+    → rewritten Pair (connected connective (plans_of parts))
+    ≡ Some
+    (connected connective (plan_then (connected connective (plans_of (take 2 parts))) (plans_of (drop 2 parts))))
+paired connective [] long = absurd (omega arith)
+paired connective (one ∷ []) long = absurd (omega arith)
+paired connective (one ∷ (other ∷ [])) long = absurd (omega arith)
+paired And (one ∷ (other ∷ (third ∷ more))) long = refl
+paired Or (one ∷ (other ∷ (third ∷ more))) long = refl
+
+pub not_paired : (connective : Connective) (parts : List ConceptPlan) → length parts < 3
+    → rewritten Pair (connected connective (plans_of parts)) ≡ None
+not_paired And [] few = refl
+not_paired Or [] few = refl
+not_paired And (first ∷ []) few = refl
+not_paired Or (first ∷ []) few = refl
+not_paired And (first ∷ (second ∷ [])) few = refl
+not_paired Or (first ∷ (second ∷ [])) few = refl
+not_paired connective (first ∷ (second ∷ (third ∷ rest))) few = absurd (omega arith)
+
+pub ruleset pairing = (paired, not_paired)
+
+-- Same drops the first of two equal parts, and makes nothing of others
+pub dropped : (connective : Connective) (parts : List ConceptPlan) → begins_twice (plans_of parts) ≡ true
+    → rewritten Same (connected connective (plans_of parts)) ≡ Some (connected connective (plans_of (drop 1 parts)))
+dropped connective [] twice = absurd (false≢true twice)
+dropped connective (one ∷ []) twice = absurd (false≢true twice)
+dropped And (one ∷ (other ∷ more)) twice =
+    ap (λ (same : Bool). only_if same (and_plan (plan_then (plan_of one) (plans_of more)))) twice
+    ∙ ap (λ (plan : Plan). Some (and_plan (plan_then plan (plans_of more))))
+    ((decides_plan (plan_of one) (plan_of other)).0 twice)
+dropped Or (one ∷ (other ∷ more)) twice =
+    ap (λ (same : Bool). only_if same (or_plan (plan_then (plan_of one) (plans_of more)))) twice
+    ∙ ap (λ (plan : Plan). Some (or_plan (plan_then plan (plans_of more))))
+    ((decides_plan (plan_of one) (plan_of other)).0 twice)
+
+pub not_dropped : (connective : Connective) (parts : List ConceptPlan) → begins_twice (plans_of parts) ≡ false
+    → rewritten Same (connected connective (plans_of parts)) ≡ None
+not_dropped And [] differ = refl
+not_dropped Or [] differ = refl
+not_dropped And (first ∷ []) differ = refl
+not_dropped Or (first ∷ []) differ = refl
+not_dropped And (first ∷ (second ∷ rest)) differ =
+    ap (λ (same : Bool). only_if same (and_plan (plan_then (plan_of first) (plans_of rest)))) differ
+not_dropped Or (first ∷ (second ∷ rest)) differ =
+    ap (λ (same : Bool). only_if same (or_plan (plan_then (plan_of first) (plans_of rest)))) differ
+
+-- two parts are equal only where there are two
+pub are_two : (parts : List ConceptPlan) → begins_twice (plans_of parts) ≡ true → 2 ≤ length parts
+are_two [] twice = absurd (false≢true twice)
+are_two (first ∷ []) twice = absurd (false≢true twice)
+are_two (first ∷ (second ∷ rest)) twice = omega arith
+
+pub ruleset dropping = (dropped, not_dropped, are_two)
+
+-- the same of plans of groups
+last_group_joined : (parts : PlansOfUnits) (last : PlanOfUnits)
+    → groups_then parts last ≡ groups_joined parts (unit_plan_then last no_unit_plans)
+last_group_joined no_unit_plans last = refl
+last_group_joined (unit_plan_then first rest) last = ap (unit_plan_then first) (last_group_joined rest last)
+
+pub group_turned : (connective : Connective) (parts : List UnitPlan) → 2 ≤ length parts
+    → rewritten_group Turn (connected_groups connective (unit_plans_of parts))
+    ≡ Some
+    (connected_groups connective (groups_joined (unit_plans_of (drop 1 parts)) (unit_plans_of (take 1 parts))))
+group_turned connective [] long = absurd (omega arith)
+group_turned connective (one ∷ []) long = absurd (omega arith)
+group_turned And (one ∷ (other ∷ more)) long =
+    ap (λ plans. Some (and_units plans)) (last_group_joined (unit_plans_of (other ∷ more)) (unit_plan_of one))
+group_turned Or (one ∷ (other ∷ more)) long =
+    ap (λ plans. Some (or_units plans)) (last_group_joined (unit_plans_of (other ∷ more)) (unit_plan_of one))
+
+pub group_not_turned : (connective : Connective) (parts : List UnitPlan) → length parts < 2
+    → rewritten_group Turn (connected_groups connective (unit_plans_of parts)) ≡ None
+group_not_turned And [] few = refl
+group_not_turned Or [] few = refl
+group_not_turned And (first ∷ []) few = refl
+group_not_turned Or (first ∷ []) few = refl
+group_not_turned connective (first ∷ (second ∷ rest)) few = absurd (omega arith)
+
+pub ruleset group_turning = (group_turned, group_not_turned)
+
+pub group_paired : (connective : Connective) (parts : List UnitPlan) → 3 ≤ length parts
+    → rewritten_group Pair (connected_groups connective (unit_plans_of parts))
+    ≡ Some
+    (connected_groups connective
+    (unit_plan_then (connected_groups connective (unit_plans_of (take 2 parts))) (unit_plans_of (drop 2 parts))))
+group_paired connective [] long = absurd (omega arith)
+group_paired connective (one ∷ []) long = absurd (omega arith)
+group_paired connective (one ∷ (other ∷ [])) long = absurd (omega arith)
+group_paired And (one ∷ (other ∷ (third ∷ more))) long = refl
+group_paired Or (one ∷ (other ∷ (third ∷ more))) long = refl
+
+pub group_not_paired : (connective : Connective) (parts : List UnitPlan) → length parts < 3
+    → rewritten_group Pair (connected_groups connective (unit_plans_of parts)) ≡ None
+group_not_paired And [] few = refl
+group_not_paired Or [] few = refl
+group_not_paired And (first ∷ []) few = refl
+group_not_paired Or (first ∷ []) few = refl
+group_not_paired And (first ∷ (second ∷ [])) few = refl
+group_not_paired Or (first ∷ (second ∷ [])) few = refl
+group_not_paired connective (first ∷ (second ∷ (third ∷ rest))) few = absurd (omega arith)
+
+pub ruleset group_pairing = (group_paired, group_not_paired)
+
+pub group_dropped : (connective : Connective) (parts : List UnitPlan)
+    → group_begins_twice (unit_plans_of parts) ≡ true
+    → rewritten_group Same (connected_groups connective (unit_plans_of parts))
+    ≡ Some (connected_groups connective (unit_plans_of (drop 1 parts)))
+group_dropped connective [] twice = absurd (false≢true twice)
+group_dropped connective (one ∷ []) twice = absurd (false≢true twice)
+group_dropped And (one ∷ (other ∷ more)) twice =
+    ap (λ (same : Bool). only_if same (and_units (unit_plan_then (unit_plan_of one) (unit_plans_of more)))) twice
+    ∙ ap (λ (plan : PlanOfUnits). Some (and_units (unit_plan_then plan (unit_plans_of more))))
+    ((decides_group (unit_plan_of one) (unit_plan_of other)).0 twice)
+group_dropped Or (one ∷ (other ∷ more)) twice =
+    ap (λ (same : Bool). only_if same (or_units (unit_plan_then (unit_plan_of one) (unit_plans_of more)))) twice
+    ∙ ap (λ (plan : PlanOfUnits). Some (or_units (unit_plan_then plan (unit_plans_of more))))
+    ((decides_group (unit_plan_of one) (unit_plan_of other)).0 twice)
+
+pub group_not_dropped : (connective : Connective) (parts : List UnitPlan)
+    → group_begins_twice (unit_plans_of parts) ≡ false
+    → rewritten_group Same (connected_groups connective (unit_plans_of parts)) ≡ None
+group_not_dropped And [] differ = refl
+group_not_dropped Or [] differ = refl
+group_not_dropped And (first ∷ []) differ = refl
+group_not_dropped Or (first ∷ []) differ = refl
+group_not_dropped And (first ∷ (second ∷ rest)) differ =
+    ap (λ (same : Bool). only_if same (and_units (unit_plan_then (unit_plan_of first) (unit_plans_of rest)))) differ
+group_not_dropped Or (first ∷ (second ∷ rest)) differ =
+    ap (λ (same : Bool). only_if same (or_units (unit_plan_then (unit_plan_of first) (unit_plans_of rest)))) differ
+
+pub groups_are_two : (parts : List UnitPlan) → group_begins_twice (unit_plans_of parts) ≡ true → 2 ≤ length parts
+groups_are_two [] twice = absurd (false≢true twice)
+groups_are_two (first ∷ []) twice = absurd (false≢true twice)
+groups_are_two (first ∷ (second ∷ rest)) twice = omega arith
+
+pub ruleset group_dropping = (group_dropped, group_not_dropped, groups_are_two)
