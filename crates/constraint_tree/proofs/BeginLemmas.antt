@@ -6,9 +6,9 @@ use Rattle.std.proofs.lemmas.Bool.{and_parts}
 use Rattle.std.proofs.lemmas.List.{append-nil, append_assoc}
 use Rattle.ecl_lexer.specs.Bytes.{begins, begins_with}
 use Rattle.constraint_tree.specs.declared.operator.Operator.{Operator}
-use Rattle.constraint_tree.specs.declared.operator.Operator.TheVariants.{Descendants, DescendantsOrSelf, Children, ChildrenOrSelf, Ancestors, AncestorsOrSelf, Parents, ParentsOrSelf, Top, Bottom}
+use Rattle.constraint_tree.specs.declared.operator.Operator.TheVariants.{Descendants}
 use Rattle.constraint_tree.specs.Text.{attribute_text, cardinality_text, constraint_text, count_text, is_focus, is_member_or_focus, is_sub, joined_parts, listed_parts, placed_text, reverse_text, set_text, test_text}
-use Rattle.constraint_tree.specs.Tree.{Tree, concept_tree, any_tree, walk_tree, member_tree, and_tree, or_tree, minus_tree, dotted_tree, refined_tree, AttributeSetTree, one_set, and_set, or_set, AttributeSetTrees, no_sets, set_then, AttributeTree, attribute_tree}
+use Rattle.constraint_tree.specs.Tree.{Tree, concept_tree, walk_tree, AttributeSetTree, one_set, and_set, or_set, AttributeSetTrees, no_sets, set_then, AttributeTree, attribute_tree}
 use Rattle.constraint_tree.proofs.DigitLemmas.{digits_written}
 use Rattle.constraint_tree.proofs.PieceLemmas.{focus_byte, member_byte, operand_byte}
 use Rattle.constraint_tree.proofs.SymbolLemmas.{other_byte}
@@ -40,52 +40,24 @@ digit_is_operand byte is = rw is refl
 -- what stands behind `^`, behind an operator, and as an operand
 pub behind_caret : (tree : Tree) → IsPrintable tree → (rest : List ℕ) → begins focus_byte (placed_text (is_focus tree) (constraint_text tree) ++ rest) ≡ true
 behind_caret (concept_tree id) printable rest = concept_begins focus_byte digit_is_focus id printable rest
-behind_caret any_tree printable rest = refl
-behind_caret (walk_tree operator operand) printable rest = refl
-behind_caret (member_tree operand) printable rest = refl
-behind_caret (and_tree parts) printable rest = refl
-behind_caret (or_tree parts) printable rest = refl
-behind_caret (minus_tree first second) printable rest = refl
-behind_caret (dotted_tree start names) printable rest = refl
-behind_caret (refined_tree focus refinement) printable rest = refl
+behind_caret other printable rest = refl
 
 pub behind_operator : (tree : Tree) → IsPrintable tree → (rest : List ℕ)
     → begins member_byte (placed_text (is_member_or_focus tree) (constraint_text tree) ++ rest) ≡ true
 behind_operator (concept_tree id) printable rest = concept_begins member_byte digit_is_member id printable rest
-behind_operator any_tree printable rest = refl
-behind_operator (walk_tree operator operand) printable rest = refl
-behind_operator (member_tree operand) printable rest = refl
-behind_operator (and_tree parts) printable rest = refl
-behind_operator (or_tree parts) printable rest = refl
-behind_operator (minus_tree first second) printable rest = refl
-behind_operator (dotted_tree start names) printable rest = refl
-behind_operator (refined_tree focus refinement) printable rest = refl
+behind_operator other printable rest = refl
 
 -- a sign begins the text of a walk
 walk_begins : (operator : Operator) (operand : Tree) (rest : List ℕ)
     → begins operand_byte (placed_text true (constraint_text (walk_tree operator operand)) ++ rest) ≡ true
 walk_begins Descendants operand rest = refl
-walk_begins DescendantsOrSelf operand rest = refl
-walk_begins Children operand rest = refl
-walk_begins ChildrenOrSelf operand rest = refl
-walk_begins Ancestors operand rest = refl
-walk_begins AncestorsOrSelf operand rest = refl
-walk_begins Parents operand rest = refl
-walk_begins ParentsOrSelf operand rest = refl
-walk_begins Top operand rest = refl
-walk_begins Bottom operand rest = refl
+walk_begins other operand rest = refl
 
 -- the first byte of an operand
 pub operand_begins : (tree : Tree) → IsPrintable tree → (rest : List ℕ) → begins operand_byte (placed_text (is_sub tree) (constraint_text tree) ++ rest) ≡ true
 operand_begins (concept_tree id) printable rest = concept_begins operand_byte digit_is_operand id printable rest
-operand_begins any_tree printable rest = refl
 operand_begins (walk_tree operator operand) printable rest = walk_begins operator operand rest
-operand_begins (member_tree operand) printable rest = refl
-operand_begins (and_tree parts) printable rest = refl
-operand_begins (or_tree parts) printable rest = refl
-operand_begins (minus_tree first second) printable rest = refl
-operand_begins (dotted_tree start names) printable rest = refl
-operand_begins (refined_tree focus refinement) printable rest = refl
+operand_begins other printable rest = refl
 
 -- no `{` begins an attribute set
 other_begins : (test : ℕ → Bool) (other : ℕ) (text : List ℕ) → test other ≡ false → begins test text ≡ true → begins_with other text ≡ false

@@ -30,15 +30,17 @@ pub record Canonical (tree : Tree) : Type 0 where
 pub canonical : NumbersRead → (form : ConstraintForm) → ArePlain (constraint_tokens form [])
     → symbols_deep 0 (constraint_tokens form []) ≡ false → Canonical (constraint_tree form)
 canonical numbers form bare flat =
-    let fit = constraint_fits numbers form 0 [] (omega arith) bare flat in
-    let whole = (forms_of (constraint_tree form) fit.printable).whole in
+    let fit = constraint_fits numbers form in
+    let printable = (fit.printable [] bare).0 in
+    let shallow = (fit.within.fits 0 [] (omega arith) flat).0 in
+    let whole = (forms_of (constraint_tree form) printable).whole in
     record {
-      printable = fit.printable;
+      printable = printable;
       form = whole.form;
       is = whole.is;
       spells = whole.spells;
-      shallow = constraint_shallow (constraint_tree form) 0 [] fit.fits refl;
-      few = omega (arith, fit.fits);
+      shallow = (constraint_shallow (constraint_tree form)).flat 0 [] shallow refl;
+      few = omega (arith, shallow);
     }
 
 -- the depth of tokens is that of their symbols

@@ -1,17 +1,18 @@
 -- How deep the brackets of a printed tree are: never deeper than those of a form of the tree, which may have more.
-use Rattle.std.proofs.Common.{ℕ, ◌≡◌, ◌==◌, ◌&&◌, ◌||◌, ◌+◌, ◌-◌, ◌≤◌, ◌<◌, max, Bool, true, false, List, [], ◌∷◌, Option, None, Some, refl, ap, ◌∙◌, arith}
+use Rattle.std.proofs.Common.{ℕ, ◌≡◌, ◌==◌, ◌&&◌, ◌||◌, ◌+◌, ◌-◌, ◌≤◌, max, Bool, true, false, List, [], ◌∷◌, Option, None, Some, if◌then◌else◌, refl, ap, sym, ◌∙◌, arith}
+use Rattle.std.proofs.lemmas.Bool.{eqb-false}
 use Rattle.std.proofs.lemmas.Bool.Decides.{nat_tests}
 use Rattle.ecl_lexer.specs.declared.token.TokenKind.{TokenKind}
-use Rattle.ecl_lexer.specs.declared.token.TokenKind.TheVariants.{Colon, RoundClose, BraceOpen, BraceClose, And, Or, Minus, Dot, Digits, Number}
+use Rattle.ecl_lexer.specs.declared.token.TokenKind.TheVariants.{MemberOf, Wildcard, RoundOpen, RoundClose, BraceOpen, BraceClose, Colon, Dot, Equal as EqualSign, NotEqual as NotEqualSign, And, Or, Minus, Reverse, Digits, Number}
 use Rattle.constraint_tree.specs.declared.operator.Compare.{Compare}
-use Rattle.constraint_tree.specs.declared.operator.Compare.TheVariants.{Equal, NotEqual, Less, LessOrEqual, Greater, GreaterOrEqual}
+use Rattle.constraint_tree.specs.declared.operator.Compare.TheVariants.{Equal}
 use Rattle.constraint_tree.specs.declared.operator.Operator.{Operator}
-use Rattle.constraint_tree.specs.declared.operator.Operator.TheVariants.{Descendants, DescendantsOrSelf, Children, ChildrenOrSelf, Ancestors, AncestorsOrSelf, Parents, ParentsOrSelf, Top, Bottom}
+use Rattle.constraint_tree.specs.declared.operator.Operator.TheVariants.{Descendants}
 use Rattle.constraint_tree.specs.Grammar.{Symbol, digits, decimal, mark, operator_kind, compare_kind, reverse_tokens}
 use Rattle.constraint_tree.specs.Refusal.{most_open, opens, open_behind}
-use Rattle.constraint_tree.specs.Text.{number_text, is_focus, is_item, is_member_or_focus, is_part, is_sub}
+use Rattle.constraint_tree.specs.Text.{is_focus, is_item, is_member_or_focus, is_part, is_sub}
 use Rattle.constraint_tree.specs.Tree.{Tree, concept_tree, any_tree, walk_tree, member_tree, and_tree, or_tree, minus_tree, dotted_tree, refined_tree, Trees, no_trees, tree_then, RefinementTree, one_refinement, group_refinement, and_refinement, or_refinement, RefinementTrees, no_refinements, refinement_then, AttributeSetTree, one_set, and_set, or_set, AttributeSetTrees, no_sets, set_then, AttributeTree, attribute_tree, TestTree, within_test, outside_test, number_test}
-use Rattle.constraint_tree.proofs.Symbols.{opened, closed, constraint_symbols, joined_symbols, listed_symbols, refinement_symbols, joined_item_symbols, listed_item_symbols, set_symbols, joined_part_symbols, listed_part_symbols, attribute_symbols, test_symbols, count_symbols}
+use Rattle.constraint_tree.proofs.Symbols.{placed, constraint_symbols, joined_symbols, listed_symbols, refinement_symbols, joined_item_symbols, listed_item_symbols, set_symbols, joined_part_symbols, listed_part_symbols, attribute_symbols, test_symbols, count_symbols, range_symbols}
 
 -- whether too many brackets are open somewhere among some symbols
 abbrev pub kind_of_symbol : Symbol → TokenKind
@@ -73,164 +74,203 @@ abbrev mutual
   test_levels (outside_test operand) = placed_levels (is_sub operand) (levels operand)
   test_levels (number_test compare value) = 0
 
--- symbols in front of others open no more than so many brackets at once
-abbrev pub IsShallow : (List Symbol → List Symbol) → ℕ → Type 0
-IsShallow front height =
-    (count : ℕ) (rest : List Symbol) → count + height ≤ 64 → symbols_deep count rest ≡ false → symbols_deep count (front rest) ≡ false
+-- two tokens that open and close a bracket, and one that does neither, as those of operators and comparisons
+pub record Brackets (opening closing : TokenKind) : Type 0 where
+  pub opened : (count : ℕ) (rest : List Symbol) → symbols_deep count (mark opening ∷ rest) ≡ ((count == 64) || symbols_deep (count + 1) rest)
+  pub closed : (count : ℕ) (rest : List Symbol) → symbols_deep count (mark closing ∷ rest) ≡ symbols_deep (count - 1) rest
 
-open_one : (count : ℕ) (deeper : Bool) → count < 64 → deeper ≡ false → ((count == 64) || deeper) ≡ false
-open_one count deeper within flat =
-    let few : (count == 64) ≡ false = grind (arith, nat_tests) in
-    ap (λ (many : Bool). many || deeper) few ∙ flat
+pub round_brackets : Brackets RoundOpen RoundClose
+round_brackets = record { opened = λ count rest. refl; closed = λ count rest. refl }
 
-close_one : (count : ℕ) (rest : List Symbol) → symbols_deep count rest ≡ false → symbols_deep (count + 1 - 1) rest ≡ false
-close_one count rest flat =
+pub braces : Brackets BraceOpen BraceClose
+braces = record { opened = λ count rest. refl; closed = λ count rest. refl }
+
+abbrev pub IsFlat : TokenKind → Type 0
+IsFlat kind = (count : ℕ) (rest : List Symbol) → symbols_deep count (mark kind ∷ rest) ≡ symbols_deep count rest
+
+pub operator_flat : (operator : Operator) → IsFlat (operator_kind operator)
+operator_flat Descendants count rest = refl
+operator_flat other count rest = refl
+
+pub compare_flat : (compare : Compare) → IsFlat (compare_kind compare)
+compare_flat Equal count rest = refl
+compare_flat other count rest = refl
+
+or_parts : (one other : Bool) → (one || other) ≡ false → (one ≡ false) × (other ≡ false)
+or_parts true other is = absurd (cc)
+or_parts false other is = (refl, is)
+
+-- behind brackets as many are open as in front of them
+behind_brackets : {opening closing : TokenKind} → Brackets opening closing → (count : ℕ) (rest : List Symbol)
+    → symbols_deep (count + 1) (mark closing ∷ rest) ≡ symbols_deep count rest
+behind_brackets brackets count rest =
     let same : count + 1 - 1 ≡ count = omega arith in
-    ap (λ (left : ℕ). symbols_deep left rest) same ∙ flat
+    brackets.closed (count + 1) rest ∙ ap (λ (left : ℕ). symbols_deep left rest) same
 
-placed_shallow : (stands : Bool) (front : List Symbol → List Symbol) (height : ℕ) → IsShallow front height
-    → IsShallow (λ rest. opened stands (front (closed stands rest))) (placed_levels stands height)
-placed_shallow true front height flat count rest within ends = flat count rest within ends
-placed_shallow false front height flat count rest within ends =
-    open_one count (symbols_deep (count + 1) (front (mark RoundClose ∷ rest))) (omega arith)
-    (flat (count + 1) (mark RoundClose ∷ rest) (omega arith) (close_one count rest ends))
+-- Symbols in front of others have no more than so many brackets open at once: those that are not deep are not deep behind
+-- these, and the other way round.
+pub record IsShallow (front : List Symbol → List Symbol) (height : ℕ) : Type 0 where
+  pub flat : (count : ℕ) (rest : List Symbol) → count + height ≤ 64 → symbols_deep count rest ≡ false → symbols_deep count (front rest) ≡ false
 
-operator_flat : (operator : Operator) (count : ℕ) (rest : List Symbol) → symbols_deep count rest ≡ false
-    → symbols_deep count (mark (operator_kind operator) ∷ rest) ≡ false
-operator_flat Descendants count rest flat = flat
-operator_flat DescendantsOrSelf count rest flat = flat
-operator_flat Children count rest flat = flat
-operator_flat ChildrenOrSelf count rest flat = flat
-operator_flat Ancestors count rest flat = flat
-operator_flat AncestorsOrSelf count rest flat = flat
-operator_flat Parents count rest flat = flat
-operator_flat ParentsOrSelf count rest flat = flat
-operator_flat Top count rest flat = flat
-operator_flat Bottom count rest flat = flat
+pub record IsWithin (front : List Symbol → List Symbol) (height : ℕ) : Type 0 where
+  pub fits : (count : ℕ) (rest : List Symbol) → count ≤ 64 → symbols_deep count (front rest) ≡ false
+      → (count + height ≤ 64) × (symbols_deep count rest ≡ false)
 
-compare_flat : (compare : Compare) (count : ℕ) (rest : List Symbol) → symbols_deep count rest ≡ false
-    → symbols_deep count (mark (compare_kind compare) ∷ rest) ≡ false
-compare_flat Equal count rest flat = flat
-compare_flat NotEqual count rest flat = flat
-compare_flat Less count rest flat = flat
-compare_flat LessOrEqual count rest flat = flat
-compare_flat Greater count rest flat = flat
-compare_flat GreaterOrEqual count rest flat = flat
+-- nothing, a token and others behind it, some behind others, and some in brackets
+nothing_shallow : IsShallow (λ rest. rest) 0
+nothing_shallow = record { flat = λ count rest within flat. flat }
 
-count_flat : (least : ℕ) (most : Option ℕ) (count : ℕ) (rest : List Symbol) → symbols_deep count rest ≡ false
-    → symbols_deep count (count_symbols least most rest) ≡ false
-count_flat least None count rest flat = by (least == 1) refl
+marked_shallow : {front : List Symbol → List Symbol} {height : ℕ} (kind : TokenKind) → IsFlat kind → IsShallow front height
+    → IsShallow (λ rest. mark kind ∷ front rest) height
+marked_shallow {front} kind flat_kind inside = record {
+  flat = λ count rest within flat. flat_kind count (front rest) ∙ inside.flat count rest within flat;
+}
+
+then_shallow : {one other : List Symbol → List Symbol} {height further : ℕ} → IsShallow one height → IsShallow other further
+    → IsShallow (λ rest. one (other rest)) (max height further)
+then_shallow {other} first second = record {
+  flat = λ count rest within flat. first.flat count (other rest) (omega arith) (second.flat count rest (omega arith) flat);
+}
+
+bracket_shallow : {front : List Symbol → List Symbol} {height : ℕ} {opening closing : TokenKind} → Brackets opening closing
+    → IsShallow front height → IsShallow (λ rest. mark opening ∷ front (mark closing ∷ rest)) (height + 1)
+bracket_shallow {front} {closing} brackets inside = record {
+  flat = λ count rest within flat.
+      let few : (count == 64) ≡ false = grind (arith, nat_tests) in
+      brackets.opened count (front (mark closing ∷ rest))
+      ∙ ap (λ (many : Bool). many || symbols_deep (count + 1) (front (mark closing ∷ rest))) few
+      ∙ inside.flat (count + 1) (mark closing ∷ rest) (omega arith) (behind_brackets brackets count rest ∙ flat);
+}
+
+-- the same the other way round
+pub nothing_within : IsWithin (λ rest. rest) 0
+nothing_within = record { fits = λ count rest few flat. (omega arith, flat) }
+
+pub marked_within : {front : List Symbol → List Symbol} {height : ℕ} (kind : TokenKind) → IsFlat kind → IsWithin front height
+    → IsWithin (λ rest. mark kind ∷ front rest) height
+marked_within {front} kind flat_kind inside = record {
+  fits = λ count rest few flat. inside.fits count rest few (sym (flat_kind count (front rest)) ∙ flat);
+}
+
+pub then_within : {one other : List Symbol → List Symbol} {height further : ℕ} → IsWithin one height → IsWithin other further
+    → IsWithin (λ rest. one (other rest)) (max height further)
+then_within {other} first second = record {
+  fits = λ count rest few flat.
+      let front = first.fits count (other rest) few flat in
+      let behind = second.fits count rest few front.1 in
+      (omega (arith, front.0, behind.0), behind.1);
+}
+
+pub bracket_within : {front : List Symbol → List Symbol} {height : ℕ} {opening closing : TokenKind} → Brackets opening closing
+    → IsWithin front height → IsWithin (λ rest. mark opening ∷ front (mark closing ∷ rest)) (height + 1)
+bracket_within {front} {closing} brackets inside = record {
+  fits = λ count rest few flat.
+      let parts = or_parts (count == 64) (symbols_deep (count + 1) (front (mark closing ∷ rest)))
+      (sym (brackets.opened count (front (mark closing ∷ rest))) ∙ flat) in
+      let apart = eqb-false count 64 parts.0 in
+      let found = inside.fits (count + 1) (mark closing ∷ rest) (omega arith) parts.1 in
+      (omega (arith, found.0), sym (behind_brackets brackets count rest) ∙ found.1);
+}
+
+-- fewer are open where fewer may be
+pub lower_within : {front : List Symbol → List Symbol} {height less : ℕ} → less ≤ height → IsWithin front height → IsWithin front less
+lower_within lower inside = record {
+  fits = λ count rest few flat. let found = inside.fits count rest few flat in (omega (arith, found.0), found.1);
+}
+
+-- what stands with the brackets that it needs, and behind a cardinality and `R`
+placed_shallow : {front : List Symbol → List Symbol} {height : ℕ} (stands : Bool) → IsShallow front height
+    → IsShallow (placed stands front) (placed_levels stands height)
+placed_shallow true inside = inside
+placed_shallow false inside = bracket_shallow round_brackets inside
+
+counted_shallow : {front : List Symbol → List Symbol} {height : ℕ} (least : ℕ) (most : Option ℕ) → IsShallow front height
+    → IsShallow (λ rest. count_symbols least most (front rest)) height
+counted_shallow {front} least None inside = record {
+  flat = λ count rest within flat. by (least == 1) count (front rest) (inside.flat count rest within flat);
+}
   where
-    by : (test : Bool) → (least == 1) ≡ test → symbols_deep count (count_symbols least None rest) ≡ false
-    by true same = rw same flat
-    by false same = rw same flat
-count_flat least (Some most) count rest flat = flat
+    by : (unwritten : Bool) (count : ℕ) (rest : List Symbol) → symbols_deep count rest ≡ false
+        → symbols_deep count (if unwritten then rest else range_symbols least None rest) ≡ false
+    by true count rest flat = flat
+    by false count rest flat = flat
+counted_shallow least (Some most) inside = record { flat = λ count rest within flat. inside.flat count rest within flat }
 
-reverse_flat : (reverse : Bool) (count : ℕ) (rest : List Symbol) → symbols_deep count rest ≡ false → symbols_deep count (reverse_tokens reverse rest) ≡ false
-reverse_flat true count rest flat = flat
-reverse_flat false count rest flat = flat
+reversed_shallow : {front : List Symbol → List Symbol} {height : ℕ} (reverse : Bool) → IsShallow front height
+    → IsShallow (λ rest. reverse_tokens reverse (front rest)) height
+reversed_shallow true inside = marked_shallow Reverse (λ count rest. refl) inside
+reversed_shallow false inside = inside
 
--- an operand, an item and a part, with the brackets that they need
-abbrev placed : Tree → List Symbol → List Symbol
-placed tree rest = opened (is_sub tree) (constraint_symbols tree (closed (is_sub tree) rest))
-
-abbrev placed_item : RefinementTree → List Symbol → List Symbol
-placed_item tree rest = opened (is_item tree) (refinement_symbols tree (closed (is_item tree) rest))
-
-abbrev placed_part : AttributeSetTree → List Symbol → List Symbol
-placed_part tree rest = opened (is_part tree) (set_symbols tree (closed (is_part tree) rest))
-
--- a symbol that opens and closes nothing
-abbrev IsFlat : TokenKind → Type 0
-IsFlat kind = (count : ℕ) (rest : List Symbol) → symbols_deep count rest ≡ false → symbols_deep count (mark kind ∷ rest) ≡ false
-
+-- so is the text of a tree
 mutual
   pub constraint_shallow : (tree : Tree) → IsShallow (constraint_symbols tree) (levels tree)
-  constraint_shallow (concept_tree id) count rest within flat = flat
-  constraint_shallow any_tree count rest within flat = flat
-  constraint_shallow (walk_tree operator operand) count rest within flat =
-      operator_flat operator count (opened (is_member_or_focus operand)
-      (constraint_symbols operand (closed (is_member_or_focus operand) rest)))
-      (placed_shallow (is_member_or_focus operand) (constraint_symbols operand) (levels operand)
-      (constraint_shallow operand) count rest within flat)
-  constraint_shallow (member_tree operand) count rest within flat =
-      placed_shallow (is_focus operand) (constraint_symbols operand) (levels operand) (constraint_shallow operand) count rest within flat
-  constraint_shallow (and_tree parts) count rest within flat = joined_shallow And (λ count rest flat. flat) parts count rest within flat
-  constraint_shallow (or_tree parts) count rest within flat = joined_shallow Or (λ count rest flat. flat) parts count rest within flat
-  constraint_shallow (minus_tree first second) count rest within flat =
-      placed_shallow (is_sub first) (constraint_symbols first) (levels first) (constraint_shallow first) count (mark Minus ∷ placed second rest) (omega arith)
-      (placed_shallow (is_sub second) (constraint_symbols second) (levels second) (constraint_shallow second) count rest (omega arith) flat)
-  constraint_shallow (dotted_tree start names) count rest within flat =
-      placed_shallow (is_sub start) (constraint_symbols start) (levels start) (constraint_shallow start) count (listed_symbols Dot names rest) (omega arith)
-      (listed_shallow Dot (λ count rest flat. flat) names count rest (omega arith) flat)
-  constraint_shallow (refined_tree focus refinement) count rest within flat =
-      placed_shallow (is_sub focus) (constraint_symbols focus) (levels focus) (constraint_shallow focus) count
-      (mark Colon ∷ refinement_symbols refinement rest) (omega arith)
-      (refinement_shallow refinement count rest (omega arith) flat)
+  constraint_shallow (concept_tree id) = record { flat = λ count rest within flat. flat }
+  constraint_shallow any_tree = marked_shallow Wildcard (λ count rest. refl) nothing_shallow
+  constraint_shallow (walk_tree operator operand) =
+      marked_shallow (operator_kind operator) (operator_flat operator) (placed_shallow (is_member_or_focus operand) (constraint_shallow operand))
+  constraint_shallow (member_tree operand) =
+      marked_shallow MemberOf (λ count rest. refl) (placed_shallow (is_focus operand) (constraint_shallow operand))
+  constraint_shallow (and_tree parts) = joined_shallow And (λ count rest. refl) parts
+  constraint_shallow (or_tree parts) = joined_shallow Or (λ count rest. refl) parts
+  constraint_shallow (minus_tree first second) =
+      then_shallow (placed_shallow (is_sub first) (constraint_shallow first))
+      (marked_shallow Minus (λ count rest. refl) (placed_shallow (is_sub second) (constraint_shallow second)))
+  constraint_shallow (dotted_tree start names) =
+      then_shallow (placed_shallow (is_sub start) (constraint_shallow start)) (listed_shallow Dot (λ count rest. refl) names)
+  constraint_shallow (refined_tree focus refinement) =
+      then_shallow (placed_shallow (is_sub focus) (constraint_shallow focus))
+      (marked_shallow Colon (λ count rest. refl) (refinement_shallow refinement))
 
   joined_shallow : (kind : TokenKind) → IsFlat kind → (trees : Trees) → IsShallow (joined_symbols kind trees) (list_levels trees)
-  joined_shallow kind flat_kind no_trees count rest within flat = flat
-  joined_shallow kind flat_kind (tree_then first more) count rest within flat =
-      placed_shallow (is_sub first) (constraint_symbols first) (levels first) (constraint_shallow first) count (listed_symbols kind more rest) (omega arith)
-      (listed_shallow kind flat_kind more count rest (omega arith) flat)
+  joined_shallow kind flat_kind no_trees = nothing_shallow
+  joined_shallow kind flat_kind (tree_then first more) =
+      then_shallow (placed_shallow (is_sub first) (constraint_shallow first)) (listed_shallow kind flat_kind more)
 
   listed_shallow : (kind : TokenKind) → IsFlat kind → (trees : Trees) → IsShallow (listed_symbols kind trees) (list_levels trees)
-  listed_shallow kind flat_kind no_trees count rest within flat = flat
-  listed_shallow kind flat_kind (tree_then first more) count rest within flat = flat_kind count (placed first (listed_symbols kind more rest))
-      (placed_shallow (is_sub first) (constraint_symbols first) (levels first) (constraint_shallow first) count (listed_symbols kind more rest) (omega arith)
-      (listed_shallow kind flat_kind more count rest (omega arith) flat))
+  listed_shallow kind flat_kind no_trees = nothing_shallow
+  listed_shallow kind flat_kind (tree_then first more) =
+      marked_shallow kind flat_kind (then_shallow (placed_shallow (is_sub first) (constraint_shallow first)) (listed_shallow kind flat_kind more))
 
   refinement_shallow : (tree : RefinementTree) → IsShallow (refinement_symbols tree) (refinement_levels tree)
-  refinement_shallow (one_refinement what) count rest within flat = attribute_shallow what count rest within flat
-  refinement_shallow (group_refinement number set) count rest within flat =
-      count_flat number.min number.max count (mark BraceOpen ∷ set_symbols set (mark BraceClose ∷ rest))
-      (open_one count (symbols_deep (count + 1) (set_symbols set (mark BraceClose ∷ rest))) (omega arith)
-      (set_shallow set (count + 1) (mark BraceClose ∷ rest) (omega arith) (close_one count rest flat)))
-  refinement_shallow (and_refinement parts) count rest within flat = joined_items_shallow And (λ count rest flat. flat) parts count rest within flat
-  refinement_shallow (or_refinement parts) count rest within flat = joined_items_shallow Or (λ count rest flat. flat) parts count rest within flat
+  refinement_shallow (one_refinement what) = attribute_shallow what
+  refinement_shallow (group_refinement number set) =
+      counted_shallow number.min number.max (bracket_shallow braces (set_shallow set))
+  refinement_shallow (and_refinement parts) = joined_items_shallow And (λ count rest. refl) parts
+  refinement_shallow (or_refinement parts) = joined_items_shallow Or (λ count rest. refl) parts
 
   joined_items_shallow : (kind : TokenKind) → IsFlat kind → (trees : RefinementTrees) → IsShallow (joined_item_symbols kind trees) (item_levels trees)
-  joined_items_shallow kind flat_kind no_refinements count rest within flat = flat
-  joined_items_shallow kind flat_kind (refinement_then first more) count rest within flat =
-      placed_shallow (is_item first) (refinement_symbols first) (refinement_levels first)
-      (refinement_shallow first) count (listed_item_symbols kind more rest) (omega arith)
-      (listed_items_shallow kind flat_kind more count rest (omega arith) flat)
+  joined_items_shallow kind flat_kind no_refinements = nothing_shallow
+  joined_items_shallow kind flat_kind (refinement_then first more) =
+      then_shallow (placed_shallow (is_item first) (refinement_shallow first)) (listed_items_shallow kind flat_kind more)
 
   listed_items_shallow : (kind : TokenKind) → IsFlat kind → (trees : RefinementTrees) → IsShallow (listed_item_symbols kind trees) (item_levels trees)
-  listed_items_shallow kind flat_kind no_refinements count rest within flat = flat
-  listed_items_shallow kind flat_kind (refinement_then first more) count rest within flat =
-      flat_kind count (placed_item first (listed_item_symbols kind more rest))
-      (placed_shallow (is_item first) (refinement_symbols first) (refinement_levels first)
-      (refinement_shallow first) count (listed_item_symbols kind more rest) (omega arith)
-      (listed_items_shallow kind flat_kind more count rest (omega arith) flat))
+  listed_items_shallow kind flat_kind no_refinements = nothing_shallow
+  listed_items_shallow kind flat_kind (refinement_then first more) =
+      marked_shallow kind flat_kind (then_shallow (placed_shallow (is_item first) (refinement_shallow first)) (listed_items_shallow kind flat_kind more))
 
   set_shallow : (tree : AttributeSetTree) → IsShallow (set_symbols tree) (set_levels tree)
-  set_shallow (one_set what) count rest within flat = attribute_shallow what count rest within flat
-  set_shallow (and_set parts) count rest within flat = joined_parts_shallow And (λ count rest flat. flat) parts count rest within flat
-  set_shallow (or_set parts) count rest within flat = joined_parts_shallow Or (λ count rest flat. flat) parts count rest within flat
+  set_shallow (one_set what) = attribute_shallow what
+  set_shallow (and_set parts) = joined_parts_shallow And (λ count rest. refl) parts
+  set_shallow (or_set parts) = joined_parts_shallow Or (λ count rest. refl) parts
 
   joined_parts_shallow : (kind : TokenKind) → IsFlat kind → (trees : AttributeSetTrees) → IsShallow (joined_part_symbols kind trees) (part_levels trees)
-  joined_parts_shallow kind flat_kind no_sets count rest within flat = flat
-  joined_parts_shallow kind flat_kind (set_then first more) count rest within flat =
-      placed_shallow (is_part first) (set_symbols first) (set_levels first) (set_shallow first) count (listed_part_symbols kind more rest) (omega arith)
-      (listed_parts_shallow kind flat_kind more count rest (omega arith) flat)
+  joined_parts_shallow kind flat_kind no_sets = nothing_shallow
+  joined_parts_shallow kind flat_kind (set_then first more) =
+      then_shallow (placed_shallow (is_part first) (set_shallow first)) (listed_parts_shallow kind flat_kind more)
 
   listed_parts_shallow : (kind : TokenKind) → IsFlat kind → (trees : AttributeSetTrees) → IsShallow (listed_part_symbols kind trees) (part_levels trees)
-  listed_parts_shallow kind flat_kind no_sets count rest within flat = flat
-  listed_parts_shallow kind flat_kind (set_then first more) count rest within flat = flat_kind count (placed_part first (listed_part_symbols kind more rest))
-      (placed_shallow (is_part first) (set_symbols first) (set_levels first) (set_shallow first) count (listed_part_symbols kind more rest) (omega arith)
-      (listed_parts_shallow kind flat_kind more count rest (omega arith) flat))
+  listed_parts_shallow kind flat_kind no_sets = nothing_shallow
+  listed_parts_shallow kind flat_kind (set_then first more) =
+      marked_shallow kind flat_kind (then_shallow (placed_shallow (is_part first) (set_shallow first)) (listed_parts_shallow kind flat_kind more))
 
   attribute_shallow : (what : AttributeTree) → IsShallow (attribute_symbols what) (attribute_levels what)
-  attribute_shallow (attribute_tree number reverse name test) count rest within flat =
-      count_flat number.min number.max count (reverse_tokens reverse (placed name (test_symbols test rest)))
-      (reverse_flat reverse count (placed name (test_symbols test rest))
-      (placed_shallow (is_sub name) (constraint_symbols name) (levels name) (constraint_shallow name) count (test_symbols test rest) (omega arith)
-      (test_shallow test count rest (omega arith) flat)))
+  attribute_shallow (attribute_tree number reverse name test) =
+      counted_shallow number.min number.max
+      (reversed_shallow reverse (then_shallow (placed_shallow (is_sub name) (constraint_shallow name)) (test_shallow test)))
 
   test_shallow : (test : TestTree) → IsShallow (test_symbols test) (test_levels test)
-  test_shallow (within_test operand) count rest within flat =
-      placed_shallow (is_sub operand) (constraint_symbols operand) (levels operand) (constraint_shallow operand) count rest within flat
-  test_shallow (outside_test operand) count rest within flat =
-      placed_shallow (is_sub operand) (constraint_symbols operand) (levels operand) (constraint_shallow operand) count rest within flat
-  test_shallow (number_test compare value) count rest within flat = compare_flat compare count (decimal (number_text value) ∷ rest) flat
+  test_shallow (within_test operand) = marked_shallow EqualSign (λ count rest. refl) (placed_shallow (is_sub operand) (constraint_shallow operand))
+  test_shallow (outside_test operand) =
+      marked_shallow NotEqualSign (λ count rest. refl) (placed_shallow (is_sub operand) (constraint_shallow operand))
+  test_shallow (number_test compare value) =
+      marked_shallow (compare_kind compare) (compare_flat compare) (record { flat = λ count rest within flat. flat })

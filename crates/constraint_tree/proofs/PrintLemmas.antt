@@ -12,7 +12,7 @@ use Rattle.constraint_tree.specs.Tree.{Tree, concept_tree, any_tree, walk_tree, 
 use Rattle.constraint_tree.proofs.BeginLemmas.{behind_caret, behind_operator, four_parts, operand_begins, set_unbraced}
 use Rattle.constraint_tree.proofs.DigitLemmas.{EndsNumber, count_reads, digits_read, digits_written, ends_digits, value_reads}
 use Rattle.constraint_tree.proofs.PieceLemmas.{Reads, along, brace_close, brace_open, caret, colon, comma, compare_reads, dot, equal_sign, minus_word, not_equal_sign, operand_byte, operator_reads, or_word, reverse_word, round_close, round_open, wildcard}
-use Rattle.constraint_tree.proofs.Symbols.{opened, closed, constraint_symbols, joined_symbols, listed_symbols, refinement_symbols, joined_item_symbols, listed_item_symbols, set_symbols, joined_part_symbols, listed_part_symbols, attribute_symbols, test_symbols, IsPrintable, ArePrintable, IsPrintableRefinement, ArePrintableItems, IsPrintableSet, ArePrintableParts, IsPrintableAttribute, IsPrintableTest}
+use Rattle.constraint_tree.proofs.Symbols.{placed as placed_symbols, constraint_symbols, joined_symbols, listed_symbols, refinement_symbols, joined_item_symbols, listed_item_symbols, set_symbols, joined_part_symbols, listed_part_symbols, attribute_symbols, test_symbols, IsPrintable, ArePrintable, IsPrintableRefinement, ArePrintableItems, IsPrintableSet, ArePrintableParts, IsPrintableAttribute, IsPrintableTest}
 
 -- what may stand behind a text that ends with no number of a test, and behind another
 abbrev pub Follows : Bool → List ℕ → Type 0
@@ -32,7 +32,7 @@ close_follows false rest = refl
 -- with the brackets that it needs
 placed_reads : (stands inner outer : Bool) (text : List ℕ) (front : List Symbol → List Symbol)
     → (stands ≡ true → (rest : List ℕ) → Follows outer rest → Follows inner rest) → ReadsBefore inner text front
-    → ReadsBefore outer (placed_text stands text) (λ symbols. opened stands (front (closed stands symbols)))
+    → ReadsBefore outer (placed_text stands text) (placed_symbols stands front)
 placed_reads true inner outer text front same reads rest symbols follows more =
     along (front symbols) (ap (λ (whole : List ℕ). whole ++ rest) (sym (append-nil text))) (reads rest symbols (same refl rest follows) more)
 placed_reads false inner outer text front same reads rest symbols follows more =
@@ -50,22 +50,14 @@ member_follows (concept_tree id) is rest follows = follows
 member_follows any_tree is rest follows = follows
 member_follows (walk_tree operator operand) is rest follows = follows
 member_follows (member_tree operand) is rest follows = follows
-member_follows (and_tree parts) is rest follows = absurd (cc)
-member_follows (or_tree parts) is rest follows = absurd (cc)
-member_follows (minus_tree first second) is rest follows = absurd (cc)
-member_follows (dotted_tree start names) is rest follows = absurd (cc)
-member_follows (refined_tree focus refinement) is rest follows = absurd (cc)
+member_follows other is rest follows = absurd (cc)
 
 focus_follows : (tree : Tree) → is_focus tree ≡ true → (rest : List ℕ) → Follows true rest → Follows (is_sub tree) rest
 focus_follows (concept_tree id) is rest follows = follows
 focus_follows any_tree is rest follows = follows
 focus_follows (walk_tree operator operand) is rest follows = follows
 focus_follows (member_tree operand) is rest follows = follows
-focus_follows (and_tree parts) is rest follows = absurd (cc)
-focus_follows (or_tree parts) is rest follows = absurd (cc)
-focus_follows (minus_tree first second) is rest follows = absurd (cc)
-focus_follows (dotted_tree start names) is rest follows = absurd (cc)
-focus_follows (refined_tree focus refinement) is rest follows = absurd (cc)
+focus_follows other is rest follows = absurd (cc)
 
 -- an operand, an item and a part, with the brackets that they need
 abbrev placed : Tree → List ℕ
@@ -82,16 +74,15 @@ ReadsTree tree = ReadsBefore (is_sub tree) (constraint_text tree) (constraint_sy
 
 -- an operand is read with its brackets, and so are an item and a part
 operand_reads : (tree : Tree) → ReadsTree tree
-    → ReadsBefore true (placed tree) (λ symbols. opened (is_sub tree) (constraint_symbols tree (closed (is_sub tree) symbols)))
+    → ReadsBefore true (placed tree) (placed_symbols (is_sub tree) (constraint_symbols tree))
 operand_reads tree reads = placed_reads (is_sub tree) (is_sub tree) true (constraint_text tree) (constraint_symbols tree) (sub_follows (is_sub tree)) reads
 
 item_reads : (tree : RefinementTree) → ReadsBefore false (refinement_text tree) (refinement_symbols tree)
-    → ReadsBefore false (placed_item tree) (λ symbols. opened (is_item tree)
-    (refinement_symbols tree (closed (is_item tree) symbols)))
+    → ReadsBefore false (placed_item tree) (placed_symbols (is_item tree) (refinement_symbols tree))
 item_reads tree reads = placed_reads (is_item tree) false false (refinement_text tree) (refinement_symbols tree) (λ is rest follows. follows) reads
 
 part_reads : (tree : AttributeSetTree) → ReadsBefore false (set_text tree) (set_symbols tree)
-    → ReadsBefore false (placed_part tree) (λ symbols. opened (is_part tree) (set_symbols tree (closed (is_part tree) symbols)))
+    → ReadsBefore false (placed_part tree) (placed_symbols (is_part tree) (set_symbols tree))
 part_reads tree reads = placed_reads (is_part tree) false false (set_text tree) (set_symbols tree) (λ is rest follows. follows) reads
 
 -- what stands between the parts of a list

@@ -10,7 +10,7 @@ use Rattle.constraint_tree.specs.Grammar.{Symbol, digits, decimal as decimal_sym
 use Rattle.constraint_tree.specs.Text.{is_focus, is_item, is_member_or_focus, is_part, is_sub, number_text}
 use Rattle.constraint_tree.specs.Tree.{Tree, concept_tree, any_tree, walk_tree, member_tree, and_tree, or_tree, minus_tree, dotted_tree, refined_tree, Trees, no_trees, tree_then, RefinementTree, one_refinement, group_refinement, and_refinement, or_refinement, RefinementTrees, no_refinements, refinement_then, AttributeSetTree, one_set, and_set, or_set, AttributeSetTrees, no_sets, set_then, AttributeTree, attribute_tree, TestTree, within_test, outside_test, number_test}
 
--- the brackets around what does not stand without, in front of the symbols that follow
+-- the brackets around what does not stand without, in front of the symbols that follow, and what stands in them
 abbrev pub opened : Bool → List Symbol → List Symbol
 opened true rest = rest
 opened false rest = mark RoundOpen ∷ rest
@@ -18,6 +18,9 @@ opened false rest = mark RoundOpen ∷ rest
 abbrev pub closed : Bool → List Symbol → List Symbol
 closed true rest = rest
 closed false rest = mark RoundClose ∷ rest
+
+abbrev pub placed : Bool → (List Symbol → List Symbol) → List Symbol → List Symbol
+placed stands symbols rest = opened stands (symbols (closed stands rest))
 
 abbrev pub most_symbols : Option ℕ → List Symbol → List Symbol
 most_symbols None rest = mark Wildcard ∷ rest
@@ -37,29 +40,27 @@ abbrev mutual
   constraint_symbols (concept_tree id) rest = digits (decimal id) ∷ rest
   constraint_symbols any_tree rest = mark Wildcard ∷ rest
   constraint_symbols (walk_tree operator operand) rest =
-      mark (operator_kind operator)
-      ∷ opened (is_member_or_focus operand) (constraint_symbols operand (closed (is_member_or_focus operand) rest))
-  constraint_symbols (member_tree operand) rest =
-      mark MemberOf ∷ opened (is_focus operand) (constraint_symbols operand (closed (is_focus operand) rest))
+      mark (operator_kind operator) ∷ placed (is_member_or_focus operand) (constraint_symbols operand) rest
+  constraint_symbols (member_tree operand) rest = mark MemberOf ∷ placed (is_focus operand) (constraint_symbols operand) rest
   constraint_symbols (and_tree parts) rest = joined_symbols And parts rest
   constraint_symbols (or_tree parts) rest = joined_symbols Or parts rest
   constraint_symbols (minus_tree first second) rest =
-      opened (is_sub first) (constraint_symbols first (closed (is_sub first)
-      (mark Minus ∷ opened (is_sub second) (constraint_symbols second (closed (is_sub second) rest)))))
+      placed (is_sub first) (constraint_symbols first)
+      (mark Minus ∷ placed (is_sub second) (constraint_symbols second) rest)
   constraint_symbols (dotted_tree start names) rest =
-      opened (is_sub start) (constraint_symbols start (closed (is_sub start) (listed_symbols Dot names rest)))
+      placed (is_sub start) (constraint_symbols start) (listed_symbols Dot names rest)
   constraint_symbols (refined_tree focus refinement) rest =
-      opened (is_sub focus) (constraint_symbols focus (closed (is_sub focus) (mark Colon ∷ refinement_symbols refinement rest)))
+      placed (is_sub focus) (constraint_symbols focus) (mark Colon ∷ refinement_symbols refinement rest)
 
   pub joined_symbols : TokenKind → Trees → List Symbol → List Symbol
   joined_symbols kind no_trees rest = rest
   joined_symbols kind (tree_then first more) rest =
-      opened (is_sub first) (constraint_symbols first (closed (is_sub first) (listed_symbols kind more rest)))
+      placed (is_sub first) (constraint_symbols first) (listed_symbols kind more rest)
 
   pub listed_symbols : TokenKind → Trees → List Symbol → List Symbol
   listed_symbols kind no_trees rest = rest
   listed_symbols kind (tree_then first more) rest =
-      mark kind ∷ opened (is_sub first) (constraint_symbols first (closed (is_sub first) (listed_symbols kind more rest)))
+      mark kind ∷ placed (is_sub first) (constraint_symbols first) (listed_symbols kind more rest)
 
   pub refinement_symbols : RefinementTree → List Symbol → List Symbol
   refinement_symbols (one_refinement what) rest = attribute_symbols what rest
@@ -71,12 +72,12 @@ abbrev mutual
   pub joined_item_symbols : TokenKind → RefinementTrees → List Symbol → List Symbol
   joined_item_symbols kind no_refinements rest = rest
   joined_item_symbols kind (refinement_then first more) rest =
-      opened (is_item first) (refinement_symbols first (closed (is_item first) (listed_item_symbols kind more rest)))
+      placed (is_item first) (refinement_symbols first) (listed_item_symbols kind more rest)
 
   pub listed_item_symbols : TokenKind → RefinementTrees → List Symbol → List Symbol
   listed_item_symbols kind no_refinements rest = rest
   listed_item_symbols kind (refinement_then first more) rest =
-      mark kind ∷ opened (is_item first) (refinement_symbols first (closed (is_item first) (listed_item_symbols kind more rest)))
+      mark kind ∷ placed (is_item first) (refinement_symbols first) (listed_item_symbols kind more rest)
 
   pub set_symbols : AttributeSetTree → List Symbol → List Symbol
   set_symbols (one_set what) rest = attribute_symbols what rest
@@ -86,23 +87,21 @@ abbrev mutual
   pub joined_part_symbols : TokenKind → AttributeSetTrees → List Symbol → List Symbol
   joined_part_symbols kind no_sets rest = rest
   joined_part_symbols kind (set_then first more) rest =
-      opened (is_part first) (set_symbols first (closed (is_part first) (listed_part_symbols kind more rest)))
+      placed (is_part first) (set_symbols first) (listed_part_symbols kind more rest)
 
   pub listed_part_symbols : TokenKind → AttributeSetTrees → List Symbol → List Symbol
   listed_part_symbols kind no_sets rest = rest
   listed_part_symbols kind (set_then first more) rest =
-      mark kind ∷ opened (is_part first) (set_symbols first (closed (is_part first) (listed_part_symbols kind more rest)))
+      mark kind ∷ placed (is_part first) (set_symbols first) (listed_part_symbols kind more rest)
 
   pub attribute_symbols : AttributeTree → List Symbol → List Symbol
   attribute_symbols (attribute_tree count reverse name test) rest =
       count_symbols count.min count.max (reverse_tokens reverse
-      (opened (is_sub name) (constraint_symbols name (closed (is_sub name) (test_symbols test rest)))))
+      (placed (is_sub name) (constraint_symbols name) (test_symbols test rest)))
 
   pub test_symbols : TestTree → List Symbol → List Symbol
-  test_symbols (within_test operand) rest =
-      mark EqualSign ∷ opened (is_sub operand) (constraint_symbols operand (closed (is_sub operand) rest))
-  test_symbols (outside_test operand) rest =
-      mark NotEqualSign ∷ opened (is_sub operand) (constraint_symbols operand (closed (is_sub operand) rest))
+  test_symbols (within_test operand) rest = mark EqualSign ∷ placed (is_sub operand) (constraint_symbols operand) rest
+  test_symbols (outside_test operand) rest = mark NotEqualSign ∷ placed (is_sub operand) (constraint_symbols operand) rest
   test_symbols (number_test compare value) rest = mark (compare_kind compare) ∷ decimal_symbol (number_text value) ∷ rest
 
 -- a number of so many digits, which its decimal digits are

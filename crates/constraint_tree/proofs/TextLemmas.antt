@@ -1,10 +1,10 @@
 -- The text of a list of trees that is written part by part, and of a fraction that is written digit by digit.
-use Rattle.std.proofs.Common.{ℕ, ◌≡◌, Bool, true, false, if◌then◌else◌, List, [], ◌∷◌, ◌++◌, ◌+◌, ◌-◌, ◌/◌, ◌%◌, ◌^◌, ◌<◌, arith, refl, ap, ◌∙◌, sym, suc, zero, nat_eq, codes}
+use Rattle.std.proofs.Common.{ℕ, ◌≡◌, Bool, true, false, if◌then◌else◌, List, [], ◌∷◌, ◌++◌, ◌+◌, ◌-◌, ◌/◌, ◌%◌, ◌^◌, ◌<◌, arith, refl, ap, ◌∙◌, sym, suc, zero, nat_eq}
 use Rattle.std.proofs.lemmas.Bool.Decides.{nat_tests}
 use Rattle.std.proofs.lemmas.List.{append_assoc}
 use Rattle.std.proofs.Math.Nat.{div-lt_iff_lt-mul, one-le-pow, pow-suc}
-use Rattle.constraint_tree.specs.Text.{closing, constraint_text, fraction_digits, is_sub, joined_items, joined_parts, joined_text, listed_items, listed_parts, listed_text, opening}
-use Rattle.constraint_tree.specs.Tree.{Tree, dotted_tree, Trees, RefinementTrees, AttributeSetTrees}
+use Rattle.constraint_tree.specs.Text.{fraction_digits, joined_items, joined_parts, joined_text, listed_items, listed_parts, listed_text}
+use Rattle.constraint_tree.specs.Tree.{Trees, RefinementTrees, AttributeSetTrees}
 
 -- the rest of a list, behind a part of it or not
 abbrev pub rest_text : Bool → List ℕ → Trees → List ℕ
@@ -19,20 +19,6 @@ rest_parts behind between trees = if behind then listed_parts between trees else
 pub no_more : (old more : List ℕ) → more ≡ [] → old ≡ old ++ more
 no_more [] more is = sym is
 no_more (byte ∷ old) more is = ap (λ (bytes : List ℕ). byte ∷ bytes) (no_more old more is)
-
--- a dotted constraint, from what is written one after another
-pub dotted_written : (start : Tree) (names : Trees) (whole : Tree) (before behind : Bool)
-    (old opened written closed all : List ℕ) → whole ≡ dotted_tree start names → before ≡ is_sub start
-    → behind ≡ is_sub start → opened ≡ old ++ opening before → written ≡ opened ++ constraint_text start
-    → closed ≡ written ++ closing behind → all ≡ closed ++ listed_text (codes ".") names → all ≡ old ++ constraint_text whole
-dotted_written start names whole before behind old opened written closed all whole_is before_is behind_is opened_is written_is closed_is all_is =
-    let front_is : closed ≡ ((old ++ opening (is_sub start)) ++ constraint_text start) ++ closing (is_sub start) = cc in
-    all_is ∙ ap (λ (front : List ℕ). front ++ listed_text (codes ".") names) front_is
-    ∙ regroup_dotted old (opening (is_sub start)) (constraint_text start) (closing (is_sub start)) (listed_text (codes ".") names)
-    ∙ ap (λ (tree : Tree). old ++ constraint_text tree) (sym whole_is)
-  where
-    regroup_dotted : (old front text after rest : List ℕ) → (((old ++ front) ++ text) ++ after) ++ rest ≡ old ++ (((front ++ text) ++ after) ++ rest)
-    regroup_dotted old front text after rest = simp append_assoc
 
 -- the digits of a fraction: none of nothing, and the first in front of the others
 pub fraction_digits-none : (places fraction : ℕ) → fraction ≡ 0 → fraction_digits places fraction ≡ []
