@@ -4,16 +4,15 @@ use Rattle.std.specs.Prelude.{is_some}
 use Rattle.constraint_tree.specs.declared.operator.Compare.{Compare}
 use Rattle.constraint_tree.specs.declared.operator.Compare.TheVariants as compare
 use Rattle.constraint_tree.specs.declared.operator.Operator.{Operator}
-use Rattle.constraint_tree.specs.declared.operator.Operator.TheVariants as operator
 use Rattle.ecl_lexer.specs.declared.token.TokenKind.{TokenKind}
 use Rattle.ecl_lexer.specs.declared.token.TokenKind.TheVariants as token
 use Rattle.constraint_tree.specs.Grammar.{Symbol, decimal, mark, CountForm, at_least, between, ConstraintForm, alone, refined, conjunction, disjunction, exclusion, dotted, SubForms, no_subs, sub_then, SubForm, plain, member, walk, walk_member, FocusForm, concept, concept_term, any, round, RefinementForm, one_item, all_items, some_items, ItemForms, no_items, item_then, ItemForm, attribute, group, round_refinement, SetForm, one_part, all_parts, some_parts, PartForms, no_parts, part_then, PartForm, counted_part, round_set, PairForm, within, outside, number, operator_kind, compare_kind, count_tokens, counted_tokens, constraint_tokens, subs_tokens, sub_tokens, focus_tokens, refinement_tokens, items_tokens, item_tokens, set_tokens, parts_tokens, part_tokens, pair_tokens, cardinality_of, constraint_tree, sub_trees, sub_tree, focus_tree, refinement_tree, item_trees, item_tree, set_tree, part_trees, part_tree, pair_tree}
-use Rattle.constraint_tree.specs.Tree.{Tree, trees_from, tree_then, RefinementTree, refinements_from, refinement_then, AttributeSetTree, sets_from, set_then}
-use Rattle.ecl_parser.specs.inside.Reading.{Found, Readers, behind, behind_close, bounds_at, bracketed_at, compare_at, compare_of, constraint_behind, constraint_in, count_at, focus_in, is_mark, item_behind, item_in, many, member_in, number_at, operator_of, otherwise, pair_in, part_in, readers, refinement_behind, refinement_in, set_behind, set_in, sub_in, test_in}
+use Rattle.constraint_tree.specs.Tree.{trees_from, tree_then, refinements_from, refinement_then, sets_from, set_then}
+use Rattle.ecl_parser.specs.inside.Reading.{Found, Readers, all_behind, behind, behind_close, bounds_at, bracketed_at, compare_at, compare_of, constraint_behind, constraint_in, count_at, focus_in, is_mark, item_behind, item_in, many, member_in, number_at, operator_of, otherwise, pair_in, part_in, readers, refinement_behind, refinement_in, set_behind, set_in, sub_in, test_in}
 use Rattle.ecl_parser.specs.declared.tokens.Mark.{Mark}
 use Rattle.ecl_parser.specs.declared.tokens.Mark.TheVariants as marks
 use Rattle.ecl_parser.proofs.MarkLemmas.{compare_back, kind_of, operator_back, read_is_no_mark}
-use Rattle.ecl_parser.proofs.Forms.{constraint_depth, subs_depth, sub_depth, focus_depth, refinement_depth, items_depth, item_depth, set_depth, parts_depth, part_depth, pair_depth, close_constraint, close_refinement, close_set, longer_sub, longer_item, longer_part}
+use Rattle.ecl_parser.proofs.Forms.{constraint_depth, subs_depth, sub_depth, focus_depth, refinement_depth, items_depth, item_depth, set_depth, parts_depth, part_depth, pair_depth, constraint_holds, sub_holds, refinement_holds, item_holds, set_holds, part_holds, IsClosed, forms_closed}
 
 -- what may follow a form: no term behind a Sub; behind an item no comparison either; behind a whole form no joint
 pub record AfterItem (rest : List Symbol) : Type 0 where
@@ -37,24 +36,24 @@ before_round rest = record { item = record { term = refl; compare = refl }; join
 before_brace : (rest : List Symbol) → AfterWhole (mark token.BraceClose ∷ rest)
 before_brace rest = record { item = record { term = refl; compare = refl }; joins_and = refl; joins_or = refl; joins_dot = refl; colon = refl; minus = refl }
 
--- what a mark, and the token that joins forms, is to reading
-pub record Joins (wanted : Mark) (kind : TokenKind) : Type 0 where
-  pub is : is_mark wanted kind ≡ true
-  pub no_term : is_mark marks.Term kind ≡ false
-  pub no_compare : compare_of kind ≡ None
+-- a mark that joins forms
+pub record Joins (wanted : Mark) : Type 0 where
+  pub is : is_mark wanted (kind_of wanted) ≡ true
+  pub no_term : is_mark marks.Term (kind_of wanted) ≡ false
+  pub no_compare : compare_of (kind_of wanted) ≡ None
 
-by_and : Joins marks.And token.And
+by_and : Joins marks.And
 by_and = record { is = refl; no_term = refl; no_compare = refl }
 
-by_or : Joins marks.Or token.Or
+by_or : Joins marks.Or
 by_or = record { is = refl; no_term = refl; no_compare = refl }
 
-by_dot : Joins marks.Dot token.Dot
+by_dot : Joins marks.Dot
 by_dot = record { is = refl; no_term = refl; no_compare = refl }
 
--- a token that joins forms may stand behind each
-before_joint : (wanted : Mark) (kind : TokenKind) → Joins wanted kind → (rest : List Symbol) → AfterItem (mark kind ∷ rest)
-before_joint wanted kind joint rest = record {
+-- its token may stand behind each
+before_joint : {wanted : Mark} → Joins wanted → (rest : List Symbol) → AfterItem (mark (kind_of wanted) ∷ rest)
+before_joint joint rest = record {
   term = ap (λ (b : Bool). cond b (Some rest) None) joint.no_term;
   compare = ap (λ (c : Option Compare). option_map (λ compare. (compare, rest)) c) joint.no_compare;
 }
@@ -104,13 +103,8 @@ pair_begins wanted free (outside name value) rest = sub_begins wanted free name 
 pair_begins wanted free (number name c text value is) rest = sub_begins wanted free name (mark (compare_kind c) ∷ decimal text ∷ rest)
 
 sub_no_number : (form : SubForm) (rest : List Symbol) → number_at (sub_tokens form rest) ≡ None
-sub_no_number (plain (concept run is)) rest = refl
-sub_no_number (plain (concept_term run is)) rest = refl
 sub_no_number (plain any) rest = refl
-sub_no_number (plain (round constraint)) rest = refl
-sub_no_number (member focus) rest = refl
-sub_no_number (walk o focus) rest = refl
-sub_no_number (walk_member o focus) rest = refl
+sub_no_number other rest = refl
 
 -- brackets with a comparison behind them are the name of an attribute
 name_no_brackets : (form : SubForm) (c : Compare) (rest : List Symbol) → bracketed_at (sub_tokens form (mark (compare_kind c) ∷ rest)) ≡ None
@@ -120,7 +114,7 @@ name_no_brackets (plain any) c rest = refl
 name_no_brackets (plain (round constraint)) c rest =
     ap (λ (left : List Symbol). cond (is_some {T = Compare × List Symbol} (compare_at left)) None
     (Some (constraint_tokens constraint (mark token.RoundClose ∷ mark (compare_kind c) ∷ rest))))
-    (close_constraint constraint 0 (mark token.RoundClose ∷ mark (compare_kind c) ∷ rest))
+    ((constraint_holds forms_closed constraint).closes 0 (mark token.RoundClose ∷ mark (compare_kind c) ∷ rest))
     ∙ ap (λ (found : Option Compare). cond (is_some {T = Compare × List Symbol}
     (option_map (λ compare. (compare, rest)) found)) None
     (Some (constraint_tokens constraint (mark token.RoundClose ∷ mark (compare_kind c) ∷ rest)))) (compare_back c)
@@ -148,84 +142,55 @@ count_complete None rest none = rw none refl
 count_complete (Some (at_least least is)) rest none = rw is refl
 count_complete (Some (between least most is also)) rest none = rw (is, also) refl
 
--- how many forms there are, and their trees as lists
-abbrev sub_count : SubForms → ℕ
-sub_count no_subs = 0
-sub_count (sub_then sub more) = suc (sub_count more)
+-- several forms are read, each behind a token
+record AreRead {Tree Trees : Type 0} (reader : List Symbol → Found Tree) (from : List Tree → Trees) (wanted : Mark)
+    (tokens rest : List Symbol) (trees : Trees) : Type 0 where
+  found : List Tree
+  read : (turns : ℕ) → length tokens ≤ turns → many reader wanted turns tokens ≡ Some (found, rest)
+  are : from found ≡ trees
 
-abbrev sub_list : SubForms → List Tree
-sub_list no_subs = []
-sub_list (sub_then sub more) = sub_tree sub ∷ sub_list more
+all_read : {Tree Trees : Type 0} {reader : List Symbol → Found Tree} {from : List Tree → Trees} {wanted : Mark}
+    {tokens rest : List Symbol} {trees : Trees} (forms : AreRead reader from wanted tokens rest trees)
+    → all_behind reader wanted tokens ≡ Some (forms.found, rest)
+all_read {tokens} forms = forms.read (length tokens) (omega arith)
 
-sub_list-trees : (forms : SubForms) → trees_from (sub_list forms) ≡ sub_trees forms
-sub_list-trees no_subs = refl
-sub_list-trees (sub_then sub more) = ap (tree_then (sub_tree sub)) (sub_list-trees more)
-
-abbrev item_count : ItemForms → ℕ
-item_count no_items = 0
-item_count (item_then item more) = suc (item_count more)
-
-abbrev item_list : ItemForms → List RefinementTree
-item_list no_items = []
-item_list (item_then item more) = item_tree item ∷ item_list more
-
-item_list-trees : (forms : ItemForms) → refinements_from (item_list forms) ≡ item_trees forms
-item_list-trees no_items = refl
-item_list-trees (item_then item more) = ap (refinement_then (item_tree item)) (item_list-trees more)
-
-abbrev part_count : PartForms → ℕ
-part_count no_parts = 0
-part_count (part_then part more) = suc (part_count more)
-
-abbrev part_list : PartForms → List AttributeSetTree
-part_list no_parts = []
-part_list (part_then part more) = part_tree part ∷ part_list more
-
-part_list-trees : (forms : PartForms) → sets_from (part_list forms) ≡ part_trees forms
-part_list-trees no_parts = refl
-part_list-trees (part_then part more) = ap (set_then (part_tree part)) (part_list-trees more)
-
-subs_fit : (kind : TokenKind) (forms : SubForms) (rest : List Symbol) → sub_count forms ≤ length (subs_tokens kind forms rest)
-subs_fit kind no_subs rest = omega arith
-subs_fit kind (sub_then form more) rest = omega (arith, longer_sub form (subs_tokens kind more rest), subs_fit kind more rest)
-
-items_fit : (kind : TokenKind) (forms : ItemForms) (rest : List Symbol) → item_count forms ≤ length (items_tokens kind forms rest)
-items_fit kind no_items rest = omega arith
-items_fit kind (item_then form more) rest = omega (arith, longer_item form (items_tokens kind more rest), items_fit kind more rest)
-
-parts_fit : (kind : TokenKind) (forms : PartForms) (rest : List Symbol) → part_count forms ≤ length (parts_tokens kind forms rest)
-parts_fit kind no_parts rest = omega arith
-parts_fit kind (part_then form more) rest = omega (arith, longer_part form (parts_tokens kind more rest), parts_fit kind more rest)
-
--- one of several joined forms is read behind its joint
-many_step : {T : Type 0} (reader : List Symbol → Found T) (wanted : Mark) (kind : TokenKind) → Joins wanted kind
-    → (turns : ℕ) (item : T) (more : List T) (tokens after rest : List Symbol)
-    → reader tokens ≡ Some (item, after) → many reader wanted turns after ≡ Some (more, rest)
-    → many reader wanted (suc turns) (mark kind ∷ tokens) ≡ Some (item ∷ more, rest)
+-- none where the token does not stand
+none_read : {Tree Trees : Type 0} (reader : List Symbol → Found Tree) (from : List Tree → Trees) (wanted : Mark) (rest : List Symbol)
+    → behind wanted rest ≡ None → AreRead reader from wanted rest rest (from [])
 unfolding many
-many_step reader wanted kind joint turns item more tokens after rest read others = rw (joint.is, read, others) refl
+none_read {Tree} reader from wanted rest none = record { found = []; read = λ turns enough. by turns; are = refl }
+  where
+    by : (turns : ℕ) → many reader wanted turns rest ≡ Some ([], rest)
+    by zero = refl
+    by (suc turns) = rw none refl
 
--- and none where none stands
-many_stop : {T : Type 0} (reader : List Symbol → Found T) (wanted : Mark) (turns : ℕ) (rest : List Symbol) → behind wanted rest ≡ None
-    → many reader wanted turns rest ≡ Some ([], rest)
+-- and one behind its token, with others behind it
+one_read : {Tree Trees : Type 0} {reader : List Symbol → Found Tree} {from : List Tree → Trees} {wanted : Mark} {item : Tree}
+    {tokens_of : List Symbol → List Symbol} {after rest : List Symbol} {trees : Trees} → Joins wanted → (next : Trees → Trees)
+    → ((items : List Tree) → from (item ∷ items) ≡ next (from items)) → IsClosed tokens_of → reader (tokens_of after) ≡ Some (item, after)
+    → AreRead reader from wanted after rest trees → AreRead reader from wanted (mark (kind_of wanted) ∷ tokens_of after) rest (next trees)
 unfolding many
-many_stop reader wanted zero rest none = refl
-many_stop reader wanted (suc turns) rest none = rw none refl
+one_read {reader} {wanted} {item} {tokens_of} {after} {rest} joint next goes_on closed first others = record {
+  found = item ∷ others.found;
+  read = by;
+  are = goes_on others.found ∙ ap next others.are;
+}
+  where
+    by : (turns : ℕ) → suc (length (tokens_of after)) ≤ turns
+        → many reader wanted turns (mark (kind_of wanted) ∷ tokens_of after) ≡ Some (item ∷ others.found, rest)
+    by zero enough = absurd (omega arith)
+    by (suc turns) enough = rw (joint.is, first, others.read turns (omega (arith, closed.longer after))) refl
 
 -- a focus stands alone where no operator and no `^` is before it
 sub_plain : (inner : Readers) (form : FocusForm) (rest : List Symbol) → sub_in inner (focus_tokens form rest) ≡ member_in inner (focus_tokens form rest)
 unfolding sub_in
-sub_plain inner (concept run is) rest = refl
-sub_plain inner (concept_term run is) rest = refl
 sub_plain inner any rest = refl
-sub_plain inner (round constraint) rest = refl
+sub_plain inner other rest = refl
 
 member_plain : (inner : Readers) (form : FocusForm) (rest : List Symbol) → member_in inner (focus_tokens form rest) ≡ focus_in inner (focus_tokens form rest)
 unfolding member_in
-member_plain inner (concept run is) rest = refl
-member_plain inner (concept_term run is) rest = refl
 member_plain inner any rest = refl
-member_plain inner (round constraint) rest = refl
+member_plain inner other rest = refl
 
 count_no_brackets : (count : CountForm) (rest : List Symbol) → bracketed_at (count_tokens count rest) ≡ None
 count_no_brackets (at_least least is) rest = refl
@@ -246,66 +211,39 @@ mutual
         refinement_complete most refinement rest (omega arith) after,
       ) refl
   constraint_complete most (conjunction first second more) rest fits after =
-      rw (
-        sub_complete most first (mark token.And ∷ sub_tokens second (subs_tokens token.And more rest)) (omega arith) refl,
-        many_step (sub_in (readers most)) marks.And token.And by_and
-            (length (sub_tokens second (subs_tokens token.And more rest))) (sub_tree second) (sub_list more)
-            (sub_tokens second (subs_tokens token.And more rest)) (subs_tokens token.And more rest) rest
-            (sub_complete most second (subs_tokens token.And more rest) (omega arith) (subs_term marks.And token.And by_and more rest after.item.term))
-            (subs_complete most marks.And token.And by_and more
-            (length (sub_tokens second (subs_tokens token.And more rest))) rest (omega arith)
-            (omega (arith, subs_fit token.And more rest, longer_sub second (subs_tokens token.And more rest)))
-            after.joins_and after.item.term),
-        sub_list-trees more,
-      ) refl
+      let others = one_read by_and (tree_then (sub_tree second)) (λ trees. refl) (sub_holds forms_closed second)
+      (sub_complete most second (subs_tokens token.And more rest) (omega arith) (subs_term by_and more rest after.item.term))
+      (subs_complete most by_and more rest (omega arith) after.joins_and after.item.term) in
+      rw (sub_complete most first (subs_tokens token.And (sub_then second more) rest) (omega arith) refl, all_read others, others.are) refl
   constraint_complete most (disjunction first second more) rest fits after =
-      rw (
-        sub_complete most first (mark token.Or ∷ sub_tokens second (subs_tokens token.Or more rest)) (omega arith) refl,
-        many_step (sub_in (readers most)) marks.Or token.Or by_or
-            (length (sub_tokens second (subs_tokens token.Or more rest))) (sub_tree second) (sub_list more)
-            (sub_tokens second (subs_tokens token.Or more rest)) (subs_tokens token.Or more rest) rest
-            (sub_complete most second (subs_tokens token.Or more rest) (omega arith) (subs_term marks.Or token.Or by_or more rest after.item.term))
-            (subs_complete most marks.Or token.Or by_or more
-            (length (sub_tokens second (subs_tokens token.Or more rest))) rest (omega arith)
-            (omega (arith, subs_fit token.Or more rest, longer_sub second (subs_tokens token.Or more rest)))
-            after.joins_or after.item.term),
-        sub_list-trees more,
-      ) refl
+      let others = one_read by_or (tree_then (sub_tree second)) (λ trees. refl) (sub_holds forms_closed second)
+      (sub_complete most second (subs_tokens token.Or more rest) (omega arith) (subs_term by_or more rest after.item.term))
+      (subs_complete most by_or more rest (omega arith) after.joins_or after.item.term) in
+      rw (sub_complete most first (subs_tokens token.Or (sub_then second more) rest) (omega arith) refl, all_read others, others.are) refl
   constraint_complete most (exclusion first second) rest fits after =
       rw (
         sub_complete most first (mark token.Minus ∷ sub_tokens second rest) (omega arith) refl,
         sub_complete most second rest (omega arith) after.item.term,
       ) refl
   constraint_complete most (dotted start name more) rest fits after =
-      rw (
-        sub_complete most start (mark token.Dot ∷ sub_tokens name (subs_tokens token.Dot more rest)) (omega arith) refl,
-        many_step (sub_in (readers most)) marks.Dot token.Dot by_dot
-            (length (sub_tokens name (subs_tokens token.Dot more rest))) (sub_tree name) (sub_list more)
-            (sub_tokens name (subs_tokens token.Dot more rest)) (subs_tokens token.Dot more rest) rest
-            (sub_complete most name (subs_tokens token.Dot more rest) (omega arith) (subs_term marks.Dot token.Dot by_dot more rest after.item.term))
-            (subs_complete most marks.Dot token.Dot by_dot more
-            (length (sub_tokens name (subs_tokens token.Dot more rest))) rest (omega arith)
-            (omega (arith, subs_fit token.Dot more rest, longer_sub name (subs_tokens token.Dot more rest)))
-            after.joins_dot after.item.term),
-        sub_list-trees more,
-      ) refl
+      let others = one_read by_dot (tree_then (sub_tree name)) (λ trees. refl) (sub_holds forms_closed name)
+      (sub_complete most name (subs_tokens token.Dot more rest) (omega arith) (subs_term by_dot more rest after.item.term))
+      (subs_complete most by_dot more rest (omega arith) after.joins_dot after.item.term) in
+      rw (sub_complete most start (subs_tokens token.Dot (sub_then name more) rest) (omega arith) refl, all_read others, others.are) refl
 
-  subs_complete : (most : ℕ) (wanted : Mark) (kind : TokenKind) → Joins wanted kind
-      → (forms : SubForms) (turns : ℕ) (rest : List Symbol) → subs_depth forms ≤ most → sub_count forms ≤ turns
+  subs_complete : (most : ℕ) {wanted : Mark} → Joins wanted → (forms : SubForms) (rest : List Symbol) → subs_depth forms ≤ most
       → behind wanted rest ≡ None → behind marks.Term rest ≡ None
-      → many (sub_in (readers most)) wanted turns (subs_tokens kind forms rest) ≡ Some (sub_list forms, rest)
-  subs_complete most wanted kind joint no_subs turns rest fits enough none term = many_stop (sub_in (readers most)) wanted turns rest none
-  subs_complete most wanted kind joint (sub_then sub more) zero rest fits enough none term = absurd (omega arith)
-  subs_complete most wanted kind joint (sub_then sub more) (suc turns) rest fits enough none term =
-      many_step (sub_in (readers most)) wanted kind joint turns (sub_tree sub) (sub_list more)
-      (sub_tokens sub (subs_tokens kind more rest)) (subs_tokens kind more rest) rest
-      (sub_complete most sub (subs_tokens kind more rest) (omega arith) (subs_term wanted kind joint more rest term))
-      (subs_complete most wanted kind joint more turns rest (omega arith) (omega arith) none term)
+      → AreRead (sub_in (readers most)) trees_from wanted (subs_tokens (kind_of wanted) forms rest) rest (sub_trees forms)
+  subs_complete most {wanted} joint no_subs rest fits none term = none_read (sub_in (readers most)) trees_from wanted rest none
+  subs_complete most {wanted} joint (sub_then sub more) rest fits none term =
+      one_read joint (tree_then (sub_tree sub)) (λ trees. refl) (sub_holds forms_closed sub)
+      (sub_complete most sub (subs_tokens (kind_of wanted) more rest) (omega arith) (subs_term joint more rest term))
+      (subs_complete most joint more rest (omega arith) none term)
 
-  subs_term : (wanted : Mark) (kind : TokenKind) → Joins wanted kind → (forms : SubForms) (rest : List Symbol)
-      → behind marks.Term rest ≡ None → behind marks.Term (subs_tokens kind forms rest) ≡ None
-  subs_term wanted kind joint no_subs rest term = term
-  subs_term wanted kind joint (sub_then sub more) rest term = (before_joint wanted kind joint (sub_tokens sub (subs_tokens kind more rest))).term
+  subs_term : {wanted : Mark} → Joins wanted → (forms : SubForms) (rest : List Symbol)
+      → behind marks.Term rest ≡ None → behind marks.Term (subs_tokens (kind_of wanted) forms rest) ≡ None
+  subs_term joint no_subs rest term = term
+  subs_term {wanted} joint (sub_then sub more) rest term = (before_joint joint (sub_tokens sub (subs_tokens (kind_of wanted) more rest))).term
 
   sub_complete : (most : ℕ) (form : SubForm) (rest : List Symbol) → sub_depth form ≤ most → behind marks.Term rest ≡ None
       → sub_in (readers most) (sub_tokens form rest) ≡ Some (sub_tree form, rest)
@@ -329,50 +267,39 @@ mutual
   refinement_complete most (one_item item) rest fits after =
       rw (item_complete most item rest fits after.item, after.joins_and, after.joins_or) refl
   refinement_complete most (all_items first second more) rest fits after =
+      let others = one_read by_and (refinement_then (item_tree second)) (λ trees. refl) (item_holds forms_closed second)
+      (item_complete most second (items_tokens token.And more rest) (omega arith) (items_after by_and more rest after.item))
+      (items_complete most by_and more rest (omega arith) after.joins_and after.item) in
       rw (
-        item_complete most first (mark token.And ∷ item_tokens second (items_tokens token.And more rest))
-            (omega arith) (before_joint marks.And token.And by_and (item_tokens second (items_tokens token.And more rest))),
-        many_step (item_in (readers most)) marks.And token.And by_and
-            (length (item_tokens second (items_tokens token.And more rest))) (item_tree second) (item_list more)
-            (item_tokens second (items_tokens token.And more rest)) (items_tokens token.And more rest) rest
-            (item_complete most second (items_tokens token.And more rest) (omega arith) (items_after marks.And token.And by_and more rest after.item))
-            (items_complete most marks.And token.And by_and more
-            (length (item_tokens second (items_tokens token.And more rest))) rest (omega arith)
-            (omega (arith, items_fit token.And more rest, longer_item second (items_tokens token.And more rest)))
-            after.joins_and after.item),
-        item_list-trees more,
+        item_complete most first (items_tokens token.And (item_then second more) rest) (omega arith)
+            (before_joint by_and (item_tokens second (items_tokens token.And more rest))),
+        all_read others,
+        others.are,
       ) refl
   refinement_complete most (some_items first second more) rest fits after =
+      let others = one_read by_or (refinement_then (item_tree second)) (λ trees. refl) (item_holds forms_closed second)
+      (item_complete most second (items_tokens token.Or more rest) (omega arith) (items_after by_or more rest after.item))
+      (items_complete most by_or more rest (omega arith) after.joins_or after.item) in
       rw (
-        item_complete most first (mark token.Or ∷ item_tokens second (items_tokens token.Or more rest)) (omega arith)
-            (before_joint marks.Or token.Or by_or (item_tokens second (items_tokens token.Or more rest))),
-        many_step (item_in (readers most)) marks.Or token.Or by_or
-            (length (item_tokens second (items_tokens token.Or more rest))) (item_tree second) (item_list more)
-            (item_tokens second (items_tokens token.Or more rest)) (items_tokens token.Or more rest) rest
-            (item_complete most second (items_tokens token.Or more rest) (omega arith) (items_after marks.Or token.Or by_or more rest after.item))
-            (items_complete most marks.Or token.Or by_or more
-            (length (item_tokens second (items_tokens token.Or more rest))) rest (omega arith)
-            (omega (arith, items_fit token.Or more rest, longer_item second (items_tokens token.Or more rest)))
-            after.joins_or after.item),
-        item_list-trees more,
+        item_complete most first (items_tokens token.Or (item_then second more) rest) (omega arith)
+            (before_joint by_or (item_tokens second (items_tokens token.Or more rest))),
+        all_read others,
+        others.are,
       ) refl
 
-  items_complete : (most : ℕ) (wanted : Mark) (kind : TokenKind) → Joins wanted kind
-      → (forms : ItemForms) (turns : ℕ) (rest : List Symbol) → items_depth forms ≤ most → item_count forms ≤ turns
+  items_complete : (most : ℕ) {wanted : Mark} → Joins wanted → (forms : ItemForms) (rest : List Symbol) → items_depth forms ≤ most
       → behind wanted rest ≡ None → AfterItem rest
-      → many (item_in (readers most)) wanted turns (items_tokens kind forms rest) ≡ Some (item_list forms, rest)
-  items_complete most wanted kind joint no_items turns rest fits enough none after = many_stop (item_in (readers most)) wanted turns rest none
-  items_complete most wanted kind joint (item_then item more) zero rest fits enough none after = absurd (omega arith)
-  items_complete most wanted kind joint (item_then item more) (suc turns) rest fits enough none after =
-      many_step (item_in (readers most)) wanted kind joint turns (item_tree item) (item_list more)
-      (item_tokens item (items_tokens kind more rest)) (items_tokens kind more rest) rest
-      (item_complete most item (items_tokens kind more rest) (omega arith) (items_after wanted kind joint more rest after))
-      (items_complete most wanted kind joint more turns rest (omega arith) (omega arith) none after)
+      → AreRead (item_in (readers most)) refinements_from wanted (items_tokens (kind_of wanted) forms rest) rest (item_trees forms)
+  items_complete most {wanted} joint no_items rest fits none after = none_read (item_in (readers most)) refinements_from wanted rest none
+  items_complete most {wanted} joint (item_then item more) rest fits none after =
+      one_read joint (refinement_then (item_tree item)) (λ trees. refl) (item_holds forms_closed item)
+      (item_complete most item (items_tokens (kind_of wanted) more rest) (omega arith) (items_after joint more rest after))
+      (items_complete most joint more rest (omega arith) none after)
 
-  items_after : (wanted : Mark) (kind : TokenKind) → Joins wanted kind → (forms : ItemForms) (rest : List Symbol)
-      → AfterItem rest → AfterItem (items_tokens kind forms rest)
-  items_after wanted kind joint no_items rest after = after
-  items_after wanted kind joint (item_then item more) rest after = before_joint wanted kind joint (item_tokens item (items_tokens kind more rest))
+  items_after : {wanted : Mark} → Joins wanted → (forms : ItemForms) (rest : List Symbol)
+      → AfterItem rest → AfterItem (items_tokens (kind_of wanted) forms rest)
+  items_after joint no_items rest after = after
+  items_after {wanted} joint (item_then item more) rest after = before_joint joint (item_tokens item (items_tokens (kind_of wanted) more rest))
 
   item_complete : (most : ℕ) (form : ItemForm) (rest : List Symbol) → item_depth form ≤ most → AfterItem rest
       → item_in (readers most) (item_tokens form rest) ≡ Some (item_tree form, rest)
@@ -411,7 +338,7 @@ mutual
   item_complete zero (round_refinement refinement) rest fits after = absurd (omega arith)
   item_complete (suc most) (round_refinement refinement) rest fits after =
       rw (
-        close_refinement refinement 0 (mark token.RoundClose ∷ rest),
+        (refinement_holds forms_closed refinement).closes 0 (mark token.RoundClose ∷ rest),
         after.compare,
         refinement_complete most refinement (mark token.RoundClose ∷ rest) (omega arith) (before_round rest),
       ) refl
@@ -421,50 +348,39 @@ mutual
   set_complete most (one_part part) rest fits after =
       rw (part_complete most part rest fits after.item, after.joins_and, after.joins_or) refl
   set_complete most (all_parts first second more) rest fits after =
+      let others = one_read by_and (set_then (part_tree second)) (λ trees. refl) (part_holds forms_closed second)
+      (part_complete most second (parts_tokens token.And more rest) (omega arith) (parts_after by_and more rest after.item))
+      (parts_complete most by_and more rest (omega arith) after.joins_and after.item) in
       rw (
-        part_complete most first (mark token.And ∷ part_tokens second (parts_tokens token.And more rest))
-            (omega arith) (before_joint marks.And token.And by_and (part_tokens second (parts_tokens token.And more rest))),
-        many_step (part_in (readers most)) marks.And token.And by_and
-            (length (part_tokens second (parts_tokens token.And more rest))) (part_tree second) (part_list more)
-            (part_tokens second (parts_tokens token.And more rest)) (parts_tokens token.And more rest) rest
-            (part_complete most second (parts_tokens token.And more rest) (omega arith) (parts_after marks.And token.And by_and more rest after.item))
-            (parts_complete most marks.And token.And by_and more
-            (length (part_tokens second (parts_tokens token.And more rest))) rest (omega arith)
-            (omega (arith, parts_fit token.And more rest, longer_part second (parts_tokens token.And more rest)))
-            after.joins_and after.item),
-        part_list-trees more,
+        part_complete most first (parts_tokens token.And (part_then second more) rest) (omega arith)
+            (before_joint by_and (part_tokens second (parts_tokens token.And more rest))),
+        all_read others,
+        others.are,
       ) refl
   set_complete most (some_parts first second more) rest fits after =
+      let others = one_read by_or (set_then (part_tree second)) (λ trees. refl) (part_holds forms_closed second)
+      (part_complete most second (parts_tokens token.Or more rest) (omega arith) (parts_after by_or more rest after.item))
+      (parts_complete most by_or more rest (omega arith) after.joins_or after.item) in
       rw (
-        part_complete most first (mark token.Or ∷ part_tokens second (parts_tokens token.Or more rest)) (omega arith)
-            (before_joint marks.Or token.Or by_or (part_tokens second (parts_tokens token.Or more rest))),
-        many_step (part_in (readers most)) marks.Or token.Or by_or
-            (length (part_tokens second (parts_tokens token.Or more rest))) (part_tree second) (part_list more)
-            (part_tokens second (parts_tokens token.Or more rest)) (parts_tokens token.Or more rest) rest
-            (part_complete most second (parts_tokens token.Or more rest) (omega arith) (parts_after marks.Or token.Or by_or more rest after.item))
-            (parts_complete most marks.Or token.Or by_or more
-            (length (part_tokens second (parts_tokens token.Or more rest))) rest (omega arith)
-            (omega (arith, parts_fit token.Or more rest, longer_part second (parts_tokens token.Or more rest)))
-            after.joins_or after.item),
-        part_list-trees more,
+        part_complete most first (parts_tokens token.Or (part_then second more) rest) (omega arith)
+            (before_joint by_or (part_tokens second (parts_tokens token.Or more rest))),
+        all_read others,
+        others.are,
       ) refl
 
-  parts_complete : (most : ℕ) (wanted : Mark) (kind : TokenKind) → Joins wanted kind
-      → (forms : PartForms) (turns : ℕ) (rest : List Symbol) → parts_depth forms ≤ most → part_count forms ≤ turns
+  parts_complete : (most : ℕ) {wanted : Mark} → Joins wanted → (forms : PartForms) (rest : List Symbol) → parts_depth forms ≤ most
       → behind wanted rest ≡ None → AfterItem rest
-      → many (part_in (readers most)) wanted turns (parts_tokens kind forms rest) ≡ Some (part_list forms, rest)
-  parts_complete most wanted kind joint no_parts turns rest fits enough none after = many_stop (part_in (readers most)) wanted turns rest none
-  parts_complete most wanted kind joint (part_then part more) zero rest fits enough none after = absurd (omega arith)
-  parts_complete most wanted kind joint (part_then part more) (suc turns) rest fits enough none after =
-      many_step (part_in (readers most)) wanted kind joint turns (part_tree part) (part_list more)
-      (part_tokens part (parts_tokens kind more rest)) (parts_tokens kind more rest) rest
-      (part_complete most part (parts_tokens kind more rest) (omega arith) (parts_after wanted kind joint more rest after))
-      (parts_complete most wanted kind joint more turns rest (omega arith) (omega arith) none after)
+      → AreRead (part_in (readers most)) sets_from wanted (parts_tokens (kind_of wanted) forms rest) rest (part_trees forms)
+  parts_complete most {wanted} joint no_parts rest fits none after = none_read (part_in (readers most)) sets_from wanted rest none
+  parts_complete most {wanted} joint (part_then part more) rest fits none after =
+      one_read joint (set_then (part_tree part)) (λ trees. refl) (part_holds forms_closed part)
+      (part_complete most part (parts_tokens (kind_of wanted) more rest) (omega arith) (parts_after joint more rest after))
+      (parts_complete most joint more rest (omega arith) none after)
 
-  parts_after : (wanted : Mark) (kind : TokenKind) → Joins wanted kind → (forms : PartForms) (rest : List Symbol)
-      → AfterItem rest → AfterItem (parts_tokens kind forms rest)
-  parts_after wanted kind joint no_parts rest after = after
-  parts_after wanted kind joint (part_then part more) rest after = before_joint wanted kind joint (part_tokens part (parts_tokens kind more rest))
+  parts_after : {wanted : Mark} → Joins wanted → (forms : PartForms) (rest : List Symbol)
+      → AfterItem rest → AfterItem (parts_tokens (kind_of wanted) forms rest)
+  parts_after joint no_parts rest after = after
+  parts_after {wanted} joint (part_then part more) rest after = before_joint joint (part_tokens part (parts_tokens (kind_of wanted) more rest))
 
   part_complete : (most : ℕ) (form : PartForm) (rest : List Symbol) → part_depth form ≤ most → AfterItem rest
       → part_in (readers most) (part_tokens form rest) ≡ Some (part_tree form, rest)
@@ -479,7 +395,7 @@ mutual
   part_complete zero (round_set set) rest fits after = absurd (omega arith)
   part_complete (suc most) (round_set set) rest fits after =
       rw (
-        close_set set 0 (mark token.RoundClose ∷ rest),
+        (set_holds forms_closed set).closes 0 (mark token.RoundClose ∷ rest),
         after.compare,
         set_complete most set (mark token.RoundClose ∷ rest) (omega arith) (before_round rest),
       ) refl

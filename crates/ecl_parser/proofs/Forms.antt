@@ -1,12 +1,13 @@
 -- How deep the brackets of a form are, and what its tokens are like: its brackets close, and they are as many as what follows at least.
-use Rattle.std.proofs.Common.{◌≡◌, ◌<◌, ◌≤◌, ℕ, suc, Bool, true, false, List, ◌∷◌, length, Option, None, Some, max, refl, ◌∙◌, arith}
+use Rattle.std.proofs.Common.{◌≡◌, ◌≤◌, ℕ, suc, Bool, true, false, List, ◌∷◌, length, Option, None, Some, max, refl, ◌∙◌, arith}
 use Rattle.constraint_tree.specs.declared.operator.Compare.{Compare}
 use Rattle.constraint_tree.specs.declared.operator.Compare.TheVariants as compare
 use Rattle.constraint_tree.specs.declared.operator.Operator.{Operator}
 use Rattle.constraint_tree.specs.declared.operator.Operator.TheVariants as operator
 use Rattle.ecl_lexer.specs.declared.token.TokenKind.{TokenKind}
 use Rattle.ecl_lexer.specs.declared.token.TokenKind.TheVariants as token
-use Rattle.constraint_tree.specs.Grammar.{Symbol, decimal, mark, CountForm, at_least, between, ConstraintForm, alone, refined, conjunction, disjunction, exclusion, dotted, SubForms, no_subs, sub_then, SubForm, plain, member, walk, walk_member, FocusForm, concept, concept_term, any, round, RefinementForm, one_item, all_items, some_items, ItemForms, no_items, item_then, ItemForm, attribute, group, round_refinement, SetForm, one_part, all_parts, some_parts, PartForms, no_parts, part_then, PartForm, counted_part, round_set, PairForm, within, outside, number, operator_kind, compare_kind, counted_tokens, reverse_tokens, constraint_tokens, subs_tokens, sub_tokens, focus_tokens, refinement_tokens, items_tokens, item_tokens, set_tokens, parts_tokens, part_tokens, pair_tokens}
+use Rattle.constraint_tree.specs.Grammar.{Symbol, digits, decimal, mark, CountForm, at_least, between, ConstraintForm, alone, refined, conjunction, disjunction, exclusion, dotted, SubForms, no_subs, sub_then, SubForm, plain, member, walk, walk_member, FocusForm, concept, concept_term, any, round, RefinementForm, one_item, all_items, some_items, ItemForms, no_items, item_then, ItemForm, attribute, group, round_refinement, SetForm, one_part, all_parts, some_parts, PartForms, no_parts, part_then, PartForm, counted_part, round_set, PairForm, within, outside, number, operator_kind, compare_kind, counted_tokens, reverse_tokens, constraint_tokens, subs_tokens, sub_tokens, focus_tokens, refinement_tokens, items_tokens, item_tokens, set_tokens, parts_tokens, part_tokens, pair_tokens}
+use Rattle.constraint_tree.proofs.LevelLemmas.{kind_of_symbol}
 use Rattle.ecl_parser.specs.inside.Reading.{behind_close}
 
 -- how many brackets are open at once inside a form
@@ -67,251 +68,156 @@ abbrev mutual
   pair_depth (outside name value) = max (sub_depth name) (sub_depth value)
   pair_depth (number name compare text value is) = sub_depth name
 
--- the token of an operator, and of a comparison, is no bracket
-close_operator : (o : Operator) (level : ℕ) (rest : List Symbol) → behind_close level (mark (operator_kind o) ∷ rest) ≡ behind_close level rest
-close_operator operator.Descendants level rest = refl
-close_operator operator.DescendantsOrSelf level rest = refl
-close_operator operator.Children level rest = refl
-close_operator operator.ChildrenOrSelf level rest = refl
-close_operator operator.Ancestors level rest = refl
-close_operator operator.AncestorsOrSelf level rest = refl
-close_operator operator.Parents level rest = refl
-close_operator operator.ParentsOrSelf level rest = refl
-close_operator operator.Top level rest = refl
-close_operator operator.Bottom level rest = refl
+-- a token that is a bracket, round or a brace, as none of operators and comparisons is
+abbrev pub is_bracket : TokenKind → Bool
+is_bracket token.RoundOpen = true
+is_bracket token.RoundClose = true
+is_bracket token.BraceOpen = true
+is_bracket token.BraceClose = true
+is_bracket other = false
 
-close_compare : (c : Compare) (level : ℕ) (rest : List Symbol) → behind_close level (mark (compare_kind c) ∷ rest) ≡ behind_close level rest
-close_compare compare.Equal level rest = refl
-close_compare compare.NotEqual level rest = refl
-close_compare compare.Less level rest = refl
-close_compare compare.LessOrEqual level rest = refl
-close_compare compare.Greater level rest = refl
-close_compare compare.GreaterOrEqual level rest = refl
+operator_no_bracket : (o : Operator) → is_bracket (operator_kind o) ≡ false
+operator_no_bracket operator.Descendants = refl
+operator_no_bracket other = refl
 
-close_count : (count : Option CountForm) (level : ℕ) (rest : List Symbol) → behind_close level (counted_tokens count rest) ≡ behind_close level rest
-close_count None level rest = refl
-close_count (Some (at_least least is)) level rest = refl
-close_count (Some (between least most is also)) level rest = refl
+compare_no_bracket : (c : Compare) → is_bracket (compare_kind c) ≡ false
+compare_no_bracket compare.Equal = refl
+compare_no_bracket other = refl
 
-close_reverse : (reverse : Bool) (level : ℕ) (rest : List Symbol) → behind_close level (reverse_tokens reverse rest) ≡ behind_close level rest
-close_reverse true level rest = refl
-close_reverse false level rest = refl
+-- What may hold of tokens in front of others, by how deep their brackets are: it holds of none, and then of a token that is
+-- no bracket with those behind it, of some with others behind, of some in brackets and in braces, and for less deep ones.
+pub record HoldsOfForms (Is : ℕ → (List Symbol → List Symbol) → Type 0) : Type 0 where
+  pub nothing : Is 0 (λ rest. rest)
+  pub symbol : {depth : ℕ} {tokens : List Symbol → List Symbol} (next : Symbol) → is_bracket (kind_of_symbol next) ≡ false
+      → Is depth tokens → Is depth (λ rest. next ∷ tokens rest)
+  pub behind : {depth further : ℕ} {tokens more : List Symbol → List Symbol} → Is depth tokens → Is further more
+      → Is (max depth further) (λ rest. tokens (more rest))
+  pub round : {depth : ℕ} {tokens : List Symbol → List Symbol} → Is depth tokens
+      → Is (suc depth) (λ rest. mark token.RoundOpen ∷ tokens (mark token.RoundClose ∷ rest))
+  pub brace : {depth : ℕ} {tokens : List Symbol → List Symbol} → Is depth tokens
+      → Is (suc depth) (λ rest. mark token.BraceOpen ∷ tokens (mark token.BraceClose ∷ rest))
+  pub lower : {depth less : ℕ} {tokens : List Symbol → List Symbol} → less ≤ depth → Is depth tokens → Is less tokens
 
--- a token that joins forms
-pub data IsJoint : TokenKind → Type 0 where
-  joins_and : IsJoint token.And
-  joins_or : IsJoint token.Or
-  joins_dot : IsJoint token.Dot
+-- what is so holds of the tokens of each form
+module _ {Is : ℕ → (List Symbol → List Symbol) → Type 0} (along : HoldsOfForms Is) where
+  -- two with a token between them, and others behind
+  joined : {first second further : ℕ} {one two others : List Symbol → List Symbol} (kind : TokenKind) → is_bracket kind ≡ false
+      → Is first one → Is second two → Is further others → Is (max first (max second further)) (λ rest. one (mark kind ∷ two (others rest)))
+  joined kind none first second more = along.behind first (along.symbol (mark kind) none (along.behind second more))
 
-close_joint : (kind : TokenKind) → IsJoint kind → (level : ℕ) (rest : List Symbol) → behind_close level (mark kind ∷ rest) ≡ behind_close level rest
-close_joint kind joins_and level rest = refl
-close_joint kind joins_or level rest = refl
-close_joint kind joins_dot level rest = refl
+  -- behind a cardinality, or none, and behind `R` or not
+  counted : {depth : ℕ} {tokens : List Symbol → List Symbol} (count : Option CountForm) → Is depth tokens
+      → Is depth (λ rest. counted_tokens count (tokens rest))
+  counted None inside = inside
+  counted (Some (at_least least is)) inside =
+      along.symbol (mark token.BracketOpen) refl (along.symbol (digits least) refl (along.symbol (mark token.Dots) refl
+      (along.symbol (mark token.Wildcard) refl (along.symbol (mark token.BracketClose) refl inside))))
+  counted (Some (between least most is also)) inside =
+      along.symbol (mark token.BracketOpen) refl (along.symbol (digits least) refl (along.symbol (mark token.Dots) refl
+      (along.symbol (digits most) refl (along.symbol (mark token.BracketClose) refl inside))))
 
--- the brackets of a form are closed behind it
-mutual
-  pub close_constraint : (form : ConstraintForm) (level : ℕ) (rest : List Symbol) → behind_close level (constraint_tokens form rest) ≡ behind_close level rest
-  close_constraint (alone sub) level rest = close_sub sub level rest
-  close_constraint (refined focus refinement) level rest =
-      close_sub focus level (mark token.Colon ∷ refinement_tokens refinement rest) ∙ close_refinement refinement level rest
-  close_constraint (conjunction first second more) level rest =
-      close_sub first level (mark token.And ∷ sub_tokens second (subs_tokens token.And more rest))
-      ∙ close_sub second level (subs_tokens token.And more rest) ∙ close_subs token.And joins_and more level rest
-  close_constraint (disjunction first second more) level rest =
-      close_sub first level (mark token.Or ∷ sub_tokens second (subs_tokens token.Or more rest))
-      ∙ close_sub second level (subs_tokens token.Or more rest) ∙ close_subs token.Or joins_or more level rest
-  close_constraint (exclusion first second) level rest =
-      close_sub first level (mark token.Minus ∷ sub_tokens second rest) ∙ close_sub second level rest
-  close_constraint (dotted start name more) level rest =
-      close_sub start level (mark token.Dot ∷ sub_tokens name (subs_tokens token.Dot more rest))
-      ∙ close_sub name level (subs_tokens token.Dot more rest) ∙ close_subs token.Dot joins_dot more level rest
+  reversed : {depth : ℕ} {tokens : List Symbol → List Symbol} (reverse : Bool) → Is depth tokens
+      → Is depth (λ rest. reverse_tokens reverse (tokens rest))
+  reversed true inside = along.symbol (mark token.Reverse) refl inside
+  reversed false inside = inside
 
-  close_subs : (kind : TokenKind) → IsJoint kind → (forms : SubForms) (level : ℕ) (rest : List Symbol)
-      → behind_close level (subs_tokens kind forms rest) ≡ behind_close level rest
-  close_subs kind joint no_subs level rest = refl
-  close_subs kind joint (sub_then sub more) level rest =
-      close_joint kind joint level (sub_tokens sub (subs_tokens kind more rest))
-      ∙ close_sub sub level (subs_tokens kind more rest) ∙ close_subs kind joint more level rest
+  mutual
+    pub constraint_holds : (form : ConstraintForm) → Is (constraint_depth form) (constraint_tokens form)
+    constraint_holds (alone sub) = sub_holds sub
+    constraint_holds (refined focus refinement) = along.behind (sub_holds focus) (along.symbol (mark token.Colon) refl (refinement_holds refinement))
+    constraint_holds (conjunction first second more) =
+        joined token.And refl (sub_holds first) (sub_holds second) (subs_hold token.And refl more)
+    constraint_holds (disjunction first second more) =
+        joined token.Or refl (sub_holds first) (sub_holds second) (subs_hold token.Or refl more)
+    constraint_holds (exclusion first second) = along.behind (sub_holds first) (along.symbol (mark token.Minus) refl (sub_holds second))
+    constraint_holds (dotted start name more) =
+        joined token.Dot refl (sub_holds start) (sub_holds name) (subs_hold token.Dot refl more)
 
-  close_sub : (form : SubForm) (level : ℕ) (rest : List Symbol) → behind_close level (sub_tokens form rest) ≡ behind_close level rest
-  close_sub (plain focus) level rest = close_focus focus level rest
-  close_sub (member focus) level rest = close_focus focus level rest
-  close_sub (walk o focus) level rest = close_operator o level (focus_tokens focus rest) ∙ close_focus focus level rest
-  close_sub (walk_member o focus) level rest = close_operator o level (mark token.MemberOf ∷ focus_tokens focus rest) ∙ close_focus focus level rest
+    subs_hold : (kind : TokenKind) → is_bracket kind ≡ false → (forms : SubForms) → Is (subs_depth forms) (subs_tokens kind forms)
+    subs_hold kind none no_subs = along.nothing
+    subs_hold kind none (sub_then sub more) = along.symbol (mark kind) none (along.behind (sub_holds sub) (subs_hold kind none more))
 
-  close_focus : (form : FocusForm) (level : ℕ) (rest : List Symbol) → behind_close level (focus_tokens form rest) ≡ behind_close level rest
-  close_focus (concept run is) level rest = refl
-  close_focus (concept_term run is) level rest = refl
-  close_focus any level rest = refl
-  close_focus (round constraint) level rest = close_constraint constraint (suc level) (mark token.RoundClose ∷ rest)
+    pub sub_holds : (form : SubForm) → Is (sub_depth form) (sub_tokens form)
+    sub_holds (plain focus) = focus_holds focus
+    sub_holds (member focus) = along.symbol (mark token.MemberOf) refl (focus_holds focus)
+    sub_holds (walk o focus) = along.symbol (mark (operator_kind o)) (operator_no_bracket o) (focus_holds focus)
+    sub_holds (walk_member o focus) =
+        along.symbol (mark (operator_kind o)) (operator_no_bracket o) (along.symbol (mark token.MemberOf) refl (focus_holds focus))
 
-  pub close_refinement : (form : RefinementForm) (level : ℕ) (rest : List Symbol) → behind_close level (refinement_tokens form rest) ≡ behind_close level rest
-  close_refinement (one_item item) level rest = close_item item level rest
-  close_refinement (all_items first second more) level rest =
-      close_item first level (mark token.And ∷ item_tokens second (items_tokens token.And more rest))
-      ∙ close_item second level (items_tokens token.And more rest) ∙ close_items token.And joins_and more level rest
-  close_refinement (some_items first second more) level rest =
-      close_item first level (mark token.Or ∷ item_tokens second (items_tokens token.Or more rest))
-      ∙ close_item second level (items_tokens token.Or more rest) ∙ close_items token.Or joins_or more level rest
+    focus_holds : (form : FocusForm) → Is (focus_depth form) (focus_tokens form)
+    focus_holds (concept run is) = along.symbol (digits run) refl along.nothing
+    focus_holds (concept_term run is) = along.symbol (digits run) refl (along.symbol (mark token.Term) refl along.nothing)
+    focus_holds any = along.symbol (mark token.Wildcard) refl along.nothing
+    focus_holds (round constraint) = along.round (constraint_holds constraint)
 
-  close_items : (kind : TokenKind) → IsJoint kind → (forms : ItemForms) (level : ℕ) (rest : List Symbol)
-      → behind_close level (items_tokens kind forms rest) ≡ behind_close level rest
-  close_items kind joint no_items level rest = refl
-  close_items kind joint (item_then item more) level rest =
-      close_joint kind joint level (item_tokens item (items_tokens kind more rest))
-      ∙ close_item item level (items_tokens kind more rest) ∙ close_items kind joint more level rest
+    pub refinement_holds : (form : RefinementForm) → Is (refinement_depth form) (refinement_tokens form)
+    refinement_holds (one_item item) = item_holds item
+    refinement_holds (all_items first second more) =
+        joined token.And refl (item_holds first) (item_holds second) (items_hold token.And refl more)
+    refinement_holds (some_items first second more) =
+        joined token.Or refl (item_holds first) (item_holds second) (items_hold token.Or refl more)
 
-  pub close_item : (form : ItemForm) (level : ℕ) (rest : List Symbol) → behind_close level (item_tokens form rest) ≡ behind_close level rest
-  close_item (attribute count reverse pair) level rest =
-      close_count count level (reverse_tokens reverse (pair_tokens pair rest))
-      ∙ close_reverse reverse level (pair_tokens pair rest) ∙ close_pair pair level rest
-  close_item (group count set) level rest =
-      close_count count level (mark token.BraceOpen ∷ set_tokens set (mark token.BraceClose ∷ rest)) ∙ close_set set level (mark token.BraceClose ∷ rest)
-  close_item (round_refinement refinement) level rest = close_refinement refinement (suc level) (mark token.RoundClose ∷ rest)
+    items_hold : (kind : TokenKind) → is_bracket kind ≡ false → (forms : ItemForms) → Is (items_depth forms) (items_tokens kind forms)
+    items_hold kind none no_items = along.nothing
+    items_hold kind none (item_then item more) = along.symbol (mark kind) none (along.behind (item_holds item) (items_hold kind none more))
 
-  pub close_set : (form : SetForm) (level : ℕ) (rest : List Symbol) → behind_close level (set_tokens form rest) ≡ behind_close level rest
-  close_set (one_part part) level rest = close_part part level rest
-  close_set (all_parts first second more) level rest =
-      close_part first level (mark token.And ∷ part_tokens second (parts_tokens token.And more rest))
-      ∙ close_part second level (parts_tokens token.And more rest) ∙ close_parts token.And joins_and more level rest
-  close_set (some_parts first second more) level rest =
-      close_part first level (mark token.Or ∷ part_tokens second (parts_tokens token.Or more rest))
-      ∙ close_part second level (parts_tokens token.Or more rest) ∙ close_parts token.Or joins_or more level rest
+    pub item_holds : (form : ItemForm) → Is (item_depth form) (item_tokens form)
+    item_holds (attribute count reverse pair) = counted count (reversed reverse (pair_holds pair))
+    item_holds (group count set) = counted count (along.brace (set_holds set))
+    item_holds (round_refinement refinement) = along.round (refinement_holds refinement)
 
-  close_parts : (kind : TokenKind) → IsJoint kind → (forms : PartForms) (level : ℕ) (rest : List Symbol)
-      → behind_close level (parts_tokens kind forms rest) ≡ behind_close level rest
-  close_parts kind joint no_parts level rest = refl
-  close_parts kind joint (part_then part more) level rest =
-      close_joint kind joint level (part_tokens part (parts_tokens kind more rest))
-      ∙ close_part part level (parts_tokens kind more rest) ∙ close_parts kind joint more level rest
+    pub set_holds : (form : SetForm) → Is (set_depth form) (set_tokens form)
+    set_holds (one_part part) = part_holds part
+    set_holds (all_parts first second more) =
+        joined token.And refl (part_holds first) (part_holds second) (parts_hold token.And refl more)
+    set_holds (some_parts first second more) =
+        joined token.Or refl (part_holds first) (part_holds second) (parts_hold token.Or refl more)
 
-  close_part : (form : PartForm) (level : ℕ) (rest : List Symbol) → behind_close level (part_tokens form rest) ≡ behind_close level rest
-  close_part (counted_part count pair) level rest = close_count count level (pair_tokens pair rest) ∙ close_pair pair level rest
-  close_part (round_set set) level rest = close_set set (suc level) (mark token.RoundClose ∷ rest)
+    parts_hold : (kind : TokenKind) → is_bracket kind ≡ false → (forms : PartForms) → Is (parts_depth forms) (parts_tokens kind forms)
+    parts_hold kind none no_parts = along.nothing
+    parts_hold kind none (part_then part more) = along.symbol (mark kind) none (along.behind (part_holds part) (parts_hold kind none more))
 
-  close_pair : (form : PairForm) (level : ℕ) (rest : List Symbol) → behind_close level (pair_tokens form rest) ≡ behind_close level rest
-  close_pair (within name value) level rest = close_sub name level (mark token.Equal ∷ sub_tokens value rest) ∙ close_sub value level rest
-  close_pair (outside name value) level rest = close_sub name level (mark token.NotEqual ∷ sub_tokens value rest) ∙ close_sub value level rest
-  close_pair (number name c text value is) level rest =
-      close_sub name level (mark (compare_kind c) ∷ decimal text ∷ rest) ∙ close_compare c level (decimal text ∷ rest)
+    pub part_holds : (form : PartForm) → Is (part_depth form) (part_tokens form)
+    part_holds (counted_part count pair) = counted count (pair_holds pair)
+    part_holds (round_set set) = along.round (set_holds set)
 
--- a form has a token at the least in front of what follows
-longer_count : (count : Option CountForm) (rest : List Symbol) → length rest ≤ length (counted_tokens count rest)
-longer_count None rest = omega arith
-longer_count (Some (at_least least is)) rest = omega arith
-longer_count (Some (between least most is also)) rest = omega arith
+    pair_holds : (form : PairForm) → Is (pair_depth form) (pair_tokens form)
+    pair_holds (within name value) = along.behind (sub_holds name) (along.symbol (mark token.Equal) refl (sub_holds value))
+    pair_holds (outside name value) = along.behind (sub_holds name) (along.symbol (mark token.NotEqual) refl (sub_holds value))
+    pair_holds (number name c text value is) =
+        along.lower (omega arith) (along.behind (sub_holds name)
+        (along.symbol (mark (compare_kind c)) (compare_no_bracket c) (along.symbol (decimal text) refl along.nothing)))
 
-longer_reverse : (reverse : Bool) (rest : List Symbol) → length rest ≤ length (reverse_tokens reverse rest)
-longer_reverse true rest = omega arith
-longer_reverse false rest = omega arith
+-- tokens in front of others: their round brackets close, and with them there are no fewer
+pub record IsClosed (tokens : List Symbol → List Symbol) : Type 0 where
+  pub closes : (level : ℕ) (rest : List Symbol) → behind_close level (tokens rest) ≡ behind_close level rest
+  pub longer : (rest : List Symbol) → length rest ≤ length (tokens rest)
 
-mutual
-  pub longer_constraint : (form : ConstraintForm) (rest : List Symbol) → length rest < length (constraint_tokens form rest)
-  longer_constraint (alone sub) rest = longer_sub sub rest
-  longer_constraint (refined focus refinement) rest =
-      omega (arith, longer_sub focus (mark token.Colon ∷ refinement_tokens refinement rest), longer_refinement refinement rest)
-  longer_constraint (conjunction first second more) rest =
-      omega (
-        arith,
-        longer_sub first (mark token.And ∷ sub_tokens second (subs_tokens token.And more rest)),
-        longer_sub second (subs_tokens token.And more rest),
-        longer_subs token.And more rest,
-      )
-  longer_constraint (disjunction first second more) rest =
-      omega (
-        arith,
-        longer_sub first (mark token.Or ∷ sub_tokens second (subs_tokens token.Or more rest)),
-        longer_sub second (subs_tokens token.Or more rest),
-        longer_subs token.Or more rest,
-      )
-  longer_constraint (exclusion first second) rest = omega (arith, longer_sub first (mark token.Minus ∷ sub_tokens second rest), longer_sub second rest)
-  longer_constraint (dotted start name more) rest =
-      omega (
-        arith,
-        longer_sub start (mark token.Dot ∷ sub_tokens name (subs_tokens token.Dot more rest)),
-        longer_sub name (subs_tokens token.Dot more rest),
-        longer_subs token.Dot more rest,
-      )
+no_bracket_closes : (symbol : Symbol) → is_bracket (kind_of_symbol symbol) ≡ false → (level : ℕ) (rest : List Symbol)
+    → behind_close level (symbol ∷ rest) ≡ behind_close level rest
+no_bracket_closes (mark token.RoundOpen) none level rest = absurd (cc)
+no_bracket_closes (mark token.RoundClose) none level rest = absurd (cc)
+no_bracket_closes other none level rest = refl
 
-  longer_subs : (kind : TokenKind) (forms : SubForms) (rest : List Symbol) → length rest ≤ length (subs_tokens kind forms rest)
-  longer_subs kind no_subs rest = omega arith
-  longer_subs kind (sub_then form more) rest = omega (arith, longer_sub form (subs_tokens kind more rest), longer_subs kind more rest)
-
-  longer_items : (kind : TokenKind) (forms : ItemForms) (rest : List Symbol) → length rest ≤ length (items_tokens kind forms rest)
-  longer_items kind no_items rest = omega arith
-  longer_items kind (item_then form more) rest = omega (arith, longer_item form (items_tokens kind more rest), longer_items kind more rest)
-
-  longer_parts : (kind : TokenKind) (forms : PartForms) (rest : List Symbol) → length rest ≤ length (parts_tokens kind forms rest)
-  longer_parts kind no_parts rest = omega arith
-  longer_parts kind (part_then form more) rest = omega (arith, longer_part form (parts_tokens kind more rest), longer_parts kind more rest)
-
-  pub longer_sub : (form : SubForm) (rest : List Symbol) → length rest < length (sub_tokens form rest)
-  longer_sub (plain focus) rest = longer_focus focus rest
-  longer_sub (member focus) rest = omega (arith, longer_focus focus rest)
-  longer_sub (walk o focus) rest = omega (arith, longer_focus focus rest)
-  longer_sub (walk_member o focus) rest = omega (arith, longer_focus focus rest)
-
-  pub longer_focus : (form : FocusForm) (rest : List Symbol) → length rest < length (focus_tokens form rest)
-  longer_focus (concept run is) rest = omega arith
-  longer_focus (concept_term run is) rest = omega arith
-  longer_focus any rest = omega arith
-  longer_focus (round constraint) rest = omega (arith, longer_constraint constraint (mark token.RoundClose ∷ rest))
-
-  pub longer_refinement : (form : RefinementForm) (rest : List Symbol) → length rest < length (refinement_tokens form rest)
-  longer_refinement (one_item form) rest = longer_item form rest
-  longer_refinement (all_items first second more) rest =
-      omega (
-        arith,
-        longer_item first (mark token.And ∷ item_tokens second (items_tokens token.And more rest)),
-        longer_item second (items_tokens token.And more rest),
-        longer_items token.And more rest,
-      )
-  longer_refinement (some_items first second more) rest =
-      omega (
-        arith,
-        longer_item first (mark token.Or ∷ item_tokens second (items_tokens token.Or more rest)),
-        longer_item second (items_tokens token.Or more rest),
-        longer_items token.Or more rest,
-      )
-
-  pub longer_set : (form : SetForm) (rest : List Symbol) → length rest < length (set_tokens form rest)
-  longer_set (one_part form) rest = longer_part form rest
-  longer_set (all_parts first second more) rest =
-      omega (
-        arith,
-        longer_part first (mark token.And ∷ part_tokens second (parts_tokens token.And more rest)),
-        longer_part second (parts_tokens token.And more rest),
-        longer_parts token.And more rest,
-      )
-  longer_set (some_parts first second more) rest =
-      omega (
-        arith,
-        longer_part first (mark token.Or ∷ part_tokens second (parts_tokens token.Or more rest)),
-        longer_part second (parts_tokens token.Or more rest),
-        longer_parts token.Or more rest,
-      )
-
-  pub longer_item : (form : ItemForm) (rest : List Symbol) → length rest < length (item_tokens form rest)
-  longer_item (attribute count reverse pair) rest =
-      omega (
-        arith,
-        longer_count count (reverse_tokens reverse (pair_tokens pair rest)),
-        longer_reverse reverse (pair_tokens pair rest),
-        longer_pair pair rest,
-      )
-  longer_item (group count set) rest =
-      omega (
-        arith,
-        longer_count count (mark token.BraceOpen ∷ set_tokens set (mark token.BraceClose ∷ rest)),
-        longer_set set (mark token.BraceClose ∷ rest),
-      )
-  longer_item (round_refinement refinement) rest = omega (arith, longer_refinement refinement (mark token.RoundClose ∷ rest))
-
-  pub longer_part : (form : PartForm) (rest : List Symbol) → length rest < length (part_tokens form rest)
-  longer_part (counted_part count pair) rest = omega (arith, longer_count count (pair_tokens pair rest), longer_pair pair rest)
-  longer_part (round_set set) rest = omega (arith, longer_set set (mark token.RoundClose ∷ rest))
-
-  pub longer_pair : (form : PairForm) (rest : List Symbol) → length rest < length (pair_tokens form rest)
-  longer_pair (within name value) rest = omega (arith, longer_sub name (mark token.Equal ∷ sub_tokens value rest), longer_sub value rest)
-  longer_pair (outside name value) rest = omega (arith, longer_sub name (mark token.NotEqual ∷ sub_tokens value rest), longer_sub value rest)
-  longer_pair (number name c text value is) rest = omega (arith, longer_sub name (mark (compare_kind c) ∷ decimal text ∷ rest))
+-- so are the tokens of each form
+pub forms_closed : HoldsOfForms (λ depth tokens. IsClosed tokens)
+forms_closed = record {
+  nothing = record { closes = λ level rest. refl; longer = λ rest. omega arith };
+  symbol = λ {tokens = tokens} symbol none inside. record {
+    closes = λ level rest. no_bracket_closes symbol none level (tokens rest) ∙ inside.closes level rest;
+    longer = λ rest. omega (arith, inside.longer rest);
+  };
+  behind = λ {more = more} first second. record {
+    closes = λ level rest. first.closes level (more rest) ∙ second.closes level rest;
+    longer = λ rest. omega (arith, first.longer (more rest), second.longer rest);
+  };
+  round = λ inside. record {
+    closes = λ level rest. inside.closes (suc level) (mark token.RoundClose ∷ rest);
+    longer = λ rest. omega (arith, inside.longer (mark token.RoundClose ∷ rest));
+  };
+  brace = λ inside. record {
+    closes = λ level rest. inside.closes level (mark token.BraceClose ∷ rest);
+    longer = λ rest. omega (arith, inside.longer (mark token.BraceClose ∷ rest));
+  };
+  lower = λ less inside. inside;
+}

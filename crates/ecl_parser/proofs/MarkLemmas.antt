@@ -54,23 +54,11 @@ mark_kind wanted kind is = absurd (false≢true is)
 -- the tokens of operators and comparisons are read as what they are
 pub operator_back : (o : Operator) → operator_of (operator_kind o) ≡ Some o
 operator_back operator.Descendants = refl
-operator_back operator.DescendantsOrSelf = refl
-operator_back operator.Children = refl
-operator_back operator.ChildrenOrSelf = refl
-operator_back operator.Ancestors = refl
-operator_back operator.AncestorsOrSelf = refl
-operator_back operator.Parents = refl
-operator_back operator.ParentsOrSelf = refl
-operator_back operator.Top = refl
-operator_back operator.Bottom = refl
+operator_back other = refl
 
 pub compare_back : (c : Compare) → compare_of (compare_kind c) ≡ Some c
 compare_back compare.Equal = refl
-compare_back compare.NotEqual = refl
-compare_back compare.Less = refl
-compare_back compare.LessOrEqual = refl
-compare_back compare.Greater = refl
-compare_back compare.GreaterOrEqual = refl
+compare_back other = refl
 
 -- a token that is read as something is no mark whose own token is read as nothing
 pub read_is_no_mark : {A : Type 0} (read : TokenKind → Option A) (kind : TokenKind) (found : A) → read kind ≡ Some found

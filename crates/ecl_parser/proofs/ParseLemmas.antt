@@ -5,7 +5,7 @@ use Rattle.std.proofs.lemmas.Bool.{false≢true}
 use Rattle.std.proofs.lemmas.List.{length-map}
 use Rattle.ecl_lexer.specs.Tokens.{AreTokensOf, IsFaultOf, IsReadable, Spelled, spelled}
 use Rattle.ecl_lexer.specs.declared.fault.QueryFault.{QueryFault}
-use Rattle.ecl_lexer.specs.declared.fault.QueryFault.TheVariants.{Long, Utf8, Token as NoToken, Unsupported, Limit, Depth, Syntax, Memory}
+use Rattle.ecl_lexer.specs.declared.fault.QueryFault.TheVariants.{Depth, Syntax, Memory}
 use Rattle.ecl_lexer.specs.declared.token.Token.{Token}
 use Rattle.ecl_lexer.proofs.FaultLemmas.{same_fault, same_tokens, tokens_no_fault}
 use Rattle.constraint_tree.specs.Grammar.{HaveOneTree, IsTreeOf, Symbol, constraint_tree, symbol_of}
@@ -61,12 +61,7 @@ pub none_read : (fault : QueryFault) (tokens : List Token) → is_deep 0 (map sp
     → Fails fault (constraint_in (readers 64) (symbols_from tokens 0)) → AreFaulty (map spelled tokens) fault
 none_read Memory tokens shallow fails = tt
 none_read Syntax tokens shallow fails = (shallow, λ tree is. let read = tree_read tokens tree shallow is in (cc))
-none_read Long tokens shallow fails = fails
-none_read Utf8 tokens shallow fails = fails
-none_read (NoToken offset) tokens shallow fails = fails
-none_read (Unsupported offset feature) tokens shallow fails = fails
-none_read (Limit offset) tokens shallow fails = fails
-none_read Depth tokens shallow fails = absurd fails
+none_read other tokens shallow fails = absurd fails
 
 pub left_over : (tokens : List Token) (at : ℕ) (found : Tree) → is_deep 0 (map spelled tokens) ≡ false → at < length tokens
     → constraint_in (readers 64) (symbols_from tokens 0) ≡ Some (found, symbols_from tokens at) → AreFaulty (map spelled tokens) Syntax
@@ -91,12 +86,7 @@ nothing_read inner = refl
 pub refusal_of_text : (text : List ℕ) (fault : QueryFault) → IsFaultOf text fault → IsRefusalOf text fault
 refusal_of_text text Depth is = absurd is
 refusal_of_text text Syntax is = absurd is
-refusal_of_text text Memory is = is
-refusal_of_text text Long is = is
-refusal_of_text text Utf8 is = is
-refusal_of_text text (NoToken offset) is = is
-refusal_of_text text (Unsupported offset feature) is = is
-refusal_of_text text (Limit offset) is = is
+refusal_of_text text other is = is
 
 -- tokens have one tree at the most
 pub trees_equal : HaveOneTree
@@ -120,13 +110,7 @@ constraint_not_refused text tree Depth is (readable, tokens, are, deep) =
     false≢true (sym is.shallow ∙ ap (is_deep 0) (same_tokens text is.tokens tokens is.are_tokens are) ∙ deep)
 constraint_not_refused text tree Syntax is (readable, tokens, are, shallow, none) =
     none tree (subst (λ (ts : List Spelled). IsTreeOf ts tree) (same_tokens text is.tokens tokens is.are_tokens are) is.is_tree)
-constraint_not_refused text tree Memory is refused = refused
-constraint_not_refused text tree Long is refused = tokens_no_fault text is.tokens Long is.readable is.are_tokens refused
-constraint_not_refused text tree Utf8 is refused = tokens_no_fault text is.tokens Utf8 is.readable is.are_tokens refused
-constraint_not_refused text tree (NoToken offset) is refused = tokens_no_fault text is.tokens (NoToken offset) is.readable is.are_tokens refused
-constraint_not_refused text tree (Unsupported offset feature) is refused =
-    tokens_no_fault text is.tokens (Unsupported offset feature) is.readable is.are_tokens refused
-constraint_not_refused text tree (Limit offset) is refused = tokens_no_fault text is.tokens (Limit offset) is.readable is.are_tokens refused
+constraint_not_refused text tree other is refused = tokens_no_fault text is.tokens other is.readable is.are_tokens refused
 
 -- a text has one refusal at the most: of its tokens, or before there are any
 deep_not_syntax : (text : List ℕ) → IsRefusalOf text Depth → IsRefusalOf text Syntax → ⊥
@@ -148,12 +132,7 @@ data Kinds (text : List ℕ) (fault : QueryFault) : Type 0 where
 kind_of_refusal : (text : List ℕ) (fault : QueryFault) → IsRefusalOf text fault → Kinds text fault
 kind_of_refusal text Depth is = is_deep_one refl is
 kind_of_refusal text Syntax is = is_syntax_one refl is
-kind_of_refusal text Memory is = is_lexical is
-kind_of_refusal text Long is = is_lexical is
-kind_of_refusal text Utf8 is = is_lexical is
-kind_of_refusal text (NoToken offset) is = is_lexical is
-kind_of_refusal text (Unsupported offset feature) is = is_lexical is
-kind_of_refusal text (Limit offset) is = is_lexical is
+kind_of_refusal text other is = is_lexical is
 
 same_kinds : (text : List ℕ) (one other : QueryFault) → Kinds text one → Kinds text other → one ≡ other
 same_kinds text one other (is_deep_one a first) (is_deep_one b second) = a ∙ sym b
@@ -198,11 +177,7 @@ right_of_tokens text tokens (Ok found) readable are shallow tree fault =
 right_of_tokens text tokens (Err Memory) readable are shallow tree fault = (tt, inl refl)
 right_of_tokens text tokens (Err Depth) readable are shallow tree fault = (tt, inr (readable, tokens, are, fault))
 right_of_tokens text tokens (Err Syntax) readable are shallow tree fault = (tt, inr (readable, tokens, are, fault.0, fault.1))
-right_of_tokens text tokens (Err Long) readable are shallow tree fault = absurd fault
-right_of_tokens text tokens (Err Utf8) readable are shallow tree fault = absurd fault
-right_of_tokens text tokens (Err (NoToken offset)) readable are shallow tree fault = absurd fault
-right_of_tokens text tokens (Err (Unsupported offset feature)) readable are shallow tree fault = absurd fault
-right_of_tokens text tokens (Err (Limit offset)) readable are shallow tree fault = absurd fault
+right_of_tokens text tokens (Err other) readable are shallow tree fault = absurd fault
 
 -- and so is a refusal before there are tokens
 pub right_of_fault : (text : List ℕ) (fault : QueryFault) → (fault ≡ Memory) ⊎ IsFaultOf text fault → IsRight text (Err fault)

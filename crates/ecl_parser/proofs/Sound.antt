@@ -1,5 +1,5 @@
 -- What reading finds is the tree of a form in front of the tokens that are left.
-use Rattle.std.proofs.Common.{◌≡◌, ◌⊎◌, inl, inr, ℕ, zero, suc, ℤ, Bool, true, false, cond, List, [], ◌∷◌, drop, map, Option, None, Some, refl, ap, sym, ◌∙◌, subst}
+use Rattle.std.proofs.Common.{◌≡◌, ◌⊎◌, inl, inr, ℕ, zero, suc, ℤ, Bool, true, false, cond, List, [], ◌∷◌, drop, Option, None, Some, refl, ap, sym, ◌∙◌, subst}
 use Rattle.std.specs.Prelude.{IsTrue}
 use Rattle.numerals.specs.Numbers.{is_number, number_of}
 use Rattle.numerals.specs.Decimals.{decimal_of}
@@ -8,10 +8,10 @@ use Rattle.constraint_tree.specs.declared.operator.Compare.{Compare}
 use Rattle.constraint_tree.specs.declared.operator.Compare.TheVariants as compare
 use Rattle.ecl_lexer.specs.declared.token.TokenKind.TheVariants as token
 use Rattle.constraint_tree.specs.Grammar.{Symbol, digits, decimal, mark, CountForm, ConstraintForm, alone, refined, exclusion, dotted, SubForm, plain, member, walk, walk_member, concept, concept_term, any, round, attribute, group, round_refinement, counted_part, round_set, PairForm, within, outside, number, operator_kind, compare_kind, counted_tokens, constraint_tokens, sub_tokens, focus_tokens, refinement_tokens, item_tokens, set_tokens, part_tokens, pair_tokens, cardinality_of, constraint_tree, sub_tree, focus_tree, refinement_tree, item_tree, set_tree, part_tree, pair_tree}
-use Rattle.constraint_tree.specs.Tree.{Tree, concept_tree, any_tree, member_tree, walk_tree, minus_tree, refined_tree, trees_from, tree_then, and_tree, or_tree, dotted_tree, RefinementTree, one_refinement, group_refinement, refinements_from, and_refinement, or_refinement, one_set, sets_from, and_set, or_set, AttributeTree, attribute_tree, TestTree, within_test, outside_test, number_test}
+use Rattle.constraint_tree.specs.Tree.{Tree, concept_tree, any_tree, member_tree, walk_tree, minus_tree, refined_tree, trees_from, dotted_tree, RefinementTree, one_refinement, group_refinement, one_set, AttributeTree, attribute_tree, TestTree, within_test, outside_test, number_test}
 use Rattle.ecl_parser.specs.inside.Reading.{◌>>=◌, Readers, all_behind, behind, behind_term, bracketed_at, closed, compare_at, constraint_behind, constraint_in, count_at, digits_at, focus_in, item_behind, item_in, member_in, number_at, operator_at, otherwise, pair_in, part_in, readers, refinement_behind, refinement_in, set_behind, set_in, stands, sub_in, test_in, value_test, with_front}
 use Rattle.ecl_parser.specs.declared.tokens.Mark.TheVariants as marks
-use Rattle.ecl_parser.proofs.SoundParts.{AreSound, Derives, IsSound, behind_is, bind_some, bracketed_is, closed_some, compare_is, conjunctions, count_sound, digits_is, disjunctions, either_some, forms_sound, joined_refinements, joined_sets, joined_sound, joint_sound, made, number_is, operator_is, otherwise_some, subs_of, subs_of-tokens, subs_of-trees}
+use Rattle.ecl_parser.proofs.SoundParts.{AreSound, Derives, IsSound, behind_is, bind_some, bracketed_is, closed_some, compare_is, conjunctions, count_sound, digits_is, disjunctions, either_some, forms_sound, joined_refinements, joined_sets, joined_sound, joints_sound, made, number_is, operator_is, otherwise_some, several_items, several_parts, several_subs}
 
 module _ (inner : Readers) (sound : AreSound inner) where
   focus_sound : IsSound focus_tokens focus_tree (focus_in inner)
@@ -304,100 +304,85 @@ module _ (inner : Readers) (sound : AreSound inner) where
 
   set_sound : IsSound set_tokens set_tree (set_in inner)
   unfolding set_in set_behind
-  set_sound = forms_sound (part_in inner) part_sound (λ parts. and_set (sets_from parts)) (λ parts. or_set (sets_from parts)) joined_sets
+  set_sound = forms_sound several_parts (part_in inner) part_sound joined_sets
 
   refinement_sound : IsSound refinement_tokens refinement_tree (refinement_in inner)
   unfolding refinement_in refinement_behind
-  refinement_sound =
-      forms_sound (item_in inner) item_sound (λ parts. and_refinement (refinements_from parts))
-      (λ parts. or_refinement (refinements_from parts)) joined_refinements
+  refinement_sound = forms_sound several_items (item_in inner) item_sound joined_refinements
 
-  constraint_sound : IsSound constraint_tokens constraint_tree (constraint_in inner)
-  unfolding constraint_in constraint_behind
-  constraint_sound tokens rest tree is =
-      let first = bind_some (sub_in inner tokens) (constraint_behind inner) (tree, rest) is in
-      let form = sub_sound tokens first.0.1 first.0.0 first.1 in
-      let tail = first.0.1 in
+  -- a Sub, and what is read behind it
+  behind_sound : (tokens tail rest : List Symbol) (first tree : Tree) → Derives sub_tokens sub_tree tokens first tail
+      → constraint_behind inner first tail ≡ Some (tree, rest) → Derives constraint_tokens constraint_tree tokens tree rest
+  unfolding constraint_behind
+  behind_sound tokens tail rest first tree (sub, front, first_is) is =
       let plain_or : Option (Tree × List Symbol) =
-      otherwise (behind marks.Colon tail) (otherwise (behind marks.Minus tail) (Some (first.0.0, tail))
-      (λ left. sub_in inner left >>= λ second after. Some (minus_tree first.0.0 second, after)))
-      (λ left. refinement_in inner left >>= λ refinement after. Some (refined_tree first.0.0 refinement, after)) in
+      otherwise (behind marks.Colon tail) (otherwise (behind marks.Minus tail) (Some (first, tail))
+      (λ left. sub_in inner left >>= λ second after. Some (minus_tree first second, after)))
+      (λ left. refinement_in inner left >>= λ refinement after. Some (refined_tree first refinement, after)) in
       let dotted_or : Option (Tree × List Symbol) =
       cond (stands marks.Dot tail) (with_front [] (all_behind (sub_in inner) marks.Dot tail) >>= λ names left.
-      Some (dotted_tree first.0.0 (trees_from names), left)) plain_or in
-      let joined_or : Option (Tree × List Symbol) =
-      cond (stands marks.Or tail) (with_front (first.0.0 ∷ []) (all_behind (sub_in inner) marks.Or tail) >>=
-      λ parts left. Some (or_tree (trees_from parts), left)) dotted_or in
-      elim (either_some (stands marks.And tail)
-      (with_front (first.0.0 ∷ []) (all_behind (sub_in inner) marks.And tail) >>= λ parts left. Some
-      (and_tree (trees_from parts), left)) joined_or (tree, rest) first.2) [
-        | inl (stood, read) ↦
-            joint_sound (sub_in inner) sub_sound marks.And
-            (λ parts. and_tree (trees_from parts)) conjunctions form.0 tokens tail rest first.0.0 tree form.1 form.2 stood read
-        | inr (no_and, next) ↦
-            elim (either_some (stands marks.Or tail)
-            (with_front (first.0.0 ∷ []) (all_behind (sub_in inner) marks.Or tail) >>= λ parts left. Some
-            (or_tree (trees_from parts), left)) dotted_or (tree, rest) next) [
+      Some (dotted_tree first (trees_from names), left)) plain_or in
+      elim (joints_sound several_subs (sub_in inner) sub_sound conjunctions disjunctions tokens tail rest first tree dotted_or (sub, front, first_is) is) [
+        | inl form ↦ form
+        | inr next' ↦
+            elim (either_some (stands marks.Dot tail)
+            (with_front [] (all_behind (sub_in inner) marks.Dot tail) >>= λ names left. Some
+            (dotted_tree first (trees_from names), left)) plain_or (tree, rest) next') [
               | inl (stood, read) ↦
-                  joint_sound (sub_in inner) sub_sound marks.Or
-                  (λ parts. or_tree (trees_from parts)) disjunctions form.0 tokens tail rest first.0.0 tree form.1
-                  form.2 stood read
-              | inr (no_or, next') ↦
-                  elim (either_some (stands marks.Dot tail)
-                  (with_front [] (all_behind (sub_in inner) marks.Dot tail) >>= λ names left. Some
-                  (dotted_tree first.0.0 (trees_from names), left)) plain_or (tree, rest) next') [
-                    | inl (stood, read) ↦
-                        let list = joined_sound sub_tokens sub_tree (sub_in inner) sub_sound
-                        (λ names. dotted_tree first.0.0 (trees_from names)) [] marks.Dot tail rest tree stood read in (
-                          dotted form.0 list.0 (subs_of list.1),
-                          form.1 ∙ ap (sub_tokens form.0) (list.2 ∙ ap (λ after. mark token.Dot
-                              ∷ sub_tokens list.0 after) (subs_of-tokens token.Dot list.1 rest)),
-                          list.3 ∙ ap (λ (t : Tree). dotted_tree t
-                              (trees_from (sub_tree list.0 ∷ map sub_tree list.1))) form.2
-                              ∙ ap (λ more. dotted_tree (sub_tree form.0) (tree_then (sub_tree list.0) more)) (subs_of-trees list.1),
-                        )
-                    | inr (no_dot, next'') ↦
-                        elim (otherwise_some (behind marks.Colon tail)
-                        (otherwise (behind marks.Minus tail) (Some (first.0.0, tail))
-                        (λ left. sub_in inner left >>= λ second after. Some (minus_tree first.0.0 second, after)))
-                        (λ left. refinement_in inner left >>= λ refinement after. Some
-                        (refined_tree first.0.0 refinement, after)) (tree, rest) next'') [
-                          | inl (no_colon, last) ↦
-                              elim (otherwise_some (behind marks.Minus tail) (Some (first.0.0, tail))
-                              (λ left. sub_in inner left >>= λ second after. Some
-                              (minus_tree first.0.0 second, after)) (tree, rest) last) [
-                                | inl (no_minus, end) ↦
-                                    let same : (first.0.0, tail) ≡ (tree, rest) = (cc) in (
-                                      alone form.0,
-                                      form.1 ∙ ap (λ (p : Tree × List Symbol). sub_tokens form.0 p.1)
-                                          same,
-                                      sym (ap (λ (p : Tree × List Symbol). p.0) same) ∙ form.2,
-                                    )
-                                | inr (left, found, end) ↦
-                                    let read = bind_some (sub_in inner left) (λ second after. Some (minus_tree first.0.0 second, after)) (tree, rest) end in
-                                    let same : (minus_tree first.0.0 read.0.0, read.0.1) ≡ (tree, rest) = (cc) in
-                                    let second = sub_sound left rest read.0.0 (read.1 ∙ ap (λ (p : Tree × List Symbol). Some (read.0.0, p.1)) same) in (
-                                      exclusion form.0 second.0,
-                                      form.1 ∙ ap (sub_tokens form.0) (behind_is marks.Minus tail left found ∙ ap (λ after. mark token.Minus ∷ after) second.1),
-                                      sym (ap (λ (p : Tree × List Symbol). p.0) same)
-                                          ∙ ap (λ (t : Tree). minus_tree t read.0.0) form.2
-                                          ∙ ap (minus_tree (sub_tree form.0)) second.2,
-                                    )
-                              ]
+                  let (names, (name, more, tail_is, names_are), whole) =
+                  joined_sound several_subs (sub_in inner) sub_sound marks.Dot
+                  (λ names. dotted_tree first (trees_from names)) [] tail rest tree stood read in (
+                    dotted sub name more,
+                    front ∙ ap (sub_tokens sub) tail_is,
+                    whole ∙ ap (λ (t : Tree). dotted_tree t (trees_from names)) first_is ∙ ap (dotted_tree (sub_tree sub)) names_are,
+                  )
+              | inr (no_dot, next'') ↦
+                  elim (otherwise_some (behind marks.Colon tail)
+                  (otherwise (behind marks.Minus tail) (Some (first, tail))
+                  (λ left. sub_in inner left >>= λ second after. Some (minus_tree first second, after)))
+                  (λ left. refinement_in inner left >>= λ refinement after. Some
+                  (refined_tree first refinement, after)) (tree, rest) next'') [
+                    | inl (no_colon, last) ↦
+                        elim (otherwise_some (behind marks.Minus tail) (Some (first, tail))
+                        (λ left. sub_in inner left >>= λ second after. Some
+                        (minus_tree first second, after)) (tree, rest) last) [
+                          | inl (no_minus, end) ↦
+                              let same : (first, tail) ≡ (tree, rest) = (cc) in (
+                                alone sub,
+                                front ∙ ap (λ (p : Tree × List Symbol). sub_tokens sub p.1)
+                                    same,
+                                sym (ap (λ (p : Tree × List Symbol). p.0) same) ∙ first_is,
+                              )
                           | inr (left, found, end) ↦
-                              let read = bind_some (refinement_in inner left)
-                              (λ refinement after. Some (refined_tree first.0.0 refinement, after)) (tree, rest) end in
-                              let same : (refined_tree first.0.0 read.0.0, read.0.1) ≡ (tree, rest) = (cc) in
-                              let what = refinement_sound left rest read.0.0 (read.1 ∙ ap (λ (p : Tree × List Symbol). Some (read.0.0, p.1)) same) in (
-                                refined form.0 what.0,
-                                form.1 ∙ ap (sub_tokens form.0) (behind_is marks.Colon tail left found ∙ ap (λ after. mark token.Colon ∷ after) what.1),
+                              let read = bind_some (sub_in inner left) (λ second after. Some (minus_tree first second, after)) (tree, rest) end in
+                              let same : (minus_tree first read.0.0, read.0.1) ≡ (tree, rest) = (cc) in
+                              let second = sub_sound left rest read.0.0 (read.1 ∙ ap (λ (p : Tree × List Symbol). Some (read.0.0, p.1)) same) in (
+                                exclusion sub second.0,
+                                front ∙ ap (sub_tokens sub) (behind_is marks.Minus tail left found ∙ ap (λ after. mark token.Minus ∷ after) second.1),
                                 sym (ap (λ (p : Tree × List Symbol). p.0) same)
-                                    ∙ ap (λ (t : Tree). refined_tree t read.0.0) form.2 ∙ ap (refined_tree (sub_tree form.0)) what.2,
+                                    ∙ ap (λ (t : Tree). minus_tree t read.0.0) first_is
+                                    ∙ ap (minus_tree (sub_tree sub)) second.2,
                               )
                         ]
+                    | inr (left, found, end) ↦
+                        let read = bind_some (refinement_in inner left)
+                        (λ refinement after. Some (refined_tree first refinement, after)) (tree, rest) end in
+                        let same : (refined_tree first read.0.0, read.0.1) ≡ (tree, rest) = (cc) in
+                        let what = refinement_sound left rest read.0.0 (read.1 ∙ ap (λ (p : Tree × List Symbol). Some (read.0.0, p.1)) same) in (
+                          refined sub what.0,
+                          front ∙ ap (sub_tokens sub) (behind_is marks.Colon tail left found ∙ ap (λ after. mark token.Colon ∷ after) what.1),
+                          sym (ap (λ (p : Tree × List Symbol). p.0) same)
+                              ∙ ap (λ (t : Tree). refined_tree t read.0.0) first_is ∙ ap (refined_tree (sub_tree sub)) what.2,
+                        )
                   ]
             ]
       ]
+
+  constraint_sound : IsSound constraint_tokens constraint_tree (constraint_in inner)
+  unfolding constraint_in
+  constraint_sound tokens rest tree is =
+      let first = bind_some (sub_in inner tokens) (constraint_behind inner) (tree, rest) is in
+      behind_sound tokens first.0.1 rest first.0.0 tree (sub_sound tokens first.0.1 first.0.0 first.1) first.2
 
 -- so is what stands in brackets, however many are open
 readers_sound : (most : ℕ) → AreSound (readers most)

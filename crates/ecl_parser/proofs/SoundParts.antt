@@ -1,5 +1,5 @@
 -- What the readers of marks, of lists and of joined forms find, for `Sound`.
-use Rattle.std.proofs.Common.{◌≡◌, ◌⊎◌, inl, inr, ℕ, zero, suc, ℤ, Bool, true, false, cond, List, [], ◌∷◌, ◌++◌, length, drop, map, Option, None, Some, option_map, refl, ap, sym, ◌∙◌}
+use Rattle.std.proofs.Common.{◌≡◌, ◌⊎◌, inl, inr, ℕ, zero, suc, ℤ, Bool, true, false, cond, List, [], ◌∷◌, ◌++◌, length, drop, Option, None, Some, option_map, refl, ap, sym, ◌∙◌}
 use Rattle.std.specs.Prelude.{IsTrue, is_some}
 use Rattle.numerals.specs.Numbers.{is_number, number_of}
 use Rattle.numerals.specs.Decimals.{decimal_of}
@@ -10,8 +10,8 @@ use Rattle.constraint_tree.specs.declared.operator.Operator.{Operator}
 use Rattle.constraint_tree.specs.declared.operator.Operator.TheVariants as operator
 use Rattle.ecl_lexer.specs.declared.token.TokenKind.{TokenKind}
 use Rattle.ecl_lexer.specs.declared.token.TokenKind.TheVariants as token
-use Rattle.constraint_tree.specs.Grammar.{Symbol, digits, decimal, mark, CountForm, at_least, between, conjunction, disjunction, SubForms, no_subs, sub_then, SubForm, one_item, all_items, some_items, ItemForms, no_items, item_then, ItemForm, one_part, all_parts, some_parts, PartForms, no_parts, part_then, PartForm, operator_kind, compare_kind, counted_tokens, constraint_tokens, subs_tokens, sub_tokens, refinement_tokens, items_tokens, item_tokens, set_tokens, parts_tokens, part_tokens, cardinality_of, constraint_tree, sub_trees, sub_tree, refinement_tree, item_trees, item_tree, set_tree, part_trees, part_tree}
-use Rattle.constraint_tree.specs.Tree.{Tree, trees_from, tree_then, and_tree, or_tree, refinements_from, refinement_then, and_refinement, or_refinement, sets_from, set_then, and_set, or_set, AttributeTree}
+use Rattle.constraint_tree.specs.Grammar.{Symbol, digits, decimal, mark, CountForm, at_least, between, conjunction, disjunction, no_subs, sub_then, one_item, all_items, some_items, no_items, item_then, one_part, all_parts, some_parts, no_parts, part_then, operator_kind, compare_kind, counted_tokens, constraint_tokens, subs_tokens, sub_tokens, refinement_tokens, items_tokens, item_tokens, set_tokens, parts_tokens, part_tokens, cardinality_of, constraint_tree, sub_trees, sub_tree, refinement_tree, item_trees, item_tree, set_tree, part_trees, part_tree}
+use Rattle.constraint_tree.specs.Tree.{trees_from, tree_then, and_tree, or_tree, refinements_from, refinement_then, and_refinement, or_refinement, sets_from, set_then, and_set, or_set, AttributeTree}
 use Rattle.ecl_parser.specs.inside.Reading.{◌>>=◌, Found, Readers, all_behind, behind, behind_close, bounds_at, bracketed_at, closed, compare_at, compare_of, count_at, digits_at, is_mark, many, most_at, number_at, operator_at, operator_of, otherwise, some_or_more, stands, with_front}
 use Rattle.ecl_parser.specs.declared.tokens.Mark.{Mark}
 use Rattle.ecl_parser.specs.declared.tokens.Mark.TheVariants as marks
@@ -33,6 +33,12 @@ map_some : {A B : Type 0} (f : A → B) (item : Option A) (answer : B) → optio
 map_some f None answer is = (cc)
 map_some f (Some found) answer is = (found, refl, (cc))
 
+front_some : {A : Type 0} (item : Option A) (answer : A) (more rest : List Symbol)
+    → option_map {U = A × List Symbol} (λ found. (found, more)) item ≡ Some (answer, rest) → (item ≡ Some answer) × (more ≡ rest)
+front_some {A} item answer more rest is =
+    let found = map_some (λ (found : A). (found, more)) item (answer, rest) is in
+    (found.1 ∙ ap (λ x. Some x) (ap (λ (p : A × List Symbol). p.0) found.2), ap (λ (p : A × List Symbol). p.1) found.2)
+
 if_some : {A : Type 0} (test : Bool) (found : A) (answer : A) → cond test (Some found) None ≡ Some answer → (test ≡ true) × (found ≡ answer)
 if_some true found answer is = (refl, (cc))
 if_some false found answer is = (cc)
@@ -50,12 +56,10 @@ closed_some wanted (Some read) item rest is =
 
 -- what stands in front, where it is read
 pub behind_is : (wanted : Mark) (tokens rest : List Symbol) → behind wanted tokens ≡ Some rest → tokens ≡ mark (kind_of wanted) ∷ rest
-behind_is wanted [] rest is = (cc)
-behind_is wanted (digits run ∷ more) rest is = (cc)
-behind_is wanted (decimal text ∷ more) rest is = (cc)
 behind_is wanted (mark kind ∷ more) rest is =
     let found = if_some (is_mark wanted kind) more rest is in
     ap (λ k. mark k ∷ more) (mark_kind wanted kind found.0) ∙ ap (λ left. mark (kind_of wanted) ∷ left) found.1
+behind_is wanted other rest is = (cc)
 
 operator_kind_is : (kind : TokenKind) (o : Operator) → operator_of kind ≡ Some o → kind ≡ operator_kind o
 operator_kind_is token.DescendantOf o is = let same : operator.Descendants ≡ o = (cc) in ap operator_kind same
@@ -71,14 +75,10 @@ operator_kind_is token.Bottom o is = let same : operator.Bottom ≡ o = (cc) in 
 operator_kind_is kind o is = (cc)
 
 pub operator_is : (tokens rest : List Symbol) (o : Operator) → operator_at tokens ≡ Some (o, rest) → tokens ≡ mark (operator_kind o) ∷ rest
-operator_is [] rest o is = (cc)
-operator_is (digits run ∷ more) rest o is = (cc)
-operator_is (decimal text ∷ more) rest o is = (cc)
 operator_is (mark kind ∷ more) rest o is =
-    let found = map_some (λ (operator : Operator). (operator, more)) (operator_of kind) (o, rest) is in
-    let same : found.0 ≡ o = ap (λ (p : Operator × List Symbol). p.0) found.2 in
-    ap (λ k. mark k ∷ more) (operator_kind_is kind found.0 found.1 ∙ ap operator_kind same)
-    ∙ ap (λ left. mark (operator_kind o) ∷ left) (ap (λ (p : Operator × List Symbol). p.1) found.2)
+    let found = front_some (operator_of kind) o more rest is in
+    ap (λ k. mark k ∷ more) (operator_kind_is kind o found.0) ∙ ap (λ left. mark (operator_kind o) ∷ left) found.1
+operator_is other rest o is = (cc)
 
 compare_kind_is : (kind : TokenKind) (c : Compare) → compare_of kind ≡ Some c → kind ≡ compare_kind c
 compare_kind_is token.Equal c is = let same : compare.Equal ≡ c = (cc) in ap compare_kind same
@@ -90,32 +90,24 @@ compare_kind_is token.GreaterOrEqual c is = let same : compare.GreaterOrEqual �
 compare_kind_is kind c is = (cc)
 
 pub compare_is : (tokens rest : List Symbol) (c : Compare) → compare_at tokens ≡ Some (c, rest) → tokens ≡ mark (compare_kind c) ∷ rest
-compare_is [] rest c is = (cc)
-compare_is (digits run ∷ more) rest c is = (cc)
-compare_is (decimal text ∷ more) rest c is = (cc)
 compare_is (mark kind ∷ more) rest c is =
-    let found = map_some (λ (compare : Compare). (compare, more)) (compare_of kind) (c, rest) is in
-    let same : found.0 ≡ c = ap (λ (p : Compare × List Symbol). p.0) found.2 in
-    ap (λ k. mark k ∷ more) (compare_kind_is kind found.0 found.1 ∙ ap compare_kind same)
-    ∙ ap (λ left. mark (compare_kind c) ∷ left) (ap (λ (p : Compare × List Symbol). p.1) found.2)
+    let found = front_some (compare_of kind) c more rest is in
+    ap (λ k. mark k ∷ more) (compare_kind_is kind c found.0) ∙ ap (λ left. mark (compare_kind c) ∷ left) found.1
+compare_is other rest c is = (cc)
 
 pub digits_is : (least : ℕ) (tokens rest : List Symbol) (n : ℕ) → digits_at least tokens ≡ Some (n, rest)
     → (run : List ℕ) × (IsTrue (is_number least 18 run)) × (tokens ≡ digits run ∷ rest) × (n ≡ number_of run)
-digits_is least [] rest n is = (cc)
-digits_is least (mark kind ∷ more) rest n is = (cc)
-digits_is least (decimal text ∷ more) rest n is = (cc)
 digits_is least (digits run ∷ more) rest n is =
     let found = if_some (is_number least 18 run) (number_of run, more) (n, rest) is in
     (run, found.0, ap (λ left. digits run ∷ left) (ap (λ (p : ℕ × List Symbol). p.1) found.1), sym (ap (λ (p : ℕ × List Symbol). p.0) found.1))
+digits_is least other rest n is = (cc)
 
 pub number_is : (tokens rest : List Symbol) (value : ℤ) → number_at tokens ≡ Some (value, rest)
     → (text : List ℕ) × (decimal_of (drop 1 text) ≡ Some value) × (tokens ≡ decimal text ∷ rest)
-number_is [] rest value is = (cc)
-number_is (mark kind ∷ more) rest value is = (cc)
-number_is (digits run ∷ more) rest value is = (cc)
 number_is (decimal text ∷ more) rest value is =
-    let found = map_some (λ (v : ℤ). (v, more)) (decimal_of (drop 1 text)) (value, rest) is in
-    (text, found.1 ∙ ap (λ v. Some v) (ap (λ (p : ℤ × List Symbol). p.0) found.2), ap (λ left. decimal text ∷ left) (ap (λ (p : ℤ × List Symbol). p.1) found.2))
+    let found = front_some (decimal_of (drop 1 text)) value more rest is in
+    (text, found.0, ap (λ left. decimal text ∷ left) found.1)
+number_is other rest value is = (cc)
 
 -- tokens and a tree are those of a form in front of others
 abbrev pub Derives : {Form Tree : Type 0} → (Form → List Symbol → List Symbol) → (Form → Tree) → List Symbol → Tree → List Symbol → Type 0
@@ -130,83 +122,77 @@ pub record AreSound (inner : Readers) : Type 0 where
   pub refinement : IsSound refinement_tokens refinement_tree inner.refinement
   pub set : IsSound set_tokens set_tree inner.set
 
--- several forms, each behind a token
-abbrev list_tokens : {Form : Type 0} → (Form → List Symbol → List Symbol) → TokenKind → List Form → List Symbol → List Symbol
-list_tokens tokens_of kind [] rest = rest
-list_tokens tokens_of kind (form ∷ forms) rest = mark kind ∷ tokens_of form (list_tokens tokens_of kind forms rest)
+-- Several forms of the grammar, each behind a token: none, and one in front of others, with their tokens and their trees.
+pub record Several {Form Forms Tree Trees : Type 0} (tokens_of : Form → List Symbol → List Symbol) (tree_of : Form → Tree)
+    (list_tokens : TokenKind → Forms → List Symbol → List Symbol) (list_trees : Forms → Trees) (from : List Tree → Trees) : Type 0 where
+  pub none : Forms
+  pub next : Form → Forms → Forms
+  pub none_tokens : (kind : TokenKind) (rest : List Symbol) → rest ≡ list_tokens kind none rest
+  pub next_tokens : (kind : TokenKind) (form : Form) (forms : Forms) (rest : List Symbol)
+      → mark kind ∷ tokens_of form (list_tokens kind forms rest) ≡ list_tokens kind (next form forms) rest
+  pub none_trees : from [] ≡ list_trees none
+  pub next_trees : (form : Form) (forms : Forms) (trees : List Tree) → from trees ≡ list_trees forms
+      → from (tree_of form ∷ trees) ≡ list_trees (next form forms)
 
-many_sound : {Form Tree : Type 0} (tokens_of : Form → List Symbol → List Symbol) (tree_of : Form → Tree)
-    (reader : List Symbol → Found Tree) → IsSound tokens_of tree_of reader
-    → (wanted : Mark) (turns : ℕ) (tokens rest : List Symbol) (trees : List Tree) → many reader wanted turns tokens ≡ Some (trees, rest)
-    → (forms : List Form) × (tokens ≡ list_tokens tokens_of (kind_of wanted) forms rest) × (trees ≡ map tree_of forms)
-unfolding many
-many_sound {Form} {Tree} tokens_of tree_of reader sound wanted zero tokens rest trees is =
-    let same : ([], tokens) ≡ (trees, rest) = (cc) in
-    ([], ap (λ (p : List Tree × List Symbol). p.1) same, sym (ap (λ (p : List Tree × List Symbol). p.0) same))
-many_sound {Form} {Tree} tokens_of tree_of reader sound wanted (suc turns) tokens rest trees is =
-    elim (otherwise_some (behind wanted tokens) (Some ([], tokens))
-    (λ left. reader left >>= λ item after. many reader wanted turns after >>= λ more end. Some (item ∷ more, end))
-    (trees, rest) is) [
-      | inl (none, end) ↦
-          let same : ([], tokens) ≡ (trees, rest) = (cc) in
-          ([], ap (λ (p : List Tree × List Symbol). p.1) same, sym (ap (λ (p : List Tree × List Symbol). p.0) same))
-      | inr (left, found, next) ↦
-          let one = bind_some (reader left) (λ item after. many reader wanted turns after >>= λ more end. Some (item ∷ more, end)) (trees, rest) next in
-          let others = bind_some (many reader wanted turns one.0.1) (λ more end. Some (one.0.0 ∷ more, end)) (trees, rest) one.2 in
-          let form = sound left one.0.1 one.0.0 one.1 in
-          let more = many_sound tokens_of tree_of reader sound wanted turns one.0.1 others.0.1 others.0.0 others.1 in
-          let same : (one.0.0 ∷ others.0.0, others.0.1) ≡ (trees, rest) = (cc) in (
-            form.0 ∷ more.0,
-            behind_is wanted tokens left found
-                ∙ ap (λ after. mark (kind_of wanted) ∷ after) form.1
-                ∙ ap (λ after. mark (kind_of wanted) ∷ tokens_of form.0 after) more.1
-                ∙ ap (λ (p : List Tree × List Symbol). mark (kind_of wanted) ∷ tokens_of form.0 (list_tokens tokens_of (kind_of wanted) more.0 p.1)) same,
-            sym (ap (λ (p : List Tree × List Symbol). p.0) same)
-                ∙ ap (λ tree. tree ∷ others.0.0) form.2
-                ∙ ap (λ trees. tree_of form.0 ∷ trees) more.2,
+abbrev pub several_subs : Several sub_tokens sub_tree subs_tokens sub_trees trees_from
+several_subs = record {
+  none = no_subs;
+  next = sub_then;
+  none_tokens = λ kind rest. refl;
+  next_tokens = λ kind form forms rest. refl;
+  none_trees = refl;
+  next_trees = λ form forms trees same. ap (tree_then (sub_tree form)) same;
+}
+
+abbrev pub several_items : Several item_tokens item_tree items_tokens item_trees refinements_from
+several_items = record {
+  none = no_items;
+  next = item_then;
+  none_tokens = λ kind rest. refl;
+  next_tokens = λ kind form forms rest. refl;
+  none_trees = refl;
+  next_trees = λ form forms trees same. ap (refinement_then (item_tree form)) same;
+}
+
+abbrev pub several_parts : Several part_tokens part_tree parts_tokens part_trees sets_from
+several_parts = record {
+  none = no_parts;
+  next = part_then;
+  none_tokens = λ kind rest. refl;
+  next_tokens = λ kind form forms rest. refl;
+  none_trees = refl;
+  next_trees = λ form forms trees same. ap (set_then (part_tree form)) same;
+}
+
+-- a cardinality by its bounds, of which the second may be open
+bounds_are : (run : List ℕ) → IsTrue (is_number 1 18 run) → (tokens left after rest : List Symbol) (most : Option ℕ) (found : Cardinality)
+    → tokens ≡ digits run ∷ mark token.Dots ∷ left → most_at left ≡ Some (most, after) → after ≡ mark token.BracketClose ∷ rest
+    → found ≡ record { min = number_of run; max = most }
+    → (count : CountForm) × (mark token.BracketOpen ∷ tokens ≡ counted_tokens (Some count) rest) × (found ≡ cardinality_of (Some count))
+bounds_are run holds tokens left after rest most found front read close whole =
+    elim (otherwise_some (behind marks.Wildcard left)
+    (digits_at 1 left >>= λ most end. Some (Some most, end)) (λ end. Some (None, end)) (most, after) read) [
+      | inl (none, next) ↦
+          let (bound, bound_read, bound_is) = bind_some (digits_at 1 left) (λ most end. Some (Some most, end)) (most, after) next in
+          let (other, also, left_is, value) = digits_is 1 left bound.1 bound.0 bound_read in
+          let same : (Some bound.0, bound.1) ≡ (most, after) = (cc) in (
+            between run other holds also,
+            ap (λ symbols. mark token.BracketOpen ∷ symbols) front
+                ∙ ap (λ symbols. mark token.BracketOpen ∷ digits run ∷ mark token.Dots ∷ symbols)
+                (left_is ∙ ap (λ symbols. digits other ∷ symbols) (ap (λ (p : Option ℕ × List Symbol). p.1) same ∙ close)),
+            whole ∙ ap (λ m. record { min = number_of run; max = m }) (sym (ap (λ (p : Option ℕ × List Symbol). p.0) same) ∙ ap (λ n. Some n) value),
+          )
+      | inr (end, star, open_is) ↦
+          let same : (None, end) ≡ (most, after) = (cc) in (
+            at_least run holds,
+            ap (λ symbols. mark token.BracketOpen ∷ symbols) front
+                ∙ ap (λ symbols. mark token.BracketOpen ∷ digits run ∷ mark token.Dots ∷ symbols)
+                (behind_is marks.Wildcard left end star
+                ∙ ap (λ symbols. mark token.Wildcard ∷ symbols) (ap (λ (p : Option ℕ × List Symbol). p.1) same ∙ close)),
+            whole ∙ ap (λ m. record { min = number_of run; max = m }) (sym (ap (λ (p : Option ℕ × List Symbol). p.0) same)),
           )
     ]
 
-abbrev pub subs_of : List SubForm → SubForms
-subs_of [] = no_subs
-subs_of (form ∷ forms) = sub_then form (subs_of forms)
-
-pub subs_of-tokens : (kind : TokenKind) (forms : List SubForm) (rest : List Symbol)
-    → list_tokens sub_tokens kind forms rest ≡ subs_tokens kind (subs_of forms) rest
-subs_of-tokens kind [] rest = refl
-subs_of-tokens kind (form ∷ forms) rest = ap (λ left. mark kind ∷ sub_tokens form left) (subs_of-tokens kind forms rest)
-
-pub subs_of-trees : (forms : List SubForm) → trees_from (map sub_tree forms) ≡ sub_trees (subs_of forms)
-subs_of-trees [] = refl
-subs_of-trees (form ∷ forms) = ap (tree_then (sub_tree form)) (subs_of-trees forms)
-
-abbrev items_of : List ItemForm → ItemForms
-items_of [] = no_items
-items_of (form ∷ forms) = item_then form (items_of forms)
-
-items_of-tokens : (kind : TokenKind) (forms : List ItemForm) (rest : List Symbol)
-    → list_tokens item_tokens kind forms rest ≡ items_tokens kind (items_of forms) rest
-items_of-tokens kind [] rest = refl
-items_of-tokens kind (form ∷ forms) rest = ap (λ left. mark kind ∷ item_tokens form left) (items_of-tokens kind forms rest)
-
-items_of-trees : (forms : List ItemForm) → refinements_from (map item_tree forms) ≡ item_trees (items_of forms)
-items_of-trees [] = refl
-items_of-trees (form ∷ forms) = ap (refinement_then (item_tree form)) (items_of-trees forms)
-
-abbrev parts_of : List PartForm → PartForms
-parts_of [] = no_parts
-parts_of (form ∷ forms) = part_then form (parts_of forms)
-
-parts_of-tokens : (kind : TokenKind) (forms : List PartForm) (rest : List Symbol)
-    → list_tokens part_tokens kind forms rest ≡ parts_tokens kind (parts_of forms) rest
-parts_of-tokens kind [] rest = refl
-parts_of-tokens kind (form ∷ forms) rest = ap (λ left. mark kind ∷ part_tokens form left) (parts_of-tokens kind forms rest)
-
-parts_of-trees : (forms : List PartForm) → sets_from (map part_tree forms) ≡ part_trees (parts_of forms)
-parts_of-trees [] = refl
-parts_of-trees (form ∷ forms) = ap (set_then (part_tree form)) (parts_of-trees forms)
-
--- a cardinality, or none
 bounds_sound : (tokens rest : List Symbol) (found : Cardinality) → bounds_at tokens ≡ Some (found, rest)
     → (count : CountForm) × (mark token.BracketOpen ∷ tokens ≡ counted_tokens (Some count) rest) × (found ≡ cardinality_of (Some count))
 unfolding bounds_at
@@ -220,34 +206,12 @@ bounds_sound tokens rest found is =
     let least = digits_is 1 tokens dots.0 first.0.0 dots.1 in
     let close = closed_some marks.BracketClose (most_at first.0.1) second.0.0 second.0.1 second.1 in
     let same : (record { min = first.0.0; max = second.0.0 }, second.0.1) ≡ (found, rest) = (cc) in
-    let front : mark token.BracketOpen ∷ tokens ≡ mark token.BracketOpen ∷ digits least.0 ∷ mark token.Dots ∷ first.0.1 =
-    ap (λ after. mark token.BracketOpen ∷ after) (least.2 ∙ ap (λ after. digits least.0 ∷ after) (behind_is marks.Dots dots.0 first.0.1 dots.2)) in
-    let end : close.0 ≡ mark token.BracketClose ∷ rest = behind_is marks.BracketClose close.0 second.0.1 close.2
-    ∙ ap (λ (p : Cardinality × List Symbol). mark token.BracketClose ∷ p.1) same in
-    let whole : found ≡ record { min = number_of least.0; max = second.0.0 } =
-    sym (ap (λ (p : Cardinality × List Symbol). p.0) same) ∙ ap (λ n. record { min = n; max = second.0.0 }) least.3 in
-    elim (otherwise_some (behind marks.Wildcard first.0.1)
-    (digits_at 1 first.0.1 >>= λ most after. Some (Some most, after)) (λ after. Some (None, after))
-    (second.0.0, close.0) close.1) [
-      | inl (none, next) ↦
-          let most = bind_some (digits_at 1 first.0.1) (λ most after. Some (Some most, after)) (second.0.0, close.0) next in
-          let run = digits_is 1 first.0.1 most.0.1 most.0.0 most.1 in
-          let same' : (Some most.0.0, most.0.1) ≡ (second.0.0, close.0) = (cc) in (
-            between least.0 run.0 least.1 run.1,
-            front ∙ ap (λ after. mark token.BracketOpen ∷ digits least.0 ∷ mark token.Dots ∷ after)
-                (run.2 ∙ ap (λ after. digits run.0 ∷ after) (ap (λ (p : Option ℕ × List Symbol). p.1) same' ∙ end)),
-            whole ∙ ap (λ m. record { min = number_of least.0; max = m }) (sym (ap (λ (p : Option ℕ × List Symbol). p.0) same') ∙ ap (λ n. Some n) run.3),
-          )
-      | inr (after, star, end') ↦
-          let same' : (None, after) ≡ (second.0.0, close.0) = (cc) in (
-            at_least least.0 least.1,
-            front ∙ ap (λ after. mark token.BracketOpen ∷ digits least.0 ∷ mark token.Dots ∷ after)
-                (behind_is marks.Wildcard first.0.1 after star
-                ∙ ap (λ left. mark token.Wildcard ∷ left) (ap (λ (p : Option ℕ × List Symbol). p.1) same' ∙ end)),
-            whole ∙ ap (λ m. record { min = number_of least.0; max = m }) (sym (ap (λ (p : Option ℕ × List Symbol). p.0) same')),
-          )
-    ]
+    bounds_are least.0 least.1 tokens first.0.1 close.0 rest second.0.0 found
+    (least.2 ∙ ap (λ after. digits least.0 ∷ after) (behind_is marks.Dots dots.0 first.0.1 dots.2)) close.1
+    (behind_is marks.BracketClose close.0 second.0.1 close.2 ∙ ap (λ (p : Cardinality × List Symbol). mark token.BracketClose ∷ p.1) same)
+    (sym (ap (λ (p : Cardinality × List Symbol). p.0) same) ∙ ap (λ n. record { min = n; max = second.0.0 }) least.3)
 
+-- a cardinality, or none
 pub count_sound : (tokens rest : List Symbol) (found : Cardinality) → count_at tokens ≡ Some (found, rest)
     → (count : Option CountForm) × (tokens ≡ counted_tokens count rest) × (found ≡ cardinality_of count)
 count_sound tokens rest found is =
@@ -260,7 +224,7 @@ count_sound tokens rest found is =
           (Some bounds.0, behind_is marks.BracketOpen tokens left open_is ∙ bounds.1, bounds.2)
     ]
 
--- one form at the least, where its joint stands in front
+-- the tokens behind one that stands in front
 stands_some : (wanted : Mark) (tokens : List Symbol) → stands wanted tokens ≡ true → (left : List Symbol) × (behind wanted tokens ≡ Some left)
 stands_some wanted tokens is = by (behind wanted tokens) refl is
   where
@@ -268,52 +232,88 @@ stands_some wanted tokens is = by (behind wanted tokens) refl is
     by None found is = absurd (false≢true is)
     by (Some left) found is = (left, found)
 
-cons_not_nil : {T : Type 0} (item : T) (items : List T) (end rest : List Symbol) → ◌≡◌ {A = Found (List T)} (Some (item ∷ items, end)) (Some ([], rest)) → ⊥
-cons_not_nil {T} item items end rest is =
-    let same : (item ∷ items, end) ≡ ([], rest) = (cc) in
-    let none : item ∷ items ≡ [] = ap (λ (p : List T × List Symbol). p.0) same in
-    (cc)
+module _ {Form Forms Tree Trees : Type 0} {tokens_of : Form → List Symbol → List Symbol} {tree_of : Form → Tree}
+    {list_tokens : TokenKind → Forms → List Symbol → List Symbol} {list_trees : Forms → Trees} {from : List Tree → Trees}
+    (several : Several tokens_of tree_of list_tokens list_trees from) (reader : List Symbol → Found Tree)
+    (sound : IsSound tokens_of tree_of reader) (wanted : Mark) where
+  -- what is read of several forms, and of one and several more
+  abbrev AreDerived : List Symbol → List Tree → List Symbol → Type 0
+  AreDerived tokens trees rest = Derives (list_tokens (kind_of wanted)) list_trees tokens (from trees) rest
 
-not_empty : {T : Type 0} (reader : List Symbol → Found T) (wanted : Mark) (turns : ℕ) (tokens left rest : List Symbol) → behind wanted tokens ≡ Some left
-    → many reader wanted (suc turns) tokens ≡ Some ([], rest) → ⊥
-unfolding many
-not_empty reader wanted turns tokens left rest found is =
-    let next = rw found at is in
-    let one = bind_some (reader left) (λ item after. many reader wanted turns after >>= λ more end. Some (item ∷ more, end)) ([], rest) next in
-    let others = bind_some (many reader wanted turns one.0.1) (λ more end. Some (one.0.0 ∷ more, end)) ([], rest) one.2 in
-    cons_not_nil one.0.0 others.0.0 others.0.1 rest others.2
+  abbrev FirstDerived : List Symbol → List Tree → List Symbol → Type 0
+  FirstDerived tokens trees rest =
+      (first : Form) × (more : Forms) × (tokens ≡ list_tokens (kind_of wanted) (several.next first more) rest)
+      × (from trees ≡ list_trees (several.next first more))
 
-pub joined_sound : {Form Tree Whole : Type 0} (tokens_of : Form → List Symbol → List Symbol) (tree_of : Form → Tree)
-    (reader : List Symbol → Found Tree) → IsSound tokens_of tree_of reader
-    → (make : List Tree → Whole) (front : List Tree) (wanted : Mark) (tokens rest : List Symbol) (whole : Whole) → stands wanted tokens ≡ true
-    → ◌>>=◌ {T = Whole × List Symbol} (with_front front (all_behind reader wanted tokens)) (λ parts left. Some (make parts, left)) ≡ Some (whole, rest)
-    → (first : Form) × (forms : List Form) × (tokens ≡ list_tokens tokens_of (kind_of wanted) (first ∷ forms) rest)
-    × (whole ≡ make (front ++ tree_of first ∷ map tree_of forms))
-joined_sound {Form} {Tree} {Whole} tokens_of tree_of reader sound make front wanted tokens rest whole stood is =
-    let left = stands_some wanted tokens stood in
-    let parts = bind_some (with_front front (all_behind reader wanted tokens)) (λ parts left. Some (make parts, left)) (whole, rest) is in
-    let more = bind_some (all_behind reader wanted tokens) (λ more end. Some (front ++ more, end)) parts.0 parts.1 in
-    let same : (make parts.0.0, parts.0.1) ≡ (whole, rest) = (cc) in
-    let same' : (front ++ more.0.0, more.0.1) ≡ parts.0 = (cc) in
-    let ends : more.0.1 ≡ rest = ap (λ (p : List Tree × List Symbol). p.1) same' ∙ ap (λ (p : Whole × List Symbol). p.1) same in
-    let whole_is : whole ≡ make (front ++ more.0.0) = sym (ap (λ (p : Whole × List Symbol). p.0) same)
-    ∙ ap (λ (p : List Tree × List Symbol). make p.0) (sym same') in
-    let forms = many_sound tokens_of tree_of reader sound wanted (length tokens) tokens rest more.0.0 (more.1 ∙ ap (λ end. Some (more.0.0, end)) ends) in
-    by forms.0 forms.1 forms.2 left.0 left.1 (more.1 ∙ ap (λ end. Some (more.0.0, end)) ends) whole_is
-  where
-    by : {trees : List Tree} (forms : List Form) → tokens ≡ list_tokens tokens_of (kind_of wanted) forms rest
-        → trees ≡ map tree_of forms → (left : List Symbol) → behind wanted tokens ≡ Some left
-        → many reader wanted (length tokens) tokens ≡ Some (trees, rest) → whole ≡ make (front ++ trees)
-        → (first : Form) × (forms : List Form)
-        × (tokens ≡ list_tokens tokens_of (kind_of wanted) (first ∷ forms) rest)
-        × (whole ≡ make (front ++ tree_of first ∷ map tree_of forms))
-    by {trees} [] tokens_are trees_are left found read whole_is =
-        let long : length tokens ≡ suc (length left) = ap length (behind_is wanted tokens left found) in
-        let none : many reader wanted (suc (length left)) tokens ≡ Some ([], rest) =
-        ap (λ n. many reader wanted n tokens) (sym long) ∙ read ∙ ap (λ (t : List Tree). Some (t, rest)) trees_are in
-        absurd (not_empty reader wanted (length left) tokens left rest found none)
-    by {trees} (first ∷ forms) tokens_are trees_are left found read whole_is =
-        (first, forms, tokens_are, whole_is ∙ ap (λ (t : List Tree). make (front ++ t)) trees_are)
+  none_derived : (tokens rest : List Symbol) (trees : List Tree)
+      → ◌≡◌ {A = Found (List Tree)} (Some ([], tokens)) (Some (trees, rest)) → AreDerived tokens trees rest
+  none_derived tokens rest trees is =
+      let same : ([], tokens) ≡ (trees, rest) = (cc) in (
+        several.none,
+        ap (λ (p : List Tree × List Symbol). p.1) same ∙ several.none_tokens (kind_of wanted) rest,
+        ap (λ (p : List Tree × List Symbol). from p.0) (sym same) ∙ several.none_trees,
+      )
+
+  first_derived : (turns : ℕ) → ((tokens rest : List Symbol) (trees : List Tree) → many reader wanted turns tokens ≡ Some (trees, rest)
+      → AreDerived tokens trees rest)
+      → (tokens left rest : List Symbol) (trees : List Tree) → behind wanted tokens ≡ Some left
+      → ◌>>=◌ {T = List Tree × List Symbol} (reader left)
+      (λ item after. many reader wanted turns after >>= λ more end. Some (item ∷ more, end)) ≡ Some (trees, rest)
+      → FirstDerived tokens trees rest
+  first_derived turns others tokens left rest trees found read =
+      let one = bind_some (reader left) (λ item after. many reader wanted turns after >>= λ more end. Some (item ∷ more, end)) (trees, rest) read in
+      let more = bind_some (many reader wanted turns one.0.1) (λ more end. Some (one.0.0 ∷ more, end)) (trees, rest) one.2 in
+      let form = sound left one.0.1 one.0.0 one.1 in
+      let forms = others one.0.1 more.0.1 more.0.0 more.1 in
+      let same : (one.0.0 ∷ more.0.0, more.0.1) ≡ (trees, rest) = (cc) in (
+        form.0,
+        forms.0,
+        behind_is wanted tokens left found
+            ∙ ap (λ after. mark (kind_of wanted) ∷ after) (form.1 ∙ ap (tokens_of form.0)
+            (forms.1 ∙ ap (λ (p : List Tree × List Symbol). list_tokens (kind_of wanted) forms.0 p.1) same))
+            ∙ several.next_tokens (kind_of wanted) form.0 forms.0 rest,
+        ap (λ (p : List Tree × List Symbol). from p.0) (sym same) ∙ ap (λ tree. from (tree ∷ more.0.0)) form.2
+            ∙ several.next_trees form.0 forms.0 more.0.0 forms.2,
+      )
+
+  many_derived : (turns : ℕ) (tokens rest : List Symbol) (trees : List Tree) → many reader wanted turns tokens ≡ Some (trees, rest)
+      → AreDerived tokens trees rest
+  unfolding many
+  many_derived zero tokens rest trees is = none_derived tokens rest trees is
+  many_derived (suc turns) tokens rest trees is =
+      elim (otherwise_some (behind wanted tokens) (Some ([], tokens))
+      (λ left. reader left >>= λ item after. many reader wanted turns after >>= λ more end. Some (item ∷ more, end))
+      (trees, rest) is) [
+        | inl (none, end) ↦ none_derived tokens rest trees end
+        | inr (left, found, next) ↦
+            let first = first_derived turns (many_derived turns) tokens left rest trees found next in
+            (several.next first.0 first.1, first.2, first.3)
+      ]
+
+  stood_derived : (turns : ℕ) (tokens left rest : List Symbol) (trees : List Tree) → behind wanted tokens ≡ Some left
+      → many reader wanted (suc turns) tokens ≡ Some (trees, rest) → FirstDerived tokens trees rest
+  unfolding many
+  stood_derived turns tokens left rest trees found is = first_derived turns (many_derived turns) tokens left rest trees found (rw found at is)
+
+  -- what is made of the trees of those that are read behind some, where the token stands in front
+  pub joined_sound : {Whole : Type 0} (make : List Tree → Whole) (front : List Tree) (tokens rest : List Symbol) (whole : Whole)
+      → stands wanted tokens ≡ true
+      → ◌>>=◌ {T = Whole × List Symbol} (with_front front (all_behind reader wanted tokens)) (λ parts left. Some (make parts, left)) ≡ Some (whole, rest)
+      → (trees : List Tree) × FirstDerived tokens trees rest × (whole ≡ make (front ++ trees))
+  joined_sound {Whole} make front tokens rest whole stood is =
+      let left = stands_some wanted tokens stood in
+      let parts = bind_some (with_front front (all_behind reader wanted tokens)) (λ parts left. Some (make parts, left)) (whole, rest) is in
+      let more = bind_some (all_behind reader wanted tokens) (λ more end. Some (front ++ more, end)) parts.0 parts.1 in
+      let same : (make parts.0.0, parts.0.1) ≡ (whole, rest) = (cc) in
+      let same' : (front ++ more.0.0, more.0.1) ≡ parts.0 = (cc) in
+      let ends : more.0.1 ≡ rest = ap (λ (p : List Tree × List Symbol). p.1) same' ∙ ap (λ (p : Whole × List Symbol). p.1) same in
+      let long : length tokens ≡ suc (length left.0) = ap length (behind_is wanted tokens left.0 left.1) in
+      let read : many reader wanted (suc (length left.0)) tokens ≡ Some (more.0.0, rest) =
+      ap (λ n. many reader wanted n tokens) (sym long) ∙ more.1 ∙ ap (λ end. Some (more.0.0, end)) ends in (
+        more.0.0,
+        stood_derived (length left.0) tokens left.0 rest more.0.0 left.1 read,
+        sym (ap (λ (p : Whole × List Symbol). p.0) same) ∙ ap (λ (p : List Tree × List Symbol). make p.0) (sym same'),
+      )
 
 -- one of two, by a test
 pub either_some : {A : Type 0} (test : Bool) (one other : Option A) (answer : A) → cond test one other ≡ Some answer
@@ -321,120 +321,112 @@ pub either_some : {A : Type 0} (test : Bool) (one other : Option A) (answer : A)
 either_some true one other answer is = inl (refl, is)
 either_some false one other answer is = inr (refl, is)
 
--- How a form is made of parts that a token joins: by its first two and the others, with their tokens, and the tree that is
+-- How a form is made of parts that a token joins: of the first two and the others, with their tokens, and the tree that is
 -- made of their trees.
-pub record Joint {Part Form Tree : Type 0} (part_tokens : Part → List Symbol → List Symbol) (part_tree : Part → Tree)
-    (form_tokens : Form → List Symbol → List Symbol) (form_tree : Form → Tree) (kind : TokenKind) (make : List Tree → Tree) : Type 0 where
-  pub form : Part → Part → List Part → Form
-  pub tokens : (first second : Part) (more : List Part) (rest : List Symbol)
-      → part_tokens first (list_tokens part_tokens kind (second ∷ more) rest) ≡ form_tokens (form first second more) rest
-  pub tree : (first second : Part) (more : List Part)
-      → make (part_tree first ∷ part_tree second ∷ map part_tree more) ≡ form_tree (form first second more)
-
--- what is read behind a first part, where the token stands there, is the tree of such a form
-pub joint_sound : {Part Form Tree : Type 0} {part_tokens : Part → List Symbol → List Symbol} {part_tree : Part → Tree}
-    {form_tokens : Form → List Symbol → List Symbol} {form_tree : Form → Tree} (reader : List Symbol → Found Tree) → IsSound part_tokens part_tree reader
-    → (wanted : Mark) (make : List Tree → Tree) → Joint part_tokens part_tree form_tokens form_tree (kind_of wanted) make
-    → (part : Part) (tokens tail rest : List Symbol) (first tree : Tree) → tokens ≡ part_tokens part tail → first ≡ part_tree part → stands wanted tail ≡ true
-    → ◌>>=◌ {T = Tree × List Symbol} (with_front (first ∷ []) (all_behind reader wanted tail)) (λ parts left. Some (make parts, left)) ≡ Some (tree, rest)
-    → Derives form_tokens form_tree tokens tree rest
-joint_sound {Part} {Form} {Tree} {part_tokens} {part_tree} reader sound wanted make joint part tokens tail rest first tree front first_is stood read =
-    let list = joined_sound part_tokens part_tree reader sound make (first ∷ []) wanted tail rest tree stood read in (
-      joint.form part list.0 list.1,
-      front ∙ ap (part_tokens part) list.2 ∙ joint.tokens part list.0 list.1 rest,
-      list.3 ∙ ap (λ (t : Tree). make (t ∷ part_tree list.0 ∷ map part_tree list.1)) first_is ∙ joint.tree part list.0 list.1,
-    )
+pub record Joint {Part Parts Form Tree Trees : Type 0} {part_tokens : Part → List Symbol → List Symbol} {part_tree : Part → Tree}
+    {parts_tokens : TokenKind → Parts → List Symbol → List Symbol} {part_trees : Parts → Trees} {from : List Tree → Trees}
+    (several : Several part_tokens part_tree parts_tokens part_trees from)
+    (form_tokens : Form → List Symbol → List Symbol) (form_tree : Form → Tree) (kind : TokenKind) (make : Trees → Tree) : Type 0 where
+  pub form : Part → Part → Parts → Form
+  pub tokens : (first second : Part) (more : Parts) (rest : List Symbol)
+      → part_tokens first (parts_tokens kind (several.next second more) rest) ≡ form_tokens (form first second more) rest
+  pub tree : (first second : Part) (more : Parts)
+      → make (part_trees (several.next first (several.next second more))) ≡ form_tree (form first second more)
 
 -- forms of one part, or of parts that are joined by AND, or by OR
-pub record Joined {Part Form Tree : Type 0} (part_tokens : Part → List Symbol → List Symbol) (part_tree : Part → Tree)
-    (form_tokens : Form → List Symbol → List Symbol) (form_tree : Form → Tree) (make_and make_or : List Tree → Tree) : Type 0 where
+pub record Joined {Part Parts Form Tree Trees : Type 0} {part_tokens : Part → List Symbol → List Symbol} {part_tree : Part → Tree}
+    {parts_tokens : TokenKind → Parts → List Symbol → List Symbol} {part_trees : Parts → Trees} {from : List Tree → Trees}
+    (several : Several part_tokens part_tree parts_tokens part_trees from)
+    (form_tokens : Form → List Symbol → List Symbol) (form_tree : Form → Tree) (make_and make_or : Trees → Tree) : Type 0 where
   pub one : Part → Form
   pub one_tokens : (part : Part) (rest : List Symbol) → part_tokens part rest ≡ form_tokens (one part) rest
   pub one_tree : (part : Part) → part_tree part ≡ form_tree (one part)
-  pub all : Joint part_tokens part_tree form_tokens form_tree token.And make_and
-  pub some : Joint part_tokens part_tree form_tokens form_tree token.Or make_or
+  pub all : Joint several form_tokens form_tree token.And make_and
+  pub some : Joint several form_tokens form_tree token.Or make_or
 
--- what is read behind the first part of such a form
-abbrev joined_behind : {Tree : Type 0} → (List Symbol → Found Tree) → (List Tree → Tree) → (List Tree → Tree) → Tree → List Symbol → Found Tree
-joined_behind reader make_and make_or first tokens =
-    cond (stands marks.And tokens) (with_front (first ∷ []) (all_behind reader marks.And tokens) >>= λ parts left. Some (make_and parts, left))
-    (cond (stands marks.Or tokens) (with_front (first ∷ []) (all_behind reader marks.Or tokens) >>= λ parts left.
-    Some (make_or parts, left)) (Some (first, tokens)))
+-- what is read behind a first part: more parts where the token stands that joins them, and else something other
+abbrev joined_by : {Tree : Type 0} → (List Symbol → Found Tree) → Mark → (List Tree → Tree) → Tree → List Symbol → Found Tree → Found Tree
+joined_by reader wanted make first tail other =
+    cond (stands wanted tail) (with_front (first ∷ []) (all_behind reader wanted tail) >>= λ parts left. Some (make parts, left)) other
 
-pub forms_sound : {Part Form Tree : Type 0} {part_tokens : Part → List Symbol → List Symbol} {part_tree : Part → Tree}
-    {form_tokens : Form → List Symbol → List Symbol} {form_tree : Form → Tree} (reader : List Symbol → Found Tree) → IsSound part_tokens part_tree reader
-    → (make_and make_or : List Tree → Tree) → Joined part_tokens part_tree form_tokens form_tree make_and make_or
-    → IsSound form_tokens form_tree (λ tokens. reader tokens >>= joined_behind reader make_and make_or)
-forms_sound {Part} {Form} {Tree} {part_tokens} {part_tree} reader sound make_and make_or forms tokens rest tree is =
-    let first = bind_some (reader tokens) (joined_behind reader make_and make_or) (tree, rest) is in
-    let part = sound tokens first.0.1 first.0.0 first.1 in
-    let tail = first.0.1 in
-    let by_or : Found Tree = with_front (first.0.0 ∷ []) (all_behind reader marks.Or tail) >>= λ parts left. Some (make_or parts, left) in
-    let by_and : Found Tree = with_front (first.0.0 ∷ []) (all_behind reader marks.And tail) >>= λ parts left. Some (make_and parts, left) in
-    elim (either_some (stands marks.And tail) by_and (cond (stands marks.Or tail) by_or (Some (first.0.0, tail))) (tree, rest) first.2) [
-      | inl (stood, read) ↦ joint_sound reader sound marks.And make_and forms.all part.0 tokens tail rest first.0.0 tree part.1 part.2 stood read
-      | inr (no_and, next) ↦
-          elim (either_some (stands marks.Or tail) by_or (Some (first.0.0, tail)) (tree, rest) next) [
-            | inl (stood, read) ↦ joint_sound reader sound marks.Or make_or forms.some part.0 tokens tail rest first.0.0 tree part.1 part.2 stood read
-            | inr (no_or, end) ↦
-                let same : (first.0.0, tail) ≡ (tree, rest) = (cc) in (
-                  forms.one part.0,
-                  part.1 ∙ ap (λ (p : Tree × List Symbol). part_tokens part.0 p.1) same ∙ forms.one_tokens part.0 rest,
-                  sym (ap (λ (p : Tree × List Symbol). p.0) same) ∙ part.2 ∙ forms.one_tree part.0,
-                )
-          ]
-    ]
+module _ {Part Parts Form Tree Trees : Type 0} {part_tokens : Part → List Symbol → List Symbol} {part_tree : Part → Tree}
+    {parts_tokens : TokenKind → Parts → List Symbol → List Symbol} {part_trees : Parts → Trees} {from : List Tree → Trees}
+    {form_tokens : Form → List Symbol → List Symbol} {form_tree : Form → Tree}
+    (several : Several part_tokens part_tree parts_tokens part_trees from) (reader : List Symbol → Found Tree)
+    (sound : IsSound part_tokens part_tree reader) where
+  -- more parts that are read so are those of such a form
+  joint_sound : (wanted : Mark) {make : Trees → Tree} → Joint several form_tokens form_tree (kind_of wanted) make
+      → (tokens tail rest : List Symbol) (first tree : Tree) (other : Found Tree) → Derives part_tokens part_tree tokens first tail
+      → joined_by reader wanted (λ parts. make (from parts)) first tail other ≡ Some (tree, rest)
+      → (Derives form_tokens form_tree tokens tree rest) ⊎ (other ≡ Some (tree, rest))
+  joint_sound wanted {make} joint tokens tail rest first tree other (part, front, first_is) is =
+      elim (either_some (stands wanted tail) (with_front (first ∷ []) (all_behind reader wanted tail) >>= λ parts left.
+      Some (make (from parts), left)) other (tree, rest) is) [
+        | inl (stood, read) ↦
+            let (trees, (second, more, tail_is, trees_are), whole) =
+            joined_sound several reader sound wanted (λ parts. make (from parts)) (first ∷ []) tail rest tree stood read in
+            inl (
+              joint.form part second more,
+              front ∙ ap (part_tokens part) tail_is ∙ joint.tokens part second more rest,
+              whole ∙ ap (λ (t : Tree). make (from (t ∷ trees))) first_is
+                  ∙ ap make (several.next_trees part (several.next second more) trees trees_are) ∙ joint.tree part second more,
+            )
+        | inr (none, read) ↦ inr read
+      ]
 
-pub joined_sets : Joined part_tokens part_tree set_tokens set_tree (λ parts. and_set (sets_from parts)) (λ parts. or_set (sets_from parts))
+  -- by AND, or by OR
+  pub joints_sound : {make_and make_or : Trees → Tree} → Joint several form_tokens form_tree token.And make_and
+      → Joint several form_tokens form_tree token.Or make_or → (tokens tail rest : List Symbol) (first tree : Tree) (other : Found Tree)
+      → Derives part_tokens part_tree tokens first tail
+      → joined_by reader marks.And (λ parts. make_and (from parts)) first tail
+      (joined_by reader marks.Or (λ parts. make_or (from parts)) first tail other) ≡ Some (tree, rest)
+      → (Derives form_tokens form_tree tokens tree rest) ⊎ (other ≡ Some (tree, rest))
+  joints_sound {make_and} {make_or} all some tokens tail rest first tree other part is =
+      elim (joint_sound marks.And all tokens tail rest first tree (joined_by reader marks.Or (λ parts. make_or (from parts)) first tail other) part is) [
+        | inl form ↦ inl form
+        | inr next ↦ joint_sound marks.Or some tokens tail rest first tree other part next
+      ]
+
+  pub forms_sound : {make_and make_or : Trees → Tree} → Joined several form_tokens form_tree make_and make_or
+      → IsSound form_tokens form_tree (λ tokens. reader tokens >>= λ first tail. joined_by reader marks.And (λ parts. make_and (from parts)) first tail
+      (joined_by reader marks.Or (λ parts. make_or (from parts)) first tail (Some (first, tail))))
+  forms_sound {make_and} {make_or} forms tokens rest tree is =
+      let ((first, tail), read, next) = bind_some (reader tokens) (λ first tail. joined_by reader marks.And (λ parts. make_and (from parts)) first tail
+      (joined_by reader marks.Or (λ parts. make_or (from parts)) first tail (Some (first, tail)))) (tree, rest) is in
+      let part = sound tokens tail first read in
+      elim (joints_sound forms.all forms.some tokens tail rest first tree (Some (first, tail)) part next) [
+        | inl form ↦ form
+        | inr end ↦
+            let same : (first, tail) ≡ (tree, rest) = (cc) in (
+              forms.one part.0,
+              part.1 ∙ ap (λ (p : Tree × List Symbol). part_tokens part.0 p.1) same ∙ forms.one_tokens part.0 rest,
+              sym (ap (λ (p : Tree × List Symbol). p.0) same) ∙ part.2 ∙ forms.one_tree part.0,
+            )
+      ]
+
+pub joined_sets : Joined several_parts set_tokens set_tree and_set or_set
 joined_sets = record {
   one = one_part;
   one_tokens = λ part rest. refl;
   one_tree = λ part. refl;
-  all = record {
-    form = λ first second more. all_parts first second (parts_of more);
-    tokens = λ first second more rest. ap (λ after. part_tokens first (mark token.And ∷ part_tokens second after)) (parts_of-tokens token.And more rest);
-    tree = λ first second more. ap (λ others. and_set (set_then (part_tree first) (set_then (part_tree second) others))) (parts_of-trees more);
-  };
-  some = record {
-    form = λ first second more. some_parts first second (parts_of more);
-    tokens = λ first second more rest. ap (λ after. part_tokens first (mark token.Or ∷ part_tokens second after)) (parts_of-tokens token.Or more rest);
-    tree = λ first second more. ap (λ others. or_set (set_then (part_tree first) (set_then (part_tree second) others))) (parts_of-trees more);
-  };
+  all = record { form = all_parts; tokens = λ first second more rest. refl; tree = λ first second more. refl };
+  some = record { form = some_parts; tokens = λ first second more rest. refl; tree = λ first second more. refl };
 }
 
-pub joined_refinements : Joined item_tokens item_tree refinement_tokens refinement_tree
-    (λ parts. and_refinement (refinements_from parts)) (λ parts. or_refinement (refinements_from parts))
+pub joined_refinements : Joined several_items refinement_tokens refinement_tree and_refinement or_refinement
 joined_refinements = record {
   one = one_item;
   one_tokens = λ item rest. refl;
   one_tree = λ item. refl;
-  all = record {
-    form = λ first second more. all_items first second (items_of more);
-    tokens = λ first second more rest. ap (λ after. item_tokens first (mark token.And ∷ item_tokens second after)) (items_of-tokens token.And more rest);
-    tree = λ first second more. ap (λ others. and_refinement (refinement_then (item_tree first)
-        (refinement_then (item_tree second) others))) (items_of-trees more);
-  };
-  some = record {
-    form = λ first second more. some_items first second (items_of more);
-    tokens = λ first second more rest. ap (λ after. item_tokens first (mark token.Or ∷ item_tokens second after)) (items_of-tokens token.Or more rest);
-    tree = λ first second more. ap (λ others. or_refinement (refinement_then (item_tree first)
-        (refinement_then (item_tree second) others))) (items_of-trees more);
-  };
+  all = record { form = all_items; tokens = λ first second more rest. refl; tree = λ first second more. refl };
+  some = record { form = some_items; tokens = λ first second more rest. refl; tree = λ first second more. refl };
 }
 
-pub conjunctions : Joint sub_tokens sub_tree constraint_tokens constraint_tree token.And (λ parts. and_tree (trees_from parts))
-conjunctions = record {
-  form = λ first second more. conjunction first second (subs_of more);
-  tokens = λ first second more rest. ap (λ after. sub_tokens first (mark token.And ∷ sub_tokens second after)) (subs_of-tokens token.And more rest);
-  tree = λ first second more. ap (λ others. and_tree (tree_then (sub_tree first) (tree_then (sub_tree second) others))) (subs_of-trees more);
-}
+pub conjunctions : Joint several_subs constraint_tokens constraint_tree token.And and_tree
+conjunctions = record { form = conjunction; tokens = λ first second more rest. refl; tree = λ first second more. refl }
 
-pub disjunctions : Joint sub_tokens sub_tree constraint_tokens constraint_tree token.Or (λ parts. or_tree (trees_from parts))
-disjunctions = record {
-  form = λ first second more. disjunction first second (subs_of more);
-  tokens = λ first second more rest. ap (λ after. sub_tokens first (mark token.Or ∷ sub_tokens second after)) (subs_of-tokens token.Or more rest);
-  tree = λ first second more. ap (λ others. or_tree (tree_then (sub_tree first) (tree_then (sub_tree second) others))) (subs_of-trees more);
-}
+pub disjunctions : Joint several_subs constraint_tokens constraint_tree token.Or or_tree
+disjunctions = record { form = disjunction; tokens = λ first second more rest. refl; tree = λ first second more. refl }
 
 -- what is made of a pair that is read
 abbrev pub made : {Tree : Type 0} → (AttributeTree → Tree) → Found AttributeTree → Found Tree

@@ -1,9 +1,9 @@
-use Rattle.std.proofs.Common.{rules, ◌≡◌, ◌-◌, ◌+◌, suc, List, [], ◌∷◌, ◌++◌, length, map, Some, ap, sym, ◌∙◌, arith}
-use Rattle.std.proofs.lemmas.List.{map_push}
-use Rattle.constraint_tree.specs.Tree.{AttributeSetTree, RefinementTree, Tree, refinement_tree_of, set_tree_of, tree_of}
+use Rattle.constraint_tree.proofs.TreeLemmas.{trees_of_items}
+use Rattle.std.proofs.Common.{rules, length, map, Some, ap, sym, ◌∙◌, arith}
+use Rattle.constraint_tree.specs.Tree.{refinement_tree_of, set_tree_of, tree_of}
 use Rattle.ecl_parser.specs.inside.Gives.{symbols_from}
-use Rattle.ecl_parser.specs.inside.Reading.{behind, item_in, many, part_in, readers, sub_in, with_front}
-use Rattle.ecl_parser.proofs.ReadLemmas.{many_done, many_end, many_fails, many_more, part_in_brackets, group_in_braces}
+use Rattle.ecl_parser.specs.inside.Reading.{item_in, part_in, readers, refinement_behind, refinement_in, set_behind, set_in, sub_in}
+use Rattle.ecl_parser.proofs.ReadLemmas.{focus_in_brackets, item_in_brackets, many_done, many_end, many_fails, turn_read, part_in_brackets, group_in_braces}
 use Rattle.ecl_parser.proofs.parser.+parser.Goals.{subs-else-loop-turn-test, subs-then-loop-turn-test+then-not-take, items-else-loop-turn-test, items-then-loop-turn-test+then-not-take, parts-else-loop-turn-test, parts-then-loop-turn-test+then-not-take}
 use Rattle.ecl_parser.proofs.parser.+parser.Goals as goal
 
@@ -12,34 +12,55 @@ counted_item-returns-then-take t c =
     group_in_braces c.args.depth c.args.cardinality _ _ _ _ _ (omega arith)
     (search (rules, c.take.ensures.taken)) c.in_ok-found.ensures (search (rules, c.take-then-take.ensures.taken))
 
+pub focus-returns : goal.focus-returns
+focus-returns t c =
+    focus_in_brackets c.args.depth _ (symbols_from c.args.tokens.now c.args.at.now) (symbols_from c.args.tokens.now c.take-2.new.at) _ _ (omega arith)
+    (search (rules, c.take_digits.ensures.left)) (search (rules, c.take.ensures.left, c.take_digits.ensures.same))
+    (search (rules, c.take-2.ensures.taken, c.take.ensures.same, c.take_digits.ensures.same)) c.in_ok-found.ensures (search (rules, c.take-3.ensures.taken))
+
+pub item-returns-then-take_bracket : goal.item-returns-then-take_bracket
+item-returns-then-take_bracket t c =
+    item_in_brackets c.args.depth _ _ _ _ _ (omega arith)
+    (search (rules, c.take_bracket.ensures.taken)) c.in_ok-found.ensures (search (rules, c.take.ensures.taken))
+
 pub part-returns-then-take_bracket : goal.part-returns-then-take_bracket
 part-returns-then-take_bracket t c =
     part_in_brackets c.args.depth _ _ _ _ _ (omega arith)
     (search (rules, c.take_bracket.ensures.taken)) c.in_ok-found.ensures (search (rules, c.take.ensures.taken))
 
+pub part-returns-then-not-take : goal.part-returns-then-not-take
+unfolding part_in readers
+part-returns-then-not-take t c = search rules
+
+pub set-returns-then-is_ahead : goal.set-returns-then-is_ahead
+unfolding set_in set_behind
+set-returns-then-is_ahead t c = search (rules, trees_of_items)
+
+pub set-returns-then-is_ahead-2 : goal.set-returns-then-is_ahead-2
+unfolding set_in set_behind
+set-returns-then-is_ahead-2 t c = search (rules, trees_of_items)
+
+pub refinement-returns-then-is_ahead : goal.refinement-returns-then-is_ahead
+unfolding refinement_in refinement_behind
+refinement-returns-then-is_ahead t c = search (rules, trees_of_items)
+
+pub refinement-returns-then-is_ahead-2 : goal.refinement-returns-then-is_ahead-2
+unfolding refinement_in refinement_behind
+refinement-returns-then-is_ahead-2 t c = search (rules, trees_of_items)
+
 pub subs-loop-turn-preserved : goal.subs-loop-turn-preserved
 subs-loop-turn-preserved t c =
-    let turns : length c.args.tokens.now - c.loop-turn._turn ≡ suc (length c.args.tokens.now - (c.loop-turn._turn + 1)) = omega arith in
-    let found : behind c.args.joint (symbols_from c.args.tokens.now c.loop-turn.at)
-    ≡ Some (symbols_from c.args.tokens.now c.take.new.at) = search (rules, c.take.ensures.taken) in
-    let read : sub_in (readers c.args.depth) (symbols_from c.args.tokens.now c.take.new.at)
-    ≡ Some (tree_of c.in-Ok.part, symbols_from c.args.tokens.now c.sub.new.at) = c.in-Ok.ensures in
-    let pushed : c.push.new.self.items ≡ c.loop-turn.parts.items ++ c.in-Ok.part ∷ [] = search rules in
-    let mapped : map tree_of c.push.new.self.items ≡ map tree_of c.loop-turn.parts.items ++ tree_of c.in-Ok.part ∷ [] =
-    ap (map tree_of) pushed ∙ map_push tree_of c.loop-turn.parts.items c.in-Ok.part in
-    ap (λ (front : List Tree). with_front front
-    (many (sub_in (readers c.args.depth)) c.args.joint (length c.args.tokens.now - (c.loop-turn._turn + 1))
-    (symbols_from c.args.tokens.now c.sub.new.at))) mapped
-    ∙ many_more (sub_in (readers c.args.depth)) c.args.joint _ _ (map tree_of c.loop-turn.parts.items) (tree_of c.in-Ok.part) _ _ _ turns found read
-    ∙ c.loop-turn.invariant
+    turn_read (sub_in (readers c.args.depth)) c.args.joint tree_of c.loop-turn.parts.items c.push.new.self.items c.in-Ok.part
+    c.loop-turn._turn (length c.args.tokens.now) (symbols_from c.args.tokens.now c.loop-turn.at)
+    (symbols_from c.args.tokens.now c.take.new.at) _ _ (omega arith) (search rules) (search (rules, c.take.ensures.taken))
+    c.in-Ok.ensures c.loop-turn.invariant
 
 pub subs-returns-in-Err : goal.subs-returns-in-Err
 subs-returns-in-Err t c =
-    let turns : length c.args.tokens.now - c.loop-turn._turn ≡ suc (length c.args.tokens.now - (c.loop-turn._turn + 1)) = omega arith in
-    let found : behind c.args.joint (symbols_from c.args.tokens.now c.loop-turn.at)
-    ≡ Some (symbols_from c.args.tokens.now c.take.new.at) = search (rules, c.take.ensures.taken) in
-    many_fails (sub_in (readers c.args.depth)) c.args.joint c.in-Err.fault _ _
-    (map tree_of c.loop-turn.parts.items) _ _ _ turns found c.in-Err.ensures c.loop-turn.invariant
+    many_fails (sub_in (readers c.args.depth)) c.args.joint c.in-Err.fault c.loop-turn._turn (length c.args.tokens.now)
+    (map tree_of c.loop-turn.parts.items) (symbols_from c.args.tokens.now c.loop-turn.at)
+    (symbols_from c.args.tokens.now c.take.new.at) _ (omega arith) (search (rules, c.take.ensures.taken))
+    c.in-Err.ensures c.loop-turn.invariant
 
 pub subs-returns : goal.subs-returns
 subs-returns t c =
@@ -57,28 +78,17 @@ subs-returns t c =
 
 pub items-loop-turn-preserved : goal.items-loop-turn-preserved
 items-loop-turn-preserved t c =
-    let turns : length c.args.tokens.now - c.loop-turn._turn ≡ suc (length c.args.tokens.now - (c.loop-turn._turn + 1)) = omega arith in
-    let found : behind c.args.joint (symbols_from c.args.tokens.now c.loop-turn.at)
-    ≡ Some (symbols_from c.args.tokens.now c.take.new.at) = search (rules, c.take.ensures.taken) in
-    let read : item_in (readers c.args.depth) (symbols_from c.args.tokens.now c.take.new.at)
-    ≡ Some (refinement_tree_of c.in-Ok.part, symbols_from c.args.tokens.now c.item.new.at) = c.in-Ok.ensures in
-    let pushed : c.push.new.self.items ≡ c.loop-turn.parts.items ++ c.in-Ok.part ∷ [] = search rules in
-    let mapped : map refinement_tree_of c.push.new.self.items ≡ map refinement_tree_of c.loop-turn.parts.items ++ refinement_tree_of c.in-Ok.part ∷ [] =
-    ap (map refinement_tree_of) pushed ∙ map_push refinement_tree_of c.loop-turn.parts.items c.in-Ok.part in
-    ap (λ (front : List RefinementTree). with_front front
-    (many (item_in (readers c.args.depth)) c.args.joint (length c.args.tokens.now - (c.loop-turn._turn + 1))
-    (symbols_from c.args.tokens.now c.item.new.at))) mapped
-    ∙ many_more (item_in (readers c.args.depth)) c.args.joint _ _ (map refinement_tree_of c.loop-turn.parts.items)
-    (refinement_tree_of c.in-Ok.part) _ _ _ turns found read
-    ∙ c.loop-turn.invariant
+    turn_read (item_in (readers c.args.depth)) c.args.joint refinement_tree_of c.loop-turn.parts.items c.push.new.self.items c.in-Ok.part
+    c.loop-turn._turn (length c.args.tokens.now) (symbols_from c.args.tokens.now c.loop-turn.at)
+    (symbols_from c.args.tokens.now c.take.new.at) _ _ (omega arith) (search rules) (search (rules, c.take.ensures.taken))
+    c.in-Ok.ensures c.loop-turn.invariant
 
 pub items-returns-in-Err : goal.items-returns-in-Err
 items-returns-in-Err t c =
-    let turns : length c.args.tokens.now - c.loop-turn._turn ≡ suc (length c.args.tokens.now - (c.loop-turn._turn + 1)) = omega arith in
-    let found : behind c.args.joint (symbols_from c.args.tokens.now c.loop-turn.at)
-    ≡ Some (symbols_from c.args.tokens.now c.take.new.at) = search (rules, c.take.ensures.taken) in
-    many_fails (item_in (readers c.args.depth)) c.args.joint c.in-Err.fault _ _
-    (map refinement_tree_of c.loop-turn.parts.items) _ _ _ turns found c.in-Err.ensures c.loop-turn.invariant
+    many_fails (item_in (readers c.args.depth)) c.args.joint c.in-Err.fault c.loop-turn._turn (length c.args.tokens.now)
+    (map refinement_tree_of c.loop-turn.parts.items) (symbols_from c.args.tokens.now c.loop-turn.at)
+    (symbols_from c.args.tokens.now c.take.new.at) _ (omega arith) (search (rules, c.take.ensures.taken))
+    c.in-Err.ensures c.loop-turn.invariant
 
 pub items-returns : goal.items-returns
 items-returns t c =
@@ -96,27 +106,17 @@ items-returns t c =
 
 pub parts-loop-turn-preserved : goal.parts-loop-turn-preserved
 parts-loop-turn-preserved t c =
-    let turns : length c.args.tokens.now - c.loop-turn._turn ≡ suc (length c.args.tokens.now - (c.loop-turn._turn + 1)) = omega arith in
-    let found : behind c.args.joint (symbols_from c.args.tokens.now c.loop-turn.at)
-    ≡ Some (symbols_from c.args.tokens.now c.take.new.at) = search (rules, c.take.ensures.taken) in
-    let read : part_in (readers c.args.depth) (symbols_from c.args.tokens.now c.take.new.at)
-    ≡ Some (set_tree_of c.in-Ok.found, symbols_from c.args.tokens.now c.part.new.at) = c.in-Ok.ensures in
-    let pushed : c.push.new.self.items ≡ c.loop-turn.list.items ++ c.in-Ok.found ∷ [] = search rules in
-    let mapped : map set_tree_of c.push.new.self.items ≡ map set_tree_of c.loop-turn.list.items ++ set_tree_of c.in-Ok.found ∷ [] =
-    ap (map set_tree_of) pushed ∙ map_push set_tree_of c.loop-turn.list.items c.in-Ok.found in
-    ap (λ (front : List AttributeSetTree). with_front front
-    (many (part_in (readers c.args.depth)) c.args.joint (length c.args.tokens.now - (c.loop-turn._turn + 1))
-    (symbols_from c.args.tokens.now c.part.new.at))) mapped
-    ∙ many_more (part_in (readers c.args.depth)) c.args.joint _ _ (map set_tree_of c.loop-turn.list.items) (set_tree_of c.in-Ok.found) _ _ _ turns found read
-    ∙ c.loop-turn.invariant
+    turn_read (part_in (readers c.args.depth)) c.args.joint set_tree_of c.loop-turn.list.items c.push.new.self.items c.in-Ok.found
+    c.loop-turn._turn (length c.args.tokens.now) (symbols_from c.args.tokens.now c.loop-turn.at)
+    (symbols_from c.args.tokens.now c.take.new.at) _ _ (omega arith) (search rules) (search (rules, c.take.ensures.taken))
+    c.in-Ok.ensures c.loop-turn.invariant
 
 pub parts-returns-in-Err : goal.parts-returns-in-Err
 parts-returns-in-Err t c =
-    let turns : length c.args.tokens.now - c.loop-turn._turn ≡ suc (length c.args.tokens.now - (c.loop-turn._turn + 1)) = omega arith in
-    let found : behind c.args.joint (symbols_from c.args.tokens.now c.loop-turn.at)
-    ≡ Some (symbols_from c.args.tokens.now c.take.new.at) = search (rules, c.take.ensures.taken) in
-    many_fails (part_in (readers c.args.depth)) c.args.joint c.in-Err.fault _ _
-    (map set_tree_of c.loop-turn.list.items) _ _ _ turns found c.in-Err.ensures c.loop-turn.invariant
+    many_fails (part_in (readers c.args.depth)) c.args.joint c.in-Err.fault c.loop-turn._turn (length c.args.tokens.now)
+    (map set_tree_of c.loop-turn.list.items) (symbols_from c.args.tokens.now c.loop-turn.at)
+    (symbols_from c.args.tokens.now c.take.new.at) _ (omega arith) (search (rules, c.take.ensures.taken))
+    c.in-Err.ensures c.loop-turn.invariant
 
 pub parts-returns : goal.parts-returns
 parts-returns t c =

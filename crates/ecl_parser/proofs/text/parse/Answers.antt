@@ -1,4 +1,5 @@
-use Rattle.std.proofs.Common.{List, map, subst, sym}
+use Rattle.std.proofs.Common.{rules, arith, List, map, subst, sym}
+use Rattle.std.proofs.lemmas.Grind.{common_steps}
 use Rattle.ecl_lexer.specs.Tokens.{AreTokensOf, spelled}
 use Rattle.std.proofs.Common.{Err}
 use Rattle.ecl_lexer.specs.declared.token.Token.{Token}
@@ -26,3 +27,12 @@ returns-clause-only c =
     right_only c.args.text.now c.tree.result
     (right_of_tokens c.args.text.now (map spelled c.as_slice.result.now) c.tree.result c.in-Ok.ensures.readable are
     c.tree.ensures.shallow c.tree.ensures.found c.tree.ensures.fault)
+
+pub returns-clause-found : goal.returns-clause-found
+returns-clause-found c = search rules
+
+pub returns-clause-fault : goal.returns-clause-fault
+returns-clause-fault c = search rules
+
+pub returns-clause-memory : goal.returns-clause-memory
+returns-clause-memory c = grind (arith, common_steps)
