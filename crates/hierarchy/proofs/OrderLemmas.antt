@@ -22,7 +22,8 @@ roots_none waiting = record { once = tt; members = λ concept. grind arith }
 pub roots_one : (count : ℕ) (waiting roots : List ℕ) → AreRoots count waiting roots → get_or waiting count 0 ≡ 0
     → AreRoots (count + 1) waiting (roots ++ count ∷ [])
 roots_one count waiting roots known none = record {
-  once = IsDistinct-push nat_eq_equiv roots count known.once (any-has roots count ∙ had_not roots count (λ there. absurd (omega (arith, ((known.members count).0 there).0))));
+  once = IsDistinct-push nat_eq_equiv roots count known.once
+      (any-has roots count ∙ had_not roots count (λ there. absurd (omega (arith, ((known.members count).0 there).0))));
   members = members-push (λ c. (c < count + 1) × (get_or waiting c 0 ≡ 0)) roots count (omega arith, none) (λ c apart. grind (arith, (known.members c)));
 }
 

@@ -16,14 +16,18 @@ one_more whole so_far own (Err refused) adds shape owns = absurd adds
 
 pub returns : goal.returns
 returns c =
-    let with_query_is : app_of c.in_ok-with_query.with_query ≡ with_subcommand bare_program query_command.top =
-    one_more (app_of c.in_ok-with_query.with_query) (app_of c.in_ok-named.named) query_command c.query_command.result c.in_ok-with_query.ensures
+    let named = app_of c.in_ok-named.named in
+    let with_query = app_of c.in_ok-with_query.with_query in
+    let with_explain = app_of c.in_ok-with_explain.with_explain in
+    let with_query_is : with_query ≡ with_subcommand bare_program query_command.top =
+    one_more with_query named query_command c.query_command.result c.in_ok-with_query.ensures
     c.query_command.ensures.shape c.query_command.ensures.own
     ∙ ap (λ (app : App). with_subcommand app query_command.top) c.in_ok-named.ensures in
-    let with_explain_is : app_of c.in_ok-with_explain.with_explain ≡ with_subcommand (with_subcommand bare_program query_command.top) explain_command.top =
-    one_more (app_of c.in_ok-with_explain.with_explain) (app_of c.in_ok-with_query.with_query) explain_command c.explain_command.result c.in_ok-with_explain.ensures
+    let with_explain_is : with_explain ≡ with_subcommand (with_subcommand bare_program query_command.top) explain_command.top =
+    one_more with_explain with_query explain_command c.explain_command.result c.in_ok-with_explain.ensures
     c.explain_command.ensures.shape c.explain_command.ensures.own
     ∙ ap (λ (app : App). with_subcommand app explain_command.top) with_query_is in
     IfOk-weaker c.with-3.result _ _
-    (λ command adds. one_more (app_of command) (app_of c.in_ok-with_explain.with_explain) check_command c.check_command.result adds c.check_command.ensures.shape c.check_command.ensures.own
+    (λ command adds. one_more (app_of command) with_explain check_command c.check_command.result adds
+    c.check_command.ensures.shape c.check_command.ensures.own
     ∙ ap (λ (app : App). with_subcommand app check_command.top) with_explain_is) c.with-3.ensures
