@@ -20,7 +20,7 @@ use Rattle.number_lists.proofs.ListLemmas.{both_ways, same_maps}
 use Rattle.number_lists.proofs.KeyedLemmas.{items_of-append}
 use Rattle.snapshot.proofs.NumberingLemmas.{Reaches-map, numbers_again, row_by}
 use Rattle.number_lists.proofs.BlockLemmas.{Contains-map}
-use Rattle.release_rows.proofs.PlaceLemmas.{place_of, place_of-get_or}
+use Rattle.number_lists.proofs.PlaceLemmas.{place_of, place_of-get_or}
 use Rattle.number_lists.proofs.MemberLemmas.{any-has, contains_had, had_contained}
 use Rattle.hierarchy.proofs.WayLemmas.{contained_items_of, items_of-contained}
 use Rattle.ancestor_index.specs.HierarchyLists.{hierarchy_of, is_child, lists_where}

@@ -1,11 +1,14 @@
 pub mod BlockLemmas
 pub mod CutLemmas
 pub mod DistinctLemmas
+pub mod IncreasingLemmas
 pub mod KeyedBlockLemmas
 pub mod KeyedLemmas
 pub mod ListLemmas
 pub mod MemberLemmas
+pub mod PlaceLemmas
 pub mod RisingLemmas
+pub mod RisingOrderLemmas
 pub mod Rules
 pub mod SortingLemmas
 pub mod SpanLemmas

@@ -3,3 +3,4 @@ pub mod inside
 pub mod KeyedLists
 pub mod Members
 pub mod Rising
+pub mod RisingOrder

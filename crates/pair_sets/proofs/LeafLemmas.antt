@@ -23,7 +23,7 @@ use Rattle.set_algebra.specs.Meaning.{has_pairs, pairs_of}
 use Rattle.snapshot.specs.AttributesBySource.{attributes_by_source}
 use Rattle.number_lists.proofs.MemberLemmas.{had_contained, contains_had}
 use Rattle.number_lists.proofs.BlockLemmas.{Contains-map, filter-all}
-use Rattle.release_rows.proofs.RisingLemmas.{earlier_below}
+use Rattle.number_lists.proofs.IncreasingLemmas.{earlier_below}
 use Rattle.postings.specs.Entries.{Entry, entries_of}
 use Rattle.postings.specs.Groups.{ConceptGroup, all_groups, groups_in, is_in_group, pairs_of_group, rows_alone}
 use Rattle.postings.specs.Indexed.{Indexed, IsIndexOf, types_of}

@@ -28,7 +28,7 @@ use Rattle.set_algebra.specs.Plan.{Plan, empty_plan, one_plan, walk_plan, member
 use Rattle.snapshot.specs.AttributesBySource.{attributes_by_source}
 use Rattle.snapshot.specs.Numbering.{concept_number}
 use Rattle.snapshot.proofs.NumberingLemmas.{concept_number-has}
-use Rattle.release_rows.proofs.PlaceLemmas.{place_of}
+use Rattle.number_lists.proofs.PlaceLemmas.{place_of}
 use Rattle.ancestor_index.specs.HierarchyLists.{Hierarchy, lists_where}
 use Rattle.ancestor_index.specs.HierarchyLists.{is_child as leads_to}
 use Rattle.ancestor_index.proofs.ClosureLemmas.{list_of-where}

@@ -11,7 +11,7 @@ use Rattle.std.proofs.lemmas.Map.Keys.{apart_from_distinct}
 use Rattle.rf2_rows.specs.Pairs.{pair_eq, pair_of, value_eq}
 use Rattle.rf2_rows.specs.Release.{Attribute, Value}
 use Rattle.rf2_rows.proofs.PairLemmas.{tells_same_value}
-use Rattle.release_rows.proofs.PlaceLemmas.{place_of, place_of-get_or}
+use Rattle.number_lists.proofs.PlaceLemmas.{place_of, place_of-get_or}
 use Rattle.postings.specs.inside.Coded.{IsCoded, has_same_pair, row_coded}
 use Rattle.postings.specs.Entries.{is_alike, is_alike_in_group}
 use Rattle.postings.specs.Indexed.{value_at}

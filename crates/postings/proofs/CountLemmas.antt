@@ -27,8 +27,8 @@ use Rattle.number_lists.proofs.DistinctLemmas.{keeps_each_number_once}
 use Rattle.rf2_rows.proofs.PairLemmas.{keeps_each_pair_once, tells_same_pair, tells_same_value}
 use Rattle.snapshot.specs.AttributesBySource.{attributes_by_source}
 use Rattle.number_lists.specs.Members.{has}
-use Rattle.release_rows.specs.InForce.{rising}
-use Rattle.release_rows.proofs.SortLemmas.{keeps_rising}
+use Rattle.number_lists.specs.RisingOrder.{rising}
+use Rattle.number_lists.proofs.RisingOrderLemmas.{keeps_rising}
 use Rattle.number_lists.proofs.ListLemmas.{both_ways}
 use Rattle.number_lists.proofs.MemberLemmas.{any-has}
 use Rattle.postings.specs.Entries.{Entry, entries_of, is_alike, is_alike_in_group}

@@ -12,7 +12,7 @@ use Rattle.rf2_rows.specs.Release.{Value}
 use Rattle.number_lists.proofs.DistinctLemmas.{keeps_each_number_once}
 use Rattle.number_lists.specs.Members.{has}
 use Rattle.number_lists.proofs.WhereLemmas.{numbers_where-agree}
-use Rattle.release_rows.specs.InForce.{rising}
+use Rattle.number_lists.specs.RisingOrder.{rising}
 use Rattle.number_lists.proofs.ListLemmas.{both_ways, some_item_passes}
 use Rattle.number_lists.proofs.MemberLemmas.{contains_had, had_contained}
 use Rattle.postings.specs.inside.Coded.{code_eq, group_codes, ungrouped_pairs, numbers_of_groups, pair_code, place_in_source, row_coded}
@@ -23,7 +23,7 @@ use Rattle.number_lists.proofs.BlockLemmas.{Contains-filter, Contains-map}
 use Rattle.postings.proofs.DistinctLemmas.{All-distinct}
 use Rattle.postings.proofs.OnceLemmas.{distinct-keeps, position-within}
 use Rattle.postings.proofs.RisingLemmas.{rising_is_listed, some_bound}
-use Rattle.release_rows.proofs.SortLemmas.{has-rising}
+use Rattle.number_lists.proofs.RisingOrderLemmas.{has-rising}
 
 -- the members of a list in rising order are the same whether repeats leave before
 pub rising_distinct : (numbers : List ℕ) → rising (distinct nat_eq numbers) ≡ rising numbers

@@ -19,7 +19,7 @@ use Rattle.postings.specs.inside.Coded.{code_eq, group_codes, ungrouped_pairs, n
 use Rattle.postings.specs.declared.rows.CodedRow.{CodedRow}
 use Rattle.postings.proofs.DistinctLemmas.{filter-map_agree, length-distinct, position-distinct}
 use Rattle.postings.proofs.MarkLemmas.{code_eq_equiv}
-use Rattle.release_rows.proofs.SortLemmas.{has-rising}
+use Rattle.number_lists.proofs.RisingOrderLemmas.{has-rising}
 
 -- the numbers of the groups of some rows, row by row, and the rows that have no group
 abbrev groups_at : List CodedRow → List ℕ

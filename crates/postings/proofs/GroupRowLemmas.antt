@@ -10,8 +10,8 @@ use Rattle.rf2_rows.specs.Groups.{group_numbers, pairs_in}
 use Rattle.rf2_rows.specs.Pairs.{pair_eq, pair_of, rows_of}
 use Rattle.rf2_rows.specs.Release.{Attribute, Release}
 use Rattle.rf2_rows.proofs.PairLemmas.{tells_same_pair}
-use Rattle.release_rows.specs.InForce.{rising}
-use Rattle.release_rows.proofs.SortLemmas.{keeps_rising}
+use Rattle.number_lists.specs.RisingOrder.{rising}
+use Rattle.number_lists.proofs.RisingOrderLemmas.{keeps_rising}
 use Rattle.postings.specs.Groups.{ConceptGroup, GroupKey, groups_among, is_in_group, keys_of, numbered, ungrouped}
 use Rattle.postings.specs.Places.{places_where}
 use Rattle.number_lists.proofs.BlockLemmas.{All-flat_map}

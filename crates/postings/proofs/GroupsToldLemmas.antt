@@ -16,7 +16,7 @@ use Rattle.std.proofs.lemmas.Simd.{map-map}
 use Rattle.number_lists.specs.Distinct.{distinct}
 use Rattle.rf2_rows.specs.Pairs.{pair_eq, pair_of, value_eq}
 use Rattle.rf2_rows.specs.Release.{Attribute, Value}
-use Rattle.release_rows.specs.InForce.{rising}
+use Rattle.number_lists.specs.RisingOrder.{rising}
 use Rattle.postings.specs.inside.Coded.{IsBySource, IsCoded, all_group_marks, code_eq, group_codes, group_marks, groups_ahead, has_same_in_group}
 use Rattle.postings.specs.inside.Coded.{has_same_pair, ungrouped_pairs, of_source, pair_code, place_in_source, row_coded}
 use Rattle.postings.specs.Columns.{AreGroups, Flagged}

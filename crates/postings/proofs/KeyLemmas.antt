@@ -13,9 +13,9 @@ use Rattle.rf2_rows.specs.Pairs.{Pair, pair_eq, pair_of, rows_of}
 use Rattle.rf2_rows.specs.Release.{Attribute, Release}
 use Rattle.number_lists.proofs.DistinctLemmas.{keeps_each_number_once}
 use Rattle.rf2_rows.proofs.PairLemmas.{keeps_each_pair_once, tells_same_pair}
-use Rattle.release_rows.specs.InForce.{rising}
-use Rattle.release_rows.proofs.SortLemmas.{keeps_rising}
-use Rattle.release_rows.proofs.PlaceLemmas.{place_of, place_of-get_or}
+use Rattle.number_lists.specs.RisingOrder.{rising}
+use Rattle.number_lists.proofs.RisingOrderLemmas.{keeps_rising}
+use Rattle.number_lists.proofs.PlaceLemmas.{place_of, place_of-get_or}
 use Rattle.postings.specs.Groups.{ConceptGroup, GroupKey, all_groups, group_of, groups_among, has_key, is_in_group, key_of, keys_of}
 use Rattle.postings.specs.Groups.{numbered, ungrouped}
 use Rattle.number_lists.proofs.BlockLemmas.{All-flat_map, blocks_by_place}

@@ -7,8 +7,8 @@ use Rattle.std.proofs.lemmas.List.Elements.{All-cons, All-head, All-nil, All-tai
 use Rattle.number_lists.specs.Rising.{IsRisingBelow, listed_numbers, rises_within}
 use Rattle.number_lists.specs.Members.{has}
 use Rattle.number_lists.proofs.RisingLemmas.{rises_from_on, rises_on, rising_is_where}
-use Rattle.release_rows.specs.InForce.{put, rising}
-use Rattle.release_rows.proofs.SortLemmas.{has-rising}
+use Rattle.number_lists.specs.RisingOrder.{put, rising}
+use Rattle.number_lists.proofs.RisingOrderLemmas.{has-rising}
 
 -- a number put into a rising list leaves one that rises within the same limits
 rises_within-put : (lowest bound id : ℕ) (xs : List ℕ) → lowest ≤ id → id < bound → rises_within lowest bound xs ≡ true

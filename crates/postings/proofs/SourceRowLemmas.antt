@@ -15,7 +15,7 @@ use Rattle.std.proofs.lemmas.Simd.{map-map}
 use Rattle.rf2_rows.specs.Release.{Attribute, Release}
 use Rattle.snapshot.specs.AttributesBySource.{attributes_by_source}
 use Rattle.number_lists.specs.KeyedLists.{list_of}
-use Rattle.release_rows.proofs.PlaceLemmas.{place_of, place_of-get_or}
+use Rattle.number_lists.proofs.PlaceLemmas.{place_of, place_of-get_or}
 use Rattle.number_lists.proofs.ListLemmas.{concat-take_more}
 use Rattle.postings.specs.inside.Coded.{AreCodedRows, AreRowMarks, row_coded}
 use Rattle.postings.specs.Columns.{Flagged}

@@ -21,7 +21,7 @@ use Rattle.snapshot.specs.AttributesBySource.{value_by_identifier}
 use Rattle.snapshot.specs.ValuesInForce.{is_value_among}
 use Rattle.number_lists.proofs.MemberLemmas.{contains_had}
 use Rattle.number_lists.proofs.BlockLemmas.{Contains-map}
-use Rattle.release_rows.proofs.RisingLemmas.{earlier_below}
+use Rattle.number_lists.proofs.IncreasingLemmas.{earlier_below}
 use Rattle.postings.specs.Indexed.{value_at, values_among}
 use Rattle.postings.specs.RowValues.{AreTables, decimals_at, decimals_of, text_cmp, texts_at, texts_of}
 use Rattle.postings.specs.inside.ValueTables.{values_in}

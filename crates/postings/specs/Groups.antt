@@ -5,7 +5,7 @@ use Rattle.std.specs.List.{flat_map}
 use Rattle.rf2_rows.specs.Groups.{group_numbers, pairs_in}
 use Rattle.rf2_rows.specs.Pairs.{Pair, pair_eq, pair_of}
 use Rattle.rf2_rows.specs.Release.{Attribute, Release}
-use Rattle.release_rows.specs.InForce.{rising}
+use Rattle.number_lists.specs.RisingOrder.{rising}
 use Rattle.postings.specs.Indexed.{Indexed}
 use Rattle.postings.specs.Places.{places_where}
 

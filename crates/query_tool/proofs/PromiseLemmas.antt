@@ -17,7 +17,8 @@ use Rattle.release_rows.specs.Files.{text_of_row, has_kind, is_concept_file, pla
 use Rattle.release_rows.specs.Faults.{first_fault}
 use Rattle.rf2_rows.specs.declared.row.ConceptRow.{ConceptRow}
 use Rattle.release_rows.specs.Chosen.{chosen}
-use Rattle.release_rows.specs.InForce.{KeepsRising, concept_rows}
+use Rattle.release_rows.specs.InForce.{concept_rows}
+use Rattle.number_lists.specs.RisingOrder.{KeepsRising}
 use Rattle.release_rows.specs.Limits.{limits_in_force, standard_limits}
 use Rattle.release_rows.specs.Pieces.{listed}
 use Rattle.release_rows.specs.declared.fault.LoadFault.{LoadFault}

@@ -18,7 +18,7 @@ use Rattle.release_rows.specs.Traversal.{StopsAt, TakesAll, next, taken}
 use Rattle.release_rows.specs.declared.fault.LoadFault.{LoadFault}
 use Rattle.release_rows.specs.inside.FirstPass.{AreSeen, AreShort, first_conflict, keys_behind, uuids_after}
 use Rattle.number_lists.proofs.MemberLemmas.{any-has, had_contained}
-use Rattle.release_rows.proofs.PlaceLemmas.{get_or-place_of, place_below, place_of}
+use Rattle.number_lists.proofs.PlaceLemmas.{get_or-place_of, place_below, place_of}
 use Rattle.release_rows.proofs.SingleLemmas.{any-none, key-twice, met-seen}
 use Rattle.release_rows.proofs.KindLemmas.{kind_same}
 use Rattle.rf2_rows.specs.declared.kind.FileKind.{FileKind}

@@ -11,12 +11,9 @@ pub mod NameLemmas
 pub mod NeighbourLemmas
 mod PassLemmas
 pub mod PiecesLemmas
-pub mod PlaceLemmas
 mod ReadFromLemmas
 mod ReadLineLemmas
-pub mod RisingLemmas
 mod SingleLemmas
-pub mod SortLemmas
 pub mod SpanLemmas
 pub mod SplitLemmas
 pub mod TakingLemmas

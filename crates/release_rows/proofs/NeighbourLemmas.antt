@@ -13,7 +13,7 @@ use Rattle.std.proofs.lemmas.Map.Keys.{IsStrictlyIncreasing-dedup, non_decreasin
 use Rattle.number_lists.specs.Members.{has, times}
 use Rattle.number_lists.proofs.MemberLemmas.{contains_had, had_contained, had_not}
 use Rattle.release_rows.specs.inside.Repeated.{equal_neighbours}
-use Rattle.release_rows.proofs.RisingLemmas.{earlier_below}
+use Rattle.number_lists.proofs.IncreasingLemmas.{earlier_below}
 use Rattle.std.proofs.lemmas.List.Filters.{sum_by-filter_both}
 
 -- one number more

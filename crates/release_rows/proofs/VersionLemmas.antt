@@ -9,7 +9,7 @@ use Rattle.number_lists.proofs.BlockLemmas.{Contains-map}
 use Rattle.release_rows.specs.Chosen.{is_later}
 use Rattle.release_rows.specs.inside.KeyedRows.{KeyedRow, same_version, AreOfItsKind, conflicts, is_repeated, Covers, choices, is_superseded}
 use Rattle.release_rows.specs.inside.VersionTable.{IsCodeOf, time_code, AgreesWith, HasTaken, IsOfVersion, IsVersionAmong, VersionTable, Version, firsts, is_outdated, without, is_older}
-use Rattle.release_rows.proofs.PlaceLemmas.{place_of-get_or}
+use Rattle.number_lists.proofs.PlaceLemmas.{place_of-get_or}
 use Rattle.release_rows.specs.Spans.{Extends}
 use Rattle.release_rows.specs.inside.VersionsInside.{IsLineOf, version_in}
 use Rattle.release_rows.specs.declared.versions.VersionRow.{VersionRow}

@@ -1,10 +1,10 @@
 -- The rows of a release that are in force (Release File Specification, "Concept file", "Description
 -- file", "Relationship file", "Relationship concrete values file" and "Simple reference set"; the
 -- inferred view).
-use Rattle.std.specs.Prelude.{◌↔◌, ℕ, ◌+◌, ◌==◌, ◌&&◌, Bool, not, nat_lt, if◌then◌else◌, List, [], ◌∷◌, length, map, filter, Option, None, Some}
-use Rattle.std.specs.List.{Contains, filter_map}
-use Rattle.std.specs.List.Sorted.{IsStrictlyIncreasing}
+use Rattle.std.specs.Prelude.{ℕ, ◌+◌, ◌==◌, ◌&&◌, Bool, not, if◌then◌else◌, List, [], ◌∷◌, length, map, filter, Option, None, Some}
+use Rattle.std.specs.List.{filter_map}
 use Rattle.number_lists.specs.Members.{has}
+use Rattle.number_lists.specs.RisingOrder.{rising}
 use Rattle.rf2_rows.specs.RowTexts.{RowText, of_concept, of_concrete, of_description, of_member, of_relationship}
 use Rattle.rf2_rows.specs.Rows.{ConcreteText, DescriptionText}
 use Rattle.rf2_rows.specs.Release.{Attribute, Name, Release, concept_value}
@@ -53,22 +53,6 @@ concrete_rows rows = filter_map concrete_in rows
 
 abbrev pub member_rows : List RowText → List MemberRow
 member_rows rows = filter_map member_in rows
-
--- a number put into a rising list of numbers at its place, unless it is there
-abbrev pub put : ℕ → List ℕ → List ℕ
-put id [] = id ∷ []
-put id (first ∷ others) =
-    if nat_lt id first then id ∷ first ∷ others else if id == first then first ∷ others else first ∷ put id others
-
--- the members of a list in rising order, each once
-abbrev pub rising : List ℕ → List ℕ
-rising [] = []
-rising (id ∷ ids) = put id (rising ids)
-
--- they are in rising order, and the same members
-abbrev pub KeepsRising : Type 0
-KeepsRising =
-    (ids : List ℕ) → IsStrictlyIncreasing (rising ids) × ((id : ℕ) → Contains (rising ids) id ↔ Contains ids id)
 
 -- the rows between two of some concepts
 abbrev pub rows_among : List ℕ → List (ℕ × ℕ) → List (ℕ × ℕ)

@@ -2,7 +2,7 @@
 //! with the law as its contract.
 ghost use Rattle.release_rows.specs.Chosen.{ChoosesOne, ChoosesTheLatest};
 ghost use Rattle.release_rows.specs.Faults.{NamesFirstFault};
-ghost use Rattle.release_rows.specs.InForce.{KeepsRising};
+ghost use Rattle.number_lists.specs.RisingOrder.{KeepsRising};
 
 /// The first fault of a list of places is the fault of a place before which no place has any.
 pub fn first_fault_is_the_first()

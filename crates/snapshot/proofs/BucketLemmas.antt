@@ -2,7 +2,7 @@
 use Rattle.std.proofs.Common.{rules, ℕ, ◌+◌, ◌≡◌, ◌≤◌, ◌<◌, List, length, get_or, arith}
 use Rattle.std.specs.List.Sorted.{IsStrictlyIncreasing}
 use Rattle.snapshot.specs.inside.Buckets.{AreBucketStarts, IsBucketStart, bucket_count, bucket_of}
-use Rattle.release_rows.proofs.RisingLemmas.{not_falling}
+use Rattle.number_lists.proofs.IncreasingLemmas.{not_falling}
 
 pub bucket_below : (id : ℕ) → bucket_of id < bucket_count
 unfolding bucket_of

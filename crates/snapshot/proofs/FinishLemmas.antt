@@ -10,7 +10,8 @@ use Rattle.std.specs.List.Sorted.{IsStrictlyIncreasing}
 use Rattle.snapshot.specs.inside.LeastCycle.{IsLeastCycle}
 use Rattle.rf2_rows.specs.Release.{Attribute, Name}
 use Rattle.snapshot.specs.Contents.{Contents, IsFaultOf, first_cyclic, least_cyclic, unless_cyclic}
-use Rattle.release_rows.specs.InForce.{put, rising, rows_among}
+use Rattle.release_rows.specs.InForce.{rows_among}
+use Rattle.number_lists.specs.RisingOrder.{put, rising}
 use Rattle.snapshot.specs.inside.Finished.{IsCycle, attributes_among, contents_from, finished, names_among, release_from}
 use Rattle.snapshot.specs.ValuesInForce.{is_value_among}
 use Rattle.release_rows.specs.ReleaseLists.{ReleaseLists}

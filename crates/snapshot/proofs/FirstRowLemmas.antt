@@ -13,7 +13,7 @@ use Rattle.snapshot.specs.inside.FirstRows.{AreFirstPlaces, IsFirstOfTwo, IsFirs
 use Rattle.snapshot.specs.Name.{first_name, names_of}
 use Rattle.snapshot.specs.Numbering.{concept_number}
 use Rattle.snapshot.proofs.LineLemmas.{place_within}
-use Rattle.release_rows.proofs.RisingLemmas.{earlier_below}
+use Rattle.number_lists.proofs.IncreasingLemmas.{earlier_below}
 
 -- concepts at two places of a rising list are not one
 places_apart : (concepts : List ℕ) → IsStrictlyIncreasing concepts → (i j : ℕ) → i < length concepts → j < length concepts → (i ≡ j → ⊥)

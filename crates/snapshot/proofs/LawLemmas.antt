@@ -14,7 +14,7 @@ use Rattle.hierarchy.proofs.HierarchyLemmas.{chain_from_test, test_from_chain}
 use Rattle.snapshot.specs.Contents.{NamesLeastCyclic}
 use Rattle.std.proofs.lemmas.List.Elements.{Contains-get_or}
 use Rattle.snapshot.proofs.NumberingLemmas.{find-first, find-none}
-use Rattle.release_rows.proofs.RisingLemmas.{earlier_below, not_falling}
+use Rattle.number_lists.proofs.IncreasingLemmas.{earlier_below, not_falling}
 
 -- what is found passes the test, and no item before it does
 find-Some : (test : ℕ → Bool) (xs : List ℕ) (x : ℕ) → find test xs ≡ Some x

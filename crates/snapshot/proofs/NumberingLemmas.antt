@@ -17,8 +17,8 @@ use Rattle.number_lists.specs.Members.{has}
 use Rattle.number_lists.proofs.BlockLemmas.{Contains-map}
 use Rattle.release_rows.specs.InForce.{rows_among}
 use Rattle.snapshot.specs.Numbering.{concept_number, numbered_row, row_of_numbers}
-use Rattle.release_rows.proofs.PlaceLemmas.{get_or-place_of, place_below, place_of, place_of-get_or, place_within}
-use Rattle.release_rows.proofs.RisingLemmas.{has-between}
+use Rattle.number_lists.proofs.PlaceLemmas.{get_or-place_of, place_below, place_of, place_of-get_or, place_within}
+use Rattle.number_lists.proofs.IncreasingLemmas.{has-between}
 
 -- the row of what a function gives of both ends
 abbrev pub row_by : (ℕ → ℕ) → ℕ × ℕ → ℕ × ℕ

@@ -13,12 +13,13 @@ use Rattle.rf2_rows.specs.declared.row.RelationshipRow.{RelationshipRow}
 use Rattle.release_rows.specs.Chosen.{choices, marked}
 use Rattle.release_rows.specs.Files.{RowAt}
 use Rattle.number_lists.specs.Members.{has}
-use Rattle.release_rows.specs.InForce.{attributes_in_force, concept_rows, concrete_rows, description_rows, is_concrete_in_force, is_in_force, listed_count, member_rows, put, relationship_rows, release_of, rising}
+use Rattle.release_rows.specs.InForce.{attributes_in_force, concept_rows, concrete_rows, description_rows, is_concrete_in_force, is_in_force, listed_count, member_rows, relationship_rows, release_of}
+use Rattle.number_lists.specs.RisingOrder.{put, rising}
 use Rattle.release_rows.specs.Metadata.{is_a}
 use Rattle.snapshot.specs.Passed.{CountsPassedRows, failing, passed_texts}
 use Rattle.release_rows.proofs.ApartLemmas.{active-distinct}
 use Rattle.snapshot.proofs.LoadLemmas.{concepts-listed}
-use Rattle.release_rows.proofs.SortLemmas.{has-rising}
+use Rattle.number_lists.proofs.RisingOrderLemmas.{has-rising}
 
 -- the rows that pass a test and those that fail it are all rows
 split : {Row : Type 0} (test : Row → Bool) (rows : List Row) → length (filter test rows) + failing test rows ≡ length rows

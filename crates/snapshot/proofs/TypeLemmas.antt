@@ -10,7 +10,7 @@ use Rattle.snapshot.specs.inside.SortedInside.{row_in}
 use Rattle.release_rows.specs.Spans.{Extends}
 use Rattle.snapshot.specs.declared.sorted_attributes.SortedRow.{SortedRow}
 use Rattle.number_lists.proofs.MemberLemmas.{any-has}
-use Rattle.release_rows.proofs.PlaceLemmas.{get_or-place_of, place_below}
+use Rattle.number_lists.proofs.PlaceLemmas.{get_or-place_of, place_below}
 
 -- the place of a key is no further than there are keys
 pub place_near : (keys : List ℕ) (key : ℕ) → position_or_len (nat_eq key) keys ≤ length keys

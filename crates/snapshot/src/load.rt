@@ -10,7 +10,8 @@ ghost use Rattle.release_rows.specs.Files.{has_kind as has_kind_of, is_concept_f
 ghost use Rattle.release_rows.specs.Pieces.{AreInOrder, FailsAtFiles, IsUnlisted, has_kind_at, listed};
 ghost use Rattle.release_rows.specs.DeviceFaults.{FailsAtRead, FailsOnlyBelow, FileIs, RaisesOnlyAtDevice, is_device};
 ghost use Rattle.rf2_rows.specs.Files.{file_kind_of};
-ghost use Rattle.release_rows.specs.InForce.{rising as rising_of, rows_among};
+ghost use Rattle.release_rows.specs.InForce.{rows_among};
+ghost use Rattle.number_lists.specs.RisingOrder.{rising as rising_of};
 ghost use Rattle.release_rows.specs.ReadRows.{AreFew, read_in};
 ghost use Rattle.snapshot.specs.inside.Finished.{attributes_among, names_among, IsCycle, finished};
 ghost use Rattle.release_rows.specs.Limits.{row_total};

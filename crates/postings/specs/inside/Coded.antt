@@ -5,7 +5,7 @@ use Rattle.std.specs.Prelude.{All, filter, length, map, slice_index, vec_len}
 use Rattle.std.specs.List.{flat_map, list_any, position_or_len, range_with_len}
 use Rattle.number_lists.specs.Distinct.{distinct}
 use Rattle.rf2_rows.specs.Release.{Attribute, Value}
-use Rattle.release_rows.specs.InForce.{rising}
+use Rattle.number_lists.specs.RisingOrder.{rising}
 use Rattle.postings.specs.Columns.{Flagged}
 use Rattle.postings.specs.Indexed.{types_of, value_at}
 use Rattle.postings.specs.RowValues.{AreTablesOf}

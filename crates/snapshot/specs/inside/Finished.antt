@@ -2,7 +2,8 @@
 use Rattle.std.specs.Prelude.{◌≡◌, ◌≢◌, ◌&&◌, ◌-◌, ℕ, List, filter, Option, Some, option_map, Result}
 use Rattle.number_lists.specs.Members.{has}
 use Rattle.rf2_rows.specs.Release.{Attribute, Name, Release}
-use Rattle.release_rows.specs.InForce.{listed_count, rising, rows_among}
+use Rattle.release_rows.specs.InForce.{listed_count, rows_among}
+use Rattle.number_lists.specs.RisingOrder.{rising}
 use Rattle.release_rows.specs.ReleaseLists.{ReleaseLists}
 use Rattle.release_rows.specs.declared.fault.LoadFault.{LoadFault}
 use Rattle.release_rows.specs.declared.fault.LoadFault.TheVariants.{Cycle, Memory}

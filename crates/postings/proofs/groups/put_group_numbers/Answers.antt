@@ -1,7 +1,7 @@
 use Rattle.std.proofs.Common.{ℕ, ◌^◌, ◌∙◌, List, ap, subst, sym}
 use Rattle.std.proofs.lemmas.List.{take_all}
 use Rattle.number_lists.specs.Rising.{IsRising}
-use Rattle.release_rows.specs.InForce.{rising}
+use Rattle.number_lists.specs.RisingOrder.{rising}
 use Rattle.postings.specs.inside.Coded.{numbers_of_groups}
 use Rattle.postings.proofs.RisingLemmas.{listed_is_rising, rising-rises}
 use Rattle.postings.proofs.groups.put_group_numbers.Goals as goal

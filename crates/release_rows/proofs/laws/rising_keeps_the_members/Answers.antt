@@ -1,4 +1,4 @@
-use Rattle.release_rows.proofs.SortLemmas.{keeps_rising}
+use Rattle.number_lists.proofs.RisingOrderLemmas.{keeps_rising}
 use Rattle.release_rows.proofs.laws.rising_keeps_the_members.Goals as goal
 
 pub returns : goal.returns

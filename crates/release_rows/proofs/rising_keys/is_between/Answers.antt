@@ -1,7 +1,7 @@
 use Rattle.std.proofs.Common.{arith}
 use Rattle.std.proofs.lemmas.Grind.{common_steps}
 use Rattle.std.proofs.lemmas.Bool.Decides.{nat_tests}
-use Rattle.release_rows.proofs.RisingLemmas.{has-between}
+use Rattle.number_lists.proofs.IncreasingLemmas.{has-between}
 use Rattle.release_rows.proofs.rising_keys.is_between.Goals as goal
 use Rattle.release_rows.proofs.rising_keys.is_between.Goals.{then-place-rising+then-place-eq0, then-place-rising+else-place-eq0, else-place-rising}
 

@@ -1,5 +1,5 @@
 use Rattle.std.proofs.Common.{Err, sym}
-use Rattle.release_rows.proofs.RisingLemmas.{has-searched}
+use Rattle.number_lists.proofs.IncreasingLemmas.{has-searched}
 use Rattle.release_rows.proofs.versions.code_of.Goals as goal
 
 pub returns-in-Err : goal.returns-in-Err

@@ -1,7 +1,7 @@
 use Rattle.std.proofs.Common.{◌+◌, ◌-◌, ◌/◌, arith}
 use Rattle.std.proofs.lemmas.Grind.{common_steps}
 use Rattle.snapshot.proofs.NumberingLemmas.{number_at, number_nowhere}
-use Rattle.release_rows.proofs.RisingLemmas.{not_falling}
+use Rattle.number_lists.proofs.IncreasingLemmas.{not_falling}
 use Rattle.snapshot.proofs.concepts.number_between.Goals as goal
 
 pub returns-then-found-id : goal.returns-then-found-id

@@ -1,7 +1,7 @@
 use Rattle.std.proofs.Common.{eqb, arith}
 use Rattle.std.proofs.lemmas.List.Filters.{dedup_is}
 use Rattle.std.proofs.lemmas.Map.Keys.{IsStrictlyIncreasing-dedup}
-use Rattle.release_rows.proofs.SortLemmas.{deduped_is_rising}
+use Rattle.number_lists.proofs.RisingOrderLemmas.{deduped_is_rising}
 use Rattle.snapshot.proofs.load.rising.Goals as goal
 
 pub returns-clause-rising : goal.returns-clause-rising

@@ -1,5 +1,5 @@
 use Rattle.std.proofs.Common.{Err, Ok}
-use Rattle.release_rows.proofs.RisingLemmas.{has-searched}
+use Rattle.number_lists.proofs.IncreasingLemmas.{has-searched}
 use Rattle.release_rows.proofs.rising_keys.RisingKeys.has.Goals as goal
 
 pub returns-in-Ok-clause-has : goal.returns-in-Ok-clause-has
