@@ -1,7 +1,7 @@
 -- The rows of a release that are in force (Release File Specification, "Concept file", "Description
 -- file", "Relationship file", "Relationship concrete values file" and "Simple reference set"; the
 -- inferred view).
-use Rattle.std.specs.Prelude.{ℕ, ◌+◌, ◌==◌, ◌&&◌, Bool, not, if◌then◌else◌, List, [], ◌∷◌, length, map, filter, Option, None, Some}
+use Rattle.std.specs.Prelude.{ℕ, ◌+◌, ◌==◌, ◌&&◌, Bool, not, if◌then◌else◌, List, length, map, filter, Option, None, Some}
 use Rattle.std.specs.List.{filter_map}
 use Rattle.number_lists.specs.Members.{has}
 use Rattle.number_lists.specs.RisingOrder.{rising}
