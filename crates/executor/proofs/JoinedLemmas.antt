@@ -21,6 +21,7 @@ use Rattle.ancestor_index.specs.HierarchyLists.{Hierarchy, hierarchy_of, is_chil
 use Rattle.number_lists.proofs.MemberLemmas.{contains_had, had_contained}
 use Rattle.ancestor_index.proofs.ClosureLemmas.{length-where, list_of-where, row_there}
 use Rattle.std.proofs.lemmas.List.Folds.{list_any-append}
+use Rattle.std.proofs.Math.Bool.{or-false}
 use Rattle.executor.specs.inside.Joined.{AreJoined, is_long, is_whole, near_of, with_length}
 use Rattle.executor.specs.inside.Steps.{IsOver, joined, lists_of}
 use Rattle.executor.specs.declared.family.Family.{Family}
@@ -118,17 +119,13 @@ over_near count hierarchy over f concept below set told =
     found.2
 
 -- ---- joining
-or_nothing : (b : Bool) → (b || false) ≡ b
-or_nothing true = refl
-or_nothing false = refl
-
 -- one list more
 any_more : (lists : List (List ℕ)) (before : List ℕ) (concept n : ℕ)
     → list_any (λ c. has (list_of lists c) n) (before ++ concept ∷ [])
     ≡ (list_any (λ c. has (list_of lists c) n) before || has (list_of lists concept) n)
 any_more lists before concept n =
     list_any-append (λ c. has (list_of lists c) n) before (concept ∷ [])
-    ∙ ap (λ (b : Bool). list_any (λ c. has (list_of lists c) n) before || b) (or_nothing (has (list_of lists concept) n))
+    ∙ ap (λ (b : Bool). list_any (λ c. has (list_of lists c) n) before || b) (or-false (has (list_of lists concept) n))
 
 -- what has a list added to it has what it had and what the list has
 pub has_all : (count : ℕ) (numbers list next : List ℕ) → IsRisingBelow count numbers → IsRisingBelow count list → next ≡ all_items count numbers list
@@ -237,7 +234,7 @@ all_joined count lists concepts numbers rises joined =
 one_joined : (count : ℕ) (lists : List (List ℕ)) (concept : ℕ) → numbers_where count (has (list_of lists concept)) ≡ joined count lists (concept ∷ [])
 one_joined count lists concept =
     numbers_where-agree count (has (list_of lists concept)) (λ n. list_any (λ c. has (list_of lists c) n) (concept ∷ []))
-    (λ n within. sym (or_nothing (has (list_of lists concept) n)))
+    (λ n within. sym (or-false (has (list_of lists concept) n)))
 
 pub list_joined : (count : ℕ) (lists : List (List ℕ)) (concept : ℕ) (list : List ℕ) → IsRisingBelow count list
     → list ≡ list_of lists concept → list ≡ joined count lists (concept ∷ [])

@@ -8,6 +8,7 @@ use Rattle.std.proofs.lemmas.List.Elements.{Contains-get_or}
 use Rattle.std.proofs.lemmas.List.FromFn.{fill_by_all}
 use Rattle.std.proofs.lemmas.List.Quantifiers.{position-Some}
 use Rattle.std.proofs.lemmas.List.Sums.{prefix_len_passes}
+use Rattle.std.proofs.Math.Bool.{or-false}
 use Rattle.rf2_rows.specs.Release.{Release}
 use Rattle.constraint_tree.specs.Walks.{has_concept}
 use Rattle.constraint_tree.proofs.WalkLemmas.{tells_in_force}
@@ -117,7 +118,7 @@ one_in release rising id (Some place) at =
     let found = concept_number-Some release.concepts id place at in
     rising_is_where (length release.concepts) (place ∷ []) _ (alone place (length release.concepts) found.0)
     (λ n within.
-    or_nothing (place == n)
+    or-false (place == n)
     ∙ sym (same_by_number release.concepts rising place n found.0 within)
     ∙ turned_round (get_or release.concepts place 0) (get_or release.concepts n 0)
     ∙ ap (λ (k : ℕ). get_or release.concepts n 0 == k) found.1
@@ -125,10 +126,6 @@ one_in release rising id (Some place) at =
   where
     alone : (n bound : ℕ) → n < bound → IsRisingBelow bound (n ∷ [])
     alone n bound below = rises_from_on 0 bound n [] (omega arith) below refl
-
-    or_nothing : (b : Bool) → (b || false) ≡ b
-    or_nothing true = refl
-    or_nothing false = refl
 
     turned_round : (a b : ℕ) → (a == b) ≡ (b == a)
     turned_round a b = both_ways (a == b) (b == a) (λ told. eq-eqb b a (sym (eqb-true a b told))) (λ told. eq-eqb a b (sym (eqb-true b a told)))

@@ -9,6 +9,7 @@ use Rattle.std.proofs.lemmas.List.Folds.{list_any-append}
 use Rattle.std.proofs.lemmas.List.Quantifiers.{position-Some}
 use Rattle.std.proofs.lemmas.Map.Keys.{apart_from_distinct}
 use Rattle.std.proofs.lemmas.Option.{slice_get-get_or}
+use Rattle.std.proofs.Math.Bool.{or-false}
 use Rattle.rf2_rows.specs.Release.{Attribute}
 use Rattle.number_lists.specs.Members.{has}
 use Rattle.postings.specs.Indexed.{Indexed, concept_of_type, types_of}
@@ -28,10 +29,6 @@ with_place places (Some place) = places ++ place ∷ []
 abbrev is_place : Option ℕ → ℕ → Bool
 is_place None place = false
 is_place (Some at) place = at == place
-
-or_nothing : (b : Bool) → (b || false) ≡ b
-or_nothing true = refl
-or_nothing false = refl
 
 module _ (types : List ℕ) (apart : IsDistinct nat_eq types) where
   -- the place that an identifier is found at is the only one that it has
@@ -66,10 +63,10 @@ module _ (types : List ℕ) (apart : IsDistinct nat_eq types) where
       ∙ sym (ap (λ (xs : List ℕ). is_one_of concepts xs (get_or types place 0)) (take_more numbers k 0 within)
       ∙ list_any-append (λ number. get_or concepts number 0 == get_or types place 0) (take k numbers) (get_or numbers k 0 ∷ [])
       ∙ ap (λ (b : Bool). is_one_of concepts (take k numbers) (get_or types place 0) || b)
-      (or_nothing (get_or concepts (get_or numbers k 0) 0 == get_or types place 0) ∙ ap (λ (n : ℕ). n == get_or types place 0) (sym is)))
+      (or-false (get_or concepts (get_or numbers k 0) 0 == get_or types place 0) ∙ ap (λ (n : ℕ). n == get_or types place 0) (sym is)))
     where
       added : (found : Option ℕ) → has (with_place places found) place ≡ (has places place || is_place found place)
-      added None = sym (or_nothing (has places place))
+      added None = sym (or-false (has places place))
       added (Some p) = item_more places p place
 
 -- the types of rows stand once each

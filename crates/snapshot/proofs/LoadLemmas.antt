@@ -4,6 +4,7 @@ use Rattle.std.proofs.lemmas.Bool.Decides.{nat_tests}
 use Rattle.std.proofs.lemmas.Grind.{common_steps}
 use Rattle.std.specs.List.{list_any}
 use Rattle.std.proofs.lemmas.List.Sums.{length-filter}
+use Rattle.std.proofs.Math.Bool.{and-false}
 use Rattle.release_files.specs.Source.{FileText}
 use Rattle.rf2_rows.specs.Release.{Attribute, Name}
 use Rattle.rf2_rows.specs.RowTexts.{RowText}
@@ -56,9 +57,6 @@ module _ {Row X : Type 0} (pick : RowText → Option Row) (item : Row → X) whe
       ≡ filter keep (filter_map (λ row. item_of listed (pick row)) (map text_of_row rows))
   in_force test listed keep same rows = grind (arith, common_steps, nat_tests, kept-listed, picked)
 
-and_false : (b : Bool) → (b && false) ≡ false
-and_false x0 = grind arith
-
 -- a value that a text writes is no concept
 value_of-among : (concepts text : List ℕ) → is_value_among concepts (value_of text) ≡ true
 value_of-among concepts text = grind (arith, common_steps, nat_tests)
@@ -89,7 +87,7 @@ module _ (concepts : List ℕ) where
   isa_in_force-is rows =
       in_force relationship_in (λ (row : RelationshipRow). (row.source_id, row.destination_id))
       (λ (row : RelationshipRow). is_in_force concepts row && (row.type_id == is_a)) is_isa between
-      (λ row. grind (arith, and_false)) rows
+      (λ row. grind (arith, and-false)) rows
 
   members_in_force-is : (rows : List RowAt)
       → members_in_force concepts (map text_of_row rows) ≡ rows_among concepts (filter_map member_listed (map text_of_row rows))
@@ -100,7 +98,7 @@ module _ (concepts : List ℕ) where
   -- the attributes in force are those listed of concepts in force
   attribute-kept : (row : RowAt) → attribute_in concepts (text_of_row row)
       ≡ kept (λ (attribute : Attribute). has concepts attribute.source && is_value_among concepts attribute.value) (attribute_listed (text_of_row row))
-  attribute-kept row = search (rules, and_false, concrete_value-among)
+  attribute-kept row = search (rules, and-false, concrete_value-among)
 
   attributes_in_force-is : (rows : List RowAt)
       → attributes_in_force concepts (map text_of_row rows) ≡ attributes_among concepts (filter_map attribute_listed (map text_of_row rows))
