@@ -11,6 +11,7 @@ proved libraries (refusals.sh). Where these are not there, a line says what was 
 """
 import concurrent.futures
 import contextlib
+import glob
 import itertools
 import os
 import random
@@ -436,8 +437,8 @@ def allocations():
 
 def calls():
     """Calls of the libraries with their allocations refused in turn."""
-    if not shutil.which("gcc") or not shutil.which("rt") or not os.path.isdir(f"{ROOT}/crates/query_tool/out/rlib"):
-        print("left out: allocations refused in calls of the libraries, since gcc, rt or the proved libraries are not here")
+    if not shutil.which("gcc") or not shutil.which("rt") or not glob.glob(f"{ROOT}/out/query_tool-*.tar"):
+        print("left out: allocations refused in calls of the libraries, since gcc, rt or the libraries that ./hosecrag proved are not here")
         return
     global passed, failed
     print("the program that makes the calls of the libraries is proved first, which takes some minutes", flush=True)

@@ -8,4 +8,4 @@ work=${1:-$(mktemp -d)}
     "number_lists text_parts numerals sctid hierarchy first_met rf2_rows release_files idset ecl_lexer constraint_tree ecl_parser set_algebra rewrites release_rows snapshot ancestor_index postings sample_release planner pair_sets executor answer_printer command_line streams query_run query_service query_tool" \
     "$here/../examples/SnomedCT_SampleEdition_20240101" "$work" > "$work/unrefused.txt"
 gcc -O2 -shared -fPIC -o "$work/refuse.so" "$here/refuse.c"
-LD_PRELOAD="$work/refuse.so" "$work/crates/refusals/out/refusals"
+LD_PRELOAD="$work/refuse.so" "$work/refusals"

@@ -1,40 +1,44 @@
-#!/bin/sh
-# Builds and runs a program that times a library over a release, in a folder of its own. The words are the program's
-# name, the file that is its `main.rt`, the crates that it stands on, the folder of a release, and, to keep what was
-# made for the next run, another folder.
-set -eu
+#!/usr/bin/env bash
+# Proves, builds and runs a program that times a library over a release, in a folder of its own. The words are the
+# program's name, the file that is its `main.rt`, the crates that it stands on, the folder of a release, and, to keep
+# what was made for the next run, another folder. The crates are those that ./hosecrag has proved.
+set -euo pipefail
 here=$(cd "$(dirname "$0")" && pwd)
 name=$1
 main=$2
 crates=$3
 release=$(cd "$4" && pwd)
 work=${5:-$(mktemp -d)}
-mkdir -p "$work/crates"
-# (by links where these can be made: what was made of a crate is replaced and never changed)
+mkdir -p "$work"
+work=$(cd "$work" && pwd)
+list=$work/crates.txt
+sources=$work/crates
+libraries=$work/libraries
+source "$here/../make_crate.sh"
+
+rm -rf "$sources" "$libraries"
+mkdir -p "$sources/$name/src" "$libraries"
 for crate in $crates; do
-    [ -d "$work/crates/$crate" ] || cp -al "$here/../crates/$crate" "$work/crates/" 2> /dev/null || {
-        rm -rf "$work/crates/$crate"
-        cp -r "$here/../crates/$crate" "$work/crates/"
-    }
+    if ! tar -xf "$here/../out/$crate-"*.tar -C "$libraries"; then
+        echo "$crate is not proved: run ./hosecrag first" >&2
+        exit 1
+    fi
+    mkdir "$sources/$crate"
 done
-cd "$work"
-if [ ! -d "crates/$name" ]; then
-    rt new "crates/$name" start_io
-    rm -rf "crates/$name/BUILD.bazel" BUILD.bazel "crates/$name/src" "crates/$name/specs" "crates/$name/proofs" \
-        "crates/$name/stdin" "crates/$name/stdout"
-    mkdir -p "crates/$name/src"
-fi
-grep -E "^($(echo $crates | tr ' ' '|')):" "$here/../crates.txt" > crates.txt
-echo "$name: $crates anyhow" >> crates.txt
+echo "$name: $crates anyhow" >"$list"
 # what stands beside `X_main.rt.in` as `X_part.rt.in` is a part of the program
 for file in "$here/${main%main.rt.in}"*.rt.in; do
     part=${file#"$here/${main%main.rt.in}"}
-    cp "$file" "crates/$name/src/${part%.in}"
+    cp "$file" "$sources/$name/src/${part%.in}"
 done
+of=$(cat "$sources/$name/src/"*.rt | sha256sum; ls "$here/../out")
+if [ ! -x "$work/$name" ] || [ "$of" != "$(cat "$work/$name.of")" ]; then
+    (make_program_of "$name" "$(nproc)" "$work/$name") >"$work/$name.log" 2>&1 || { cat "$work/$name.log" >&2 && exit 1; }
+    echo "$of" >"$work/$name.of"
+fi
+cd "$work"
 find "$release" -name 'sct2_Concept_*.txt' -exec cp {} concepts.txt \;
 find "$release" -name 'sct2_Relationship_*.txt' -exec cp {} relationships.txt \;
 find "$release" -name 'sct2_RelationshipConcreteValues_*.txt' -exec cp {} values.txt \;
 find "$release" -name 'der2_Refset_Simple*.txt' -exec cp {} members.txt \;
-# the run at the end of the build has no files, and says so
-(cd "crates/$name" && rt run > rt.log 2>&1) || true
-"crates/$name/out/$name"
+"./$name"
