@@ -7,11 +7,6 @@
 #   libraries  the folder of what was made of those below, NAME.rlib for each
 toolchain=$(dirname "$(rt doc)")
 
-# Copies a folder of what was made, by links where these can be made: it is replaced and never changed.
-link_all() {
-    cp -al "$1" "$2" 2>/dev/null || { rm -rf "$2" && cp -a "$1" "$2"; }
-}
-
 # Proves a crate by so many processes, and makes what the words behind them say of it. Where memory is so short that
 # the system ends it, it is tried once more by one process.
 make_of() {
