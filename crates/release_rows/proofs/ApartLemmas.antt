@@ -48,7 +48,6 @@ apart-later rows earlier [] row id listed among latest before all = tt
 apart-later rows earlier (next ∷ later) row id listed among latest before all =
     grind (
       arith,
-      common_steps,
       nat_tests,
       nat_eq,
       (apart-later rows (earlier ++ next ∷ []) later row id listed among latest

@@ -48,6 +48,12 @@ module _ {X : Type 0} (list : Listing) where
         ≡ marked (get_or choices place e ∷ marked (in_list list (drop (place + 1) marks)) (drop (place + 1) choices)) left
     row_listed e left in_marks in_choices same = grind (arith, common_steps, nat_tests, get_or)
 
+    -- of no items none is listed
+    pub row_missing : (e : Bool) (left : List X) → place < length marks → place < length choices
+        → same_listing (get_or marks place d) list ≡ true → length left ≡ 0 → to_come list marks choices place left ≡ []
+    row_missing e [] in_marks in_choices same none = row_listed e [] in_marks in_choices same
+    row_missing e (x ∷ left) in_marks in_choices same none = absurd (omega arith)
+
     pub choices_ended : (left : List X) → length choices ≤ place → to_come list marks choices place left ≡ []
     choices_ended left behind =
         ap (λ (rest : List Bool). items_chosen (in_list list (drop place marks)) rest left)

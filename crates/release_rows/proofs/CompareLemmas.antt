@@ -86,6 +86,10 @@ module _ (uuids : List ℕ) (few : length uuids < 2 ^ 63) where
         (kind_same (get_or rows there.0 row).kind row.kind),
       )
 
+-- rows that are the same have the same first row, and the same others
+same_parts : (row own : RowAt) (rows others : List RowAt) → row ∷ rows ≡ own ∷ others → (row ≡ own) × (rows ≡ others)
+same_parts row own rows others same = (cc, cc)
+
 -- ---- the second pass
 abbrev pub compares : Comparing → Place → Comparing → Type 0
 compares old place new = IsCompared (compared_in old) place (compared_in new)
@@ -187,29 +191,66 @@ module _ (keyed : Keyed) (repeated : List ℕ) (places : List Place) (seen beyon
       → clashes held (map note earlier) (note row) ≡ list_any (λ other. conflicts other row) earlier
   clash earlier row held same is = grind (arith, known, any-noted, tells)
 
+  -- one place more behind the rows that were seen
+  step_behind : (old middle : Comparison) (row : RowAt) (rows earlier : List RowAt)
+      → IsComparedRow old old.left (Some row) middle → Ahead old (row ∷ rows) earlier [] → Ahead middle rows earlier []
+  step_behind old middle row rows earlier moved start =
+      let same : middle ≡ old = subst (λ (left : List ℕ). IsComparedRow old left (Some row) middle) start.left moved in
+      rw same (record {
+        rest = rows;
+        all = refl;
+        cut = start.cut;
+        conflict = start.conflict;
+        left = start.left;
+        uuids = start.uuids;
+        repeated_is = start.repeated_is;
+        taken_is = start.taken_is;
+      })
+
+  -- a row more that was seen: its key is the first of those that are left
+  step_moved : (old middle : Comparison) (row own : RowAt) (ahead : List RowAt)
+      → IsComparedRow old old.left (Some row) middle → old.left ≡ keys_of keyed.uuids (own ∷ ahead) → row ≡ own
+      → IsTaken (record old { left = keys_of keyed.uuids ahead }) (note own).key own.kind own.text middle
+  step_moved old middle row own ahead moved left is = rw (left, is) at moved
+
+  -- it conflicts with no earlier one, and is taken
+  module _ (before middle : Comparison) (own : RowAt) (earlier : List RowAt)
+      (moved : IsTaken before (note own).key own.kind own.text middle) (uuids : before.uuids ≡ keyed.uuids)
+      (has : HasTaken before.taken (map note earlier)) (is : IsGiven earlier own) where
+    step_apart : before.taken.repeated ≡ repeated → list_any (λ other. conflicts other own) earlier ≡ false
+    step_apart same =
+        let fits : clashes before.taken (map note earlier) (note own) ≡ false =
+        rw uuids at (moved.fits (map note earlier) (expected before earlier own uuids has is)) in
+        sym (clash earlier own before.taken same is) ∙ fits
+
+    step_taken : HasTaken middle.taken (map note (earlier ++ own ∷ []))
+    step_taken =
+        let grown : HasTaken middle.taken (map note earlier ++ note own ∷ []) =
+        rw uuids at (moved.taken (map note earlier) (expected before earlier own uuids has is)) in
+        rw map-append grown
+
   -- one place more
   step : (old middle : Comparison) (at : Option RowAt) (rows earlier ahead : List RowAt)
       → IsComparedRow old old.left at middle → Ahead old (cons_option at rows) earlier ahead → Onward middle rows
   step old middle None rows earlier ahead same start = (earlier, ahead, rw same start)
-  step old middle (Some row) rows earlier [] moved start = grind (arith, common_steps, nat_tests)
+  step old middle (Some row) rows earlier [] moved start =
+      (earlier, [], step_behind old middle row rows earlier moved start)
   step old middle (Some row) rows earlier (own ∷ ahead) moved start =
-      let is : row ≡ own = cc (start.all) in
+      let parts = same_parts row own rows (ahead ++ start.rest) start.all in
       let before : Comparison = record old { left = keys_of keyed.uuids ahead } in
-      let taken : IsTaken before (note own).key own.kind own.text middle = grind arith in
+      let taken : IsTaken before (note own).key own.kind own.text middle =
+      step_moved old middle row own ahead moved start.left parts.0 in
       let known = given earlier ahead own start.cut in
-      let told : IsExpected before (map note earlier) (note own).key own.kind own.text = expected before earlier own start.uuids start.taken_is known in
-      let apart : list_any (λ other. conflicts other own) earlier ≡ false =
-      grind (arith, clash earlier own old.taken start.repeated_is known, taken.fits (map note earlier) told, start.uuids) in
-      let grown : HasTaken middle.taken (map note (earlier ++ own ∷ [])) = grind (arith, map-append, taken.taken (map note earlier) told, start.uuids) in
+      let apart = step_apart before middle own earlier taken start.uuids start.taken_is known start.repeated_is in
       let goes : Ahead middle rows (earlier ++ own ∷ []) ahead = record {
         rest = start.rest;
-        all = cc (start.all);
+        all = parts.1;
         cut = append_assoc earlier (own ∷ []) ahead ∙ start.cut;
-        conflict = grind (arith, start.conflict, apart);
+        conflict = rw apart at start.conflict;
         left = taken.left;
         uuids = taken.uuids ∙ start.uuids;
         repeated_is = taken.repeated ∙ start.repeated_is;
-        taken_is = grown;
+        taken_is = step_taken before middle own earlier taken start.uuids start.taken_is known;
       } in
       (earlier ++ own ∷ [], ahead, goes)
 
@@ -274,12 +315,14 @@ module _ (keyed : Keyed) (repeated : List ℕ) (places : List Place) (seen beyon
         by None denied at_end = absurd denied
         by (Some row) denied (now, [], goes) = absurd (rw goes.left at denied)
         by (Some row) denied (now, own ∷ rows, goes) =
-            let is : row ≡ own = cc (goes.all) in
+            let is = (same_parts row own (rows_of stop.later) (rows ++ goes.rest) goes.all).0 in
             let before : Comparison = record (compared_in stop.middle) { left = keys_of keyed.uuids rows } in
             let known = given now rows own goes.cut in
-            let refused : IsRefused before own.file own.line (note own).key own.kind own.text fault = grind (arith, compared_in) in
+            let refused : IsRefused before own.file own.line (note own).key own.kind own.text fault =
+            rw (goes.left, is) at denied in
             let both = refused (map note now) (expected before now own goes.uuids goes.taken_is known) in
-            grind (arith, both, goes.conflict, goes.uuids, clash now own before.taken goes.repeated_is known)
+            let some = sym (clash now own before.taken goes.repeated_is known) ∙ rw goes.uuids at both.1 in
+            rw (goes.conflict, some, both.0) refl
 
 -- Comparing the row on a line.
 

@@ -1,11 +1,11 @@
 -- In a sorted list a number stands more than once where it equals the one before it.
-use Rattle.std.proofs.lemmas.Grind.{common_steps}
-use Rattle.std.proofs.Common.{ℕ, Bool, false, zero, suc, ◌≡◌, ◌≢◌, ◌<◌, ◌≤◌, ◌+◌, ◌-◌, ◌==◌, ◌↔◌, inl, inr, List, [], ◌∷◌, ◌++◌, length, get_or, take, cond, nat_eq, nat_lt, sym, ◌∙◌, ap, subst, refl, arith, rules, All, AllPairs, Contains, IsPermutation, IsSorted, append-nil, nat_cmp, ltb-false, ltb-true, filter, true, not}
+use Rattle.std.proofs.lemmas.Grind.{common_steps, take_at_read}
+use Rattle.std.proofs.Common.{ℕ, Bool, false, zero, suc, ◌≡◌, ◌≢◌, ◌<◌, ◌≤◌, ◌+◌, ◌-◌, ◌==◌, ◌↔◌, inl, inr, List, [], ◌∷◌, ◌++◌, length, get_or, take, cond, nat_eq, nat_lt, sym, ◌∙◌, ap, subst, refl, arith, rules, All, AllPairs, Contains, IsPermutation, IsSorted, append-nil, nat_cmp, is_lt, ltb-false, ltb-true, filter, true, not}
 use Rattle.std.specs.List.{dedup}
 use Rattle.std.specs.List.Sorted.{IsNonDecreasing, IsStrictlyIncreasing}
-use Rattle.std.proofs.lemmas.Bool.{cases_Bool}
+use Rattle.std.proofs.lemmas.Bool.{cases_Bool, cond_both}
 use Rattle.std.proofs.lemmas.Bool.Decides.{nat_tests}
-use Rattle.std.proofs.lemmas.List.Elements.{All-cons, All-nil, All-contains}
+use Rattle.std.proofs.lemmas.List.Elements.{filter-append, All-cons, All-nil, All-contains}
 use Rattle.std.proofs.lemmas.List.Kept.{AllPairs-cons, Contains-dedup_nat, Contains-from_dedup}
 use Rattle.std.proofs.lemmas.List.Sorted.{IsNonDecreasingBy-from_sort, IsPermutation-sym, sum_by-IsPermutation, Contains-permutation}
 use Rattle.std.proofs.lemmas.List.Sums.{sum_by-append, sum_by-cons, sum_by_more, sum_by_push}
@@ -43,11 +43,19 @@ neighbours_rise x (y ∷ xs) up =
     let rest = neighbours_rise y xs (λ i j d before within. up (suc i) (suc j) d (omega arith) (omega arith)) in
     let first : x ≤ y = up 0 1 0 (omega arith) (omega arith) in
     let least : All (λ z. x ≤ z) (equal_neighbours (y ∷ xs)) = λ k d within. omega (arith, rest.1 k d within, first) in
-    grind (arith, nat_tests, AllPairs-cons, All-cons, rest.0, rest.1, least, first)
+    let Rises : List ℕ → Type 0 = λ zs. AllPairs (λ a b. a ≤ b) zs × All (λ z. x ≤ z) zs in
+    cond_both (x == y) (y ∷ equal_neighbours (y ∷ xs)) (equal_neighbours (y ∷ xs)) Rises
+    (λ same. (AllPairs-cons (λ a b. a ≤ b) y _ rest.1 rest.0, All-cons (λ z. x ≤ z) y _ first least))
+    (λ apart. (rest.0, least))
+
+not_below : (one other : ℕ) → other ≤ one → is_lt (nat_cmp one other) ≡ false
+not_below one other above = grind (arith, nat_tests)
 
 sorted_neighbours : (xs : List ℕ) → IsNonDecreasing xs → IsSorted nat_cmp (equal_neighbours xs)
 sorted_neighbours [] up = λ k d low within. absurd (omega arith)
-sorted_neighbours (x ∷ xs) up = search (rules, nat_tests, neighbours_rise)
+sorted_neighbours (x ∷ xs) up = λ k d low within.
+    let rises = (neighbours_rise x xs up).0 k (k + 1) d (omega arith) within in
+    not_below (get_or _ (k + 1) d) (get_or _ k d) rises
 
 -- a number is in a list where it stands there at least once
 times-has : (key : ℕ) (xs : List ℕ) → has xs key ≡ nat_lt 0 (times key xs)
@@ -140,6 +148,12 @@ twice_on_a_side bound keys low high lows highs key =
 -- where no number is told, none stands twice
 pub none_twice : (repeated keys : List ℕ) → length repeated ≡ 0 → ((key : ℕ) → Contains repeated key ↔ (2 ≤ times key keys)) → (key : ℕ) → times key keys ≤ 1
 none_twice repeated keys none members key = grind (arith, (members key).1)
+
+-- one number more, which passes a test or not
+pub filter_more : (passes : ℕ → Bool) (xs : List ℕ) (i : ℕ) → i < length xs
+    → filter passes (take (i + 1) xs)
+    ≡ filter passes (take i xs) ++ cond (passes (get_or xs i 0)) (get_or xs i 0 ∷ []) []
+filter_more passes xs i within = rw ((take_at_read xs i 0 within).1, filter-append) refl
 
 -- for the loop over neighbours
 pub ruleset neighbours_by_one = (append-nil, nat_tests, common_steps, neighbours_more)

@@ -1,5 +1,5 @@
 -- Going over files that are read from a source in pieces.
-use Rattle.std.proofs.Common.{rules, ◌⊎◌, append_assoc, ◌∙◌, sym, Global, String, unwrap_or, take, ◌≡◌, ◌≢◌, inl, inr, ℕ, ◌+◌, ◌-◌, ◌^◌, ◌<◌, ◌≤◌, List, [], ◌∷◌, ◌++◌, length, map, drop, drop-cons, get_or, ap, subst, arith, Option, None, Some, Result, Ok, Err, MatchResult, length-drop, length-take, min, Bool, IfErr, IsPermutation, OnOk, option_map, string_bytes, is_lt, nat_cmp, take_all}
+use Rattle.std.proofs.Common.{rules, ◌⊎◌, sym, Global, String, unwrap_or, take, ◌≡◌, ◌≢◌, inl, inr, ℕ, ◌+◌, ◌-◌, ◌^◌, ◌<◌, ◌≤◌, List, [], ◌∷◌, ◌++◌, length, map, drop, drop-cons, get_or, ap, subst, arith, Option, None, Some, Result, Ok, Err, MatchResult, length-drop, length-take, min, Bool, IfErr, IsPermutation, OnOk, option_map, string_bytes, is_lt, nat_cmp, take_all}
 use Rattle.std.proofs.lemmas.Bool.Decides.{nat_tests}
 use Rattle.std.proofs.lemmas.Grind.{common_steps}
 use Rattle.std.specs.Cmp.Lexicographic.{slice_cmp}
@@ -10,10 +10,12 @@ use Rattle.std.proofs.lemmas.List.Sorted.{IsPermutation-map}
 use Rattle.release_files.proofs.Parts.{length-lines}
 use Rattle.release_files.specs.Lines.{LineText, line_text, lines_of}
 use Rattle.release_files.specs.PieceLines.{GivesNext, HasEnded, lines_to_come}
-use Rattle.release_files.specs.Source.{FileText, bytes_of}
+use Rattle.release_files.specs.Source.{CountsFailures, FileText, IsRaised, bytes_of}
 use Rattle.release_files.specs.declared.lines.Line.{Line}
 use Rattle.release_files.specs.declared.piece_lines.PieceLines.{PieceLines}
 use Rattle.release_files.specs.declared.source.SourceFault.{SourceFault}
+use Rattle.release_files.specs.declared.source.SourceFault.TheVariants as source_fault
+use Rattle.release_files.specs.declared.source.SourceFault.TheVariants.{Device}
 use Rattle.rf2_rows.specs.declared.kind.FileKind.{FileKind}
 use Rattle.release_rows.specs.Files.{Place, first_line, later_line, no_line, places_from, places_of_file, places_of_kind, places_of_lines}
 use Rattle.rf2_rows.specs.Files.{file_kind_of}
@@ -21,12 +23,12 @@ use Rattle.std.proofs.lemmas.Bool.{cases_lt}
 use Rattle.release_files.specs.Held.{TakesWithin, reachable}
 use Rattle.release_files.proofs.HeldLemmas.{reachable_told}
 use Rattle.std.specs.Prelude.{is_some, true, zero, suc}
-use Rattle.release_rows.specs.Pieces.{has_kind_at, AreInOrder, cut_file, FailsAt, FailsAtFile, GoesOver, listed, text_named}
+use Rattle.release_rows.specs.Pieces.{has_kind_at, AreInOrder, cut_file, FailsAt, FailsAtFile, GoesOver, fault_of, listed, text_named}
 use Rattle.release_rows.specs.Traversal.{StopsAt, TakesAll, taken}
 use Rattle.release_rows.specs.DeviceFaults.{FailsAtRead, is_device}
 use Rattle.release_rows.specs.declared.fault.LoadFault.{LoadFault}
 use Rattle.release_rows.specs.declared.fault.LoadFault.TheVariants.{Memory}
-use Rattle.release_rows.proofs.TakingLemmas.{Leads, Leads-end, Leads-next, Leads-on, Leads-stop, stops_lines, stops_none, takes_lines, takes_none}
+use Rattle.release_rows.proofs.TakingLemmas.{Leads, Leads-end, Leads-next, Leads-on, Leads-stop, Leads-until, stops_lines, stops_none, takes_lines, takes_none}
 
 -- what a call for the next line says
 abbrev pub Gives : Result (Option Line) SourceFault → PieceLines → PieceLines → Option (List ℕ) → Option (List ℕ) → Type 0
@@ -102,7 +104,10 @@ module _ {Held : Type 0} (takes : Held → Place → Held → Type 0) (refuses :
       (lines later : PieceLines) (result : Result (Option Line) SourceFault) (line : Line) (fault : LoadFault)
       → LinesLeft takes refuses file kind old all turns turn before lines held → Gives result lines later before after → result ≡ Ok (Some line)
       → refuses held (later_line file kind (line_text line)) new fault → StopsAt takes refuses old all new fault
-  LinesLeft-stop old held new all turns turn before after lines later result line fault left gives is refused = search (rules, Leads-stop, gave_line)
+  LinesLeft-stop old held new all turns turn before after lines later result line fault left gives is refused =
+      let gave = gave_line result line lines later before after left.now gives is left.told in
+      Leads-stop takes refuses old held new all (map (later_line file kind) (lines_to_come later gave.now))
+      (later_line file kind (line_text line)) fault (rw gave.cut at left.leads) refused
 
   pub LinesLeft-end : (old held : Held) (all : List Place) (turns turn : ℕ) (before after : Option (List ℕ))
       (lines later : PieceLines) (result : Result (Option Line) SourceFault)
@@ -149,6 +154,14 @@ pub cut_reachable : (limit left held : ℕ) (rest : Option (List ℕ)) (bytes : 
     → reachable held rest ≡ Some (take (limit + 1) bytes)
 cut_reachable limit left held rest bytes told short is same = grind (arith, (reachable_told held rest bytes told), (cut_bytes limit left bytes short is))
 
+-- a fault of the source at a file is the device's or the want of memory
+pub device_fails : (file start old new : ℕ) (fault : SourceFault) (found : LoadFault)
+    → CountsFailures {T = Unit {0}} (Err fault) old new → old ≡ start → found ≡ fault_of file fault → found ≢ Memory
+    → FailsAt file start new found
+device_fails file start old new Device found counts same is other =
+    (is, subst (λ count. IsRaised count new) same counts)
+device_fails file start old new source_fault.Memory found counts same is other = absurd (other is)
+
 -- the device failed at the file, counted from another count
 pub fails_from : (file start old new : ℕ) (fault : LoadFault) → start ≤ old → FailsAt file old new fault → FailsAt file start new fault
 fails_from file start old new fault up failed = grind (arith, inl, inr)
@@ -179,23 +192,12 @@ module _ {Held : Type 0} (takes : Held → Place → Held → Type 0) (refuses :
       → result ≡ Ok done → Leads takes refuses old all new left
   leads_name fails old held new all here left result done leads went is = grind (arith, common_steps, nat_tests, Leads-on)
 
-  stops_front : (held new : Held) (here left : List Place) (fault : LoadFault)
-      → StopsAt takes refuses held here new fault → StopsAt takes refuses held (here ++ left) new fault
-  stops_front held new here left fault stop = record {
-    before = stop.before;
-    place = stop.place;
-    later = stop.later ++ left;
-    middle = stop.middle;
-    cut = ap (λ (all : List Place). all ++ left) stop.cut ∙ append_assoc stop.before (stop.place ∷ stop.later) left;
-    taken_before = stop.taken_before;
-    refused = stop.refused;
-  }
-
   went_wrong : (fails : LoadFault → Type 0) (old held new : Held) (all here left : List Place) (fault : LoadFault)
       → Leads takes refuses old all held (here ++ left) → fails fault ⊎ StopsAt takes refuses held here new fault
       → fails fault ⊎ StopsAt takes refuses old all new fault
   went_wrong fails old held new all here left fault leads (inl failed) = inl failed
-  went_wrong fails old held new all here left fault leads (inr stops) = inr (leads.stops new fault (stops_front held new here left fault stops))
+  went_wrong fails old held new all here left fault leads (inr stops) =
+      inr (Leads-until takes refuses old held new all here left fault leads stops)
 
   -- the places of a name more were gone over up to a fault
   pub stops_name : (fails : LoadFault → Type 0) (old held new : Held) (all here left : List Place) (result : Result (Unit {0}) LoadFault) (fault : LoadFault)

@@ -23,10 +23,10 @@ read-row kind bytes result row is stands accepted = grind (arith, common_steps, 
 pub read-added : (old new : RowStore) (file : ℕ) (kind : FileKind) (line : LineText) (row : Row)
     → nat_lt old.left.bytes line.end ≡ false → 0 < length line.bytes → row_fault kind line.bytes ≡ None → IsRow kind line.bytes row
     → IsAdded old kind (text_in row) new → IsRead old (later_line file kind line) new
-read-added old new file kind line row fits some accepted is added = grind (arith, common_steps, nat_tests, text_in-row)
+read-added old new file kind line row fits some accepted is added = grind (arith, nat_tests, text_in-row)
 
 -- no more rows of its kind may come
 pub stopped-crowded : (old new : RowStore) (file : ℕ) (kind : FileKind) (line : LineText) (row : Row) (fault : LoadFault)
     → nat_lt old.left.bytes line.end ≡ false → 0 < length line.bytes → row_fault kind line.bytes ≡ None → IsRow kind line.bytes row
     → IsCrowded file line.number old kind (text_in row) new fault → IsStopped old (later_line file kind line) new fault
-stopped-crowded old new file kind line row fault fits some accepted is crowded = grind (arith, common_steps, nat_tests, text_in-row)
+stopped-crowded old new file kind line row fault fits some accepted is crowded = grind (arith, nat_tests, text_in-row)

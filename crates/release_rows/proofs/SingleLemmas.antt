@@ -1,15 +1,16 @@
 -- Where no key stands twice no row conflicts with another, and each is chosen.
 use Rattle.std.proofs.lemmas.Grind.{common_steps}
-use Rattle.std.proofs.Common.{◌||◌, ℕ, ◌≡◌, ◌≤◌, ◌∙◌, ◌==◌, List, [], ◌∷◌, ◌++◌, true, false, Bool, Option, None, append_assoc, ap, arith, nat_eq, refl, not, cond}
+use Rattle.std.proofs.Common.{◌||◌, ◌&&◌, ℕ, ◌≡◌, ◌≤◌, ◌∙◌, ◌==◌, List, [], ◌∷◌, ◌++◌, true, false, Bool, Option, None, append_assoc, ap, arith, nat_eq, refl, not, cond}
 use Rattle.std.specs.Prelude.{⊤}
 use Rattle.std.specs.List.{list_any, position_or_len}
 use Rattle.std.proofs.lemmas.Bool.{and_left, false_from_ne_true}
 use Rattle.std.proofs.lemmas.List.Sums.{sum_by-cons}
 use Rattle.std.proofs.lemmas.Bool.Decides.{nat_tests}
+use Rattle.std.proofs.Math.Bool.{and-false}
 use Rattle.std.proofs.lemmas.List.Folds.{list_any-append}
 use Rattle.rf2_rows.specs.RowTexts.{RowText, of_concept, of_concrete, of_description, of_member, of_relationship}
 use Rattle.rf2_rows.specs.Versions.{member_number}
-use Rattle.release_rows.specs.Chosen.{choices, is_later, marked, same_component}
+use Rattle.release_rows.specs.Chosen.{choices, is_later, is_superseded, marked, same_component, same_version, time_of}
 use Rattle.release_rows.specs.Files.{text_of_row, RowAt}
 use Rattle.number_lists.specs.Members.{times}
 use Rattle.release_rows.specs.inside.Keys.{IsMet, key_in, uuids_behind}
@@ -49,7 +50,7 @@ met-seen uuids rows (of_member row) =
 
 -- rows of one component have one key
 same-key : (uuids : List ℕ) (one other : RowAt) → same_component one other ≡ true → key_in uuids (text_of_row other) ≡ key_in uuids (text_of_row one)
-same-key uuids one other same = grind (arith, common_steps, nat_tests, (kind_same one.kind other.kind))
+same-key uuids one other same = grind (arith, nat_tests, (kind_same one.kind other.kind))
 
 -- a later row of one component has the key of the earlier one
 pub key-later : (uuids : List ℕ) (rows : List RowAt) (one other : RowAt) → same_component one other ≡ true
@@ -124,18 +125,17 @@ no_conflict earlier (row ∷ rows) single = grind (arith, common_steps, nat_test
 pub any-at : {X : Type 0} (p : X → Bool) (xs ys : List X) (x : X) → list_any p (xs ++ x ∷ ys) ≡ false → p x ≡ false
 any-at p xs ys x none = grind (arith, common_steps, nat_tests, list_any-append)
 
+-- of two rows each is of the component of the other, or none is
+same_component-sym : (one other : RowAt) → same_component one other ≡ same_component other one
+same_component-sym one other = grind (arith, nat_tests)
+
 -- a row behind others is of the component of none of them
 apart-later : (earlier more rows : List RowAt) (row : RowAt) → AreSingle (earlier ++ row ∷ more) rows
     → list_any (λ other. same_component other row) rows ≡ false
 apart-later earlier more [] row single = refl
 apart-later earlier more (next ∷ rows) row single =
-    grind (
-      arith,
-      any-at,
-      same_component,
-      append_assoc,
-      (apart-later earlier (more ++ next ∷ []) rows row (simp append_assoc at single.1)),
-    )
+    rw (same_component-sym next row, any-at (λ other. same_component other next) earlier more row single.0)
+    (apart-later earlier (more ++ next ∷ []) rows row (simp append_assoc at single.1))
 
 pub is_later-itself : (time : Option ℕ) → is_later time time ≡ false
 is_later-itself x0 = grind arith
@@ -143,15 +143,13 @@ is_later-itself x0 = grind arith
 pub single-choices : (earlier rows : List RowAt) → AreSingle earlier rows → marked (choices (earlier ++ rows) earlier rows) rows ≡ rows
 single-choices earlier [] single = refl
 single-choices earlier (row ∷ rows) single =
-    grind (
-      arith,
-      common_steps,
-      nat_tests,
-      and_left,
-      list_any-append,
-      any-none,
-      apart-later,
-      append_assoc,
-      is_later-itself,
-      (single-choices (earlier ++ row ∷ []) rows single.1),
-    )
+    let is_of = λ (other : RowAt). same_component other row in
+    let none_later = any-none is_of (λ other. same_component other row && is_later (time_of other) (time_of row)) in
+    let before = none_later earlier (λ other. and_left (is_of other) _) single.0 in
+    let behind = none_later rows (λ other. and_left (is_of other) _) (apart-later earlier [] rows row single.1) in
+    let superseded : is_superseded (earlier ++ row ∷ rows) row ≡ false =
+    rw (list_any-append, before, is_later-itself, and-false, behind) refl in
+    let repeated = any-none is_of (λ other. same_version other row) earlier
+    (λ other. and_left (is_of other) _) single.0 in
+    let others = simp append_assoc at (single-choices (earlier ++ row ∷ []) rows single.1) in
+    rw (superseded, repeated) (ap (λ (chosen : List RowAt). row ∷ chosen) others)

@@ -1,7 +1,7 @@
 -- Going over places one after another, and up to one that is refused.
 use Rattle.std.proofs.lemmas.Bool.Decides.{nat_tests}
 use Rattle.std.proofs.lemmas.Grind.{common_steps}
-use Rattle.std.proofs.Common.{ℕ, ◌≡◌, ◌+◌, ◌<◌, ◌≤◌, List, [], ◌∷◌, ◌++◌, append_assoc, ap, arith, drop, drop-cons, get_or, length, map, refl, subst, sym, ◌^◌, true, false, Option, Some, Result, IfErr, IfOk, IfSome}
+use Rattle.std.proofs.Common.{ℕ, ◌≡◌, ◌+◌, ◌<◌, ◌≤◌, List, [], ◌∷◌, ◌++◌, append_assoc, ap, arith, drop, drop-cons, get_or, length, map, ◌∙◌, refl, subst, sym, ◌^◌, true, false, Option, Some, Result, IfErr, IfOk, IfSome}
 use Rattle.std.proofs.lemmas.List.{drop_all}
 use Rattle.release_files.specs.Source.{file_text}
 use Rattle.release_files.specs.declared.NamedBytes.{NamedBytes}
@@ -42,12 +42,30 @@ module _ {Held : Type 0} (takes : Held → Place → Held → Type 0) (refuses :
   -- some places more were taken
   pub Leads-on : (old now later : Held) (all front left : List Place)
       → Leads takes refuses old all now (front ++ left) → TakesAll takes now front later → Leads takes refuses old all later left
-  Leads-on old now later all front left leads went = grind (arith, common_steps, nat_tests, StopsAt-behind, TakesAll-behind)
+  Leads-on old now later all front left leads went = record {
+    goes = λ new rest. leads.goes new (TakesAll-behind takes now later new front left went rest);
+    stops = λ new fault stop.
+        leads.stops new fault (StopsAt-behind takes refuses now later new front left fault went stop);
+  }
 
   -- one place more was taken
   pub Leads-next : (old now later : Held) (all left : List Place) (place : Place)
       → Leads takes refuses old all now (place ∷ left) → takes now place later → Leads takes refuses old all later left
   Leads-next old now later all left place leads step = Leads-on old now later all (place ∷ []) left leads (next now later later place [] step (taken later))
+
+  -- one of some places more is refused
+  pub Leads-until : (old now new : Held) (all here left : List Place) (fault : LoadFault)
+      → Leads takes refuses old all now (here ++ left) → StopsAt takes refuses now here new fault
+      → StopsAt takes refuses old all new fault
+  Leads-until old now new all here left fault leads stop = leads.stops new fault (record {
+    before = stop.before;
+    place = stop.place;
+    later = stop.later ++ left;
+    middle = stop.middle;
+    cut = ap (λ (all : List Place). all ++ left) stop.cut ∙ append_assoc stop.before (stop.place ∷ stop.later) left;
+    taken_before = stop.taken_before;
+    refused = stop.refused;
+  })
 
   -- none is left
   pub Leads-end : (old now : Held) (all : List Place) → Leads takes refuses old all now [] → TakesAll takes old all now
@@ -63,6 +81,18 @@ module _ {Held : Type 0} (takes : Held → Place → Held → Type 0) (refuses :
 pub places_from-next : (i : ℕ) (files : List NamedBytes) (d : NamedBytes) → i < length files
     → places_from i (map file_text (drop i files)) ≡ places_of_file i (file_text (get_or files i d)) ++ places_from (i + 1) (map file_text (drop (i + 1) files))
 places_from-next i files d within = grind (arith, common_steps, nat_tests, drop-cons, get_or)
+
+-- a place of the file from which on they are left is refused
+pub stops_file : {Held : Type 0} (takes : Held → Place → Held → Type 0)
+    (refuses : Held → Place → Held → LoadFault → Type 0) (old now new : Held) (all : List Place) (i : ℕ)
+    (files : List NamedBytes) (d : NamedBytes) (fault : LoadFault) → i < length files
+    → Leads takes refuses old all now (places_from i (map file_text (drop i files)))
+    → StopsAt takes refuses now (places_of_file i (file_text (get_or files i d))) new fault
+    → StopsAt takes refuses old all new fault
+stops_file takes refuses old now new all i files d fault within leads stop =
+    Leads-until takes refuses old now new all (places_of_file i (file_text (get_or files i d)))
+    (places_from (i + 1) (map file_text (drop (i + 1) files))) fault
+    (subst (Leads takes refuses old all now) (places_from-next i files d within) leads) stop
 
 pub if_err : {T E : Type 0} (P Q : E → Type 0) (result : Result T E) → ((fault : E) → P fault → Q fault) → IfErr result P → IfErr result Q
 if_err x0 x1 x2 so said = grind arith

@@ -1,6 +1,6 @@
 -- The versions of components that have several rows: their codes, their first rows, the latest ones, and the choices.
 use Rattle.std.proofs.lemmas.Grind.{common_steps}
-use Rattle.std.proofs.Common.{ℕ, ◌≡◌, ◌<◌, ◌≤◌, ◌/◌, ◌^◌, ◌&&◌, ◌==◌, List, get_or, true, nat_lt, Option, arith, lit≤, IfSome, eq-eqb, All, map, rules, [], ◌∷◌, ◌++◌, length, Bool, false, not, None, Some, position, sym, ◌∙◌, ap, refl, append_assoc, append-nil, Contains, eqb-true, nat_eq, ◌+◌, set, take, suc, length-set, ◌||◌}
+use Rattle.std.proofs.Common.{ℕ, ◌≡◌, ◌<◌, ◌≤◌, ◌/◌, ◌^◌, ◌&&◌, ◌==◌, List, get_or, true, nat_lt, Option, arith, lit≤, IfSome, eq-eqb, All, map, rules, [], ◌∷◌, ◌++◌, length, Bool, false, not, None, Some, position, sym, ◌∙◌, ap, refl, append_assoc, append-nil, Contains, eqb-true, nat_eq, ◌+◌, set, take, drop, replicate, suc, length-set, ◌||◌, subst}
 use Rattle.std.specs.List.Sorted.{IsStrictlyIncreasing}
 use Rattle.std.proofs.lemmas.Bool.Decides.{nat_tests}
 use Rattle.std.proofs.lemmas.List.Folds.{list_any_at, Any-from_list_any, list_any_more, list_any-append}
@@ -11,12 +11,12 @@ use Rattle.release_rows.specs.inside.KeyedRows.{KeyedRow, same_version, AreOfIts
 use Rattle.release_rows.specs.inside.VersionTable.{IsCodeOf, time_code, AgreesWith, HasTaken, IsOfVersion, IsVersionAmong, VersionTable, Version, firsts, is_outdated, without, is_older}
 use Rattle.number_lists.proofs.PlaceLemmas.{place_of-get_or}
 use Rattle.release_rows.specs.Spans.{Extends}
-use Rattle.release_rows.specs.inside.VersionsInside.{IsLineOf, version_in}
+use Rattle.release_rows.specs.inside.VersionsInside.{AreKept, IsLineOf, IsPlacedAmong, version_in}
 use Rattle.release_rows.specs.declared.versions.VersionRow.{VersionRow}
-use Rattle.release_rows.proofs.SpanLemmas.{rows-same, span-extends, text-extends}
+use Rattle.release_rows.proofs.SpanLemmas.{all-push, rows-same, span-extends, text-extends}
 use Rattle.std.specs.List.{list_any}
-use Rattle.std.proofs.lemmas.Bool.{false≢true, false_from_ne_true, and_parts, and_from, and_left, and_right, cases_Bool}
-use Rattle.std.proofs.lemmas.List.{get_or-map, map_push, length_push, map-append}
+use Rattle.std.proofs.lemmas.Bool.{le-ltb, false≢true, false_from_ne_true, and_parts, and_left, and_right, cases_Bool}
+use Rattle.std.proofs.lemmas.List.{get_or-replicate, length-map, length-replicate, take_at, get_or-map, map_push, length_push, map-append}
 use Rattle.std.proofs.lemmas.List.Elements.{All-contains, All-push, All-weaker, Contains-append_left, Contains-get_or, Contains-push}
 use Rattle.release_rows.proofs.SingleLemmas.{any-none, is_later-itself}
 use Rattle.std.proofs.lemmas.List.Quantifiers.{position-Some}
@@ -94,6 +94,22 @@ module _ (lines grown : List ℕ) (extends : Extends lines grown) where
   pub rows_kept : (rows : List VersionRow) → All (IsLineOf lines) rows → map (version_in grown) rows ≡ map (version_in lines) rows
   rows_kept rows are = rows-same (version_in lines) (version_in grown) (IsLineOf lines) version-extends rows are
 
+-- The version at a number is that of the row there.
+
+module _ (lines : List ℕ) (rows : List VersionRow) (versions : List Version)
+    (are : map (version_in lines) rows ≡ versions) (number : ℕ) (within : number < length versions)
+    (row : VersionRow) (is : row ≡ get_or rows number row) where
+  among_rows : number < length rows
+  among_rows = omega (arith, within, ap length are, length-map rows (version_in lines))
+
+  pub version_here : (default : Version) → get_or versions number default ≡ version_in lines row
+  version_here default =
+      rw (← are) (get_or-map (version_in lines) rows number row default among_rows ∙ ap (version_in lines) (sym is))
+
+  -- and its line stands in the buffer
+  pub line_here : All (IsLineOf lines) rows → IsLineOf lines row
+  line_here all = subst (IsLineOf lines) (sym is) (all number row among_rows)
+
 -- Rows taken one after another: what a further one changes, and whether it conflicts with one before it.
 
 -- a member that passes a test, where some do
@@ -120,7 +136,12 @@ versions-push repeated rows row versions = search (rules, All-weaker, append_ass
 taken_pushed : (taken : VersionTable) (chosen : List Bool) (rows : List KeyedRow) (row : KeyedRow) (mark : Bool) → chosen ≡ taken.chosen ++ mark ∷ []
     → mark ≡ not (has taken.repeated row.key && is_repeated rows row) → IsOfVersion taken.repeated taken.versions row → HasTaken taken rows
     → HasTaken (record taken { chosen = chosen }) (rows ++ row ∷ [])
-taken_pushed taken chosen rows row mark are is of before = grind (arith, common_steps, nat_tests, versions-push, All-push, firsts-push)
+taken_pushed taken chosen rows row mark are is of before = record {
+  codes = before.codes;
+  versions = versions-push taken.repeated rows row taken.versions before.versions;
+  agree = All-push (IsOfVersion taken.repeated taken.versions) rows row before.agree of;
+  chosen = rw (are, before.chosen, is, firsts-push taken.repeated [] rows row) refl;
+}
 
 -- a row whose key is not repeated is taken
 pub taken_skip : (taken : VersionTable) (chosen : List Bool) (rows : List KeyedRow) (row : KeyedRow)
@@ -130,11 +151,29 @@ taken_skip taken chosen rows row are alone before =
     taken_pushed taken chosen rows row true are (grind (arith, nat_tests, alone))
     (λ repeated. absurd (cc (alone, repeated))) before
 
+-- one version more is kept
+pub kept_more : (old : VersionTable) (codes : List ℕ) (versions : List Version) (chosen : List Bool)
+    (version : Version) → AreKept old → length codes ≤ length old.codes + 1
+    → versions ≡ old.versions ++ version ∷ [] → chosen ≡ old.chosen ++ true ∷ []
+    → version.code / 2 ^ 32 < length old.repeated → version.place ≡ length old.chosen
+    → AreKept (record { repeated = old.repeated; codes = codes; versions = versions; chosen = chosen })
+kept_more old codes versions chosen version kept few pushed marked key place =
+    let more = ap length marked ∙ length_push old.chosen true in
+    let Placed : List Bool → Version → Type 0 = λ marks. IsPlacedAmong (length old.repeated) (length marks) in
+    record {
+      rising = kept.rising;
+      few = kept.few;
+      each = omega (arith, few, kept.each, ap length pushed, length_push old.versions version);
+      placed = all-push (Placed old.chosen) (Placed chosen)
+          (λ other is. record { key = is.key; row = omega (arith, is.row, more) }) old.versions versions version pushed
+          kept.placed (record { key = key; row = omega (arith, place, more) });
+    }
+
 module _ (repeated : List ℕ) (rising : IsStrictlyIncreasing repeated) (rows : List KeyedRow) where
   -- a row of a version's code is of one component and time with its first row
   pub first_is_same : (version : Version) (is : IsVersionAmong repeated rows version) (row : KeyedRow) → IsCodeOf repeated row version.code
       → (same_version is.row row ≡ true) × (same_version row is.row ≡ true)
-  first_is_same version is row code = grind (arith, common_steps, nat_tests, eq-eqb, same_version-code)
+  first_is_same version is row code = grind (arith, nat_tests, same_version-code)
 
   -- two versions with one code have one first row
   one_version : (version other : Version) (is : IsVersionAmong repeated rows version)
@@ -234,7 +273,13 @@ module _ (taken : VersionTable) (rising : IsStrictlyIncreasing taken.repeated) (
       pub other_conflicts : AreOfItsKind rows row
           → same_row row.kind (get_or taken.versions number default).text row.text ≡ false
           → list_any (λ earlier. conflicts earlier row) rows ≡ true
-      other_conflicts kinds apart = grind (arith, common_steps, nat_tests, and_from, any_of, get_or, row_code, version_at, version_kind)
+      other_conflicts kinds apart =
+          let version = get_or taken.versions number default in
+          let first = first_is_same taken.repeated rising rows version version_at row row_code in
+          let kind = sym version_at.kind ∙ version_kind kinds in
+          any_of (λ earlier. conflicts earlier row) rows version_at.row
+          (Contains-first taken.repeated rising rows version version_at)
+          (rw (first.0, kind, ← version_at.text, apart) refl)
 
       -- and it is taken where it is the same
       pub taken_again : (chosen : List Bool) → chosen ≡ taken.chosen ++ false ∷ []
@@ -298,6 +343,17 @@ no_version = record { code = 0; place = 0; kind = Concept; text = [] }
 -- at the place of each key stands the greatest code of the versions
 abbrev pub AreLatest : List ℕ → List Version → Type 0
 AreLatest latest versions = (code : ℕ) → code / 2 ^ 32 < length latest → nat_lt code (get_or latest (code / 2 ^ 32) 0) ≡ is_outdated versions code
+
+-- where the places were filled with zeros no version was seen
+pub latest_start : (latest filled : List ℕ) (count : ℕ) → count ≡ length latest → filled ≡ replicate (length latest) 0
+    → (length (take count (filled ++ drop (length filled) latest)) ≡ length latest)
+    × AreLatest (take count (filled ++ drop (length filled) latest)) []
+latest_start latest filled count all zeros =
+    let long : length filled ≡ count = ap length zeros ∙ length-replicate (length latest) 0 ∙ sym all in
+    let zero_at : (code : ℕ) → code / 2 ^ 32 < length filled → get_or filled (code / 2 ^ 32) 0 ≡ 0 = λ code within.
+    rw zeros (get_or-replicate (length latest) (code / 2 ^ 32) 0 0 (omega (arith, within, long, all))) in
+    rw (take_at filled (drop (length filled) latest) count long)
+    (long ∙ all, λ code within. rw (zero_at code within) (le-ltb code 0 (omega arith)))
 
 -- a code that is not greater changes nothing
 pub latest_keeps : (latest : List ℕ) (versions : List Version) (number : ℕ) (default : Version) → number < length versions
@@ -384,19 +440,30 @@ module _ (taken : VersionTable) (rising : IsStrictlyIncreasing taken.repeated) (
   -- a version is outdated where its first row is superseded
   outdated_superseded : (version : Version) (is : IsVersionAmong taken.repeated rows version)
       → is_outdated taken.versions version.code ≡ true → is_superseded rows is.row ≡ true
-  outdated_superseded version is outdated = grind (arith, common_steps, nat_tests, some_of, among, any_of, Contains-first, is_later-version)
+  outdated_superseded version is outdated =
+      let later = some_of _ taken.versions outdated in
+      let of = among later.0 later.1 in
+      any_of _ rows of.row (Contains-first taken.repeated rising rows later.0 of)
+      (sym (is_later-version taken.repeated rising is.row of.row version.code later.0.code is.code of.code) ∙ later.2)
 
   superseded_outdated : (row : KeyedRow) (code : ℕ) → IsCodeOf taken.repeated row code → is_superseded rows row ≡ true → is_outdated taken.versions code ≡ true
   superseded_outdated row code is superseded =
       let later = some_of _ rows superseded in
       let of = All-contains (IsOfVersion taken.repeated taken.versions) rows later.0 before.agree later.1
       (grind (arith, nat_tests, later.2, has-code taken.repeated row code is)) in
-      any_of _ taken.versions of.0 of.1 (is_later-version taken.repeated rising row later.0 code of.0.code is of.2.code ∙ later.2)
+      let told = is_later-version taken.repeated rising row later.0 code of.0.code is of.2.code in
+      any_of _ taken.versions of.0 of.1 (rw told later.2)
 
   module _ (earlier : List KeyedRow) (row : KeyedRow) (later : List KeyedRow) (stands : rows ≡ earlier ++ row ∷ later) where
     -- at the place of a row stands the first row of a version that is not the latest: then it is superseded
     older_superseded : is_older taken.versions (length earlier) ≡ true → (has taken.repeated row.key ≡ true) × (is_superseded rows row ≡ true)
-    older_superseded older = grind (arith, common_steps, nat_tests, some_of, among, and_parts, eqb-true, one_at, has-code, outdated_superseded)
+    older_superseded older =
+        let of = some_of _ taken.versions older in
+        let is = among of.0 of.1 in
+        let both = and_parts (is_outdated taken.versions of.0.code) (of.0.place == length earlier) of.2 in
+        let same = one_at is.before is.row is.behind earlier row later (sym is.stands ∙ stands)
+        (sym is.place ∙ eqb-true of.0.place (length earlier) both.1) in
+        rw (← same) (has-code taken.repeated is.row of.0.code is.code, outdated_superseded of.0 is both.0)
 
     -- the first row of a version that is superseded stands at the place of one that is not the latest
     superseded_older : has taken.repeated row.key ≡ true → is_repeated earlier row ≡ false

@@ -1,15 +1,16 @@
 -- What reading places leaves, and what it says of their first fault.
 use Rattle.std.proofs.lemmas.Grind.{common_steps}
-use Rattle.std.proofs.Common.{◌+◌, ◌≡◌, ◌-◌, ◌≤◌, ◌∙◌, List, [], ◌∷◌, ◌++◌, length, nat_le, Option, None, Some, append_assoc, ap, arith, refl, sym, subst, option_and_then, option_to_list, append-nil, length-append}
+use Rattle.std.proofs.Common.{◌+◌, ◌≡◌, ◌-◌, ◌≤◌, ◌∙◌, List, [], ◌∷◌, ◌++◌, cond, length, nat_le, Option, None, Some, append_assoc, ap, arith, refl, sym, subst, option_and_then, option_to_list, append-nil, length-append}
 use Rattle.std.specs.List.{cons_option}
 use Rattle.std.proofs.lemmas.Bool.Decides.{nat_tests}
 use Rattle.std.proofs.lemmas.List.Elements.{filter_map-append}
 use Rattle.rf2_rows.specs.declared.kind.FileKind.{FileKind}
 use Rattle.rf2_rows.specs.declared.kind.FileKind.TheVariants.{Concept, Concrete, Description, Member, Relationship}
+use Rattle.release_rows.specs.Chosen.{same_kind}
 use Rattle.release_rows.specs.Faults.{conflict_behind, count_of_kind, crowd_behind, fault_at, fault_here, first_fault, first_of}
 use Rattle.release_rows.specs.Files.{Place, RowAt, row_at, rows_of}
 use Rattle.release_rows.specs.inside.RowStore.{IsRead, IsShortAt, IsStopped, RowStore, kept_after, kept_behind, nothing_kept, plain_fault}
-use Rattle.release_rows.specs.Limits.{row_limit, row_total}
+use Rattle.release_rows.specs.Limits.{left_behind, row_limit, row_total}
 use Rattle.release_rows.specs.inside.RowsInside.{kept_in}
 use Rattle.release_rows.specs.Traversal.{StopsAt, TakesAll, next, taken}
 use Rattle.release_rows.specs.declared.fault.LoadFault.{LoadFault}
@@ -43,9 +44,22 @@ pub record HasRoom (left limits : Limits) (earlier : List RowAt) : Type 0 where
 pub room-start : (limits : Limits) → HasRoom limits limits []
 room-start limits = record { bytes = refl; rows = λ kind. omega arith }
 
+limit-behind : (left : Limits) (one kind : FileKind)
+    → row_limit (left_behind left one) kind ≡ row_limit left kind - cond (same_kind one kind) 1 0
+limit-behind left one Concept = refl
+limit-behind left one Description = refl
+limit-behind left one Relationship = refl
+limit-behind left one Concrete = refl
+limit-behind left one Member = refl
+
 room-option : (kept : RowStore) (limits : Limits) (earlier : List RowAt) (row : Option RowAt)
     → HasRoom kept.left limits earlier → HasRoom (kept_after kept row).left limits (earlier ++ option_to_list row)
-room-option kept limits earlier x3 room = grind (arith, common_steps, nat_tests, append-nil)
+room-option kept limits earlier None room = rw append-nil room
+room-option kept limits earlier (Some row) room = record {
+  bytes = room.bytes;
+  rows = λ kind.
+      omega (arith, limit-behind kept.left row.kind kind, room.rows kind, count_of_kind-push kind earlier row);
+}
 
 -- the fault at a place by the rows that may still come is that by the rows before it
 here-is : (left limits : Limits) (place : Place) → left.bytes ≡ limits.bytes → fault_here left place ≡ fault_here limits place
@@ -103,10 +117,12 @@ refuses old place new fault = IsStopped (kept_in old) place (kept_in new) fault
 
 pub went : (limits : Limits) (earlier : List RowAt) (old new : Rows) (places : List Place) → TakesAll reads old places new
     → HasRoom (kept_in old).left limits earlier → Went limits earlier (kept_in old) (kept_in new) places
-went limits earlier old new places (taken held) room = grind (arith, common_steps, nat_tests, append-nil, plain_end)
+went limits earlier old new places (taken held) room =
+    record { plain = plain_end earlier; kept = refl; room = rw append-nil room; short = tt }
 went limits earlier old new places (next from to end place others step rest) room =
     let grown : HasRoom (kept_in to).left limits (earlier ++ option_to_list (row_at place)) =
-    grind (arith, common_steps, nat_tests, option_to_list, row_at, room-option, kept_in) in
+    subst (λ (kept : RowStore). HasRoom kept.left limits (earlier ++ option_to_list (row_at place))) (sym step.kept)
+    (room-option (kept_in from) limits earlier (row_at place) room) in
     let follows = went limits (earlier ++ option_to_list (row_at place)) to end others rest grown in record {
       plain = plain_next earlier place others (sym (plain_fault-is (kept_in from).left limits earlier place room) ∙ step.clean) follows.plain;
       kept = follows.kept ∙ ap (λ (kept : RowStore). kept_rows kept (rows_of others)) step.kept
@@ -118,6 +134,13 @@ went limits earlier old new places (next from to end place others step rest) roo
 -- ---- the first fault behind places
 pub first_of-none : (fault : Option LoadFault) → first_of fault None ≡ fault
 first_of-none x0 = grind arith
+
+-- a fault that is there hides those behind it
+first_of-assoc : (one other : Option LoadFault) (fault : LoadFault) (later : Option LoadFault)
+    → first_of one (first_of (first_of other (Some fault)) later) ≡ first_of (first_of one other) (Some fault)
+first_of-assoc (Some first) other fault later = refl
+first_of-assoc None (Some second) fault later = refl
+first_of-assoc None None fault later = refl
 
 pub first_fault-append : (limits : Limits) (front places later : List Place)
     → first_fault limits front (places ++ later) ≡ first_of (first_fault limits front places) (first_fault limits (front ++ places) later)
@@ -186,24 +209,29 @@ seen-stopped limits old new places fault start stop = by (fault_here limits stop
     begins : first_fault limits [] (stop.before ++ stop.place ∷ stop.later)
         ≡ first_of (first_conflict [] (rows_of stop.before))
         (first_of (fault_at limits stop.before stop.place) (first_fault limits (stop.before ++ stop.place ∷ []) stop.later))
-    begins = grind (arith, first_fault-append limits [] stop.before (stop.place ∷ stop.later), first_fault-plain limits [] stop.before [] refl gone.plain)
+    begins =
+        rw (
+          first_fault-append limits [] stop.before (stop.place ∷ stop.later),
+          first_fault-plain limits [] stop.before [] refl gone.plain,
+        ) refl
 
     by : (here : Option LoadFault) → fault_here limits stop.place ≡ here → (row : Option RowAt)
         → row_at stop.place ≡ row → IsSeen limits places (kept_in new) (Some fault)
     by (Some other) here row is =
-        let there : fault_here limits stop.place ≡ Some fault = grind (arith, here, plain) in
+        let there : fault_here limits stop.place ≡ Some fault = here ∙ rw here at plain in
         seen-until limits places (kept_in new) fault (rows_of stop.before) (rows_of (stop.place ∷ stop.later))
         (stop.refused.none (same_here ∙ there) ∙ kept_before) gone.short
-        (rw stop.cut (grind (arith, common_steps, nat_tests, begins, there)))
+        (rw (stop.cut, begins, there) refl)
         (rw stop.cut (filter_map-append row_at stop.before (stop.place ∷ stop.later)))
         (omega (arith, plain-total limits stop.before gone.plain))
-    by None here None is = grind (arith, first_of, option_and_then, crowd_behind, rows_of, plain)
+    by None here None is = let none : None ≡ Some fault = rw (here, is) at plain in absurd (cc (none))
     by None here (Some row) is =
-        let crowd : crowd_behind limits (rows_of stop.before) row ≡ Some fault = grind (arith, first_of, option_and_then, crowd_behind, rows_of, plain) in
+        let crowd : crowd_behind limits (rows_of stop.before) row ≡ Some fault = rw (here, is) at plain in
         let both = stop.refused.kept (same_here ∙ here) in
         let kept = both.0 ∙ (λ i. kept_after (kept_before i) (is i)) ∙ sym (kept_rows-append (nothing_kept limits) (rows_of stop.before) (row ∷ [])) in
         seen-until limits places (kept_in new) fault (rows_of stop.before ++ row ∷ []) (rows_of stop.later) kept
         (short-append (rows_of stop.before) (row ∷ []) gone.short (rw is at both.1, tt))
-        (rw stop.cut (grind (arith, common_steps, nat_tests, begins, (first_conflict-push [] (rows_of stop.before) row), here, is, crowd)))
-        (grind (arith, rows_of, filter_map-append, row_at, cons_option, append_assoc))
+        (rw (stop.cut, begins, here, is, crowd, first_conflict-push [] (rows_of stop.before) row)
+        (first_of-assoc (first_conflict [] (rows_of stop.before)) (conflict_behind (rows_of stop.before) row) fault _))
+        (rw (stop.cut, filter_map-append row_at stop.before (stop.place ∷ stop.later), is, append_assoc) refl)
         (omega (arith, plain-total limits stop.before gone.plain, length-append (rows_of stop.before) (row ∷ [])))

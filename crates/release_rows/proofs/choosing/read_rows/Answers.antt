@@ -1,8 +1,9 @@
-use Rattle.std.proofs.Common.{◌∙◌, arith, inl, inr, refl}
-use Rattle.std.proofs.lemmas.Bool.{cases_Bool}
+use Rattle.std.proofs.Common.{◌<◌, ◌∙◌, ℕ, ap, arith, inl, inr, refl, subst, sym}
+use Rattle.std.proofs.lemmas.Bool.{cases_Bool, false_from_ne_true, false≢true}
 use Rattle.release_rows.specs.inside.ListsInside.{listed_in}
 use Rattle.release_rows.specs.inside.RowsInside.{kept_in}
-use Rattle.release_rows.specs.DeviceFaults.{is_device}
+use Rattle.release_rows.specs.DeviceFaults.{FileIs, is_device}
+use Rattle.release_rows.specs.declared.fault.LoadFault.{LoadFault}
 use Rattle.release_rows.proofs.ReadFromLemmas.{read_unmarked}
 use Rattle.release_rows.proofs.TakingLemmas.{at_told, fails_since, if_err, if_ok, if_told}
 use Rattle.release_rows.proofs.WentLemmas.{seen-stopped, seen-whole}
@@ -38,3 +39,15 @@ returns-in-Err-clause-device g c device = elim (cases_Bool (is_device c.in-Err.f
       (g.P.PlaceSource.failure_count c.first_of_faults.new.files) c.first_of_faults.result c.in-Err.ensures.files
       (omega (arith, c.in-Err.ensures.failures)) (c.first_of_faults.ensures.device other device)
 ]
+
+pub returns-in-Err-clause-named : goal.returns-in-Err-clause-named
+returns-in-Err-clause-named g c =
+    let Names : LoadFault → ℕ → Type 0 = λ fault count. FileIs (λ file. file < count) fault in
+    subst (Names c.first_of_faults.result) c.in-Err.ensures.files
+    (c.first_of_faults.ensures.named (subst (Names c.in-Err.fault) (sym c.in-Err.ensures.files) c.in-Err.ensures.named))
+
+pub returns-in-Err-clause-calm : goal.returns-in-Err-clause-calm
+returns-in-Err-clause-calm g c other =
+    let own = false_from_ne_true _ (λ device.
+    false≢true (sym other ∙ ap is_device (c.first_of_faults.ensures.stays device).0 ∙ device)) in
+    c.first_of_faults.ensures.calm other ∙ c.in-Err.ensures.calm own

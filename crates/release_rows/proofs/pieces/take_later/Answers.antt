@@ -1,5 +1,5 @@
-use Rattle.std.proofs.Common.{None, Ok, Some, ap, arith, inr, ◌∙◌}
-use Rattle.release_rows.proofs.PiecesLemmas.{gives_next, LinesLeft-end, LinesLeft-next, LinesLeft-stop, takes_most, takes_next, takes_on}
+use Rattle.std.proofs.Common.{None, Ok, Some, ap, arith, inl, inr, ◌∙◌}
+use Rattle.release_rows.proofs.PiecesLemmas.{device_fails, gives_next, LinesLeft-end, LinesLeft-next, LinesLeft-stop, takes_most, takes_next, takes_on}
 use Rattle.release_rows.proofs.pieces.take_later.Goals as goal
 
 pub loop-turn-preserved : goal.loop-turn-preserved
@@ -43,3 +43,8 @@ returns-in-Ok-None-clause-bounded g c = takes_most _ _ _ _ c.args.lines.held.lef
 
 pub returns-clause-bounded : goal.returns-clause-bounded
 returns-clause-bounded g c other own = takes_most _ _ _ _ c.args.lines.held.left (omega arith) c.loop-turn.invariant.takes
+
+pub returns-in-Err-clause-goes : goal.returns-in-Err-clause-goes
+returns-in-Err-clause-goes g c rest told few other =
+    inl (device_fails c.args.file _ _ _ c.in-Err.fault c.fault_of.result c.in-Err.ensures.failures
+    c.loop-turn.invariant.failures c.fault_of.ensures other)

@@ -1,8 +1,13 @@
-use Rattle.std.proofs.Common.{sym, ◌∙◌}
-use Rattle.release_rows.proofs.PiecesLemmas.{takes_unnamed}
+use Rattle.std.proofs.Common.{inl, refl, sym, ◌∙◌}
+use Rattle.release_rows.proofs.PiecesLemmas.{device_fails, takes_unnamed}
 use Rattle.release_rows.proofs.pieces.take_name.Goals as goal
 
 pub returns-in-None-clause-goes : goal.returns-in-None-clause-goes
 returns-in-None-clause-goes g c known told =
     takes_unnamed g.T.PlaceTaker.takes g.T.PlaceTaker.refuses c.args.file c.args.byte_limit known c.args.name.now
     (sym c.in-None.is ∙ c.file_kind.ensures) c.args.taker.now
+
+pub returns-in-Err-clause-goes : goal.returns-in-Err-clause-goes
+returns-in-Err-clause-goes g c known told other =
+    inl (device_fails c.args.file _ _ _ c.in-Err.fault c.fault_of.result c.in-Err.ensures.failures refl
+    c.fault_of.ensures other)

@@ -1,8 +1,8 @@
-use Rattle.std.proofs.Common.{◌≡◌, ◌∷◌, ◌+◌, take, Ok, ap, arith, ◌∙◌}
+use Rattle.std.proofs.Common.{◌≡◌, ◌∷◌, ◌+◌, take, Ok, ap, arith, inl, inr, refl, sym, ◌∙◌}
 use Rattle.release_files.specs.Lines.{line_text, lines_of}
 use Rattle.release_files.specs.PieceLines.{lines_to_come}
 use Rattle.release_rows.proofs.TakingLemmas.{stops_first}
-use Rattle.release_rows.proofs.PiecesLemmas.{cut_bytes, cut_reachable, cut_short, fails_from, few_lines, gave_line, gave_none, gives_next, goes_lines, goes_none}
+use Rattle.release_rows.proofs.PiecesLemmas.{cut_bytes, cut_reachable, cut_short, device_fails, fails_from, few_lines, gave_line, gave_none, gives_next, goes_lines, goes_none}
 use Rattle.release_rows.proofs.pieces.take_opened.Goals as goal
 
 pub returns-in-Err-take-clause-goes : goal.returns-in-Err-take-clause-goes
@@ -13,16 +13,12 @@ returns-in-Err-take-clause-goes g c bytes told short other =
     c.next_line.follows.lender-at-none _ _ (take (c.args.byte_limit + 1) bytes)
     (gives_next c.next_line.result _ _ _ _ _ _ c.next_line.follows.holds-at-none)
     (c.in-Ok-Some.is ∙ ap Ok c.in-Ok-Some.field-0-is) known in
-    grind (
-      arith,
-      (stops_first g.T.PlaceTaker.takes g.T.PlaceTaker.refuses c.args.file c.args.kind
-          (lines_of (take (c.args.byte_limit + 1) bytes)) (line_text c.in-Ok-Some.first)
-          (lines_to_come c.next_line.follows.lender-at-none gave.now)),
-      (c.within-lines.ensures.lines (take (c.args.byte_limit + 1) bytes)),
-      cut_short,
-      gave.cut,
-      (c.in-Err-take.ensures.err other),
-    )
+    let lines = c.within-lines.ensures.lines (take (c.args.byte_limit + 1) bytes)
+    (cut_short (c.args.byte_limit + 1) bytes short) in
+    inr (stops_first g.T.PlaceTaker.takes g.T.PlaceTaker.refuses c.args.file c.args.kind
+    (lines_of (take (c.args.byte_limit + 1) bytes)) (line_text c.in-Ok-Some.first)
+    (lines_to_come c.next_line.follows.lender-at-none gave.now) (sym lines ∙ gave.cut)
+    c.args.taker.now c.take.new.self c.in-Err-take.fault (c.in-Err-take.ensures.err other))
 
 pub returns-in-Ok-clause-goes : goal.returns-in-Ok-clause-goes
 returns-in-Ok-clause-goes g c bytes told short =
@@ -33,8 +29,10 @@ returns-in-Ok-clause-goes g c bytes told short =
     (gives_next c.next_line.result _ _ _ _ _ _ c.next_line.follows.holds-at-none)
     (c.in-Ok-Some.is ∙ ap Ok c.in-Ok-Some.field-0-is) known in
     let others = lines_to_come c.next_line.follows.lender-at-none gave.now in
+    let lines = c.within-lines.ensures.lines (take (c.args.byte_limit + 1) bytes)
+    (cut_short (c.args.byte_limit + 1) bytes short) in
     let cut : lines_of (take (c.args.byte_limit + 1) bytes) ≡ line_text c.in-Ok-Some.first ∷ others =
-    grind (arith, (c.within-lines.ensures.lines (take (c.args.byte_limit + 1) bytes)), cut_short, gave.cut) in
+    sym lines ∙ gave.cut in
     goes_lines g.T.PlaceTaker.takes g.T.PlaceTaker.refuses c.args.file c.args.kind _ _
     (lines_of (take (c.args.byte_limit + 1) bytes)) (line_text c.in-Ok-Some.first) others cut
     (λ fault failed. fails_from c.args.file _ _ _ fault (omega (arith, c.in-Ok-Some.ensures.failures)) failed)
@@ -55,3 +53,8 @@ returns-in-Ok-None-clause-goes g c bytes told short =
     (grind (arith, (c.within-lines.ensures.lines (take (c.args.byte_limit + 1) bytes)), cut_short, none))
     c.args.taker.now c.take-in-Ok-None.new.self c.take-in-Ok-None.result c.take-in-Ok-None.ensures.ok
     c.take-in-Ok-None.ensures.err
+
+pub returns-in-Err-clause-goes : goal.returns-in-Err-clause-goes
+returns-in-Err-clause-goes g c bytes told short other =
+    inl (device_fails c.args.file _ _ _ c.in-Err.fault c.fault_of.result c.in-Err.ensures.failures refl
+    c.fault_of.ensures other)

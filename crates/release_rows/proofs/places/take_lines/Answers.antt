@@ -1,6 +1,8 @@
-use Rattle.std.proofs.Common.{arith}
+use Rattle.std.proofs.Common.{arith, map}
 use Rattle.std.proofs.lemmas.Bool.Decides.{nat_tests}
 use Rattle.std.proofs.lemmas.Grind.{common_steps}
+use Rattle.release_files.specs.Lines.{line_text}
+use Rattle.release_rows.specs.Files.{later_line}
 use Rattle.release_rows.proofs.TakingLemmas.{Leads-end, Leads-next, Leads-stop}
 use Rattle.release_rows.proofs.places.take_lines.Goals as goal
 
@@ -8,7 +10,11 @@ pub loop-line-preserved : goal.loop-line-preserved
 loop-line-preserved g c = grind (arith, common_steps, nat_tests, Leads-next)
 
 pub returns-in-Err-clause-err : goal.returns-in-Err-clause-err
-returns-in-Err-clause-err g c other = grind (arith, Leads-stop, c.in-Some.ensures.steps, c.loop-line.invariant, c.in-Err.ensures.err)
+returns-in-Err-clause-err g c other =
+    Leads-stop g.T.PlaceTaker.takes g.T.PlaceTaker.refuses c.args.taker.now c.loop-line.taker c.take.new.self _
+    (map (later_line c.args.file c.args.kind) c.next.new.self)
+    (later_line c.args.file c.args.kind (line_text c.in-Some.line)) c.in-Err.fault
+    (rw c.in-Some.ensures.steps at c.loop-line.invariant) (c.in-Err.ensures.err other)
 
 pub returns-clause-ok : goal.returns-clause-ok
 returns-clause-ok g c = grind (arith, Leads-end, c.in-None.ensures.steps.0, c.loop-line.invariant)

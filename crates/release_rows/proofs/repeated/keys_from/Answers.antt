@@ -1,7 +1,21 @@
-use Rattle.std.proofs.Common.{arith}
-use Rattle.std.proofs.lemmas.Bool.Decides.{nat_tests}
-use Rattle.std.proofs.lemmas.Grind.{common_steps}
+use Rattle.std.proofs.Common.{◌∙◌, ap, append-nil, refl, nat_lt, not, filter, take_all}
+use Rattle.std.proofs.lemmas.Bool.{le-ltb, lt-ltb}
+use Rattle.release_rows.proofs.NeighbourLemmas.{filter_more}
 use Rattle.release_rows.proofs.repeated.keys_from.Goals as goal
+use Rattle.release_rows.proofs.repeated.keys_from.Goals.{then-bound-key+in_ok-push, else-bound-key}
 
 pub loop-key-preserved : goal.loop-key-preserved
-loop-key-preserved c = grind (arith, common_steps, nat_tests)
+loop-key-preserved c =
+    let more = filter_more (λ key. not (nat_lt key c.args.bound)) c.args.keys.now c.loop-key.key-index
+    c.loop-key-test.true in
+    elim c.if-bound-key.branch [
+      | then-bound-key+in_ok-push w ↦
+          rw (w.others-is, w.in_ok-push.ensures.items, c.loop-key.invariant, more, le-ltb _ _ w.if-bound-key.true) refl
+      | else-bound-key w ↦
+          rw (w.others-is, c.loop-key.invariant, more, lt-ltb _ _ w.if-bound-key.false, append-nil) refl
+    ]
+
+pub returns : goal.returns
+returns c = c.loop-key.invariant
+    ∙ ap (filter (λ key. not (nat_lt key c.args.bound)))
+    (take_all c.loop-key.key-index c.args.keys.now c.loop-key-test.false)

@@ -1,7 +1,7 @@
 -- What is still to come of the chosen items, at each end of the loop and behind each row.
 use Rattle.std.proofs.Common.{arith, append-nil, append_assoc, false, sym}
 use Rattle.release_rows.specs.declared.row_lists.Listing.TheVariants.{Nowhere}
-use Rattle.release_rows.proofs.ChosenItemLemmas.{choices_ended, marks_ended, row_listed, row_passed}
+use Rattle.release_rows.proofs.ChosenItemLemmas.{choices_ended, marks_ended, row_listed, row_missing, row_passed}
 use Rattle.release_rows.proofs.row_lists.chosen_items.Goals as goal
 
 pub returns-then-choices-place : goal.returns-then-choices-place
@@ -28,9 +28,9 @@ loop-place-preserved-then-not-is_listing g c =
 pub returns-in_default : goal.returns-in_default
 returns-in_default g c =
     let at = c.loop-place in
-    let listed = row_listed c.args.list c.args.marks.now c.args.choices.now at.place Nowhere false at.left.now
-    c.loop-place-test.true c.if-choices-place.false (sym c.if-not-is_listing.ensures) in
-    grind (arith, append-nil, at.invariant, listed, c.in_default.ensures.cases)
+    let missing = row_missing c.args.list c.args.marks.now c.args.choices.now at.place Nowhere false at.left.now
+    c.loop-place-test.true c.if-choices-place.false (sym c.if-not-is_listing.ensures) c.in_default.ensures.cases in
+    grind (arith, append-nil, at.invariant, missing)
 
 pub loop-place-preserved-then-not-choices-place : goal.loop-place-preserved-then-not-choices-place
 loop-place-preserved-then-not-choices-place g c =

@@ -1,6 +1,6 @@
 use Rattle.std.proofs.Common.{◌<◌, ◌/◌, ◌^◌, length, arith, length-set}
 use Rattle.std.proofs.lemmas.Grind.{common_steps}
-use Rattle.release_rows.proofs.VersionLemmas.{latest_keeps, latest_takes, no_version}
+use Rattle.release_rows.proofs.VersionLemmas.{latest_keeps, latest_start, latest_takes, no_version}
 use Rattle.release_rows.proofs.versions.find_latest.Goals as goal
 use Rattle.release_rows.proofs.versions.find_latest.Goals.{then-index-code, else-index-code}
 
@@ -27,3 +27,8 @@ loop-number-preserved c =
       latest_keeps latest versions number no_version within c.loop-number.invariant.1 code
           (c.code_and_place-code.ensures.code no_version),
     )
+
+pub loop-number-init : goal.loop-number-init
+loop-number-init c =
+    latest_start c.args.latest.now.items c.fill.new.self c.args.latest.now.len (omega (arith, c.args.latest.now.ok.0))
+    (rw (← c.as_mut_slice.ensures.value) (c.fill.ensures.after (λ y is. is)))

@@ -30,3 +30,7 @@ returns c =
     (IsPlacedIn c.self.inside.concrete) (attribute-extends c.self.inside.concrete c.keep_value.new.concrete
     c.in_ok-kept.ensures.grown) in
     grind (arith, common_steps, kept, c.self.invariant, c.in_ok-push.ensures.items, c.in_ok-kept.ensures.value)
+
+pub invariant_of-self : goal.invariant_of-self
+invariant_of-self c = All-weaker (IsPlacedIn c.self.inside.concrete) (IsPlacedIn c.keep_value.new.concrete)
+    (λ row. within-extends _ _ c.in_err-kept.ensures.grown row.value) c.self.inside.rows.items c.self.invariant

@@ -1,3 +1,4 @@
+use Rattle.std.proofs.lemmas.Bool.{not-false, not-true}
 use Rattle.std.proofs.lemmas.Bool.Decides.{nat_tests}
 use Rattle.std.proofs.lemmas.Grind.{common_steps}
 use Rattle.std.proofs.Common.{◌≡◌, ◌∙◌, ap, arith, refl, sym}
@@ -20,7 +21,8 @@ returns-then-not-fits-clause-err c other rows expected =
     ∙ omega (arith, c.in-Some.ensures.key, c.if-found-key.false) in
     let time : time_on c.args.kind c.args.line.bytes.now ≡ c.effective_time.result =
     sym (c.effective_time.ensures ∙ time_in-on c.args.kind c.args.line.bytes.now c.args.row.now c.requires.row) in
-    (refl, rw (key, time) (grind (arith, nat_tests, c.in_ok-fits.ensures.conflict rows expected.taken (rw key at expected.kinds), c.if-not-fits.true)))
+    let fits = c.in_ok-fits.ensures.conflict rows expected.taken (rw key at expected.kinds) in
+    (refl, rw (key, time) (not-false _ (sym fits ∙ c.if-not-fits.true)))
 
 pub returns-clause-ok : goal.returns-clause-ok
 returns-clause-ok c =
@@ -34,11 +36,8 @@ returns-clause-ok c =
       repeated = c.in_ok-fits.ensures.repeated;
       left = refl;
       same_key = λ many. key;
-      fits = λ rows expected. rw (key, time) (grind (
-        arith,
-        nat_tests,
-        c.in_ok-fits.ensures.conflict rows expected.taken (rw key at expected.kinds),
-        c.if-not-fits.false,
-      ));
+      fits = λ rows expected.
+          let fits = c.in_ok-fits.ensures.conflict rows expected.taken (rw key at expected.kinds) in
+          rw (key, time) (not-true _ (sym fits ∙ c.if-not-fits.false));
       taken = λ rows expected. rw (key, time) (c.in_ok-fits.ensures.taken rows expected.taken (rw key at expected.kinds) c.if-not-fits.false);
     }

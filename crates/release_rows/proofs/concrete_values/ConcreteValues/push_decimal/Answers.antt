@@ -1,5 +1,5 @@
-use Rattle.std.proofs.Common.{◌++◌, ◌∷◌, ◌∙◌, [], List, ap, map}
-use Rattle.std.proofs.lemmas.List.{map_push}
+use Rattle.std.proofs.Common.{◌++◌, ◌∷◌, ◌∙◌, [], List, ap, arith, length, map}
+use Rattle.std.proofs.lemmas.List.{length-map, length_push, map_push}
 use Rattle.release_rows.specs.inside.ConcreteInside.{concrete_in}
 use Rattle.release_rows.specs.ConcreteValues.{Concrete, a_number}
 use Rattle.release_rows.specs.declared.concrete_values.KeptConcrete.TheVariants.{Decimal}
@@ -14,3 +14,12 @@ returns-clause-grown c =
           ∙ map_push (concrete_in texts) c.self.inside.values.items (Decimal c.args.decimal)
           ∙ ap (λ (values : List Concrete). values ++ added) c.self.view_is,
     )
+
+pub returns-clause-within : goal.returns-clause-within
+returns-clause-within c = omega (
+  arith,
+  length-map c.push.new.self.items (concrete_in c.self.inside.texts.items),
+  ap length c.in_ok-push.ensures.items,
+  length_push c.self.inside.values.items (Decimal c.args.decimal),
+  c.len-place.ensures,
+)

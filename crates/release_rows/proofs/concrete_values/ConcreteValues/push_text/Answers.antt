@@ -1,4 +1,6 @@
-use Rattle.std.proofs.Common.{◌++◌, ◌∷◌, ◌∙◌, [], List, ap, append-nil, map, sym}
+use Rattle.std.proofs.Common.{◌++◌, ◌∷◌, ◌∙◌, [], List, ap, append-nil, arith, length, map, sym}
+use Rattle.std.proofs.lemmas.List.{length-map, length_push}
+use Rattle.std.proofs.lemmas.List.Elements.{All-weaker}
 use Rattle.release_rows.specs.inside.ConcreteInside.{IsPlaced, concrete_in}
 use Rattle.release_rows.specs.ConcreteValues.{Concrete, a_text}
 use Rattle.release_rows.specs.Spans.{Extends}
@@ -39,3 +41,30 @@ returns-clause-grown c =
           (Other c.in_ok-span.span) (a_text c.args.text.now) c.in_ok-push.ensures.items c.self.invariant (ap a_text c.in_ok-span.ensures.span.same)
           ∙ ap (λ (values : List Concrete). values ++ added) c.self.view_is,
     )
+
+pub returns-clause-within : goal.returns-clause-within
+returns-clause-within c = omega (
+  arith,
+  length-map c.push.new.self.items (concrete_in c.push_bytes.new.texts.items),
+  ap length c.in_ok-push.ensures.items,
+  length_push c.self.inside.values.items (Other c.in_ok-span.span),
+  c.len-place.ensures,
+)
+
+pub returns-in_err-push-clause-count : goal.returns-in_err-push-clause-count
+returns-in_err-push-clause-count c = omega (
+  arith,
+  length-map c.push.new.self.items (concrete_in c.push_bytes.new.texts.items),
+  ap length c.in_err-push.ensures.items,
+  ap length c.self.view_is,
+  length-map c.self.inside.values.items (concrete_in c.self.inside.texts.items),
+)
+
+pub invariant_of-self-in_err-push : goal.invariant_of-self-in_err-push
+invariant_of-self-in_err-push c =
+    let texts = c.self.inside.texts.items in
+    let grown = c.push_bytes.new.texts.items in
+    rw c.in_err-push.ensures.items
+    (All-weaker (IsPlaced texts) (IsPlaced grown)
+    (placed-extends texts grown (c.args.text.now, c.in_ok-span.ensures.grown))
+    c.self.inside.values.items c.self.invariant)
