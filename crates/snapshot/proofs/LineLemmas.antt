@@ -1,5 +1,5 @@
 -- The lines of concepts, as they come one by one.
-use Rattle.std.proofs.Common.{rules, ℕ, ◌≡◌, ◌≤◌, ◌<◌, ◌+◌, ◌++◌, ◌∷◌, [], All, List, Option, None, Some, length, get_or, map, take, arith, length-append, IfSome, option_and_then, option_map, slice_get, slice_range}
+use Rattle.std.proofs.Common.{rules, ℕ, ◌≡◌, ◌≤◌, ◌<◌, ◌+◌, ◌++◌, ◌∷◌, [], All, List, Option, None, Some, length, get_or, map, take, ap, arith, length-append, IfSome, option_and_then, option_map, slice_get, slice_range}
 use Rattle.std.proofs.lemmas.Bool.Decides.{nat_tests}
 use Rattle.std.proofs.lemmas.Grind.{common_steps}
 use Rattle.std.proofs.lemmas.List.{get_or-map, get_or_default, get_or_read, map_more}
@@ -54,7 +54,14 @@ pub line_places : (starts texts : List ℕ) (lists : List (List ℕ)) (number : 
     → (lines more : List ℕ) × (texts ≡ lines ++ more) × AreStarts starts lines → cut starts texts ≡ lists → number < length lists
     → (number + 1 < length starts) × (get_or starts number 0 ≤ get_or starts (number + 1) 0) × (get_or starts (number + 1) 0 ≤ length texts)
     × (get_or lists number [] ≡ slice_range texts (get_or starts number 0) (get_or starts (number + 1) 0))
-line_places starts texts lists number (lines, more, grown, kept) are below = grind (arith, common_steps, nat_tests, below_cut, end_within, length-append, found)
+line_places starts texts lists number (lines, more, grown, kept) are below =
+    let next = below_cut starts texts lists number are below in
+    let end = end_within starts lines kept (number + 1) next in (
+      next,
+      kept.rise number next,
+      omega (arith, end, ap (λ (text : List ℕ). length text) grown, length-append lines more),
+      found starts texts lists number are below,
+    )
 
 -- the line of a concept among those of all
 pub line_among : (name : ℕ → Option (List ℕ)) (concepts : List ℕ) (number : ℕ) → number < length concepts

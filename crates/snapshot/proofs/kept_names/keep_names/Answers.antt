@@ -1,5 +1,6 @@
-use Rattle.std.proofs.Common.{arith, string_bytes}
-use Rattle.std.proofs.lemmas.Option.{slice_get-get_or}
+use Rattle.std.proofs.Common.{◌∙◌, arith, length, refl, string_bytes}
+use Rattle.std.proofs.lemmas.List.{take_all}
+use Rattle.std.proofs.lemmas.Option.{slice_get_read}
 use Rattle.release_rows.specs.LentRows.{name_read}
 use Rattle.snapshot.proofs.KeptNameLemmas.{kept-push, names-push, noted-extends}
 use Rattle.release_rows.proofs.SpanLemmas.{extends-both}
@@ -7,14 +8,13 @@ use Rattle.snapshot.proofs.kept_names.keep_names.Goals as goal
 
 pub keep_name-requires-clause-span : goal.keep_name-requires-clause-span
 keep_name-requires-clause-span c =
-    grind (
-      arith,
-      slice_get-get_or,
-      (c.row.ensures (name_read c.row.result)),
-      ((noted-extends c.args.names.now (string_bytes c.args.texts.now)
-          (string_bytes c.loop-place.texts) c.args.spans.now c.requires.noted c.loop-place.invariant.grown).stand
-          c.loop-place.place (name_read c.row.result)),
-    )
+    let names = c.args.names.now in
+    let name = name_read c.row.result in
+    let noted = noted-extends names (string_bytes c.args.texts.now) (string_bytes c.loop-place.texts) c.args.spans.now
+    c.requires.noted c.loop-place.invariant.grown in
+    noted.stand c.loop-place.place name
+    (slice_get_read names (length names) c.loop-place.place name refl
+    (omega (arith, c.loop-place-test.true, c.len-place-end.ensures)) (c.row.ensures name))
 
 pub loop-place-preserved : goal.loop-place-preserved
 loop-place-preserved c =
@@ -34,3 +34,8 @@ loop-place-preserved c =
           kept.languages c.args.names.now c.loop-place.place (name_read c.row.result) kept.names added.name
           (omega arith) (c.row.ensures (name_read c.row.result));
     }
+
+pub returns-clause-names : goal.returns-clause-names
+returns-clause-names c =
+    c.loop-place.invariant.names
+    ∙ take_all c.loop-place.place c.args.names.now (omega (arith, c.loop-place-test.false, c.len-place-end.ensures))

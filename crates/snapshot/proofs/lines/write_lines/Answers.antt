@@ -1,6 +1,8 @@
-use Rattle.std.proofs.Common.{None, get_or, string_bytes, option_and_then, option_map, slice_get, arith}
+use Rattle.std.proofs.Common.{◌∙◌, None, ap, get_or, map, string_bytes, option_and_then, option_map, slice_get, arith}
+use Rattle.std.proofs.lemmas.List.{take_all}
 use Rattle.rf2_rows.specs.Release.{Name}
 use Rattle.snapshot.specs.Line.{concept_line}
+use Rattle.snapshot.specs.Name.{name_among}
 use Rattle.snapshot.proofs.LineLemmas.{line-pushed, lines-more, starts-pushed}
 use Rattle.snapshot.proofs.lines.write_lines.Goals as goal
 
@@ -27,3 +29,9 @@ loop-number-preserved c =
       );
       noted = c.in_ok-write_line.ensures.noted;
     }
+
+pub returns-clause-lines : goal.returns-clause-lines
+returns-clause-lines c = λ language are.
+    c.loop-number.invariant.lines language are
+    ∙ ap (map (concept_line (name_among language c.args.names.now)))
+    (take_all c.loop-number.number c.args.concepts.now c.loop-number-test.false)

@@ -1,11 +1,19 @@
 use Rattle.release_rows.specs.ReadRows.{read_in}
 use Rattle.release_rows.proofs.ApartLemmas.{AreFew-read}
+use Rattle.snapshot.specs.Contents.{IsFaultOf}
+use Rattle.snapshot.specs.inside.Finished.{finished}
 use Rattle.snapshot.proofs.LoadLemmas.{loaded_from-read}
 use Rattle.snapshot.proofs.FinishLemmas.{finished-own, raised_by_none}
 use Rattle.release_rows.proofs.TakingLemmas.{at_told, if_err, if_told}
 use Rattle.snapshot.proofs.load.load_places.Goals as goal
-use Rattle.std.proofs.Common.{◌∙◌, arith, string_bytes, sym}
+use Rattle.std.proofs.Common.{ℕ, ◌∙◌, List, Result, Ok, Err, IfOk, ap, arith, string_bytes, subst, sym}
 use Rattle.std.proofs.lemmas.Bool.{false≢true}
+use Rattle.std.specs.Result.{IsErr}
+
+-- nothing is to be said of what a fault isn't
+no_ok : {T E : Type 0} (P : T → Type 0) (result : Result T E) → IsErr result → IfOk result P
+no_ok P (Ok done) is = absurd (false≢true is)
+no_ok P (Err fault) is = tt
 
 pub returns-then-not-are_few-clause-err : goal.returns-then-not-are_few-clause-err
 returns-then-not-are_few-clause-err g c =
@@ -30,13 +38,13 @@ returns-in_ok-language-in-Ok-clause-ok g c = if_told _ (g.P.PlaceSource.places c
 
 pub returns-in_ok-language-in-Ok-clause-err : goal.returns-in_ok-language-in-Ok-clause-err
 returns-in_ok-language-in-Ok-clause-err g c = if_told _ (g.P.PlaceSource.places c.args.files.now) (λ places told.
-    grind (
-      arith,
-      c.in_ok-language-in-Ok.ensures.ok,
-      (loaded_from-read c.args.limits c.args.lang.now c.args.kinds places c.in-Ok.read.count
-          (read_in c.in-Ok.read.lists) (at_told _ _ places told c.in-Ok.ensures.ok)),
-      c.finish.ensures.err,
-    ))
+    let count = c.in-Ok.read.count in
+    let listed = read_in c.in-Ok.read.lists in
+    let is =
+    ap (λ (language : List ℕ). finished language c.args.kinds count listed) c.in_ok-language-in-Ok.ensures.ok
+    ∙ sym (loaded_from-read c.args.limits c.args.lang.now c.args.kinds places count listed
+    (at_told _ _ places told c.in-Ok.ensures.ok)) in
+    if_err _ _ c.finish.result (λ fault said own. subst (IsFaultOf fault) is said) c.finish.ensures.err)
 
 -- a fault of what is finished is neither the device's nor that of a file
 pub returns-in_ok-language-in-Ok-clause-device : goal.returns-in_ok-language-in-Ok-clause-device
@@ -67,3 +75,7 @@ returns-in_ok-language-in-Ok-clause-found g c =
     let own = finished-own (string_bytes c.in_ok-language-in-Ok.language) c.args.kinds c.in-Ok.read.count
     (read_in c.in-Ok.read.lists) in
     if_err _ _ c.finish.result (λ fault said. (own fault said).found) c.finish.ensures.err
+
+pub returns-in_err-language-in-Ok-clause-ok : goal.returns-in_err-language-in-Ok-clause-ok
+returns-in_err-language-in-Ok-clause-ok g c = if_told _ (g.P.PlaceSource.places c.args.files.now) (λ places told.
+    no_ok _ c.from_residual.result c.from_residual.ensures.0)

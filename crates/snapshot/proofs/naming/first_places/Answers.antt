@@ -1,10 +1,11 @@
 -- The row at the place and those behind it.
-use Rattle.std.proofs.Common.{◌≡◌, ◌-◌, List, Some, get_or, set, drop, sym, ◌∙◌, subst, arith}
+use Rattle.std.proofs.Common.{ℕ, ◌≡◌, ◌<◌, ◌-◌, ◌==◌, List, length, Some, get_or, set, drop, sym, ◌∙◌, subst, arith}
 use Rattle.release_rows.specs.LentRows.{name_read}
 use Rattle.snapshot.specs.inside.FirstRows.{AreFirstPlaces}
 use Rattle.snapshot.specs.Numbering.{concept_number}
 use Rattle.rf2_rows.specs.Release.{Name}
 use Rattle.snapshot.proofs.FirstRowLemmas.{first_places-other, first_places-own, first_within, name_at, names_from, place_read}
+use Rattle.std.proofs.lemmas.List.Quantifiers.{position-Some}
 use Rattle.snapshot.proofs.naming.first_places.Goals as goal
 
 pub first_of_two-first-requires-clause-later : goal.first_of_two-first-requires-clause-later
@@ -50,3 +51,19 @@ loop-place-preserved c =
       c.in_default.is,
       c.loop-place.invariant,
     )
+
+-- the number of a concept is below their count
+number_below : (concepts : List ℕ) (id number : ℕ) → concept_number concepts id ≡ Some number → number < length concepts
+number_below concepts id number found = (position-Some (λ other. id == other) concepts number 0 found).0
+
+pub index-later-requires : goal.index-later-requires
+index-later-requires c =
+    let found = sym c.index_of.ensures ∙ c.in-Some.is in
+    let below = number_below c.args.concepts.now c.number.result c.in-Some.number found in
+    omega (arith, below, c.loop-place.places.ok.0, c.loop-place.invariant.0)
+
+pub index_mut-requires : goal.index_mut-requires
+index_mut-requires c =
+    let found = sym c.index_of.ensures ∙ c.in-Some.is in
+    let below = number_below c.args.concepts.now c.number.result c.in-Some.number found in
+    omega (arith, below, c.loop-place.places.ok.0, c.loop-place.invariant.0)

@@ -1,4 +1,5 @@
 use Rattle.std.proofs.Common.{◌++◌, ◌∷◌, [], ◌∙◌, List, ap, arith, get_or, sym}
+use Rattle.std.proofs.lemmas.List.{take_all}
 use Rattle.rf2_rows.specs.Release.{Attribute, concept_value}
 use Rattle.snapshot.specs.inside.Finished.{attributes_among}
 use Rattle.snapshot.proofs.NumberedLemmas.{among_more}
@@ -17,3 +18,9 @@ loop-place-preserved c =
       values = omega (arith, kept.values, c.in_ok-add.ensures.values);
       count = omega (arith, kept.count, c.in_ok-add.ensures.count);
     }
+
+pub returns-clause-rows : goal.returns-clause-rows
+returns-clause-rows c =
+    c.loop-place.invariant.rows
+    ∙ ap (attributes_among c.args.concepts.now)
+    (take_all c.loop-place.place c.args.attributes.now (omega (arith, c.loop-place-test.false, c.len-place-end.ensures)))

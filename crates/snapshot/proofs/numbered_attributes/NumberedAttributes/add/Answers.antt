@@ -6,7 +6,7 @@ use Rattle.release_rows.specs.LentRows.{attribute_read}
 use Rattle.snapshot.specs.inside.Finished.{attributes_among}
 use Rattle.snapshot.specs.inside.NumberedInside.{IsNumberOf, IsOwnRow, numbered_in}
 use Rattle.snapshot.specs.Numbering.{concept_number}
-use Rattle.snapshot.proofs.NumberedLemmas.{all_numbered-push, own_row, row_added, row_left_out, source_left_out, value_left_out}
+use Rattle.snapshot.proofs.NumberedLemmas.{all_numbered, all_numbered-push, own_row, row_added, row_left_out, source_left_out, value_left_out}
 use Rattle.snapshot.proofs.NumberingLemmas.{number_has}
 use Rattle.snapshot.proofs.numbered_attributes.NumberedAttributes.add.Goals as goal
 use Rattle.snapshot.proofs.numbered_attributes.NumberedAttributes.add.Goals.{In_ok-push-in-Some-found}
@@ -63,3 +63,8 @@ returns-in-None-clause-rows c = λ default.
     subst (λ (attribute : Attribute). after ≡ before ++ attributes_among keys (attribute ∷ [])) (c.row-row.ensures default)
     (row_left_out c.args.self.now.concrete grown c.in_ok-found.ensures.grown keys c.args.self.now.rows.items c.requires.numbered read
     (value_left_out keys read there none))
+
+pub returns-in-None-clause-numbered : goal.returns-in-None-clause-numbered
+returns-in-None-clause-numbered c =
+    all_numbered c.args.self.now.concrete c.number_value.new.concrete c.in_ok-found.ensures.grown c.args.concepts.now
+    c.args.self.now.rows.items c.requires.numbered (attribute_read c.row-row.result)
