@@ -1,8 +1,17 @@
-use Rattle.std.proofs.Common.{ℕ, List, ◌∙◌, ◌++◌, ◌∷◌, [], ap, get_or, subst, sym, take}
+use Rattle.std.proofs.Common.{ℕ, List, ◌<◌, ◌∙◌, ◌++◌, ◌∷◌, [], ap, get_or, subst, sym, take}
+use Rattle.std.specs.Prelude.{All}
+use Rattle.std.proofs.lemmas.List.Elements.{All-push}
 use Rattle.number_lists.specs.Members.{has}
 use Rattle.ancestor_index.specs.inside.Gathered.{AreGathered, gathered_by, has_joined}
 use Rattle.ancestor_index.proofs.GatherLemmas.{gathered_item, gathered_more}
 use Rattle.ancestor_index.proofs.closure.gather.Goals as goal
+
+pub add_list-requires-clause-list : goal.add_list-requires-clause-list
+add_list-requires-clause-list g c =
+    let concept = get_or c.args.concepts.now c.loop-concept.concept-index 0 in
+    subst (All (λ item. item < c.args.count)) (sym c.in_ok-push.ensures.items)
+    (All-push (λ item. item < c.args.count) c.loop-concept.list.items concept c.loop-concept.invariant.below
+    (c.requires.concepts c.loop-concept.concept-index 0 c.loop-concept-test.true).0)
 
 pub loop-concept-preserved : goal.loop-concept-preserved
 loop-concept-preserved g c =

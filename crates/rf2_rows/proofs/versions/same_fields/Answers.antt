@@ -1,5 +1,5 @@
 -- At each place the formats are those of the columns, and the texts are accepted there.
-use Rattle.std.proofs.Common.{◌≡◌, ℕ, ◌+◌, ◌<◌, ◌&&◌, Bool, true, List, [], length, get_or, drop, map, None, refl, sym, ap, ◌∙◌, arith}
+use Rattle.std.proofs.Common.{◌≡◌, ℕ, ◌+◌, ◌<◌, ◌&&◌, Bool, true, List, [], ◌≤◌, length, get_or, drop, map, None, refl, sym, ap, ◌∙◌, arith}
 use Rattle.std.specs.Borrow.{Bor}
 use Rattle.std.proofs.Math.ListN.{get_or-map, length-map}
 use Rattle.std.proofs.lemmas.List.{drop_all, drop_more}
@@ -16,6 +16,10 @@ use Rattle.rf2_rows.proofs.Accepted.{accepted_at, format_at, width_of_fields}
 use Rattle.rf2_rows.proofs.Columns.{get_or-texts_of, text_at}
 use Rattle.rf2_rows.proofs.versions.same_fields.Goals as goal
 
+-- a row has 10 columns at the most
+few_columns : (kind : FileKind) → length (columns_of kind) ≤ 10
+few_columns kind = grind arith
+
 -- the name of the format of the column at a place
 abbrev named_at : List Named → ℕ → Named
 named_at names place = get_or names place (Id Concept)
@@ -29,6 +33,11 @@ module _ (kind : FileKind) (names : List Named) (are : map format_of names ≡ m
       sym (get_or-map format_of names place (Id Concept))
       ∙ ap (λ formats. get_or formats place (id_format Concept)) are
       ∙ get_or-map (λ (column : Column). column.format) (columns_of kind) place (column [] (id_format Concept))
+
+  -- there is a field for each name
+  within : (fields : List (Bor (List ℕ))) (place : ℕ) → fields_fault kind (texts_of fields) ≡ None → place < length names → place < length fields
+  within fields place accepted inside =
+      omega (arith, as_many, width_of_fields kind (texts_of fields) accepted, length-map fields (λ (field : Bor (List ℕ)). field.now))
 
   -- the text at a place is accepted in its column
   accepted_there : (fields : List (Bor (List ℕ))) (place : ℕ) → fields_fault kind (texts_of fields) ≡ None
@@ -66,6 +75,26 @@ module _ (kind : FileKind) (names : List Named) (are : map format_of names ≡ m
           drop_all place (texts_of ones) (omega (arith, as_many)),
           drop_all place (texts_of others) (omega (arith, as_many)),
         ) refl
+
+pub offset_bounds-ones-place : goal.offset_bounds-ones-place
+offset_bounds-ones-place c =
+    let many = as_many c.args.kind c.formats-format-items.result.now c.formats-format-items.ensures in
+    omega (arith, many, few_columns c.args.kind, c.loop-place-test.true)
+
+pub bounds-ones-place : goal.bounds-ones-place
+bounds-ones-place c =
+    within c.args.kind c.formats-format-items.result.now c.formats-format-items.ensures
+    c.args.ones.now c.loop-place.place c.requires.one c.loop-place-test.true
+
+pub offset_bounds-others-place : goal.offset_bounds-others-place
+offset_bounds-others-place c =
+    let many = as_many c.args.kind c.formats-format-items.result.now c.formats-format-items.ensures in
+    omega (arith, many, few_columns c.args.kind, c.loop-place-test.true)
+
+pub bounds-others-place : goal.bounds-others-place
+bounds-others-place c =
+    within c.args.kind c.formats-format-items.result.now c.formats-format-items.ensures
+    c.args.others.now c.loop-place.place c.requires.other c.loop-place-test.true
 
 pub same_value-requires-clause-one : goal.same_value-requires-clause-one
 same_value-requires-clause-one c =
