@@ -1,7 +1,7 @@
-use Rattle.std.proofs.Common.{List, ap, sym, ◌∙◌}
+use Rattle.std.proofs.Common.{List, ap, sym, ◌∙◌, arith}
 use Rattle.set_algebra.specs.declared.plan.ConceptPlan.{ConceptPlan}
 use Rattle.set_algebra.specs.Plan.{plan_of, plans_of}
-use Rattle.set_algebra.proofs.PlanLemmas.{plan_of-Values}
+use Rattle.set_algebra.proofs.PlanLemmas.{plan_of-Values, plans_of_items}
 use Rattle.set_algebra.proofs.ListLemmas.{plans_so_far, groups_so_far, plans_more, groups_more, values_made}
 use Rattle.set_algebra.proofs.+copy.Goals as goal
 
@@ -25,3 +25,23 @@ plan::ConceptPlan::copy-returns-in_ok-each-in-Values t c =
     values_made c.in_ok-start-in-Values.start c.in_ok-each-in-Values.field-0 _ _
     (c.in_ok-start-in-Values.ensures ∙ start_is) (c.in_ok-each-in-Values.ensures ∙ names_are)
     ∙ sym (ap plan_of c.in-Values.is ∙ plan_of-Values c.in-Values.start c.in-Values.names)
+
+-- the plan of a variant is made of the plans of its parts
+pub plan::ConceptPlan::copy-returns-in_ok-boxed-in-Walk : goal.plan::ConceptPlan::copy-returns-in_ok-boxed-in-Walk
+plan::ConceptPlan::copy-returns-in_ok-boxed-in-Walk t c = grind (arith, plans_of_items)
+
+pub plan::ConceptPlan::copy-returns-in_ok-boxed-in-Members : goal.plan::ConceptPlan::copy-returns-in_ok-boxed-in-Members
+plan::ConceptPlan::copy-returns-in_ok-boxed-in-Members t c = grind (arith, plans_of_items)
+
+pub plan::ConceptPlan::copy-returns-in_ok-each-in-Or : goal.plan::ConceptPlan::copy-returns-in_ok-each-in-Or
+plan::ConceptPlan::copy-returns-in_ok-each-in-Or t c = grind (arith, plans_of_items)
+
+pub plan::ConceptPlan::copy-returns-in_ok-boxed-in-Minus : goal.plan::ConceptPlan::copy-returns-in_ok-boxed-in-Minus
+plan::ConceptPlan::copy-returns-in_ok-boxed-in-Minus t c = grind (arith, plans_of_items)
+
+pub plan::ConceptPlan::copy-returns-in_ok-copy-in-Pairs : goal.plan::ConceptPlan::copy-returns-in_ok-copy-in-Pairs
+plan::ConceptPlan::copy-returns-in_ok-copy-in-Pairs t c = grind (arith, plans_of_items)
+
+pub plan::ConceptPlan::copy-returns-in_ok-boxed_unit-in-Units :
+    goal.plan::ConceptPlan::copy-returns-in_ok-boxed_unit-in-Units
+plan::ConceptPlan::copy-returns-in_ok-boxed_unit-in-Units t c = grind (arith, plans_of_items)

@@ -1,7 +1,8 @@
-use Rattle.std.proofs.Common.{List, ap, sym, ◌∙◌}
+use Rattle.std.proofs.Common.{List, ap, sym, ◌∙◌, arith}
 use Rattle.constraint_tree.specs.declared.tree.Constraint.{Constraint}
 use Rattle.constraint_tree.specs.Tree.{tree_of, trees_of}
-use Rattle.constraint_tree.proofs.TreeLemmas.{tree_of-Dotted}
+use Rattle.constraint_tree.proofs.TreeLemmas.{tree_of-Dotted, trees_of_items}
+use Rattle.set_algebra.proofs.PlanLemmas.{plans_of_items}
 use Rattle.set_algebra.specs.Lowering.{lowered, lowered_trees}
 use Rattle.set_algebra.proofs.ListLemmas.{plans_more, groups_more, values_made}
 use Rattle.set_algebra.proofs.LoweredLists.{lowered_so_far, lowered_refinements_so_far, lowered_sets_so_far}
@@ -32,3 +33,40 @@ concepts-returns-in_ok-each-in-Dotted t c =
     values_made c.in_ok-start-in-Dotted.start c.in_ok-each-in-Dotted.field-0 _ _
     (c.in_ok-start-in-Dotted.ensures ∙ start_is) (c.in_ok-each-in-Dotted.ensures ∙ names_are)
     ∙ sym (ap lowered (ap tree_of c.in-Dotted.is ∙ tree_of-Dotted c.in-Dotted.start c.in-Dotted.names))
+
+-- the plan of a variant is made of the plans of its parts
+pub concepts-returns-in_ok-boxed-in-Walk : goal.concepts-returns-in_ok-boxed-in-Walk
+concepts-returns-in_ok-boxed-in-Walk t c = grind (arith, plans_of_items, trees_of_items)
+
+pub concepts-returns-in_ok-boxed-in-MemberOf : goal.concepts-returns-in_ok-boxed-in-MemberOf
+concepts-returns-in_ok-boxed-in-MemberOf t c = grind (arith, plans_of_items, trees_of_items)
+
+pub concepts-returns-in_ok-each-in-And : goal.concepts-returns-in_ok-each-in-And
+concepts-returns-in_ok-each-in-And t c = grind (arith, plans_of_items, trees_of_items)
+
+pub concepts-returns-in_ok-each-in-Or : goal.concepts-returns-in_ok-each-in-Or
+concepts-returns-in_ok-each-in-Or t c = grind (arith, plans_of_items, trees_of_items)
+
+pub concepts-returns-in_ok-boxed-in-Minus : goal.concepts-returns-in_ok-boxed-in-Minus
+concepts-returns-in_ok-boxed-in-Minus t c = grind (arith, plans_of_items, trees_of_items)
+
+pub concepts-returns-in_ok-vec-in-Refined : goal.concepts-returns-in_ok-vec-in-Refined
+concepts-returns-in_ok-vec-in-Refined t c = grind (arith, plans_of_items, trees_of_items)
+
+pub groups-returns-in_ok-value_test-in-One : goal.groups-returns-in_ok-value_test-in-One
+groups-returns-in_ok-value_test-in-One t c = grind (arith, plans_of_items, trees_of_items)
+
+pub groups-returns-in_ok-each_groups-in-And : goal.groups-returns-in_ok-each_groups-in-And
+groups-returns-in_ok-each_groups-in-And t c = grind (arith, plans_of_items, trees_of_items)
+
+pub groups-returns-in_ok-each_groups-in-Or : goal.groups-returns-in_ok-each_groups-in-Or
+groups-returns-in_ok-each_groups-in-Or t c = grind (arith, plans_of_items, trees_of_items)
+
+pub satisfying-returns-in_ok-value_test-in-One : goal.satisfying-returns-in_ok-value_test-in-One
+satisfying-returns-in_ok-value_test-in-One t c = grind (arith, plans_of_items, trees_of_items)
+
+pub satisfying-returns-in_ok-each_satisfying-in-And : goal.satisfying-returns-in_ok-each_satisfying-in-And
+satisfying-returns-in_ok-each_satisfying-in-And t c = grind (arith, plans_of_items, trees_of_items)
+
+pub satisfying-returns-in_ok-each_satisfying-in-Or : goal.satisfying-returns-in_ok-each_satisfying-in-Or
+satisfying-returns-in_ok-each_satisfying-in-Or t c = grind (arith, plans_of_items, trees_of_items)
