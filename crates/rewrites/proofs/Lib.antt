@@ -10,6 +10,7 @@ pub mod GroupRuleLemmas
 pub mod KeepingLemmas
 pub mod ListLemmas
 pub mod PartLemmas
+pub mod RangeLemmas
 pub mod RuleLemmas
 pub mod SimplifiedLemmas
 pub mod SimplifiedLists

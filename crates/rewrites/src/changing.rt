@@ -16,7 +16,6 @@ use std::alloc::{AllocError, Global};
 // Puts what the rule makes of the plan at the place, if it makes anything, and tells whether it did. Where it did
 // not, and where memory ran out, nothing is said of the plan.
 #[cycle(change)]
-#[tactic(auto, using(set_algebra::proofs::PlanLemmas::plans_of_items))]
 pub(crate) fn change(
     alloc: Global,
     plan: &mut ConceptPlan,
@@ -102,7 +101,6 @@ fn change_test(
 
 // The same in a plan of groups.
 #[cycle(change)]
-#[tactic(auto, using(set_algebra::proofs::PlanLemmas::plans_of_items))]
 fn change_unit(
     alloc: Global,
     plan: &mut UnitPlan,

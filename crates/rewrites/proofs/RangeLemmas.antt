@@ -1,0 +1,48 @@
+-- What RangeSplit makes of a plan with a count, by what its count is split into.
+use Rattle.std.proofs.Common.{ℕ, ◌≡◌, Bool, true, false, Option, Some, None, nat_le, option_map, refl, sym, ap, ◌∙◌}
+use Rattle.std.specs.Option.{option_and_then}
+use Rattle.constraint_tree.specs.declared.operator.Cardinality.{Cardinality}
+use Rattle.set_algebra.specs.Lowering.{both_plan}
+use Rattle.set_algebra.specs.Plan.{Plan, pairs_plan, units_plan}
+use Rattle.rewrites.specs.declared.rule.Rule.TheVariants.{RangeSplit}
+use Rattle.rewrites.specs.Counts.{only_if, at_least, up_to, split_at, split}
+use Rattle.rewrites.specs.inside.Counted.{count_of, with_count}
+use Rattle.rewrites.specs.Rules.{rewritten}
+
+-- what is made of the two parts of a count, under a condition
+made_if : {X Y : Type 0} (make : X → Y) (condition : Bool) (x : X)
+    → only_if condition (make x) ≡ option_map make (only_if condition x)
+made_if make true x = refl
+made_if make false x = refl
+
+made_at : {X : Type 0} (make : Cardinality × Cardinality → X) (least : ℕ) (most : Option ℕ)
+    → split_at (λ one other. make (one, other)) least most
+    ≡ option_map make (split_at (λ one other. (one, other)) least most)
+made_at make least None = refl
+made_at make least (Some most) = made_if make (nat_le 1 least) (at_least least, up_to most)
+
+-- the two parts of a count
+abbrev parts_of : Cardinality → Option (Cardinality × Cardinality)
+parts_of count = split (λ one other. (one, other)) count
+
+made_of : {X : Type 0} (make : Cardinality × Cardinality → X) (own count : Cardinality)
+    (both : Cardinality × Cardinality) → Some count ≡ Some own → Some both ≡ parts_of count
+    → split (λ one other. make (one, other)) own ≡ Some (make both)
+made_of make own count both is told =
+    made_at make own.min own.max ∙ ap (option_map make) (sym (told ∙ ap (option_and_then parts_of) is))
+
+-- RangeSplit makes the And of the plan with the one part and with the other for its count
+pub range_split_made : (plan one other new : Plan) (count least most : Cardinality) → Some count ≡ count_of plan
+    → Some (least, most) ≡ parts_of count → one ≡ with_count least plan → other ≡ with_count most plan
+    → new ≡ both_plan one other → rewritten RangeSplit plan ≡ Some new
+range_split_made (pairs_plan back own types test) one other new count least most is told one_is other_is new_is =
+    made_of
+    (λ (both : Cardinality × Cardinality).
+    both_plan (pairs_plan back both.0 types test) (pairs_plan back both.1 types test))
+    own count (least, most) is told
+    ∙ rw (new_is, one_is, other_is)
+range_split_made (units_plan own units) one other new count least most is told one_is other_is new_is =
+    made_of (λ (both : Cardinality × Cardinality). both_plan (units_plan both.0 units) (units_plan both.1 units)) own count
+    (least, most) is told
+    ∙ rw (new_is, one_is, other_is)
+range_split_made plan one other new count least most is told one_is other_is new_is = cc
