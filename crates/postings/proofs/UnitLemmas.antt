@@ -8,6 +8,7 @@ use Rattle.rf2_rows.specs.Release.{Attribute}
 use Rattle.number_lists.specs.KeyedLists.{list_of}
 use Rattle.postings.specs.inside.Coded.{IsCoded, row_coded}
 use Rattle.postings.specs.Groups.{ConceptGroup, groups_in, group_of, has_key, is_in_group, numbered, rows_alone}
+use Rattle.postings.specs.Groups.{rows_of_group}
 use Rattle.postings.specs.inside.IndexInside.{AreIndexed, indexed_in}
 use Rattle.postings.specs.Indexed.{Indexed}
 use Rattle.postings.specs.inside.KeptRows.{IsKept, groups_kept, mark_at, row_kept, rows_kept, unit_kept}
@@ -93,6 +94,16 @@ module _ (inside : Inside) (are : AreIndexed inside) (now : Indexed) (same : ind
     unit_rows =
         ap (λ (xs : List (List ℕ)). list_of xs unit) are.rows.groups.each
         ∙ get_or-map (λ (group : ConceptGroup). places_where (is_in_group group) rows) groups unit none [] here
+
+    -- the rows listed for it are its rows
+    pub rows_told : (found : List ℕ) → found ≡ list_of inside.rows.groups.rows unit
+        → IfSome (slice_get (groups_in now) unit) (λ group. found ≡ rows_of_group now group)
+    rows_told found is =
+        let own : ConceptGroup → List ℕ = λ group. places_where (is_in_group group) rows in
+        subst (λ (indexed : Indexed).
+        IfSome (slice_get (groups_in indexed) unit) (λ group. found ≡ rows_of_group indexed group)) same
+        (if_there groups unit here (λ (group : ConceptGroup). found ≡ own group) (λ other.
+        is ∙ unit_rows ∙ ap own (get_or_default groups unit none other here)))
 
     has : list_any (is_in_group group) rows ≡ true
     has = groups_have (rows_alone inside.concepts.items rows) inside.concepts.items unit none here

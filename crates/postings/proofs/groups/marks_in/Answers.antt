@@ -1,10 +1,10 @@
-use Rattle.std.proofs.Common.{ℕ, ◌+◌, ◌≡◌, ◌<◌, ◌++◌, ◌≤◌, ◌∙◌, List, ap, arith, get_or, length, map, subst}
-use Rattle.std.proofs.Common.{sym}
+use Rattle.std.proofs.Common.{ℕ, ◌+◌, ◌≡◌, ◌<◌, ◌++◌, ◌∷◌, [], ◌≤◌, ◌∙◌, List, ap, arith, get_or, length, map}
+use Rattle.std.proofs.Common.{refl, subst, sym}
 use Rattle.std.specs.Prelude.{All}
 use Rattle.std.proofs.lemmas.List.{length-map}
 use Rattle.number_lists.specs.KeyedLists.{list_of}
 use Rattle.snapshot.proofs.SortedLemmas.{flat_map-more}
-use Rattle.postings.specs.inside.Coded.{group_codes, group_marks, groups_ahead, of_source, source_marks}
+use Rattle.postings.specs.inside.Coded.{AreRowMarks, group_codes, group_marks, groups_ahead, of_source, source_marks}
 use Rattle.postings.specs.declared.rows.CodedRow.{CodedRow}
 use Rattle.postings.proofs.PlaceLemmas.{list_of-places_by-within, rows_of_source}
 use Rattle.postings.proofs.SourceLemmas.{groups_ahead-more, of_source-own, rows_left, starts_more}
@@ -79,6 +79,26 @@ overflow_add-ahead c =
       ap (λ (own : List CodedRow). length own) c.as_slice-own.ensures.value,
     )
 
+-- no group is before the first source
+first_start : (rows : List CodedRow) (source : ℕ) → source ≤ 0 → get_or (0 ∷ []) source 0 ≡ groups_ahead rows source
+first_start rows source le =
+    let first : 0 ≡ source = omega (arith, le) in
+    subst (λ (source : ℕ). get_or (0 ∷ []) source 0 ≡ groups_ahead rows source) first refl
+
+pub loop-source-init : goal.loop-source-init
+loop-source-init c = record {
+  marks = record {
+    sources = c.in_ok-with_capacity.ensures.items;
+    groups = c.in_ok-with_capacity-2.ensures.items;
+    starts_len = c.in_ok-push.ensures.len ∙ ap (λ (n : ℕ). n + 1) c.in_ok-with_capacity-3.ensures.len;
+    starts = λ source le.
+        ap (λ (starts : List ℕ). get_or starts source 0)
+        (c.in_ok-push.ensures.items ∙ ap (λ (starts : List ℕ). starts ++ 0 ∷ []) c.in_ok-with_capacity-3.ensures.items)
+        ∙ first_start c.args.rows.now source le;
+  };
+  ahead = refl;
+}
+
 pub loop-source-preserved : goal.loop-source-preserved
 loop-source-preserved c =
     let rows : List CodedRow = c.args.rows.now in
@@ -97,11 +117,17 @@ loop-source-preserved c =
         groups = c.in_ok-ahead.ensures.groups
             ∙ (λ i. so_far.marks.groups i ++ group_marks (so_far.ahead i) (own i))
             ∙ sym (flat_map-more (λ source. group_marks (groups_ahead rows source) (of_source rows source)) source);
-        starts_len = omega (arith, c.in_ok-push-2.ensures.len, so_far.marks.starts_len);
+        starts_len = c.in_ok-push-2.ensures.len ∙ ap (λ (n : ℕ). n + 1) so_far.marks.starts_len;
         starts = λ k le.
             ap (λ (starts : List ℕ). get_or starts k 0) c.in_ok-push-2.ensures.items
             ∙ starts_more rows c.loop-source.marks.starts.items source (c.loop-source.ahead + c.in_ok-ahead.field-0)
-            (omega (arith, so_far.marks.starts_len)) so_far.marks.starts ahead k le;
+            (sym c.loop-source.marks.starts.ok.0 ∙ so_far.marks.starts_len) so_far.marks.starts ahead k le;
       };
       ahead = ahead;
     }
+
+pub returns : goal.returns
+returns c =
+    let all : c.loop-source.source ≡ length c.args.by_source.now =
+    omega (arith, c.loop-source-test.false, c.loop-source.auto.source-end, c.len-source-end.ensures.count) in
+    subst (λ (count : ℕ). AreRowMarks count c.args.rows.now c.loop-source.marks) all c.loop-source.invariant.marks

@@ -1,4 +1,6 @@
 use Rattle.std.proofs.Common.{ℕ, ◌≡◌, ◌∙◌, List, length, map, sym, ap, subst, arith}
+use Rattle.std.specs.List.{concat}
+use Rattle.std.proofs.lemmas.List.{length-map}
 use Rattle.postings.specs.inside.Coded.{AreRowMarks, IsBySource}
 use Rattle.postings.specs.Places.{places_by}
 use Rattle.postings.specs.declared.rows.CodedRow.{CodedRow}
@@ -9,6 +11,15 @@ use Rattle.postings.proofs.row_indexes.marks_by_source.Goals.{In_ok-by_source}
 -- there is a list of rows for each source
 long : (c : In_ok-by_source) → length c.in_ok-by_source.by_source ≡ c.args.count
 long c = ap (λ (xs : List (List ℕ)). length xs) c.in_ok-by_source.ensures ∙ length-places_by c.args.count c.as_slice.result.now
+
+pub places_by_key-requires : goal.places_by_key-requires
+places_by_key-requires c =
+    omega (
+      arith,
+      ap (λ (xs : List ℕ). length xs) (c.as_slice.ensures.value ∙ c.in_ok-sources.ensures),
+      length-map c.args.rows.now (λ (row : CodedRow). row.source),
+      c.requires.few,
+    )
 
 pub row_marks-requires-clause-few_sources : goal.row_marks-requires-clause-few_sources
 row_marks-requires-clause-few_sources c =
@@ -30,3 +41,10 @@ pub returns-clause-marks : goal.returns-clause-marks
 returns-clause-marks c =
     subst (λ (n : ℕ). AreRowMarks n c.args.rows.now c.in_ok-marks.marks) (long (goal.at.returns-clause-marks c).In_ok-by_source)
     c.in_ok-marks.ensures
+
+pub returns-clause-rows : goal.returns-clause-rows
+returns-clause-rows c =
+    c.in_ok-numbers.ensures.items
+    ∙ c.flat.ensures
+    ∙ ap concat c.in_ok-by_source.ensures
+    ∙ ap (λ (keys : List ℕ). concat (places_by c.args.count keys)) (c.as_slice.ensures.value ∙ c.in_ok-sources.ensures)

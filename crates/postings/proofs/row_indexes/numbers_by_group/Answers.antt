@@ -7,6 +7,18 @@ use Rattle.postings.proofs.row_indexes.numbers_by_group.Goals as goal
 pub loop-place-init : goal.loop-place-init
 loop-place-init c = record { len = c.in_ok-numbers.ensures.len; numbers = λ n mark row below. absurd (omega (arith, below)) }
 
+pub index_mut-requires : goal.index_mut-requires
+index_mut-requires c =
+    let at = c.loop-place.place in
+    let some : Flagged = c.index-marks-place.result in
+    omega (
+      arith,
+      c.number.ensures.number,
+      ap (λ (mark : Flagged). mark.number) c.index-marks-place.is,
+      c.requires.within at some (omega (arith, c.requires.long, c.loop-place-test.true)),
+      c.loop-place.invariant.len,
+    )
+
 pub loop-place-preserved : goal.loop-place-preserved
 loop-place-preserved c =
     let marks = c.args.marks.now in

@@ -1,4 +1,5 @@
-use Rattle.std.proofs.Common.{ℕ, ◌-◌, ◌≡◌, ◌<◌, ◌∙◌, List, Some, length, get_or, map, take, vec_len, sym, ap, subst, arith}
+use Rattle.std.proofs.Common.{ℕ, ◌-◌, ◌≡◌, ◌<◌, ◌^◌, ◌∙◌, List, Some, length, get_or, map, take, vec_len}
+use Rattle.std.proofs.Common.{sym, ap, subst, arith}
 use Rattle.std.specs.Prelude.{All, slice_get, slice_index}
 use Rattle.std.specs.List.{concat}
 use Rattle.std.proofs.lemmas.List.{length-map}
@@ -16,7 +17,7 @@ use Rattle.snapshot.specs.declared.attribute_types.Types.{Types}
 use Rattle.postings.specs.declared.values.Values.{Values}
 use Rattle.postings.proofs.IndexLemmas.{few_types}
 use Rattle.postings.proofs.KeptLemmas.{coded_kept, each_kept, many_groups, marked_are, one_number, units_are, units_below}
-use Rattle.postings.proofs.RowIndexLemmas.{by_source_are, is_sorted, starts_last}
+use Rattle.postings.proofs.RowIndexLemmas.{by_source_are, few_codes, is_sorted, starts_last}
 use Rattle.postings.proofs.RowListLemmas.{by_type_told, by_value_told, group_lists_told, of_one_length, type_places_below}
 use Rattle.postings.proofs.SourceRowLemmas.{ahead_told, start_within}
 use Rattle.postings.proofs.row_indexes.row_indexes.Goals as goal
@@ -37,12 +38,25 @@ typed c = c.in_ok-keys.ensures.types ∙ ap (map (λ (row : CodedRow). row.type_
 valued : (c : In_ok-keys) → c.in_ok-keys.keys.values.items ≡ map (λ (row : CodedRow). row.value) c.in_ok-coded.coded.rows.items
 valued c = c.in_ok-keys.ensures.values ∙ ap (map (λ (row : CodedRow). row.value)) c.as_slice-3.ensures.value
 
+pub marks_by_source-requires-clause-few : goal.marks_by_source-requires-clause-few
+marks_by_source-requires-clause-few c =
+    let rises = c.concept_count-count.ensures.rising in
+    subst (λ (rows : List CodedRow). length rows < 2 ^ 31) (sym c.as_slice.ensures.value)
+    (few_codes c.args.snapshot.now.release rises c.in_ok-coded.coded c.in_ok-coded.ensures)
+
 pub marks_by_source-requires-clause-sorted : goal.marks_by_source-requires-clause-sorted
 marks_by_source-requires-clause-sorted c =
     let release = c.args.snapshot.now.release in
     subst (λ (n : ℕ). IsBySource n c.as_slice.result.now) (sym c.concept_count-count.ensures.count)
     (subst (λ (rows : List CodedRow). IsBySource (length release.concepts) rows) (sym c.as_slice.ensures.value)
     (is_sorted release c.concept_count-count.ensures.rising c.in_ok-coded.coded c.in_ok-coded.ensures))
+
+pub group_lists-requires-clause-few : goal.group_lists-requires-clause-few
+group_lists-requires-clause-few c =
+    let rises = c.concept_count-count.ensures.rising in
+    let few : length c.in_ok-coded.coded.rows.items < 2 ^ 31 =
+    few_codes c.args.snapshot.now.release rises c.in_ok-coded.coded c.in_ok-coded.ensures in
+    subst (λ (rows : List CodedRow). length rows < 2 ^ 32) (sym c.as_slice-2.ensures.value) (omega (arith, few))
 
 pub group_lists-requires-clause-long : goal.group_lists-requires-clause-long
 group_lists-requires-clause-long c =

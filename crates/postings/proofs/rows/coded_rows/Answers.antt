@@ -1,5 +1,5 @@
-use Rattle.std.proofs.Common.{ℕ, ◌≡◌, ◌∙◌, [], ◌++◌, ◌∷◌, List, Some, length, get_or, map, nat_eq, sym, ap, subst}
-use Rattle.std.proofs.Common.{arith}
+use Rattle.std.proofs.Common.{ℕ, ◌≡◌, ◌<◌, ◌^◌, ◌∙◌, [], ◌++◌, ◌∷◌, List, Some, length, get_or, map, nat_eq}
+use Rattle.std.proofs.Common.{sym, ap, subst, arith}
 use Rattle.std.specs.Prelude.{All, Contains}
 use Rattle.std.specs.List.{slice_get}
 use Rattle.std.proofs.lemmas.List.{take_all}
@@ -27,6 +27,14 @@ loop-n-init c =
       few = omega (arith, ap (λ (keys : List ℕ). length keys) c.new.ensures);
     }
 
+pub place_near-requires-clause-few : goal.place_near-requires-clause-few
+place_near-requires-clause-few c =
+    let count = c.attribute_count-n-end.ensures in
+    omega (arith, c.loop-n.invariant.few, c.loop-n-test.true, count.count, count.few)
+
+pub place_near-requires-clause-ids : goal.place_near-requires-clause-ids
+place_near-requires-clause-ids c = c.loop-n.invariant.ids
+
 pub number-value-requires-clause-there : goal.number-value-requires-clause-there
 number-value-requires-clause-there c =
     let release = c.args.snapshot.now.release in
@@ -35,6 +43,12 @@ number-value-requires-clause-there c =
     let has : Attribute → Type 0 = λ row. Contains (values_in release.concepts c.in_ok-values.values) row.value in
     subst has (get_or_from_slice_get rows c.loop-n.n row row c.attribute_numbers-row.ensures.row)
     (c.in_ok-values.ensures.all c.loop-n.n row (slice_get_within rows c.loop-n.n row c.attribute_numbers-row.ensures.row))
+
+pub number-value-requires-clause-rising : goal.number-value-requires-clause-rising
+number-value-requires-clause-rising c = c.in_ok-values.ensures.tables.rising
+
+pub number-value-requires-clause-few : goal.number-value-requires-clause-few
+number-value-requires-clause-few c = c.in_ok-values.ensures.few
 
 pub number-value-requires-clause-below : goal.number-value-requires-clause-below
 number-value-requires-clause-below c = c.attribute_numbers-row.ensures.value
@@ -91,14 +105,14 @@ loop-n-preserved c =
 pub returns : goal.returns
 returns c =
     let rows = attributes_by_source c.args.snapshot.now.release in
-    let all = take_all c.loop-n.n rows
-    (omega (arith, c.loop-n-test.false, c.attribute_count-n-end.ensures.by_source, c.attribute_count-n-end.ensures.count)) in
+    let count = c.attribute_count-n-end.ensures in
+    let all = take_all c.loop-n.n rows (omega (arith, c.loop-n-test.false, count.by_source, count.count)) in
     record {
       stand_for = c.loop-n.invariant.rows ∙ all;
       within = c.loop-n.invariant.within;
       types = c.loop-n.invariant.types ∙ ap types_of all;
       ids = c.loop-n.invariant.ids;
       tables = c.in_ok-values.ensures.tables;
-      few = omega (arith, c.attribute_count-n-end.ensures.by_source, c.attribute_count-n-end.ensures.few);
+      few = subst (λ (n : ℕ). n < 2 ^ 31) (sym count.by_source) count.few;
       few_values = c.in_ok-values.ensures.few;
     }

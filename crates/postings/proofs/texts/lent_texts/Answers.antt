@@ -1,5 +1,5 @@
-use Rattle.std.proofs.Common.{ℕ, ◌++◌, ◌∷◌, [], ◌∙◌, Bor, List, Vec, Global, map, take, ap, sym}
-use Rattle.std.proofs.lemmas.List.{append-nil, map_push}
+use Rattle.std.proofs.Common.{ℕ, ◌++◌, ◌∷◌, [], ◌∙◌, Bor, List, Vec, Global, map, take, ap, sym, arith}
+use Rattle.std.proofs.lemmas.List.{append-nil, map_push, take_all}
 use Rattle.snapshot.specs.AttributesBySource.{attribute_numbered, attributes_by_source, by_identifiers, numbered_lent, value_by_identifier}
 use Rattle.snapshot.specs.declared.sorted_attributes.NumberedValue.{NumberedValue}
 use Rattle.postings.specs.RowValues.{texts_at, texts_of}
@@ -34,3 +34,10 @@ loop-n-preserved c =
           ∙ ap with (sym w.in-Decimal.is)
           ∙ sym (texts_more (attributes_by_source release) c.loop-n.n row c.attribute_numbers-row.ensures.row)
     ]
+
+pub returns : goal.returns
+returns c =
+    let count = c.attribute_count-n-end.ensures in
+    c.loop-n.invariant
+    ∙ ap texts_of (take_all c.loop-n.n (attributes_by_source c.args.snapshot.now.release)
+    (omega (arith, c.loop-n-test.false, count.by_source, count.count)))

@@ -1,7 +1,8 @@
-use Rattle.std.proofs.Common.{ℕ, ◌≡◌, ◌∙◌, Bor, List, map, sym, ap, subst}
+use Rattle.std.proofs.Common.{ℕ, ◌≡◌, ◌∙◌, Bor, List, map, sym, ap, subst, arith, length}
 use Rattle.std.specs.Prelude.{Contains, bytes_eq}
 use Rattle.std.specs.List.{dedup}
 use Rattle.std.specs.List.Sorted.{IsStrictlySortedBy}
+use Rattle.std.proofs.lemmas.List.{length-map}
 use Rattle.std.proofs.lemmas.List.Filters.{dedup_is}
 use Rattle.postings.specs.RowValues.{text_cmp}
 use Rattle.postings.proofs.TableLemmas.{texts_kept, texts_sorted}
@@ -30,4 +31,18 @@ returns-clause-members c = λ text.
           (kept.0 (subst (λ (texts : List (List ℕ)). Contains texts text) is there)),
       λ there. subst (λ (texts : List (List ℕ)). Contains texts text) (sym is)
           (kept.1 (subst (λ (texts : List (List ℕ)). Contains texts text) (sym c.in_ok-texts.ensures) there)),
+    )
+
+pub returns-clause-few : goal.returns-clause-few
+returns-clause-few c =
+    let lent = λ (text : Bor (List ℕ)). text.now in
+    omega (
+      arith,
+      ap (λ (texts : List (List ℕ)). length texts) c.in_ok-texts-2.ensures,
+      length-map c.as_slice.result.now lent,
+      c.as_slice.ensures.len,
+      c.dedup.ensures.bound,
+      c.sort_unstable.ensures.len,
+      length-map c.in_ok-texts.texts.items lent,
+      ap (λ (texts : List (List ℕ)). length texts) c.in_ok-texts.ensures,
     )

@@ -3,7 +3,7 @@ use Rattle.std.proofs.lemmas.List.{get_or_default}
 use Rattle.postings.specs.Columns.{Flagged}
 use Rattle.postings.specs.Indexed.{Indexed}
 use Rattle.postings.specs.inside.KeptRows.{IsKept, mark_at, row_kept}
-use Rattle.postings.proofs.UnitLemmas.{concept_told, first_kept, has_first, source_within}
+use Rattle.postings.proofs.UnitLemmas.{concept_told, first_kept, has_first, source_within, unit_listed}
 use Rattle.postings.proofs.index.Indexes.unit_concept.Goals as goal
 use Rattle.postings.proofs.index.Indexes.unit_concept.Goals.{After-index-at, After-number, After-of}
 
@@ -31,6 +31,9 @@ read c =
     ∙ get_or_default marks c.index-at.result.now c.index.result.now some
     (omega (arith, place, (there (goal.at-After-number c).After-of).source))
     ∙ ap (mark_at marks) place)
+
+pub of-requires : goal.of-requires
+of-requires c = unit_listed c.self.inside c.self.invariant c.args.self.now c.self.view_is c.args.unit c.requires
 
 pub bounds-of-0 : goal.bounds-of-0
 bounds-of-0 c =

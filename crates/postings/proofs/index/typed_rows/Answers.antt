@@ -1,0 +1,4 @@
+use Rattle.postings.proofs.index.typed_rows.Goals as goal
+
+pub numbers_of-requires-clause-rising : goal.numbers_of-requires-clause-rising
+numbers_of-requires-clause-rising c = c.requires.rising
