@@ -1,6 +1,9 @@
--- Lists, all or some of whose items pass.
-use Rattle.std.proofs.Common.{ℕ, ◌≡◌, ◌<◌, ◌∙◌, ◌∷◌, [], Bool, true, false, ◌&&◌, ◌||◌, List, length, get_or, take, zero, suc, refl, ap, arith}
+-- Lists, all or some of whose items pass, and sums over lists.
+use Rattle.std.proofs.Common.{ℕ, ◌+◌, ◌≡◌, ◌<◌, ◌∙◌, ◌∷◌, [], Bool, true, false, ◌&&◌, ◌||◌, List, length, get_or}
+use Rattle.std.proofs.Common.{take, zero, suc, refl, ap, arith}
 use Rattle.std.specs.List.{list_all, list_any}
+use Rattle.std.specs.Prelude.{min, sum_by}
+use Rattle.std.proofs.lemmas.List.Sums.{sum_by_more}
 
 -- all of some items and one more pass, and some of them
 pub all_take : {X : Type 0} (test : X → Bool) (xs : List X) (k : ℕ) (d : X) → k < length xs
@@ -26,3 +29,8 @@ any_take test (x ∷ xs) (suc k) d within =
     assoc : (a b c : Bool) → (a || (b || c)) ≡ ((a || b) || c)
     assoc true b c = refl
     assoc false b c = refl
+
+-- a sum that is cut at a bound, with a term more
+pub cut_more : (f : ℕ → ℕ) (xs : List ℕ) (i most sum : ℕ) → i < length xs → sum ≡ min (sum_by f (take i xs)) most
+    → min (sum + f (get_or xs i 0)) most ≡ min (sum_by f (take (i + 1) xs)) most
+cut_more f xs i most sum within so_far = omega (arith, so_far, sum_by_more f xs i 0 within)

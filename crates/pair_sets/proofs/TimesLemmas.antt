@@ -4,7 +4,7 @@ use Rattle.std.proofs.Common.{Bool, true, false, not, ◌&&◌, ◌||◌, ◌==�
 use Rattle.std.specs.Prelude.{All, filter, nat_le}
 use Rattle.std.proofs.lemmas.Bool.{cases_eq, cases_lt, eq-eqb, le-leb, leb-false, leb-true, lt-leb, ne_eqb}
 use Rattle.std.proofs.lemmas.List.Sums.{length-filter}
-use Rattle.std.proofs.Math.Bool.{or-false}
+use Rattle.std.proofs.Math.Bool.{and-true, or-false}
 use Rattle.number_lists.proofs.ListLemmas.{both_ways}
 use Rattle.number_lists.specs.Members.{has, times}
 use Rattle.number_lists.proofs.MemberLemmas.{times-append}
@@ -118,3 +118,8 @@ pub up_to : (count : Cardinality) (most seen : ℕ) → count.max ≡ Some most
     → (nat_le count.min seen && not (nat_le (most + 1) seen)) ≡ lies_in count seen
 up_to count most seen is =
     ap (λ (b : Bool). nat_le count.min seen && b) (not_more most seen ∙ ap (λ (m : Option ℕ). is_up_to m seen) (sym is))
+
+-- where the maximum allows so many, the minimum alone is asked
+pub allowed : (count : Cardinality) (seen : ℕ) → is_up_to count.max seen ≡ true
+    → nat_le count.min seen ≡ lies_in count seen
+allowed count seen up = sym (and-true (nat_le count.min seen)) ∙ ap (λ (b : Bool). nat_le count.min seen && b) (sym up)

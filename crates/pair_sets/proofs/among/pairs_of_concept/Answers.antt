@@ -5,12 +5,20 @@ use Rattle.postings.specs.Entries.{entries_with_value}
 use Rattle.postings.proofs.PlaceLemmas.{places_where-within}
 use Rattle.pair_sets.specs.inside.Among.{pairs_among, pairs_of_concept}
 use Rattle.pair_sets.specs.Tested.{is_one_of, passes_of}
+use Rattle.pair_sets.proofs.HitLemmas.{sources_long, types_long}
 use Rattle.pair_sets.proofs.among.pairs_of_concept.Goals as goal
 
 pub pairs_among-requires-clause-rows : goal.pairs_among-requires-clause-rows
 pairs_among-requires-clause-rows g c =
     subst (All (λ n. n < length c.args.indexes.now.rows)) (sym c.rows_of.ensures)
     (places_where-within (λ (row : Attribute). row.source == get_or c.args.indexes.now.concepts c.args.concept 0) c.args.indexes.now.rows)
+
+pub back_pairs_among-requires-clause-long : goal.back_pairs_among-requires-clause-long
+back_pairs_among-requires-clause-long g c =
+    let indexed = c.args.indexes.now in
+    let columns = c.value_columns-columns in
+    sources_long indexed.concepts _ columns.result.sources.now columns.ensures.sources
+    ∙ sym (types_long indexed _ columns.result.types.now columns.ensures.types)
 
 pub returns-then-back : goal.returns-then-back
 returns-then-back g c =

@@ -23,6 +23,12 @@ groups_among-requires-clause-groups g c =
     (subst (λ (bound : ℕ). All (λ number. number < bound) c.in_ok-asked.asked.items)
     c.group_count-group_count.ensures.count c.in_ok-asked.ensures.within)
 
+pub from_numbers-requires : goal.from_numbers-requires
+from_numbers-requires g c =
+    subst (All (λ number. number < c.group_count-group_count.result)) (sym c.as_slice-2.ensures.value)
+    (subst (λ (count : ℕ). All (λ number. number < count) c.in_ok-kept.kept.items)
+    (sym c.group_count-group_count.ensures.count) c.in_ok-kept.ensures.within)
+
 pub returns-clause-items : goal.returns-clause-items
 returns-clause-items g c =
     let release = c.args.snapshot.now.release in

@@ -1,4 +1,4 @@
-use Rattle.std.proofs.Common.{ℕ, Bool, List, ◌<◌, ◌∙◌, All, length, sym, ap, subst}
+use Rattle.std.proofs.Common.{ℕ, Bool, List, ◌≡◌, ◌<◌, ◌∙◌, All, length, sym, ap, subst}
 use Rattle.std.proofs.lemmas.Result.{IfOk-weaker}
 use Rattle.number_lists.specs.Members.{has}
 use Rattle.rf2_rows.specs.Release.{Value}
@@ -14,6 +14,14 @@ concepts_among-requires-clause-concepts g c =
     (subst (λ (bound : ℕ). All (λ number. number < bound) c.in_ok-asked.asked.items)
     (c.concept_count-concept_count.ensures.count ∙ ap (λ (ids : List ℕ). length ids) (sym c.requires.index.concepts))
     c.in_ok-asked.ensures.within)
+
+pub from_numbers-requires : goal.from_numbers-requires
+from_numbers-requires g c =
+    let count : length c.args.indexes.now.concepts ≡ c.concept_count-concept_count.result =
+    ap (λ (concepts : List ℕ). length concepts) c.requires.index.concepts
+    ∙ sym c.concept_count-concept_count.ensures.count in
+    subst (All (λ number. number < c.concept_count-concept_count.result)) (sym c.as_slice-2.ensures.value)
+    (subst (λ (count : ℕ). All (λ number. number < count) c.in_ok-kept.kept.items) count c.in_ok-kept.ensures.within)
 
 pub returns-clause-items : goal.returns-clause-items
 returns-clause-items g c =

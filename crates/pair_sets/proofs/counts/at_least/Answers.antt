@@ -1,4 +1,4 @@
-use Rattle.std.proofs.Common.{ℕ, ◌∙◌, List, true, sym, ap, arith}
+use Rattle.std.proofs.Common.{ℕ, ◌<◌, ◌∙◌, All, List, true, sym, ap, subst, arith}
 use Rattle.std.specs.Prelude.{nat_le}
 use Rattle.std.proofs.lemmas.Bool.{le-leb}
 use Rattle.std.proofs.lemmas.Result.{IfOk-weaker}
@@ -29,3 +29,7 @@ returns-in_ok-left-in_default-clause-items g c = IfOk-weaker c.from_numbers-in_d
     (λ n within. has_times c.in_ok-left-in_default.left.items n ∙ ap (nat_le 1) (c.in_ok-left-in_default.ensures.times n)
     ∙ beyond c.args.least (times n c.args.numbers.now) (omega arith)))
     c.from_numbers-in_default.ensures.items
+
+pub from_numbers-requires-in_default : goal.from_numbers-requires-in_default
+from_numbers-requires-in_default g c =
+    subst (All (λ number. number < c.args.bound)) (sym c.as_slice.ensures.value) c.in_ok-left-in_default.ensures.within

@@ -44,3 +44,6 @@ returns-clause-times c = λ n.
           c.loop-done.invariant.often n
           ∙ ap (λ done. seen - done) (done_all c.loop-done.done c.args.less w.loop-done-test.false c.loop-done.invariant.most)
     ]
+
+pub overflow_add-done : goal.overflow_add-done
+overflow_add-done c = omega (arith, c.loop-done-test.true, c.ranges.less.fits)

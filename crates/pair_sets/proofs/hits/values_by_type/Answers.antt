@@ -1,4 +1,4 @@
-use Rattle.std.proofs.Common.{ℕ, Bool, refl, ◌<◌, All, List, [], length, sym, subst, arith}
+use Rattle.std.proofs.Common.{ℕ, Bool, refl, ◌<◌, ◌∙◌, All, List, [], length, sym, subst, arith}
 use Rattle.std.proofs.lemmas.List.{take_all}
 use Rattle.postings.specs.Entries.{entries_with_type}
 use Rattle.rf2_rows.specs.Release.{concept_value}
@@ -6,6 +6,7 @@ use Rattle.rf2_rows.specs.Release.{Value}
 use Rattle.pair_sets.specs.inside.Hits.{AreHits, counts_for_value, entries_with_types}
 use Rattle.pair_sets.specs.Tested.{passes_of}
 use Rattle.pair_sets.proofs.HitLemmas.{cells_below, pushed_below, backward_hits, hits_pushed, no_hits}
+use Rattle.pair_sets.proofs.HitLemmas.{sources_long, values_long}
 use Rattle.pair_sets.proofs.hits.values_by_type.Goals as goal
 
 pub loop-id-init : goal.loop-id-init
@@ -17,6 +18,13 @@ loop-id-init g c = record {
       (sym c.in_ok-hits.ensures.items)
       (no_hits (length c.args.indexes.now.concepts) (counts_for_value c.args.indexes.now.concepts (λ row. passes (concept_value row.source))));
 }
+
+pub push_cells-requires-clause-long : goal.push_cells-requires-clause-long
+push_cells-requires-clause-long g c =
+    let indexed = c.args.indexes.now in
+    let columns = c.type_columns-columns in
+    sources_long indexed.concepts _ columns.result.sources.now columns.ensures.sources
+    ∙ sym (values_long indexed _ columns.result.values.now columns.ensures.values)
 
 pub loop-id-preserved : goal.loop-id-preserved
 loop-id-preserved g c = record {

@@ -1,5 +1,6 @@
 use Rattle.std.proofs.Common.{ℕ, List, ◌≡◌, ◌≤◌, ◌<◌, ◌+◌, ◌-◌, ◌∙◌, ◌++◌, All, length, get_or, inl, inr, sym, ap, subst, arith}
 use Rattle.std.specs.List.{range_with_len}
+use Rattle.std.proofs.lemmas.List.{take_all}
 use Rattle.std.proofs.lemmas.List.Elements.{All-append}
 use Rattle.number_lists.specs.Members.{has}
 use Rattle.postings.specs.Groups.{groups_before, groups_in}
@@ -33,3 +34,8 @@ loop-concept-preserved c =
                 has_later c.loop-concept.found.items more group (has_range units.start (units.end - units.start) group first (omega (arith, first, last)))
           ];
     }
+
+pub returns-clause-all : goal.returns-clause-all
+returns-clause-all c = λ concept group there from below.
+    let all = take_all c.loop-concept.concept-index c.args.concepts.now c.loop-concept-test.false in
+    c.loop-concept.invariant.all concept group (ap (λ (concepts : List ℕ). has concepts concept) all ∙ there) from below
