@@ -1,5 +1,5 @@
 -- A plan reads no choices behind its own, and it is given as many as it has leaves.
-use Rattle.std.proofs.Common.{ℕ, suc, ◌+◌, ◌∷◌, ◌++◌, [], ◌==◌, ◌≡◌, ◌≤◌, ◌∙◌, Bool, false, List, drop, length, min, refl, sym, ap, arith, length-append, length-drop}
+use Rattle.std.proofs.Common.{ℕ, suc, ◌+◌, ◌∷◌, ◌++◌, [], ◌==◌, ◌≡◌, ◌≤◌, ◌∙◌, Bool, false, List, drop, length, min, refl, ap, arith, length-append, length-drop}
 use Rattle.std.proofs.lemmas.List.{drop-append-le, drop_at}
 use Rattle.constraint_tree.specs.declared.operator.Cardinality.{Cardinality}
 use Rattle.set_algebra.specs.Plan.{Plan, empty_plan, all_plan, one_plan, walk_plan, members_plan, and_plan, or_plan, minus_plan, values_plan, pairs_plan, units_plan, Plans, no_plans, plan_then, PlanOfUnits, nothing_unit, every_unit, and_units, or_units, minus_units, pairs_units, PlansOfUnits, no_unit_plans, unit_plan_then, TestPlan, within_plan, outside_plan, number_plan}
@@ -9,10 +9,9 @@ use Rattle.set_algebra.specs.declared.choice.Choice.{Choice}
 use Rattle.planner.specs.Alternatives.{found_by, leaf_size}
 use Rattle.planner.specs.Chosen.{chosen, group_chosen, groups_chosen, plans_chosen, test_chosen}
 use Rattle.planner.specs.Counts.{leaf_of, one_of}
-use Rattle.planner.specs.Leads.{group_own_lead, lead_list, lead_of, leads, own_lead}
+use Rattle.planner.specs.Leads.{group_own_lead, lead_list, lead_of, own_lead}
 use Rattle.planner.specs.Leaves.{first_choice, group_leaves, groups_leaves, leaves, plan_count, plans_leaves, test_choices, test_leaves, type_choices}
 use Rattle.planner.specs.Nodes.{NodeList, group_list, groups_list, node_list, plans_list, test_list}
-use Rattle.planner.proofs.ListLemmas.{two_behind}
 use Rattle.planner.specs.Sizes.{group_size, group_sizes, least_of, size, sizes, test_size, total, values_size, walk_size}
 
 -- ---- fronts of choices that are long enough
@@ -330,27 +329,3 @@ pub group_leads_chosen : (indexed : Indexed) (asked others : List Choice) (plan 
 group_leads_chosen indexed asked others plan more =
     group_front (lead_list indexed) (own_lead_front indexed) (group_own_lead_front indexed) (group_chosen indexed asked others plan) more plan
     (omega (arith, length-group_chosen indexed asked others plan))
-
--- what the types and the test of a leaf have added is what their own choices lead off with
-pub leaf_leads : (indexed : Indexed) (asked others : List Choice) (types : Plan) (test : TestPlan) (had : List ℕ) {between grown : List ℕ}
-    {types_asked types_others test_asked test_others : List Choice}
-    → types_asked ≡ drop 1 asked → types_others ≡ drop 1 others
-    → test_asked ≡ drop (leaves types) types_asked → test_others ≡ drop (leaves types) types_others
-    → between ≡ had ++ leads indexed (chosen indexed types_asked types_others types) types
-    → grown ≡ between ++ test_list (lead_list indexed) (test_chosen indexed test_asked test_others test) test
-    → let inner = chosen indexed (drop 1 asked) (drop 1 others) types in
-    let last = test_chosen indexed (drop (leaves types) (drop 1 asked)) (drop (leaves types) (drop 1 others)) test in
-    grown ≡ had ++ (leads indexed (inner ++ last) types ++ test_list (lead_list indexed) (drop (leaves types) (inner ++ last)) test)
-leaf_leads indexed asked others types test had {between = between} asked_is others_is test_asked_is test_others_is between_is grown_is =
-    let types_asked = drop 1 asked in
-    let types_others = drop 1 others in
-    let inner = chosen indexed types_asked types_others types in
-    let test_asked = test_asked_is ∙ ap (drop (leaves types)) asked_is in
-    let test_others = test_others_is ∙ ap (drop (leaves types)) others_is in
-    let last = test_chosen indexed (drop (leaves types) types_asked) (drop (leaves types) types_others) test in
-    two_behind had (leads indexed inner types) (test_list (lead_list indexed) last test)
-    (grown_is ∙ ap (λ (choices : List Choice). between ++ test_list (lead_list indexed) choices test)
-    (λ i. test_chosen indexed (test_asked i) (test_others i) test))
-    (between_is ∙ (λ i. had ++ leads indexed (chosen indexed (asked_is i) (others_is i) types) types))
-    ∙ (λ i. had ++ (sym (leads_chosen indexed types_asked types_others types last) i
-    ++ test_list (lead_list indexed) (sym (drop_chosen indexed types_asked types_others types last) i) test))

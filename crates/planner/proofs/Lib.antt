@@ -6,6 +6,7 @@ pub mod FloorLemmas
 pub mod FoundLemmas
 pub mod FrontLemmas
 pub mod LeadLemmas
+pub mod LeafLemmas
 pub mod LeastLemmas
 pub mod ListLemmas
 pub mod LoopLemmas

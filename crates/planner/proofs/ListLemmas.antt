@@ -1,5 +1,5 @@
 -- Lists that are read from a place on, and lists in which a place is written later; numbers that stand still.
-use Rattle.std.proofs.Common.{ℕ, zero, suc, ◌+◌, ◌-◌, ◌*◌, ◌∷◌, ◌++◌, [], ◌≡◌, ◌≤◌, ◌<◌, ◌^◌, ◌∙◌, List, length, length-append, drop, sym, ap, arith, append_assoc, inl, inr}
+use Rattle.std.proofs.Common.{ℕ, zero, suc, ◌+◌, ◌-◌, ◌*◌, ◌∷◌, ◌++◌, [], ◌≡◌, ◌≤◌, ◌<◌, ◌^◌, ◌∙◌, List, length, length-append, drop, min, sym, ap, arith, append_assoc, inl, inr}
 use Rattle.std.specs.List.{slice_set}
 use Rattle.std.proofs.Math.Nat.{mul-suc, mul_comm}
 use Rattle.std.proofs.Math.Seq.{drop-nil, set-append_seam}
@@ -65,3 +65,16 @@ capped_product number count = elim (cases_lt number (2 ^ 64)) [
         let left : (2 ^ 64 - 1) * suc count ≡ (2 ^ 64 - 1) * count + (2 ^ 64 - 1) = mul-suc (2 ^ 64 - 1) count in
         let right : suc count * number ≡ number * count + number = mul_comm (suc count) number ∙ mul-suc number count in
         omega (arith, left, right)
+
+-- the less of a number of 64 bits and one that stands still
+pub capped_least : (number : ℕ) {found all whole sum : ℕ} → found ≡ min all sum → sum ≡ capped number → all ≡ whole → all < 2 ^ 64
+    → found ≡ min whole number
+capped_least number found_is sum_is all_is fits = omega (arith, found_is, sum_is)
+
+-- sums of numbers that stand still
+pub capped_two : (a b : ℕ) {sum one two : ℕ} → sum ≡ capped (one + two) → one ≡ capped a → two ≡ capped b → sum ≡ capped (a + b)
+capped_two a b sum_is one_is two_is = omega (arith, sum_is, one_is, two_is)
+
+pub capped_three : (a b c : ℕ) {sum one two three : ℕ} → sum ≡ capped (one + (two + three)) → one ≡ capped a → two ≡ capped b → three ≡ capped c
+    → sum ≡ capped (a + (b + c))
+capped_three a b c sum_is one_is two_is three_is = omega (arith, sum_is, one_is, two_is, three_is)

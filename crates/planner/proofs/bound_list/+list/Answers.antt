@@ -1,19 +1,17 @@
-use Rattle.std.proofs.Common.{arith, ◌≡◌, ◌+◌, ◌*◌, ◌==◌, ◌++◌, ◌∙◌, List, drop, false, sym, ap}
+use Rattle.std.proofs.Common.{ℕ, arith, ◌≡◌, ◌+◌, ◌*◌, ◌==◌, ◌++◌, ◌∙◌, List, drop, false, sym, ap}
 use Rattle.std.specs.List.{slice_set}
 use Rattle.set_algebra.specs.declared.choice.Choice.{Choice}
 use Rattle.set_algebra.specs.declared.plan.ConceptPlan.{ConceptPlan}
-use Rattle.set_algebra.specs.declared.plan.UnitPlan.{UnitPlan}
-use Rattle.set_algebra.specs.Plan.{Plan, and_plan, and_units, members_plan, minus_plan, minus_units, or_plan, or_units, pairs_plan, pairs_units, plan_of, plans_of, test_plan_of, unit_plan_of, unit_plans_of, units_plan, walk_plan}
-use Rattle.set_algebra.proofs.PlanLemmas.{plan_of-And, plan_of-Or, unit_plan_of-And, unit_plan_of-Or}
-use Rattle.planner.specs.Alternatives.{leaf_bound, passed_over}
+use Rattle.set_algebra.specs.Plan.{Plan, PlanOfUnits, members_plan, plan_of, plans_of, test_plan_of, unit_plan_of, unit_plans_of, walk_plan}
+use Rattle.planner.specs.Alternatives.{found_by, leaf_bound, leaf_size, passed_over}
 use Rattle.planner.specs.Bounds.{capped, members_bound, own_bounds, own_list, values_bound, walk_bound}
 use Rattle.planner.specs.Counts.{leaf_of, one_of}
-use Rattle.planner.specs.Leaves.{group_count, leaves, plan_count}
+use Rattle.planner.specs.Leaves.{group_count, group_leaves, leaves, plan_count}
 use Rattle.planner.specs.Nodes.{group_list, plans_list, test_list}
-use Rattle.planner.specs.Sizes.{group_size, group_sizes, size, sizes, test_size, total, values_size}
-use Rattle.planner.proofs.ListLemmas.{at_within, at_within_two, capped_product, closed_list, put_seam_two, two_behind}
+use Rattle.planner.specs.Sizes.{group_size, group_sizes, least_of, size, sizes, test_size, total, values_size}
+use Rattle.planner.proofs.ListLemmas.{at_within, at_within_two, capped_least, capped_product, closed_list, put_seam_two, two_behind}
 use Rattle.planner.proofs.LoopLemmas.{list_end, list_turn, rest_end, rest_turn, sizes_end, sizes_turn}
-use Rattle.planner.proofs.PartLemmas.{group_count-parts, plan_count-parts, values_are, values_behind}
+use Rattle.planner.proofs.PartLemmas.{and_are, and_units_are, behind_both, behind_leaf, group_count-parts, minus_are, minus_units_are, or_are, or_units_are, pairs_are, pairs_units_are, plan_count-parts, units_are, values_are}
 use Rattle.planner.proofs.bound_list.+list.Goals as goal
 
 pub list_parts-loop-place-preserved : goal.list_parts-loop-place-preserved
@@ -82,7 +80,7 @@ list-returns-in_ok-types-in-Values t c =
           ∙ c.values-own.ensures.size
           ∙ (λ i. values_size indexed (count i) (from.size i))
           ∙ sym (ap (size indexed choices) is);
-      rest = c.closed-in-Values.ensures.rest ∙ values_behind start names choices is from.rest types.rest;
+      rest = c.closed-in-Values.ensures.rest ∙ behind_both _ _ choices (ap leaves is) from.rest types.rest;
     }
 
 pub list-returns-in_ok-inner-in-Walk-clause-bounds : goal.list-returns-in_ok-inner-in-Walk-clause-bounds
@@ -108,147 +106,201 @@ list-returns-in_ok-inner-in-Members-clause-bounds t c =
     ∙ (λ i. capped (members_bound indexed (one_of (plan_of ((c.deref-in-Members-2.ensures ∙ sym c.deref-in-Members.ensures) i))) (inner.size i))))
     (ap (own_bounds indexed c.args.choices.now) is)
 
-pub list-returns-in_ok-inner-in-And-clause-bounds : goal.list-returns-in_ok-inner-in-And-clause-bounds
-list-returns-in_ok-inner-in-And-clause-bounds t c =
-    let parts = c.deref-in-And.result.now in
-    let inner = c.in_ok-inner-in-And.ensures in
-    let is : plan_of c.args.plan.now ≡ and_plan (plans_of parts) =
-    ap plan_of c.in-And.is ∙ plan_of-And c.in-And.parts
-    ∙ ap (λ (items : List ConceptPlan). and_plan (plans_of items)) (sym c.deref-in-And.ensures.value) in
-    closed_list c.args.bounds.now.items c.closed-in-And.ensures.bounds inner.bounds c.in_ok-at.ensures.bounds c.in_ok-at.ensures.at
-    (c.in_all.ensures.bound
-    ∙ (λ i. capped (inner.tally.sum i * 2))
-    ∙ capped_product (total (sizes c.args.indexes.now c.args.choices.now (plans_of parts))) 2)
-    (ap (own_bounds c.args.indexes.now c.args.choices.now) is)
-
-pub list-returns-in_ok-inner-in-Or-clause-bounds : goal.list-returns-in_ok-inner-in-Or-clause-bounds
-list-returns-in_ok-inner-in-Or-clause-bounds t c =
-    let parts = c.deref-in-Or.result.now in
-    let inner = c.in_ok-inner-in-Or.ensures in
-    let count : c.len.result ≡ plan_count (plans_of parts) = omega (arith, plan_count-parts parts) in
-    let is : plan_of c.args.plan.now ≡ or_plan (plans_of parts) =
-    ap plan_of c.in-Or.is ∙ plan_of-Or c.in-Or.parts
-    ∙ ap (λ (items : List ConceptPlan). or_plan (plans_of items)) (sym c.deref-in-Or.ensures.value) in
-    closed_list c.args.bounds.now.items c.closed-in-Or.ensures.bounds inner.bounds c.in_ok-at.ensures.bounds c.in_ok-at.ensures.at
-    (c.in_some-own.ensures.bound
-    ∙ (λ i. capped (inner.tally.sum i * count i))
-    ∙ capped_product (total (sizes c.args.indexes.now c.args.choices.now (plans_of parts))) (plan_count (plans_of parts)))
-    (ap (own_bounds c.args.indexes.now c.args.choices.now) is)
-
-pub list-returns-in_ok-right-in-Minus-clause-bounds : goal.list-returns-in_ok-right-in-Minus-clause-bounds
-list-returns-in_ok-right-in-Minus-clause-bounds t c =
+pub list-returns-in_ok-inner-in-And : goal.list-returns-in_ok-inner-in-And
+list-returns-in_ok-inner-in-And t c =
     let indexed = c.args.indexes.now in
+    let choices = c.args.choices.now in
+    let parts = plans_of c.deref-in-And.result.now in
+    let inner = c.in_ok-inner-in-And.ensures in
+    let is = and_are c.in-And.parts c.in-And.is c.deref-in-And.ensures.value in
+    record {
+      bounds = closed_list c.args.bounds.now.items c.closed-in-And.ensures.bounds inner.bounds c.in_ok-at.ensures.bounds c.in_ok-at.ensures.at
+          (c.in_all.ensures.bound ∙ (λ i. capped (inner.tally.sum i * 2)) ∙ capped_product (total (sizes indexed choices parts)) 2)
+          (ap (own_bounds indexed choices) is);
+      size = c.closed-in-And.ensures.size
+          ∙ c.in_all.ensures.size
+          ∙ inner.tally.least
+          ∙ ap (λ (all : ℕ). least_of all (sizes indexed choices parts)) c.concepts-all.ensures
+          ∙ sym (ap (size indexed choices) is);
+      rest = c.closed-in-And.ensures.rest ∙ inner.rest ∙ sym (ap (λ (plan : Plan). drop (leaves plan) choices) is);
+    }
+
+pub list-returns-in_ok-inner-in-Or : goal.list-returns-in_ok-inner-in-Or
+list-returns-in_ok-inner-in-Or t c =
+    let indexed = c.args.indexes.now in
+    let choices = c.args.choices.now in
+    let parts = plans_of c.deref-in-Or.result.now in
+    let inner = c.in_ok-inner-in-Or.ensures in
+    let count : c.len.result ≡ plan_count parts = omega (arith, plan_count-parts c.deref-in-Or.result.now) in
+    let is = or_are c.in-Or.parts c.in-Or.is c.deref-in-Or.ensures.value in
+    record {
+      bounds = closed_list c.args.bounds.now.items c.closed-in-Or.ensures.bounds inner.bounds c.in_ok-at.ensures.bounds c.in_ok-at.ensures.at
+          (c.in_some-own.ensures.bound
+          ∙ (λ i. capped (inner.tally.sum i * count i))
+          ∙ capped_product (total (sizes indexed choices parts)) (plan_count parts))
+          (ap (own_bounds indexed choices) is);
+      size = capped_least (total (sizes indexed choices parts)) (c.closed-in-Or.ensures.size ∙ c.in_some-own.ensures.size)
+          inner.tally.sum c.concepts-all.ensures c.concepts-all.type_inv
+          ∙ sym (ap (size indexed choices) is);
+      rest = c.closed-in-Or.ensures.rest ∙ inner.rest ∙ sym (ap (λ (plan : Plan). drop (leaves plan) choices) is);
+    }
+
+pub list-returns-in_ok-right-in-Minus : goal.list-returns-in_ok-right-in-Minus
+list-returns-in_ok-right-in-Minus t c =
+    let indexed = c.args.indexes.now in
+    let choices = c.args.choices.now in
     let second = plan_of c.deref-in-Minus-2.result.now in
     let left = c.in_ok-left-in-Minus.ensures in
     let right = c.in_ok-right-in-Minus.ensures in
-    let is : plan_of c.args.plan.now ≡ minus_plan (plan_of c.deref-in-Minus.result.now) second =
-    ap plan_of c.in-Minus.is ∙ (λ i. minus_plan (plan_of (sym c.deref-in-Minus.ensures i)) (plan_of (sym c.deref-in-Minus-2.ensures i))) in
-    closed_list c.args.bounds.now.items c.closed-in-Minus.ensures.bounds
-    (two_behind _ _ _ (right.bounds ∙ (λ i. c.list-in-Minus.new.bounds.items ++ own_bounds indexed (left.rest i) second)) left.bounds)
-    c.in_ok-at.ensures.bounds c.in_ok-at.ensures.at
-    (c.in_first-own.ensures.bound
-    ∙ (λ i. capped (left.size i + (right.size ∙ ap (λ (rest : List Choice). size indexed rest second) left.rest) i)))
-    (ap (own_bounds indexed c.args.choices.now) is)
+    let is = minus_are c.in-Minus.first c.in-Minus.second c.in-Minus.is c.deref-in-Minus.ensures c.deref-in-Minus-2.ensures in
+    record {
+      bounds = closed_list c.args.bounds.now.items c.closed-in-Minus.ensures.bounds
+          (two_behind _ _ _ (right.bounds ∙ (λ i. c.list-in-Minus.new.bounds.items ++ own_bounds indexed (left.rest i) second)) left.bounds)
+          c.in_ok-at.ensures.bounds c.in_ok-at.ensures.at
+          (c.in_first-own.ensures.bound
+          ∙ (λ i. capped (left.size i + (right.size ∙ ap (λ (rest : List Choice). size indexed rest second) left.rest) i)))
+          (ap (own_bounds indexed choices) is);
+      size = c.closed-in-Minus.ensures.size ∙ c.in_first-own.ensures.size ∙ left.size ∙ sym (ap (size indexed choices) is);
+      rest = c.closed-in-Minus.ensures.rest ∙ behind_both _ _ choices (ap leaves is) left.rest right.rest;
+    }
 
-pub list-returns-in_ok-of_test-in-Pairs-clause-bounds : goal.list-returns-in_ok-of_test-in-Pairs-clause-bounds
-list-returns-in_ok-of_test-in-Pairs-clause-bounds t c =
+pub list-returns-in_ok-of_test-in-Pairs : goal.list-returns-in_ok-of_test-in-Pairs
+list-returns-in_ok-of_test-in-Pairs t c =
     let indexed = c.args.indexes.now in
+    let choices = c.args.choices.now in
     let test = test_plan_of c.in-Pairs.test in
     let types = plan_of c.deref-in-Pairs.result.now in
     let of_types = c.in_ok-of_types-in-Pairs.ensures in
     let of_test = c.in_ok-of_test-in-Pairs.ensures in
-    let inside : c.after_first.result.now ≡ drop 1 c.args.choices.now = c.after_first.ensures in
+    let inside : c.after_first.result.now ≡ drop 1 choices = c.after_first.ensures in
     let behind = of_types.rest ∙ ap (drop (leaves types)) inside in
-    let is : plan_of c.args.plan.now ≡ pairs_plan c.in-Pairs.back c.in-Pairs.count types test =
-    ap plan_of c.in-Pairs.is
-    ∙ ap (λ (types : ConceptPlan). pairs_plan c.in-Pairs.back c.in-Pairs.count (plan_of types) test) (sym c.deref-in-Pairs.ensures) in
-    closed_list c.args.bounds.now.items c.closed-in-Pairs.ensures.bounds
-    (two_behind _ _ _ (of_test.bounds ∙ (λ i. c.list-in-Pairs.new.bounds.items ++ test_list (own_list indexed) (behind i) test))
-    (of_types.bounds ∙ (λ i. c.open.new.bounds.items ++ own_bounds indexed (inside i) types)))
-    c.in_ok-at.ensures.bounds c.in_ok-at.ensures.at
-    (c.cost-own.ensures.bound
-    ∙ (λ i. capped (leaf_bound ((c.leaf-leaf.ensures
-    ∙ (λ j. leaf_of indexed (c.concepts-all.ensures j) c.in-Pairs.back c.in-Pairs.count
-    (plan_of ((c.deref-in-Pairs-2.ensures ∙ sym c.deref-in-Pairs.ensures) j)) test
-    ((of_types.size ∙ ap (λ (rest : List Choice). size indexed rest types) inside) j)
-    ((of_test.size ∙ ap (λ (rest : List Choice). test_size indexed rest test) behind) j))) i) (c.first_choice.ensures i))))
-    (ap (own_bounds indexed c.args.choices.now) is)
+    let leaf = c.leaf-leaf.ensures
+    ∙ (λ i. leaf_of indexed (c.concepts-all.ensures i) c.in-Pairs.back c.in-Pairs.count
+    (plan_of ((c.deref-in-Pairs-2.ensures ∙ sym c.deref-in-Pairs.ensures) i)) test
+    ((of_types.size ∙ ap (λ (rest : List Choice). size indexed rest types) inside) i)
+    ((of_test.size ∙ ap (λ (rest : List Choice). test_size indexed rest test) behind) i)) in
+    let is = pairs_are c.in-Pairs.types c.in-Pairs.is c.deref-in-Pairs.ensures in
+    record {
+      bounds = closed_list c.args.bounds.now.items c.closed-in-Pairs.ensures.bounds
+          (two_behind _ (own_bounds indexed (drop 1 choices) types) (test_list (own_list indexed) (drop (leaves types) (drop 1 choices)) test)
+          (of_test.bounds ∙ (λ i. c.list-in-Pairs.new.bounds.items ++ test_list (own_list indexed) (behind i) test))
+          (of_types.bounds ∙ (λ i. c.open.new.bounds.items ++ own_bounds indexed (inside i) types)))
+          c.in_ok-at.ensures.bounds c.in_ok-at.ensures.at
+          (c.cost-own.ensures.bound ∙ (λ i. capped (leaf_bound (leaf i) (c.first_choice.ensures i))))
+          (ap (own_bounds indexed choices) is);
+      size = c.closed-in-Pairs.ensures.size
+          ∙ c.cost-own.ensures.size
+          ∙ (λ i. leaf_size (leaf i) (c.first_choice.ensures i))
+          ∙ sym (ap (size indexed choices) is);
+      rest = c.closed-in-Pairs.ensures.rest ∙ behind_leaf _ _ choices (ap leaves is) inside of_types.rest of_test.rest;
+    }
 
-pub list-returns-in_ok-inner-in-Units-clause-bounds : goal.list-returns-in_ok-inner-in-Units-clause-bounds
-list-returns-in_ok-inner-in-Units-clause-bounds t c =
+pub list-returns-in_ok-inner-in-Units : goal.list-returns-in_ok-inner-in-Units
+list-returns-in_ok-inner-in-Units t c =
+    let indexed = c.args.indexes.now in
+    let choices = c.args.choices.now in
     let count = c.in-Units.count in
     let inner = c.in_ok-inner-in-Units.ensures in
-    let is : plan_of c.args.plan.now ≡ units_plan count (unit_plan_of c.deref-in-Units.result.now) =
-    ap plan_of c.in-Units.is ∙ ap (λ (units : UnitPlan). units_plan count (unit_plan_of units)) (sym c.deref-in-Units.ensures) in
-    closed_list c.args.bounds.now.items c.closed-in-Units.ensures.bounds inner.bounds c.in_ok-at.ensures.bounds c.in_ok-at.ensures.at
-    (c.units-own.ensures.bound ∙ (λ i. capped (inner.size i + passed_over (count.min == 0) (c.concepts-all.ensures i))))
-    (ap (own_bounds c.args.indexes.now c.args.choices.now) is)
+    let is = units_are c.in-Units.units c.in-Units.is c.deref-in-Units.ensures in
+    record {
+      bounds = closed_list c.args.bounds.now.items c.closed-in-Units.ensures.bounds inner.bounds c.in_ok-at.ensures.bounds c.in_ok-at.ensures.at
+          (c.units-own.ensures.bound ∙ (λ i. capped (inner.size i + passed_over (count.min == 0) (c.concepts-all.ensures i))))
+          (ap (own_bounds indexed choices) is);
+      size = c.closed-in-Units.ensures.size
+          ∙ c.units-own.ensures.size
+          ∙ (λ i. found_by (count.min == 0) (c.concepts-all.ensures i) (inner.size i))
+          ∙ sym (ap (size indexed choices) is);
+      rest = c.closed-in-Units.ensures.rest ∙ inner.rest ∙ sym (ap (λ (plan : Plan). drop (leaves plan) choices) is);
+    }
 
-pub list_units-returns-in_ok-inner-in-And-clause-bounds : goal.list_units-returns-in_ok-inner-in-And-clause-bounds
-list_units-returns-in_ok-inner-in-And-clause-bounds t c =
-    let parts = c.deref.result.now in
-    let inner = c.in_ok-inner-in-And.ensures in
-    let is : unit_plan_of c.args.plan.now ≡ and_units (unit_plans_of parts) =
-    ap unit_plan_of c.in-And.is ∙ unit_plan_of-And c.in-And.parts
-    ∙ ap (λ (items : List UnitPlan). and_units (unit_plans_of items)) (sym c.deref.ensures.value) in
-    closed_list c.args.bounds.now.items c.closed.ensures.bounds inner.bounds c.in_ok-at.ensures.bounds c.in_ok-at.ensures.at
-    (c.in_all.ensures.bound
-    ∙ (λ i. capped (inner.tally.sum i * 2))
-    ∙ capped_product (total (group_sizes c.args.indexes.now c.args.choices.now (unit_plans_of parts))) 2)
-    (ap (group_list (own_list c.args.indexes.now) c.args.choices.now) is)
-
-pub list_units-returns-in_ok-inner-in-Or-clause-bounds : goal.list_units-returns-in_ok-inner-in-Or-clause-bounds
-list_units-returns-in_ok-inner-in-Or-clause-bounds t c =
-    let parts = c.deref-in-Or.result.now in
-    let inner = c.in_ok-inner-in-Or.ensures in
-    let count : c.len.result ≡ group_count (unit_plans_of parts) = omega (arith, group_count-parts parts) in
-    let is : unit_plan_of c.args.plan.now ≡ or_units (unit_plans_of parts) =
-    ap unit_plan_of c.in-Or.is ∙ unit_plan_of-Or c.in-Or.parts
-    ∙ ap (λ (items : List UnitPlan). or_units (unit_plans_of items)) (sym c.deref-in-Or.ensures.value) in
-    closed_list c.args.bounds.now.items c.closed-in-Or.ensures.bounds inner.bounds c.in_ok-at.ensures.bounds c.in_ok-at.ensures.at
-    (c.in_some-own.ensures.bound
-    ∙ (λ i. capped (inner.tally.sum i * count i))
-    ∙ capped_product (total (group_sizes c.args.indexes.now c.args.choices.now (unit_plans_of parts))) (group_count (unit_plans_of parts)))
-    (ap (group_list (own_list c.args.indexes.now) c.args.choices.now) is)
-
-pub list_units-returns-in_ok-right-in-Minus-clause-bounds : goal.list_units-returns-in_ok-right-in-Minus-clause-bounds
-list_units-returns-in_ok-right-in-Minus-clause-bounds t c =
+pub list_units-returns-in_ok-inner-in-And : goal.list_units-returns-in_ok-inner-in-And
+list_units-returns-in_ok-inner-in-And t c =
     let indexed = c.args.indexes.now in
+    let choices = c.args.choices.now in
+    let parts = unit_plans_of c.deref.result.now in
+    let inner = c.in_ok-inner-in-And.ensures in
+    let is = and_units_are c.in-And.parts c.in-And.is c.deref.ensures.value in
+    record {
+      bounds = closed_list c.args.bounds.now.items c.closed.ensures.bounds inner.bounds c.in_ok-at.ensures.bounds c.in_ok-at.ensures.at
+          (c.in_all.ensures.bound ∙ (λ i. capped (inner.tally.sum i * 2)) ∙ capped_product (total (group_sizes indexed choices parts)) 2)
+          (ap (group_list (own_list indexed) choices) is);
+      size = c.closed.ensures.size
+          ∙ c.in_all.ensures.size
+          ∙ inner.tally.least
+          ∙ ap (λ (all : ℕ). least_of all (group_sizes indexed choices parts)) c.groups-all.ensures
+          ∙ sym (ap (group_size indexed choices) is);
+      rest = c.closed.ensures.rest ∙ inner.rest ∙ sym (ap (λ (plan : PlanOfUnits). drop (group_leaves plan) choices) is);
+    }
+
+pub list_units-returns-in_ok-inner-in-Or : goal.list_units-returns-in_ok-inner-in-Or
+list_units-returns-in_ok-inner-in-Or t c =
+    let indexed = c.args.indexes.now in
+    let choices = c.args.choices.now in
+    let parts = unit_plans_of c.deref-in-Or.result.now in
+    let inner = c.in_ok-inner-in-Or.ensures in
+    let count : c.len.result ≡ group_count parts = omega (arith, group_count-parts c.deref-in-Or.result.now) in
+    let is = or_units_are c.in-Or.parts c.in-Or.is c.deref-in-Or.ensures.value in
+    record {
+      bounds = closed_list c.args.bounds.now.items c.closed-in-Or.ensures.bounds inner.bounds c.in_ok-at.ensures.bounds c.in_ok-at.ensures.at
+          (c.in_some-own.ensures.bound
+          ∙ (λ i. capped (inner.tally.sum i * count i))
+          ∙ capped_product (total (group_sizes indexed choices parts)) (group_count parts))
+          (ap (group_list (own_list indexed) choices) is);
+      size = capped_least (total (group_sizes indexed choices parts)) (c.closed-in-Or.ensures.size ∙ c.in_some-own.ensures.size)
+          inner.tally.sum c.groups-all.ensures c.groups-all.type_inv
+          ∙ sym (ap (group_size indexed choices) is);
+      rest = c.closed-in-Or.ensures.rest ∙ inner.rest ∙ sym (ap (λ (plan : PlanOfUnits). drop (group_leaves plan) choices) is);
+    }
+
+pub list_units-returns-in_ok-right-in-Minus : goal.list_units-returns-in_ok-right-in-Minus
+list_units-returns-in_ok-right-in-Minus t c =
+    let indexed = c.args.indexes.now in
+    let choices = c.args.choices.now in
     let second = unit_plan_of c.deref-in-Minus-2.result.now in
     let left = c.in_ok-left-in-Minus.ensures in
     let right = c.in_ok-right-in-Minus.ensures in
-    let is : unit_plan_of c.args.plan.now ≡ minus_units (unit_plan_of c.deref-in-Minus.result.now) second =
-    ap unit_plan_of c.in-Minus.is
-    ∙ (λ i. minus_units (unit_plan_of (sym c.deref-in-Minus.ensures i)) (unit_plan_of (sym c.deref-in-Minus-2.ensures i))) in
-    closed_list c.args.bounds.now.items c.closed-in-Minus.ensures.bounds
-    (two_behind _ _ _ (right.bounds ∙ (λ i. c.list_units.new.bounds.items ++ group_list (own_list indexed) (left.rest i) second)) left.bounds)
-    c.in_ok-at.ensures.bounds c.in_ok-at.ensures.at
-    (c.in_first-own.ensures.bound
-    ∙ (λ i. capped (left.size i + (right.size ∙ ap (λ (rest : List Choice). group_size indexed rest second) left.rest) i)))
-    (ap (group_list (own_list indexed) c.args.choices.now) is)
+    let is = minus_units_are c.in-Minus.first c.in-Minus.second c.in-Minus.is c.deref-in-Minus.ensures c.deref-in-Minus-2.ensures in
+    record {
+      bounds = closed_list c.args.bounds.now.items c.closed-in-Minus.ensures.bounds
+          (two_behind _ _ _ (right.bounds ∙ (λ i. c.list_units.new.bounds.items ++ group_list (own_list indexed) (left.rest i) second)) left.bounds)
+          c.in_ok-at.ensures.bounds c.in_ok-at.ensures.at
+          (c.in_first-own.ensures.bound
+          ∙ (λ i. capped (left.size i + (right.size ∙ ap (λ (rest : List Choice). group_size indexed rest second) left.rest) i)))
+          (ap (group_list (own_list indexed) choices) is);
+      size = c.closed-in-Minus.ensures.size ∙ c.in_first-own.ensures.size ∙ left.size ∙ sym (ap (group_size indexed choices) is);
+      rest = c.closed-in-Minus.ensures.rest ∙ behind_both _ _ choices (ap group_leaves is) left.rest right.rest;
+    }
 
-pub list_units-returns-in_ok-of_test-in-Pairs-clause-bounds : goal.list_units-returns-in_ok-of_test-in-Pairs-clause-bounds
-list_units-returns-in_ok-of_test-in-Pairs-clause-bounds t c =
+pub list_units-returns-in_ok-of_test-in-Pairs : goal.list_units-returns-in_ok-of_test-in-Pairs
+list_units-returns-in_ok-of_test-in-Pairs t c =
     let indexed = c.args.indexes.now in
+    let choices = c.args.choices.now in
     let test = test_plan_of c.in-Pairs.test in
     let types = plan_of c.deref-in-Pairs.result.now in
     let of_types = c.in_ok-of_types-in-Pairs.ensures in
     let of_test = c.in_ok-of_test-in-Pairs.ensures in
-    let inside : c.after_first.result.now ≡ drop 1 c.args.choices.now = c.after_first.ensures in
+    let inside : c.after_first.result.now ≡ drop 1 choices = c.after_first.ensures in
     let behind = of_types.rest ∙ ap (drop (leaves types)) inside in
-    let is : unit_plan_of c.args.plan.now ≡ pairs_units c.in-Pairs.count types test =
-    ap unit_plan_of c.in-Pairs.is ∙ ap (λ (types : ConceptPlan). pairs_units c.in-Pairs.count (plan_of types) test) (sym c.deref-in-Pairs.ensures) in
-    closed_list c.args.bounds.now.items c.closed-in-Pairs.ensures.bounds
-    (two_behind _ _ _ (of_test.bounds ∙ (λ i. c.list.new.bounds.items ++ test_list (own_list indexed) (behind i) test))
-    (of_types.bounds ∙ (λ i. c.open.new.bounds.items ++ own_bounds indexed (inside i) types)))
-    c.in_ok-at.ensures.bounds c.in_ok-at.ensures.at
-    (c.cost-own.ensures.bound
-    ∙ (λ i. capped (leaf_bound ((c.leaf-leaf.ensures
-    ∙ (λ j. leaf_of indexed (c.groups-all.ensures j) false c.in-Pairs.count
-    (plan_of ((c.deref-in-Pairs-2.ensures ∙ sym c.deref-in-Pairs.ensures) j)) test
-    ((of_types.size ∙ ap (λ (rest : List Choice). size indexed rest types) inside) j)
-    ((of_test.size ∙ ap (λ (rest : List Choice). test_size indexed rest test) behind) j))) i) (c.first_choice.ensures i))))
-    (ap (group_list (own_list indexed) c.args.choices.now) is)
+    let leaf = c.leaf-leaf.ensures
+    ∙ (λ i. leaf_of indexed (c.groups-all.ensures i) false c.in-Pairs.count
+    (plan_of ((c.deref-in-Pairs-2.ensures ∙ sym c.deref-in-Pairs.ensures) i)) test
+    ((of_types.size ∙ ap (λ (rest : List Choice). size indexed rest types) inside) i)
+    ((of_test.size ∙ ap (λ (rest : List Choice). test_size indexed rest test) behind) i)) in
+    let is = pairs_units_are c.in-Pairs.types c.in-Pairs.is c.deref-in-Pairs.ensures in
+    record {
+      bounds = closed_list c.args.bounds.now.items c.closed-in-Pairs.ensures.bounds
+          (two_behind _ (own_bounds indexed (drop 1 choices) types) (test_list (own_list indexed) (drop (leaves types) (drop 1 choices)) test)
+          (of_test.bounds ∙ (λ i. c.list.new.bounds.items ++ test_list (own_list indexed) (behind i) test))
+          (of_types.bounds ∙ (λ i. c.open.new.bounds.items ++ own_bounds indexed (inside i) types)))
+          c.in_ok-at.ensures.bounds c.in_ok-at.ensures.at
+          (c.cost-own.ensures.bound ∙ (λ i. capped (leaf_bound (leaf i) (c.first_choice.ensures i))))
+          (ap (group_list (own_list indexed) choices) is);
+      size = c.closed-in-Pairs.ensures.size
+          ∙ c.cost-own.ensures.size
+          ∙ (λ i. leaf_size (leaf i) (c.first_choice.ensures i))
+          ∙ sym (ap (group_size indexed choices) is);
+      rest = c.closed-in-Pairs.ensures.rest ∙ behind_leaf _ _ choices (ap group_leaves is) inside of_types.rest of_test.rest;
+    }
 
 pub list-closed-requires : goal.list-closed-requires
 list-closed-requires t c = at_within _ _ _ c.in_ok-at.ensures.at c.in_ok-at.ensures.bounds c.in_ok-inner-in-Walk.ensures.bounds

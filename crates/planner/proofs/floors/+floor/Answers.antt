@@ -2,9 +2,10 @@ use Rattle.std.proofs.Common.{◌∙◌, List, ap, arith}
 use Rattle.set_algebra.specs.Plan.{plan_of, plans_of}
 use Rattle.set_algebra.specs.declared.choice.Choice.{Choice}
 use Rattle.planner.specs.Floors.{floor, floor_number}
+use Rattle.planner.specs.Leaves.{group_leaves, leaves}
 use Rattle.planner.specs.Nodes.{plans_sum}
 use Rattle.planner.proofs.LoopLemmas.{rest_end, rest_turn, sum_end, sum_turn}
-use Rattle.planner.proofs.PartLemmas.{values_are, values_behind}
+use Rattle.planner.proofs.PartLemmas.{behind_both, behind_leaf, pairs_are, pairs_units_are, values_are}
 use Rattle.planner.proofs.floors.+floor.Goals as goal
 
 pub parts_floor-loop-place-preserved : goal.parts_floor-loop-place-preserved
@@ -51,5 +52,19 @@ plan_floor-returns-in-Values t c =
         ap (floor indexed choices) is,
         ap (λ (rest : List Choice). plans_sum (floor_number indexed) rest names) behind,
       );
-      rest = c.floor_behind-in-Values.ensures.rest ∙ values_behind start names choices is behind c.parts_floor-types.ensures.rest;
+      rest = c.floor_behind-in-Values.ensures.rest ∙ behind_both _ _ choices (ap leaves is) behind c.parts_floor-types.ensures.rest;
     }
+
+pub plan_floor-returns-in-Pairs-clause-rest : goal.plan_floor-returns-in-Pairs-clause-rest
+plan_floor-returns-in-Pairs-clause-rest t c =
+    let choices = c.args.choices.now in
+    let is = pairs_are c.in-Pairs.types c.in-Pairs.is c.deref-in-Pairs.ensures in
+    c.with_leaf.ensures.rest
+    ∙ behind_leaf _ _ choices (ap leaves is) c.after_first.ensures c.plan_floor-of_types.ensures.rest c.test_floor-of_test.ensures.rest
+
+pub unit_floor-returns-in-Pairs-clause-rest : goal.unit_floor-returns-in-Pairs-clause-rest
+unit_floor-returns-in-Pairs-clause-rest t c =
+    let choices = c.args.choices.now in
+    let is = pairs_units_are c.in-Pairs.types c.in-Pairs.is c.deref-in-Pairs.ensures in
+    c.with_leaf.ensures.rest
+    ∙ behind_leaf _ _ choices (ap group_leaves is) c.after_first.ensures c.plan_floor-of_types.ensures.rest c.test_floor-of_test.ensures.rest
