@@ -114,6 +114,16 @@ next_piece text at spelled placed piece within so_far found =
     zero_add : (k : ℕ) → k ≡ 0 + k
     zero_add k = omega arith
 
+-- an answer is no refusal, and answers and refusals are the same where their results are
+no_fault : (x : Found) (fault : QueryFault) → ◌≡◌ {A = Result Found QueryFault} (Ok x) (Err fault) → ⊥
+no_fault x fault is = cc
+
+same_answer : (x y : Found) → ◌≡◌ {A = Result Found QueryFault} (Ok x) (Ok y) → x ≡ y
+same_answer x y is = cc
+
+same_refusal : (one other : QueryFault) → ◌≡◌ {A = Result Found QueryFault} (Err one) (Err other) → one ≡ other
+same_refusal one other is = cc
+
 -- what the code has read is a step of the cut
 pub steps_on : (text : List ℕ) (at : ℕ) (spelled : List Spelled) (placed : List Placed) (x : Found) → at ≤ length text → CutSoFar text at spelled placed
     → Ok x ≡ found_of (reading at (take (length text - at) (drop at text))) → (piece : Piece) × (found piece ≡ x) × StepsOn text at spelled placed piece
@@ -122,8 +132,9 @@ steps_on text at spelled placed x within so_far read =
   where
     by_result : (r : Result Piece QueryFault) → reading at (drop at text) ≡ r → Ok x ≡ found_of r
         → (piece : Piece) × (found piece ≡ x) × StepsOn text at spelled placed piece
-    by_result (Err fault) is read = absurd cc
-    by_result (Ok piece) is read = (piece, cc, next_piece text at spelled placed piece within so_far is)
+    by_result (Err fault) is read = absurd (no_fault x fault read)
+    by_result (Ok piece) is read =
+        (piece, sym (same_answer x (found piece) read), next_piece text at spelled placed piece within so_far is)
 
 -- and what it has refused is refused there
 pub refused_at : (text : List ℕ) (at : ℕ) (spelled : List Spelled) (placed : List Placed) (fault : QueryFault)
@@ -134,12 +145,13 @@ refused_at text at spelled placed fault within so_far read =
   where
     by_result : (r : Result Piece QueryFault) → reading at (drop at text) ≡ r → Err fault ≡ found_of r
         → (cause : Cause) × IsRefusedAt text at cause × (fault ≡ fault_at at cause)
-    by_result (Ok piece) is read = absurd cc
+    by_result (Ok piece) is read = absurd (no_fault (found piece) fault (sym read))
     by_result (Err other) is read =
         let left = length-drop at text in
         let refused = reading-Err at (drop at text) other (omega arith) is in
         let place : at + length (drop at text) ≡ length text = omega arith in
-        (refused.cause, (so_far.pieces, drop at text, so_far.cut, place, refused.refuses), cc)
+        let same = same_refusal fault other read ∙ refused.is in
+        (refused.cause, (so_far.pieces, drop at text, so_far.cut, place, refused.refuses), same)
 
 -- one token more
 pub with_spelled-Some : (piece : Piece) (kind : TokenKind) (bytes : List ℕ) → kind_of piece ≡ Some kind → bytes ≡ bytes_of piece

@@ -1,15 +1,18 @@
 -- What is read where a text begins, and why nothing is.
-use Rattle.std.proofs.Common.{ℕ, ◌≡◌, ◌+◌, ◌<◌, ◌++◌, ◌∙◌, List, [], ◌∷◌, length, take, drop, Option, None, Some, inl, inr, refl, sym, ap, subst, arith}
-use Rattle.std.specs.Prelude.{Ok, Err}
+use Rattle.std.proofs.Common.{ℕ, ◌≡◌, ◌+◌, ◌<◌, ◌++◌, ◌∙◌, List, [], ◌∷◌, length, take, drop, Bool, true, false, Option, None, Some, inl, inr, refl, sym, ap, subst, arith}
+use Rattle.std.specs.Prelude.{if◌then◌else◌, option_map, Result, Ok, Err}
 use Rattle.std.proofs.lemmas.Bool.{cases_Bool}
+use Rattle.std.proofs.lemmas.Option.{none-some}
 use Rattle.std.proofs.lemmas.List.{append_assoc, length-append, drop_at, take_at}
 use Rattle.ecl_lexer.specs.declared.fault.Feature.{Feature}
+use Rattle.ecl_lexer.specs.declared.pieces.Piece.{Piece as Found}
 use Rattle.ecl_lexer.specs.declared.fault.QueryFault.{QueryFault}
-use Rattle.ecl_lexer.specs.declared.fault.QueryFault.TheVariants.{Limit}
-use Rattle.ecl_lexer.specs.Pieces.{Piece, space, comment, symbol, word, digits, number, term, Sign, unsigned, plus, minus, sign_text, fraction_text, piece_text, bytes_of, symbol_kind, Stands}
+use Rattle.ecl_lexer.specs.declared.fault.QueryFault.TheVariants.{Limit, Token}
+use Rattle.ecl_lexer.specs.Pieces.{Piece, space, comment, symbol, word, digits, number, term, Sign, unsigned, plus, minus, sign_text, fraction_text, piece_text, bytes_of, Stands}
 use Rattle.ecl_lexer.specs.Refusals.{Cause, form, nothing, limit, IsRead, Refuses, fault_at, is_within_limit, unsupported}
-use Rattle.ecl_lexer.specs.Reading.{piece_at, reading, supported, within_limit}
+use Rattle.ecl_lexer.specs.Reading.{found, found_of, piece_at, reading, supported, within_limit}
 use Rattle.ecl_lexer.proofs.FoundLemmas.{piece_at-stands}
+use Rattle.ecl_lexer.proofs.SymbolLemmas.{symbol_some}
 use Rattle.ecl_lexer.proofs.StandsLemmas.{piece_at-read}
 
 -- a piece is its bytes, and then the rest
@@ -52,11 +55,10 @@ take-piece_text piece rest = ap (take (length (bytes_of piece))) (piece_text-byt
 pub some_bytes : (piece : Piece) (rest : List ℕ) → Stands piece rest → 0 < length (bytes_of piece)
 some_bytes (space byte) rest stands = omega arith
 some_bytes (comment inside) rest stands = omega arith
-some_bytes (symbol bytes kind) rest stands = omega (arith, symbol_some bytes stands.0, length-append bytes [])
+some_bytes (symbol bytes kind) rest stands = symbol_length bytes (symbol_some bytes kind stands.0)
   where
-    symbol_some : (bytes : List ℕ) → symbol_kind bytes ≡ Some kind → 0 < length bytes
-    symbol_some [] is = absurd cc
-    symbol_some (byte ∷ more) is = omega arith
+    symbol_length : (bytes : List ℕ) → 0 < length bytes → 0 < length (bytes ++ [])
+    symbol_length bytes some = omega (arith, length-append bytes [])
 some_bytes (word letters kind) rest stands = omega (arith, stands.0.some, length-append letters [])
 some_bytes (digits run) rest stands = omega (arith, stands.0.some, length-append run [])
 some_bytes (number sign whole fraction) rest stands = omega arith
@@ -97,6 +99,26 @@ reading-Ok offset text piece found = by_form (unsupported text) refl found
     by_form : (o : Option Feature) → unsupported text ≡ o → supported offset o (piece_at text) ≡ Ok piece → ReadIn text piece
     by_form (Some feature) is found = absurd cc
     by_form None is found = by_piece is (piece_at text) refl found
+
+-- what the code answers to the piece that it has found, or has not
+abbrev pub answer_of : ℕ → Option Found → Result Found QueryFault
+answer_of offset None = Err (Token offset)
+answer_of offset (Some piece) = if piece.is_within_limit then Ok piece else Err (Limit offset)
+
+pub found_of-reading : (offset : ℕ) (text : List ℕ) → unsupported text ≡ None
+    → found_of (reading offset text) ≡ answer_of offset (option_map found (piece_at text))
+found_of-reading offset text none =
+    ap (λ (o : Option Feature). found_of (supported offset o (piece_at text))) none ∙ by_piece (piece_at text)
+  where
+    by_limit : (few : Bool) (piece : Piece)
+        → found_of (if few then Ok piece else Err (Limit offset))
+        ≡ (if few then Ok (found piece) else Err (Limit offset))
+    by_limit true piece = refl
+    by_limit false piece = refl
+
+    by_piece : (o : Option Piece) → found_of (within_limit offset o) ≡ answer_of offset (option_map found o)
+    by_piece None = refl
+    by_piece (Some piece) = by_limit (is_within_limit piece) piece
 
 -- why nothing is read
 
@@ -148,8 +170,8 @@ reading-Err offset text fault some found = by_form (unsupported text) refl found
 
 -- only some text is refused
 pub refused_some : (text : List ℕ) (cause : Cause) → Refuses text cause → 0 < length text
-refused_some [] (form feature) refuses = absurd cc
-refused_some (byte ∷ text) (form feature) refuses = omega arith
+refused_some [] (form feature) refuses = absurd (none-some feature refuses)
+refused_some (byte ∷ text) (form feature) _ = omega arith
 refused_some text nothing refuses = refuses.0
 refused_some text limit (supports, piece, rest, is, stands, many) =
     omega (arith, ap length is, length-piece_text piece rest, some_bytes piece rest stands)

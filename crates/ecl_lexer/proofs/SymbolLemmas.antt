@@ -1,15 +1,16 @@
 -- The longest symbol that begins a text.
-use Rattle.std.proofs.Common.{ℕ, ◌≡◌, ◌+◌, ◌<◌, ◌≤◌, ◌++◌, ◌==◌, ◌&&◌, ◌∙◌, ◌⊎◌, inl, inr, List, [], ◌∷◌, Bool, true, length, take, drop, Option, None, Some, refl, sym, ap, subst, arith}
-use Rattle.std.specs.Prelude.{not, nat_le, IsSome}
+use Rattle.std.proofs.Common.{ℕ, ◌≡◌, ◌+◌, ◌<◌, ◌≤◌, ◌++◌, ◌==◌, ◌&&◌, ◌∙◌, ◌⊎◌, inl, inr, List, [], ◌∷◌, Bool, true, length, take, drop, get_or, Option, None, Some, refl, sym, ap, subst, arith}
+use Rattle.std.specs.Prelude.{option_map, not, nat_le, IsSome}
 use Rattle.std.specs.Char.{is_ascii_alphabetic, is_ascii_digit}
 use Rattle.std.specs.List.{list_all}
 use Rattle.std.specs.Str.{bytes_eq}
-use Rattle.std.proofs.lemmas.Bool.{cases_Bool, and_parts, eqb-true, eqb-false, leb-true, le-leb, not-true}
+use Rattle.std.proofs.lemmas.Bool.{false≢true, cases_Bool, and_parts, eqb-true, eqb-false, leb-true, le-leb, lt-leb, not-true}
+use Rattle.std.proofs.lemmas.Option.{none-some}
 use Rattle.std.proofs.lemmas.List.{length-append, length-take-le, take-append-drop, take_at}
 use Rattle.ecl_lexer.specs.declared.token.TokenKind.{TokenKind}
 use Rattle.ecl_lexer.specs.Bytes.{is_space, begins}
 use Rattle.ecl_lexer.specs.Pieces.{Piece, symbol, kind_in, symbols, symbol_kind}
-use Rattle.ecl_lexer.specs.Reading.{piece_at, piece_by, sized_kind, sized_symbol, symbol_at, symbol_or}
+use Rattle.ecl_lexer.specs.Reading.{found, piece_at, piece_by, sized_kind, sized_symbol, symbol_at, symbol_or}
 
 -- bytes that compare alike are the same
 pub bytes_eq-true : (xs ys : List ℕ) → bytes_eq xs ys ≡ true → xs ≡ ys
@@ -48,6 +49,11 @@ symbol_like bytes kind is = kind_in-passes is_symbol_like symbols bytes kind ref
 pub symbol_few : (bytes : List ℕ) (kind : TokenKind) → symbol_kind bytes ≡ Some kind → length bytes ≤ 3
 symbol_few bytes kind is = leb-true (length bytes) 3 (and_parts (begins opens_symbol bytes) _ (symbol_like bytes kind is)).1
 
+-- a symbol has a byte at the least
+pub symbol_some : (bytes : List ℕ) (kind : TokenKind) → symbol_kind bytes ≡ Some kind → 0 < length bytes
+symbol_some [] kind is = absurd (none-some kind is)
+symbol_some (byte ∷ more) kind _ = omega arith
+
 -- where such a byte stands, a symbol is looked for
 piece_by-symbol : (first : ℕ) (behind : List ℕ) → opens_symbol first ≡ true → piece_by first behind ≡ symbol_at (first ∷ behind)
 piece_by-symbol first behind opens =
@@ -68,7 +74,7 @@ pub piece_at-symbol : (bytes rest : List ℕ) (kind : TokenKind) → symbol_kind
 piece_at-symbol bytes rest kind is = by_first bytes (and_parts (begins opens_symbol bytes) _ (symbol_like bytes kind is)).0
   where
     by_first : (bytes : List ℕ) → begins opens_symbol bytes ≡ true → piece_at (bytes ++ rest) ≡ symbol_at (bytes ++ rest)
-    by_first [] opens = absurd cc
+    by_first [] opens = absurd (false≢true opens)
     by_first (first ∷ more) opens = piece_by-symbol first (more ++ rest) opens
 
 -- no symbol that begins a text is longer than these bytes
@@ -127,13 +133,10 @@ symbol_at-read bytes rest kind is longest =
             | inr other ↦
                 let not_two = eqb-false (length bytes) 2 other in
                 sized_symbol-longer 2 bytes rest (sized_symbol 1 text None) longest (omega (arith, not_two, not_three, few))
-                ∙ sized_symbol-here 1 bytes rest kind None is (omega (arith, not_two, not_three, few, some bytes is))
+                ∙ sized_symbol-here 1 bytes rest kind None is
+                (omega (arith, not_two, not_three, few, symbol_some bytes kind is))
           ]
     ]
-  where
-    some : (bytes : List ℕ) → symbol_kind bytes ≡ Some kind → 0 < length bytes
-    some [] is = absurd cc
-    some (byte ∷ more) is = omega arith
 
 -- what is told of a symbol that is found
 pub record IsSymbol (text : List ℕ) (piece : Piece) : Type 0 where
@@ -156,8 +159,7 @@ sized_none size text none other more some is sized =
     let fits : nat_le size (length text) ≡ true = le-leb size (length text) (omega (arith, ap length is, length-append other more)) in
     let nothing : symbol_kind (take size text) ≡ None = rw fits at none in
     let nothing_of_other : symbol_kind other ≡ None = ap symbol_kind (sym front) ∙ nothing in
-    let no_kind : IsSome {T = TokenKind} None = subst (λ (o : Option TokenKind). IsSome o) nothing_of_other some in
-    absurd cc
+    false≢true (subst (λ (o : Option TokenKind). IsSome o) nothing_of_other some)
 
 -- what is found of so many bytes, where no symbol has more
 symbol_of : (size : ℕ) (text : List ℕ) (kind : TokenKind) (piece : Piece) → size ≤ length text → symbol_kind (take size text) ≡ Some kind
@@ -181,7 +183,7 @@ few_bytes : (other : List ℕ) → IsSome (symbol_kind other) → length other �
 few_bytes other some = by_kind (symbol_kind other) refl some
   where
     by_kind : (o : Option TokenKind) → symbol_kind other ≡ o → IsSome o → length other ≤ 3
-    by_kind None is some = absurd cc
+    by_kind None _ some = absurd (false≢true some)
     by_kind (Some kind) is some = symbol_few other kind is
 
 pub symbol_at-found : (text : List ℕ) (piece : Piece) → symbol_at text ≡ Some piece → IsSymbol text piece
@@ -210,3 +212,39 @@ symbol_at-found text piece found = elim (sized_kind-cases 3 text) [
 ] where
   below : (n m : ℕ) → m ≤ n + 1 → (m ≡ n + 1 → ⊥) → m ≤ n
   below n m most not = omega (arith, not)
+
+-- the kind of the first bytes of a text, where it has so many, and none where it has fewer
+pub sized_kind-fits : (size : ℕ) (text bytes : List ℕ) → size ≤ length text → bytes ≡ take size text
+    → sized_kind size text ≡ symbol_kind bytes
+sized_kind-fits size text bytes fits is = rw (le-leb size (length text) fits) (ap symbol_kind (sym is))
+
+pub sized_kind-short : (size : ℕ) (text : List ℕ) → length text < size → sized_kind size text ≡ None
+sized_kind-short size text short = rw (lt-leb size (length text) short) refl
+
+-- the first bytes of a text
+pub front_three : (text : List ℕ) → 3 ≤ length text
+    → get_or text 0 0 ∷ get_or text 1 0 ∷ get_or text 2 0 ∷ [] ≡ take 3 text
+front_three [] fits = absurd (omega arith)
+front_three (a ∷ []) fits = absurd (omega arith)
+front_three (a ∷ b ∷ []) fits = absurd (omega arith)
+front_three (a ∷ b ∷ d ∷ text) fits = refl
+
+pub front_two : (text : List ℕ) → 2 ≤ length text → get_or text 0 0 ∷ get_or text 1 0 ∷ [] ≡ take 2 text
+front_two [] fits = absurd (omega arith)
+front_two (a ∷ []) fits = absurd (omega arith)
+front_two (a ∷ b ∷ text) fits = refl
+
+-- what the code hands on of a symbol of so many bytes, or else of what is found instead of it
+pub handed_here : (size : ℕ) (text : List ℕ) (kind : TokenKind) (other : Option Piece)
+    → size ≤ length text → sized_kind size text ≡ Some kind
+    → option_map found (sized_symbol size text other)
+    ≡ Some (record { kind = Some kind; length = size; is_within_limit = true })
+handed_here size text kind other fits is =
+    let long : length (take size text ++ []) ≡ size =
+    omega (arith, length-append (take size text) [], length-take-le size text fits) in
+    ap (λ (o : Option TokenKind). option_map found (symbol_or size text o other)) is
+    ∙ ap (λ (n : ℕ). Some (record { kind = Some kind; length = n; is_within_limit = true })) long
+
+pub handed_other : (size : ℕ) (text : List ℕ) (other : Option Piece) → sized_kind size text ≡ None
+    → option_map found (sized_symbol size text other) ≡ option_map found other
+handed_other size text other none = ap (λ (o : Option TokenKind). option_map found (symbol_or size text o other)) none

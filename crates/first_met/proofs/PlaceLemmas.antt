@@ -1,9 +1,19 @@
 -- The places of keys in a list, and of one more behind it.
-use Rattle.std.proofs.Common.{arith, ℕ, suc, zero, inl, inr, slice_get, ◌≡◌, ◌<◌, ◌≤◌, true, false, List, [], ◌∷◌, ◌++◌, is_some, length, nat_eq, Option, None, Some, position, refl, slice_index}
+use Rattle.std.proofs.Common.{ap, sym, ◌∙◌, arith, ℕ, suc, zero, inl, inr, slice_get, ◌≡◌, ◌<◌, ◌≤◌, true, false, List, [], ◌∷◌, ◌++◌, is_some, length, nat_eq, Option, None, Some, position, refl, slice_index}
 use Rattle.std.specs.List.{list_any, position_or_len}
-use Rattle.std.proofs.lemmas.Bool.{cases_eq}
+use Rattle.std.proofs.lemmas.Bool.{cases_Bool, cases_eq, eq-eqb, ne_eqb}
+use Rattle.std.proofs.lemmas.Option.{none-some}
+use Rattle.std.specs.Prelude.{option_map}
 use Rattle.std.proofs.lemmas.Bool.Decides.{nat_tests}
 use Rattle.std.proofs.lemmas.Grind.{common_steps}
+
+-- a key has the first place, or its place behind the first key
+place_here : (keys : List ℕ) (first key : ℕ) → nat_eq key first ≡ true → position (nat_eq key) (first ∷ keys) ≡ Some 0
+place_here keys first key same = grind (arith, common_steps, nat_tests)
+
+place_later : (keys : List ℕ) (first key : ℕ) → nat_eq key first ≡ false
+    → position (nat_eq key) (first ∷ keys) ≡ option_map (λ place. suc place) (position (nat_eq key) keys)
+place_later keys first key apart = grind (arith, common_steps, nat_tests)
 
 -- a key that has a place was met
 pub met : (keys : List ℕ) (key place : ℕ) → position (nat_eq key) keys ≡ Some place → list_any (nat_eq key) keys ≡ true
@@ -31,7 +41,13 @@ place_behind (first ∷ keys) key is = grind (arith, common_steps, nat_tests, (p
 -- and the places of others stay
 pub place_stays : (keys : List ℕ) (key other : ℕ) → nat_eq other key ≡ false → position (nat_eq other) (keys ++ key ∷ []) ≡ position (nat_eq other) keys
 place_stays [] key other is = grind (arith, common_steps, nat_tests)
-place_stays (first ∷ keys) key other is = grind (arith, common_steps, nat_tests, (place_stays keys key other is))
+place_stays (first ∷ keys) key other is = elim (cases_Bool (nat_eq other first)) [
+  | inl same ↦ place_here (keys ++ key ∷ []) first other same ∙ sym (place_here keys first other same)
+  | inr apart ↦
+      place_later (keys ++ key ∷ []) first other apart
+      ∙ ap (option_map (λ place. suc place)) (place_stays keys key other is)
+      ∙ sym (place_later keys first other apart)
+]
 
 -- a place is one of the list
 pub has_place : (keys : List ℕ) (key place : ℕ) → position (nat_eq key) keys ≡ Some place → place < length keys
@@ -48,11 +64,20 @@ pub place_kept : (keys : List ℕ) (key other place : ℕ) → position (nat_eq 
 place_kept [] key other place is = grind (arith, common_steps)
 place_kept (first ∷ keys) key other place is = grind (arith, common_steps, nat_tests, (place_kept keys key other))
 
+some_same : (x y : ℕ) → Some x ≡ Some y → x ≡ y
+some_same x y is = cc
+
 -- and is not behind where the key is found
 pub at_or_before : (keys : List ℕ) (key place : ℕ) → slice_get keys place ≡ Some key → (first : ℕ) × (position (nat_eq key) keys ≡ Some first) × (first ≤ place)
-at_or_before [] key place is = grind (arith, common_steps)
-at_or_before (first ∷ keys) key zero is = (0, grind (arith, common_steps, nat_tests), omega arith)
+at_or_before [] key place is = absurd (none-some key is)
+at_or_before (first ∷ keys) key zero is =
+    (0, place_here keys first key (eq-eqb key first (some_same key first (sym is))), omega arith)
 at_or_before (first ∷ keys) key (suc place) is = elim (cases_eq key first) [
-  | inl same ↦ (0, grind (arith, common_steps, nat_tests, same), omega arith)
-  | inr apart ↦ let later = at_or_before keys key place is in (suc later.0, grind (arith, common_steps, nat_tests, apart, later.1), omega (arith, later.2))
+  | inl same ↦ (0, place_here keys first key (eq-eqb key first same), omega arith)
+  | inr apart ↦
+      let later = at_or_before keys key place is in (
+        suc later.0,
+        place_later keys first key (ne_eqb key first apart) ∙ ap (option_map (λ place. suc place)) later.1,
+        omega (arith, later.2),
+      )
 ]

@@ -1,7 +1,7 @@
 -- What slots and a tree find, once one more key is met.
 use Rattle.std.proofs.Common.{arith, ℕ, suc, zero, ◌≡◌, ◌≢◌, ◌<◌, ◌≤◌, ◌+◌, ◌-◌, ◌^◌, ◌⊎◌, ◌∙◌, sym, ap, subst, cond, inl, inr, nat_cmp, false, List, [], ◌∷◌, ◌++◌, length, nat_eq, Option, None, Some, IfSome, position, refl, slice_get, slice_set, slice_index_or}
 use Rattle.std.specs.BTreeMap.{is_at}
-use Rattle.std.proofs.lemmas.Bool.{cases_eq}
+use Rattle.std.proofs.lemmas.Bool.{cases_eq, eq-eqb}
 use Rattle.std.proofs.lemmas.Bool.Decides.{nat_tests}
 use Rattle.std.proofs.lemmas.Grind.{common_steps}
 use Rattle.std.proofs.lemmas.Option.{get_or_from_slice_get, slice_get_past, slice_get_within}
@@ -259,6 +259,13 @@ absent keys slots tree key place finds in_slot free = ap (found_from tree key pl
 pub with_no_slot : (keys slots : List ℕ) (tree : ℕ → Option ℕ) (key : ℕ) → Finds keys slots tree → slice_get slots (slot key) ≡ None
     → tree key ≡ position (nat_eq key) keys
 with_no_slot keys slots tree key finds no_slot = ap (found_by keys tree key) (sym no_slot) ∙ finds.found key
+
+pub by_slot : (keys slots : List ℕ) (tree : ℕ → Option ℕ) (key place : ℕ) → Finds keys slots tree
+    → slice_get slots (slot key) ≡ Some place → slice_get keys place ≡ Some key
+    → Some place ≡ position (nat_eq key) keys
+by_slot keys slots tree key place finds in_slot is =
+    let here : found_from tree key place (Some key) ≡ Some place = rw (eq-eqb key key refl) refl in
+    sym here ∙ ap (found_from tree key place) (sym is) ∙ ap (found_by keys tree key) (sym in_slot) ∙ finds.found key
 
 pub by_tree : (keys slots : List ℕ) (tree : ℕ → Option ℕ) (key place met : ℕ) → Finds keys slots tree → slice_get slots (slot key) ≡ Some place
     → slice_get keys place ≡ Some met → (key ≡ met → ⊥) → tree key ≡ position (nat_eq key) keys

@@ -1,5 +1,5 @@
 -- The children of a concept that is done, one after another.
-use Rattle.std.proofs.Common.{ℕ, ◌+◌, ◌-◌, ◌==◌, ◌≡◌, ◌≢◌, ◌≤◌, ◌<◌, ◌++◌, ◌∷◌, [], ◌∙◌, ⊎_elim, cond, List, length, get_or, take, set, refl, arith, length-set, get_or-set_same, get_or-set_other}
+use Rattle.std.proofs.Common.{ℕ, ◌+◌, ◌-◌, ◌==◌, ◌≡◌, ◌≢◌, ◌≤◌, ◌<◌, ◌++◌, ◌∷◌, [], ◌∙◌, ⊎_elim, cond, List, length, get_or, take, set, refl, arith, length-set, get_or-set_same, get_or-set_other, ap, sym, eq-eqb, ne_eqb}
 use Rattle.std.specs.List.{IsDistinct}
 use Rattle.std.proofs.lemmas.Bool.{cases_eq}
 use Rattle.std.proofs.lemmas.List.{get_or_read}
@@ -9,7 +9,7 @@ use Rattle.std.specs.Cmp.{nat_eq_equiv}
 use Rattle.number_lists.specs.Members.{times}
 use Rattle.number_lists.proofs.MemberLemmas.{any-has, had_not, members-push, times-own}
 use Rattle.hierarchy.specs.inside.Released.{IsReleased}
-use Rattle.std.proofs.lemmas.Grind.{common_steps}
+use Rattle.std.proofs.lemmas.Grind.{common_steps, get_or-set_at}
 use Rattle.std.proofs.lemmas.Bool.Decides.{nat_tests}
 
 -- no child is let go
@@ -33,28 +33,50 @@ release_next children i {before} {after} {added} {left} within below released en
     let read : left ≡ get_or after child 0 = get_or_read after child left below is 0 in
     let waits = still_waits children before after added i within released enough in
     let less : (concept : ℕ) → get_or (set after child (left - 1)) concept 0 + times concept (take (i + 1) children) ≡ get_or before concept 0 =
-    λ concept. grind (
+    λ concept.
+    let more = sum_by_more (λ x. cond {A = ℕ} (x == concept) 1 0) children i 0 within in ⊎_elim
+    (λ (same : concept ≡ child). omega (
       arith,
-      common_steps,
-      nat_tests,
-      ⊎_elim,
-      get_or-set_same,
-      get_or-set_other,
-      cases_eq,
-      (sum_by_more (λ x. cond {A = ℕ} (x == concept) 1 0) children i 0 within),
-    ) in (
+      more,
+      ap (λ b. cond {A = ℕ} b 1 0) (eq-eqb child concept (sym same)),
+      get_or-set_at after child concept (left - 1) 0 same below,
+      ap (λ c. get_or after c 0) same,
+      released.less concept,
+      waits,
+    ))
+    (λ (other : concept ≢ child). omega (
+      arith,
+      more,
+      ap (λ b. cond {A = ℕ} b 1 0) (ne_eqb child concept (λ same. other (sym same))),
+      get_or-set_other after child concept (left - 1) 0 other,
+      released.less concept,
+    ))
+    (cases_eq concept child) in (
       (λ none. record {
         len = length-set after child (left - 1) ∙ released.len;
         less = less;
         once = IsDistinct-push nat_eq_equiv added child released.once
             (any-has added child ∙ had_not added child (λ there. absurd (omega (arith, waits, ((released.members child).0 there).1))));
         members = members-push (λ c. (0 < get_or before c 0) × (get_or (set after child (left - 1)) c 0 ≡ 0)) added child
-            (omega (arith, released.less child, waits), get_or-set_same after child (left - 1) 0 below ∙ none) (λ c apart. grind (arith, get_or-set_other));
+            (omega (arith, released.less child, waits), get_or-set_same after child (left - 1) 0 below ∙ none)
+            (λ c apart. rw (get_or-set_other after child c (left - 1) 0 apart) (released.members c));
       }),
       (λ some. record {
         len = length-set after child (left - 1) ∙ released.len;
         less = less;
         once = released.once;
-        members = λ concept. grind (arith, ⊎_elim, cases_eq, get_or-set_same, get_or-set_other, still_waits);
+        members = λ concept. ⊎_elim
+            (λ (same : concept ≡ child). (
+              λ there. absurd (omega (
+                arith,
+                ((released.members concept).0 there).1,
+                ap (λ c. get_or after c 0) same,
+                waits,
+              )),
+              λ both. absurd (some (sym (get_or-set_at after child concept (left - 1) 0 same below) ∙ both.1)),
+            ))
+            (λ (other : concept ≢ child).
+            rw (get_or-set_other after child concept (left - 1) 0 other) (released.members concept))
+            (cases_eq concept child);
       }),
     )

@@ -128,33 +128,35 @@ module _ {count done : ℕ} {rows : List (ℕ × ℕ)} {waiting order : List ℕ
       let left : (concept : ℕ)
       → get_or after concept 0
       ≡ open_count (take (done + 1) (order ++ added)) (list_of (lists_by count rows) concept) =
-      grind (arith, take-append-le, take_more, next_left) in
-      let forth : (concept : ℕ) → Contains (order ++ added) concept → (concept < count) × (get_or after concept 0 ≡ 0) =
-      λ concept there. grind (
+      let now = take-append-le (done + 1) order added (omega arith) ∙ take_more order done 0 within in
+      λ concept. omega (
         arith,
-        ⊎_elim,
-        cases_lt,
-        (Contains-append_cases order added concept there),
-        (way.members concept),
-        (released.members concept),
-        (released.less concept),
-        get_or_past,
-        way.long,
-      ) in record {
+        released.less concept,
+        next_left within concept,
+        ap (λ (done : List ℕ). open_count done (list_of (lists_by count rows) concept)) now,
+      ) in
+      let forth : (concept : ℕ) → Contains (order ++ added) concept → (concept < count) × (get_or after concept 0 ≡ 0) =
+      λ concept there. ⊎_elim
+      (λ (old : Contains order concept).
+      let both = (way.members concept).0 old in (both.0, omega (arith, both.1, released.less concept)))
+      (λ (new : Contains added concept).
+      let both = (released.members concept).0 new in (
+        ⊎_elim
+            (λ (near : concept < length waiting). omega (arith, near, way.long))
+            (λ (past : length waiting ≤ concept). absurd (omega (arith, both.0, get_or_past waiting concept 0 past)))
+            (cases_lt concept (length waiting)),
+        both.1,
+      ))
+      (Contains-append_cases order added concept there) in record {
         long = released.len ∙ way.long;
         past = omega (arith, length-append order added);
         left = left;
         members = λ concept. (
           forth concept,
-          λ both. grind (
-            arith,
-            ⊎_elim,
-            cases_eq,
-            (Contains-append_left order added concept),
-            (Contains-append_right order added concept),
-            (way.members concept),
-            (released.members concept),
-          ),
+          λ both. ⊎_elim
+              (λ none. Contains-append_left order added concept ((way.members concept).1 (both.0, none)))
+              (λ some. Contains-append_right order added concept ((released.members concept).1 (omega arith, both.1)))
+              (cases_eq (get_or waiting concept 0) 0),
         );
         once = distinct-append order added way.once released.once (λ x old new. omega (arith, ((way.members x).0 old).1, ((released.members x).0 new).0));
         first = λ place other below row. ⊎_elim

@@ -1,12 +1,12 @@
 -- How bytes that are held begin with a part, and how they grow.
-use Rattle.std.proofs.Common.{◌≡◌, ◌≢◌, ℕ, suc, ◌+◌, ◌<◌, ◌≤◌, zero, min, true, eqb, List, [], ◌∷◌, ◌++◌, length, get_or, take, drop, slice_range, ◌-◌, None, Some, refl, sym, ap, ◌∙◌, append-nil, append_assoc, length-take, length-drop, arith}
+use Rattle.std.proofs.Common.{◌≡◌, ◌≢◌, ℕ, suc, ◌+◌, ◌<◌, ◌≤◌, zero, min, true, eqb, List, [], ◌∷◌, ◌++◌, length, get_or, take, drop, slice_range, ◌-◌, None, Some, refl, sym, ap, ◌∙◌, append-nil, append_assoc, length-append, length-take, length-drop, ◌^◌, arith}
 use Rattle.std.specs.Prelude.{Option}
 use Rattle.std.proofs.Math.Seq.{take-add, take-suc}
 use Rattle.std.proofs.lemmas.Bool.{eqb-true, eq-eqb}
-use Rattle.std.proofs.lemmas.List.{get_or-take, get_or_default, take-take, take_all, drop_all, nil_from_length, take-append-drop}
+use Rattle.std.proofs.lemmas.List.{get_or-take, get_or_default, take-take, take_all, drop_all, nil_from_length, take-append-drop, take_at, drop-drop, drop-take}
 use Rattle.std.proofs.lemmas.List.Elements.{All-append}
 use Rattle.std.specs.Io.KnownBytes.{Consumes, IsAtEnd}
-use Rattle.release_files.specs.Held.{BeginsWithPart, GrowsBy, IsEndedPart, KeepsBytes, reachable}
+use Rattle.release_files.specs.Held.{BeginsWithPart, GrowsBy, IsEndedPart, KeepsBytes, TakesWithin, reachable}
 use Rattle.release_files.specs.Lines.{parts, HasNoFeed}
 use Rattle.release_files.proofs.Parts.{NoFeed, parts_ended, parts_last}
 
@@ -82,6 +82,65 @@ pub GrowsBy-none : (before after : Option (List ℕ)) (old new : List ℕ) → G
 GrowsBy-none before after old new grows =
     grows.held ∙ ap (λ (bytes : List ℕ). old ++ bytes) (nil_from_length grows.piece grows.counted) ∙ append-nil old
 
+-- what is held grows by as many bytes as the piece has
+pub GrowsBy-length : (before after : Option (List ℕ)) (old new : List ℕ) (count : ℕ)
+    → GrowsBy before after old new count → length new ≡ length old + count
+GrowsBy-length before after old new count grows =
+    omega (arith, ap length grows.held, length-append old grows.piece, grows.counted)
+
+-- the bytes that were searched without success stay in front
+pub GrowsBy-clear : (before after : Option (List ℕ)) (old new : List ℕ) (count searched : ℕ)
+    → GrowsBy before after old new count → searched ≡ length old → HasNoFeed old → HasNoFeed (take searched new)
+GrowsBy-clear before after old new count searched grows all clear =
+    rw (grows.held, take_at old grows.piece searched (sym all)) clear
+
+-- what is taken in two steps is no more than both allow
+pub TakesWithin-trans : (first next last : Option (List ℕ)) (old mid new : ℕ) → TakesWithin first next old mid
+    → TakesWithin next last mid new → TakesWithin first last old new
+TakesWithin-trans None None last old mid new before after = omega arith
+TakesWithin-trans None (Some next) None old mid new before after = absurd after
+TakesWithin-trans None (Some next) (Some last) old mid new before after = omega (arith, after.0)
+TakesWithin-trans (Some first) None last old mid new before after = absurd before
+TakesWithin-trans (Some first) (Some next) None old mid new before after = absurd after
+TakesWithin-trans (Some first) (Some next) (Some last) old mid new before after =
+    (omega (arith, before.0, after.0), omega (arith, before.1, after.1))
+
+-- a slice has no more bytes than its end
+pub few_bytes : (bytes : List ℕ) (from until : ℕ) → until < 2 ^ 64 → length (slice_range bytes from until) < 2 ^ 64
+few_bytes bytes from until few = omega (arith, length-take (until - from) (drop from bytes))
+
+-- a slice of so many bytes
+length-slice : (bytes : List ℕ) (at count : ℕ) → at + count ≤ length bytes
+    → length (slice_range bytes at (at + count)) ≡ count
+length-slice bytes at count within = omega (arith, length-take (at + count - at) (drop at bytes), length-drop at bytes)
+
+-- a slice without its first bytes
+pub slice_behind : (bytes : List ℕ) (start count filled : ℕ) → count ≤ length (slice_range bytes start filled)
+    → slice_range bytes (start + count) filled ≡ drop count (slice_range bytes start filled)
+slice_behind bytes start count filled few =
+    let left = filled - (start + count) in
+    let behind = drop start bytes in
+    let split : filled - start ≡ count + left = omega (arith, few, length-take (filled - start) behind) in
+    sym (ap (λ (n : ℕ). drop count (take n behind)) split
+    ∙ drop-take count left behind ∙ ap (take left) (drop-drop count start bytes))
+
+-- what was read is within what was left
+pub takes_read : (before after : Option (List ℕ)) (read : List ℕ) (at count left old room : ℕ)
+    → Consumes before after (slice_range read at (at + count)) → at + count ≤ length read
+    → count ≤ room → room ≡ min left 65536 → left ≡ old → TakesWithin before after old (left - count)
+takes_read before after read at count left old room consumes within few fits same =
+    by_rest before after consumes
+  where
+    piece : List ℕ
+    piece = slice_range read at (at + count)
+
+    by_rest : (before after : Option (List ℕ)) → Consumes before after piece
+        → TakesWithin before after old (left - count)
+    by_rest None after consumes = omega arith
+    by_rest (Some before) None consumes = absurd consumes
+    by_rest (Some before) (Some after) consumes =
+        (omega arith, omega (arith, ap length consumes, length-append piece after, length-slice read at count within))
+
 -- a piece was read behind bytes that were moved to the front of a buffer, which grew
 pub grows_read : (before after : Option (List ℕ)) (held items moved grown read : List ℕ) (start filled count : ℕ)
     → held ≡ slice_range items start filled
@@ -104,7 +163,7 @@ grows_read before after held items moved grown read start filled count is move r
       held = ap (λ (n : ℕ). take n read) all_is ∙ take-add at count read
           ∙ ap (λ (bytes : List ℕ). bytes ++ take count (drop at read)) front
           ∙ ap (λ (n : ℕ). held ++ take n (drop at read)) count_is;
-      counted = omega (arith, length-take (at + count - at) (drop at read), length-drop at read);
+      counted = length-slice read at count within;
       consumed = consumes;
       end = end;
     }
@@ -157,7 +216,7 @@ pub grows_reached : (before after : Option (List ℕ)) (held items moved grown r
     → GrowsBy (reachable left before) (reachable new_left after) held (slice_range read 0 ((filled - start) + count)) count
 grows_reached before after held items moved grown read start filled count left new_left room is move size grow kept within consumes end few fits less =
     let at = filled - start in
-    let counted : length (slice_range read at (at + count)) ≡ count = omega (arith, length-take (at + count - at) (drop at read), length-drop at read) in
+    let counted = length-slice read at count within in
     grows_read (reachable left before) (reachable new_left after) held items moved grown read start filled count is move size grow kept within
     (reached_bytes before after (slice_range read at (at + count)) left new_left count consumes counted (omega arith) less)
     (λ none. reached_end after new_left (λ some. end none (omega arith)))

@@ -3,7 +3,11 @@ use Rattle.std.proofs.Common.{◌≡◌, ◌⊎◌, ℕ, ◌+◌, ◌^◌, ◌<�
 use Rattle.std.specs.List.{concat}
 use Rattle.std.proofs.lemmas.List.{take-append-le, drop-append-le}
 use Rattle.release_files.specs.Lines.{byte_order_mark, lines_of, mark_length, numbered, parts}
-use Rattle.release_files.specs.PieceLines.{counted, counted_lines, lines_at}
+use Rattle.release_files.specs.PieceLines.{KeepsLines, counted, counted_lines, lines_at}
+use Rattle.release_files.specs.Held.{KeepsBytes}
+use Rattle.release_files.specs.declared.piece_lines.PieceLines.{PieceLines}
+use Rattle.std.specs.Io.KnownBytes.{IsAtEnd}
+use Rattle.std.specs.Prelude.{Option, None, Some}
 use Rattle.release_files.specs.declared.piece_lines.Stage.TheVariants.{Fresh, Begun}
 use Rattle.release_files.proofs.Parts.{length-parts, lines_of_parts}
 
@@ -48,3 +52,14 @@ begun_lines held rest number end mark enough is within =
     let same : mark_length (held ++ rest) ≡ mark = mark_length-front held rest enough ∙ sym is in
     ap (λ (n : ℕ). counted_lines 0 n (parts (drop n (held ++ rest)))) same
     ∙ ap (λ (bytes : List ℕ). counted_lines 0 mark (parts bytes)) (drop-append-le mark held rest within)
+
+-- so the lines to come are the same where a byte order mark was dropped
+pub begun_keeps : (old new : PieceLines) (before after : Option (List ℕ)) (held : List ℕ)
+    → old.stage ≡ Fresh → new.stage ≡ Begun → new.number ≡ 0 → new.end ≡ mark_length held → new.end ≤ length held
+    → new.held.bytes ≡ drop new.end held → (3 ≤ length held) ⊎ IsAtEnd after
+    → KeepsBytes before after old.held.bytes held → KeepsLines old new before after
+begun_keeps old new None after held fresh begun none is within behind enough kept = tt
+begun_keeps old new (Some before) None held fresh begun none is within behind enough kept = absurd kept
+begun_keeps old new (Some before) (Some after) held fresh begun none is within behind enough kept =
+    rw (fresh, begun, none, behind) (ap (lines_at Fresh old.number old.end) kept
+    ∙ begun_lines held after old.number old.end new.end enough is within)

@@ -1,10 +1,10 @@
-use Rattle.std.proofs.Common.{arith, ap, ◌∙◌, ◌≡◌, nat_eq, position, nat_cmp, slice_get, Some, None}
+use Rattle.std.proofs.Common.{ℕ, arith, ap, sym, ◌∙◌, ◌≡◌, nat_eq, position, nat_cmp, slice_get, Some, None}
 use Rattle.std.specs.BTreeMap.{get}
 use Rattle.std.proofs.lemmas.Grind.{common_steps}
 use Rattle.std.proofs.lemmas.Option.{gets}
 use Rattle.first_met.specs.inside.FirstMetInside.{slot}
 use Rattle.first_met.proofs.PlaceLemmas.{is_met}
-use Rattle.first_met.proofs.SlotLemmas.{absent, by_tree, with_no_slot}
+use Rattle.first_met.proofs.SlotLemmas.{absent, by_slot, by_tree, with_no_slot}
 use Rattle.first_met.proofs.FirstMet.place_of.Goals as goal
 
 pub returns-in-None-get-clause-index : goal.returns-in-None-get-clause-index
@@ -40,3 +40,20 @@ in_tree c =
 
 pub returns-else-key-met-clause-found : goal.returns-else-key-met-clause-found
 returns-else-key-met-clause-found c = is_met c.args.self.now c.args.key c.place_in.result (in_tree c)
+
+pub returns-else-key-met-clause-index : goal.returns-else-key-met-clause-index
+returns-else-key-met-clause-index c = in_tree c
+
+pub returns-then-key-met-clause-index : goal.returns-then-key-met-clause-index
+returns-then-key-met-clause-index c =
+    let inside = c.self.inside in
+    let first = c.in-Some.first.now in
+    let in_slot : slice_get inside.slots.items (slot c.args.key) ≡ Some first = grind (arith, common_steps, gets) in
+    let is : slice_get inside.keys.items first ≡ Some c.in-Some-get.met.now = grind (arith, common_steps, gets) in
+    by_slot inside.keys.items inside.slots.items (get nat_cmp inside.others) c.args.key first c.self.invariant in_slot
+    (is ∙ ap (λ (met : ℕ). Some met) (sym c.if-key-met.true))
+    ∙ ap (position (nat_eq c.args.key)) c.self.view_is
+
+pub returns-then-key-met-clause-found : goal.returns-then-key-met-clause-found
+returns-then-key-met-clause-found c =
+    is_met c.args.self.now c.args.key (Some c.in-Some.first.now) (returns-then-key-met-clause-index c)

@@ -1,6 +1,33 @@
-use Rattle.std.proofs.Common.{refl, arith}
-use Rattle.hierarchy.proofs.WayLemmas.{order_fits, way_end, way_start, way_stuck, way_turn}
+use Rattle.std.proofs.Common.{◌≡◌, ◌<◌, ◌^◌, ◌∙◌, ℕ, List, ap, arith, length, refl}
+use Rattle.std.proofs.lemmas.List.{length-map}
+use Rattle.number_lists.specs.KeyedLists.{lists_by}
+use Rattle.number_lists.proofs.KeyedLemmas.{length_by}
+use Rattle.hierarchy.proofs.WayLemmas.{parents_below, order_fits, way_end, way_start, way_stuck, way_turn}
 use Rattle.hierarchy.proofs.order.parents_first.Goals as goal
+
+-- there are as many lists as concepts
+few_lists : (count : ℕ) (rows : List (ℕ × ℕ)) {lists : List (List ℕ)}
+    → lists ≡ lists_by count rows → count < 2 ^ 32 → length lists < 2 ^ 32
+few_lists count rows {lists} is few = omega (arith, length_by count rows lists is)
+
+pub turned-requires-clause-items : goal.turned-requires-clause-items
+turned-requires-clause-items c =
+    parents_below c.args.count c.args.rows.now c.in_ok-parents.parents c.requires.within c.in_ok-parents.ensures
+
+pub turned-requires-clause-few : goal.turned-requires-clause-few
+turned-requires-clause-few c = few_lists c.args.count c.args.rows.now c.in_ok-parents.ensures c.ranges.count.fits
+
+pub lengths-requires : goal.lengths-requires
+lengths-requires c = few_lists c.args.count c.args.rows.now c.in_ok-parents.ensures c.ranges.count.fits
+
+pub roots-requires : goal.roots-requires
+roots-requires c =
+    omega (
+      arith,
+      ap (λ (xs : List ℕ). length xs) (c.as_slice.ensures.value ∙ c.in_ok-waiting.ensures),
+      length-map c.in_ok-parents.parents (λ (xs : List ℕ). length xs),
+      few_lists c.args.count c.args.rows.now c.in_ok-parents.ensures c.ranges.count.fits,
+    )
 
 pub loop-done-init : goal.loop-done-init
 loop-done-init c = way_start c.in_ok-waiting.ensures c.in_ok-parents.ensures c.as_slice.ensures.value c.in_ok-order.ensures

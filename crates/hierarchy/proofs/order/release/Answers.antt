@@ -1,5 +1,7 @@
-use Rattle.std.proofs.Common.{◌++◌, ◌∷◌, [], ◌∙◌, get_or, arith, ap, append_assoc}
-use Rattle.hierarchy.proofs.ReleaseLemmas.{release_next}
+use Rattle.std.proofs.Common.{◌++◌, ◌∷◌, [], ◌∙◌, get_or, arith, ap, append_assoc, List, ℕ, subst, take_all}
+use Rattle.std.proofs.lemmas.List.{get_or_read}
+use Rattle.hierarchy.specs.inside.Released.{IsReleased}
+use Rattle.hierarchy.proofs.ReleaseLemmas.{release_next, still_waits}
 use Rattle.hierarchy.proofs.order.release.Goals as goal
 use Rattle.hierarchy.proofs.order.release.Goals.{then-left-eq0+in_ok-push, else-left-eq0}
 
@@ -20,3 +22,28 @@ loop-child-preserved c =
           )
       | else-left-eq0 w ↦ rw w.order-is (added, c.loop-child.invariant.1, next.1 w.if-left-eq0.false)
     ]
+
+pub returns : goal.returns
+returns c =
+    let waiting = c.loop-child.waiting.items in
+    let added = c.loop-child.invariant.0 in
+    let all = take_all c.loop-child.child-index c.args.children.now c.loop-child-test.false in (
+      added,
+      c.loop-child.invariant.1,
+      subst (λ (children : List ℕ). IsReleased children c.args.waiting.now.items waiting added)
+          all c.loop-child.invariant.2,
+    )
+
+pub overflow_sub-left : goal.overflow_sub-left
+overflow_sub-left c =
+    let children = c.args.children.now in
+    let i = c.loop-child.child-index in
+    let waiting = c.loop-child.waiting.items in
+    let within = c.loop-child-test.true in
+    let released = c.loop-child.invariant.2 in
+    let below = c.requires.within i 0 within in
+    omega (
+      arith,
+      still_waits children _ waiting c.loop-child.invariant.0 i within released c.requires.waits,
+      get_or_read waiting (get_or children i 0) c.index.result.now (omega (arith, released, below)) c.index.ensures 0,
+    )

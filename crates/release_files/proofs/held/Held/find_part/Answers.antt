@@ -1,8 +1,8 @@
 -- What is held begins with a part.
-use Rattle.std.proofs.Common.{◌≡◌, ℕ, length, ap, sym, refl, ◌∙◌, subst}
+use Rattle.std.proofs.Common.{◌≡◌, ℕ, length, ap, sym, refl, ◌∙◌, subst, arith}
 use Rattle.release_files.specs.Held.{GrowsBy, reachable}
 use Rattle.release_files.specs.Lines.{HasNoFeed}
-use Rattle.release_files.proofs.HeldLemmas.{begins_ended, begins_last, GrowsBy-none}
+use Rattle.release_files.proofs.HeldLemmas.{begins_ended, begins_last, GrowsBy-clear, GrowsBy-keeps, GrowsBy-length, GrowsBy-none, KeepsBytes-trans, TakesWithin-trans}
 use Rattle.release_files.proofs.held.Held.find_part.Goals as goal
 
 pub returns-in-Some-clause-part : goal.returns-in-Some-clause-part
@@ -22,3 +22,45 @@ returns-then-branch-eq0-clause-part g c =
     begins_last after new (length c.bytes-searched.result.now) (grows.end refl)
     (ap length (c.bytes-searched.ensures ∙ sym same))
     (subst HasNoFeed (c.bytes.ensures ∙ sym same) c.in_default.ensures)
+
+pub loop-count-preserved : goal.loop-count-preserved
+loop-count-preserved g c =
+    let first = g.S.FileSource.rest c.args.source.now in
+    let next = g.S.FileSource.rest c.loop-count.source in
+    let last = g.S.FileSource.rest c.read_piece.new.source in
+    let before = reachable c.loop-count.self.left next in
+    let after = reachable c.read_piece.new.self.left last in
+    let old = c.loop-count.self.bytes in
+    let new = c.read_piece.new.self.bytes in
+    let kept = c.loop-count.invariant in
+    let read = c.in_ok-read_piece.ensures in
+    let all = ap length c.bytes-searched.ensures in
+    record {
+      within = omega (arith, all, GrowsBy-length before after old new c.in_ok-read_piece.field-0 read.piece);
+      clear = GrowsBy-clear before after old new c.in_ok-read_piece.field-0 (length c.bytes-searched.result.now)
+          read.piece all (subst HasNoFeed c.bytes.ensures c.in_default.ensures);
+      kept = KeepsBytes-trans (reachable c.args.self.now.left first) before after c.args.self.now.bytes old new
+          kept.kept (GrowsBy-keeps before after old new c.in_ok-read_piece.field-0 read.piece);
+      bounded = TakesWithin-trans first next last c.args.self.now.left c.loop-count.self.left c.read_piece.new.self.left
+          kept.bounded read.bounded;
+      files = read.files ∙ kept.files;
+      failures = read.failures ∙ kept.failures;
+    }
+
+pub loop-count-smaller : goal.loop-count-smaller
+loop-count-smaller g c =
+    omega (
+      arith,
+      GrowsBy-length _ _ c.loop-count.self.bytes c.read_piece.new.self.bytes
+          c.in_ok-read_piece.field-0 c.in_ok-read_piece.ensures.piece,
+      c.in_ok-read_piece.ensures.room,
+    )
+
+pub returns-then-branch-eq0-clause-within : goal.returns-then-branch-eq0-clause-within
+returns-then-branch-eq0-clause-within g c =
+    omega (
+      arith,
+      GrowsBy-length _ _ c.loop-count.self.bytes c.read_piece.new.self.bytes
+          c.in_ok-read_piece.field-0 c.in_ok-read_piece.ensures.piece,
+      ap length c.bytes-searched.ensures,
+    )

@@ -1,0 +1,21 @@
+use Rattle.std.proofs.Common.{◌∙◌, ap, ◌-◌, arith, drop, length, length-take}
+use Rattle.release_files.proofs.HeldLemmas.{slice_behind}
+use Rattle.release_files.proofs.held.Held.take.Goals as goal
+
+pub overflow_add-self : goal.overflow_add-self
+overflow_add-self c =
+    let inside = c.self.inside in
+    let behind = drop inside.start inside.buffer.items in
+    record {
+      fits = omega (
+        arith,
+        ap (λ held. length held.bytes) c.self.view_is,
+        length-take (inside.filled - inside.start) behind,
+      );
+    }
+
+pub returns-clause-bytes : goal.returns-clause-bytes
+returns-clause-bytes c =
+    slice_behind c.self.inside.buffer.items c.self.inside.start c.args.count c.self.inside.filled
+    (omega (arith, ap (λ held. length held.bytes) c.self.view_is))
+    ∙ ap (λ held. drop c.args.count held.bytes) c.self.view_is

@@ -1,0 +1,13 @@
+-- A line takes its bytes from the rest.
+use Rattle.std.proofs.Common.{ap, arith, length, length-append}
+use Rattle.release_files.proofs.lines.LinesIterator.next.Goals as goal
+
+pub overflow_add-self-2 : goal.overflow_add-self-2
+overflow_add-self-2 c =
+    let (part, rest) = c.first_part.result in
+    record { fits = omega (arith, ap length c.first_part.ensures.joined, length-append part.now rest.now) }
+
+pub invariant_of-self : goal.invariant_of-self
+invariant_of-self c =
+    let (part, rest) = c.first_part.result in
+    (omega arith, omega (arith, ap length c.first_part.ensures.joined, length-append part.now rest.now))
