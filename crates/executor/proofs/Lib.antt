@@ -5,6 +5,7 @@ pub mod JoinedLemmas
 pub mod LedLemmas
 pub mod MemberLemmas
 pub mod NodeLemmas
+pub mod NodeWork
 pub mod PartWork
 pub mod ReachedLemmas
 pub mod Rules

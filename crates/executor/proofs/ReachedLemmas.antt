@@ -46,6 +46,13 @@ pub record IsPassed (lists near : List (List ℕ)) (at : ℕ → ℕ) (turn : �
       → (n : ℕ) → has (list_of near (at j)) n ≡ true → has found n ≡ true
   pub own : (concept : ℕ) → has items concept ≡ true → (n : ℕ) → has (list_of near concept) n ≡ true → has found n ≡ true
 
+-- the concept of a turn has a place in the order
+pub turn_within : (turns : ℕ) (f : Family) (turn : ℕ) → turn < turns → turn_of f turns turn < turns
+turn_within turns family.Ancestors turn inside = omega arith
+turn_within turns family.Descendants turn inside = inside
+turn_within turns family.Parents turn inside = omega arith
+turn_within turns family.Children turn inside = inside
+
 module _ (release : Release) (rows : List (ℕ × ℕ)) (order : List ℕ) (rising : IsStrictlyIncreasing release.concepts)
     (within : IsWithin (length release.concepts) rows) (are : map (row_of_numbers release.concepts) rows ≡ release.isa)
     (first : IsParentsFirst (length release.concepts) rows order) where
@@ -59,15 +66,9 @@ module _ (release : Release) (rows : List (ℕ × ℕ)) (order : List ℕ) (risi
   abbrev pub at : Family → ℕ → ℕ
   at f turn = get_or order (turn_of f turns turn) 0
 
-  turn_within : (f : Family) (turn : ℕ) → turn < turns → turn_of f turns turn < turns
-  turn_within family.Ancestors turn inside = omega arith
-  turn_within family.Descendants turn inside = inside
-  turn_within family.Parents turn inside = omega arith
-  turn_within family.Children turn inside = inside
-
   pub at_below : (f : Family) (turn : ℕ) → turn < turns → at f turn < count
   at_below f turn inside =
-      (first.members (at f turn)).0 (Contains-get_or order (turn_of f turns turn) 0 (turn_within f turn inside))
+      (first.members (at f turn)).0 (Contains-get_or order (turn_of f turns turn) 0 (turn_within turns f turn inside))
 
   -- each concept has its turn
   has_turn : (f : Family) → is_whole f ≡ true → (concept : ℕ) → concept < count → (turn : ℕ) × (turn < turns) × (at f turn ≡ concept)

@@ -353,6 +353,28 @@ joined_reads sort sizes choices parts place part inside is rest_is found also fe
     let most : sizes.of_parts choices (take (place + 1) parts) ≤ all = sum_most sort sizes choices parts (place + 1) in
     omega (arith, few, fewer, sum_more sort sizes choices parts place part inside is rest_is, most, times)
 
+-- so many times a number, for one place more, and for a place before the last
+pub times_more : {place count : ℕ} (all : ℕ) → place < count → (place + 1) * all ≤ count * all
+times_more all inside = mul-le-mul_right all (omega (arith, inside))
+
+pub times_less : {place count : ℕ} (all : ℕ) → place < count → place * all + 0 ≤ count * all
+times_less {place} {count} all inside =
+    let less : place * all ≤ count * all = mul-le-mul_right all (omega (arith, inside)) in
+    omega (arith, less)
+
+-- ---- what is counted is within more
+pub counted_beside : {after : ℕ} (before found sum : ℕ) → after ≤ before + sum → after ≤ before + (found + sum)
+counted_beside before found sum within = omega (arith, within)
+
+pub counted_without : {after : ℕ} (before sum : ℕ) → after ≤ before + sum → after ≤ before + (sum + 0)
+counted_without before sum within = omega (arith, within)
+
+pub counted_twice : {after : ℕ} (before found sum : ℕ) → after ≤ before + (found + sum) → after ≤ before + (2 * found + sum)
+counted_twice before found sum within = omega (arith, within)
+
+pub counted_first : {after first : ℕ} (before found sum : ℕ) → after ≤ before + first → first ≤ found + sum → after ≤ before + (2 * found + sum)
+counted_first before found sum within less = omega (arith, within, less)
+
 -- ---- values along types
 -- the first type, and those behind it
 pub along_one : (indexed : Indexed) (place first : ℕ)

@@ -1,4 +1,4 @@
-use Rattle.std.proofs.Common.{ℕ, List, ◌+◌, ◌*◌, ◌≤◌, ◌∙◌, ◌&&◌, ◌==◌, Bool, true, drop, length, get_or, sym, ap, refl, arith, take, mul-le-mul_right, le_of_lt, Option}
+use Rattle.std.proofs.Common.{le_of_eq, subst, le_trans, zero-add, ℕ, List, ◌+◌, ◌*◌, ◌≤◌, ◌∙◌, ◌&&◌, ◌==◌, Bool, true, drop, length, get_or, sym, ap, refl, arith, take, le_of_lt, Option}
 use Rattle.std.specs.Prelude.{filter, slice_get}
 use Rattle.std.specs.List.{list_all, list_any, range_with_len}
 use Rattle.std.proofs.lemmas.List.{nil_from_length, take_all}
@@ -9,8 +9,8 @@ use Rattle.set_algebra.specs.Meaning.{unit_means, has_groups, has_pairs, leads, 
 use Rattle.pair_sets.specs.Tested.{is_one_of}
 use Rattle.pair_sets.specs.declared.candidates.Candidates.{Candidates}
 use Rattle.pair_sets.proofs.UnitLemmas.{units_found, units_within as units_of_candidates}
-use Rattle.set_algebra.specs.Plan.{PlanOfUnits, Plan, and_units, and_plan, unit_plan_of, unit_plans_of, members_plan, minus_units, minus_plan, or_units, or_plan, outside_plan, pairs_units, pairs_plan, plan_of, plans_of, test_plan_of, units_plan, values_plan, walk_plan, within_plan}
-use Rattle.set_algebra.proofs.PlanLemmas.{unit_plan_of-And, unit_plan_of-Or, plan_of-And, plan_of-Or, plan_of-Values}
+use Rattle.set_algebra.specs.Plan.{PlanOfUnits, Plan, TestPlan, unit_plan_of, unit_plans_of, members_plan, minus_units, minus_plan, pairs_units, pairs_plan, plan_of, plans_of, test_plan_of, values_plan, walk_plan}
+use Rattle.set_algebra.proofs.PlanLemmas.{plan_of-Values}
 use Rattle.number_lists.specs.Members.{has}
 use Rattle.number_lists.specs.Rising.{numbers_where}
 use Rattle.postings.specs.Groups.{all_groups}
@@ -23,22 +23,24 @@ use Rattle.executor.specs.inside.Lead.{leads_off, leads_off_groups}
 use Rattle.pair_sets.specs.Within.{groups_within, may_be, numbers_within}
 use Rattle.rf2_rows.specs.Pairs.{Pair}
 use Rattle.set_algebra.specs.declared.choice.Choice.{Choice}
-use Rattle.planner.specs.Bounds.{values_bound}
-use Rattle.planner.specs.Floors.{floor_number}
+use Rattle.planner.specs.Bounds.{group_own_bound, own_bound, own_number, values_bound}
+use Rattle.planner.specs.Floors.{floor_number, group_own_floor, own_floor}
 use Rattle.planner.specs.Leaves.{leaves}
-use Rattle.planner.specs.Nodes.{node_sum, plans_sum}
-use Rattle.planner.specs.Sizes.{group_sizes, sizes, total}
+use Rattle.planner.specs.Nodes.{groups_sum, node_sum, plans_sum}
+use Rattle.planner.specs.Sizes.{group_sizes, size, sizes, test_size, total}
 use Rattle.planner.proofs.FloorLemmas.{floor-le-bound, group_floor-le-bound}
 use Rattle.planner.proofs.LoopLemmas.{concept_sum, of_concepts, of_groups, unit_sum}
-use Rattle.planner.proofs.PartLemmas.{group_count-parts, plan_count-parts, values_are}
+use Rattle.planner.proofs.PartLemmas.{and_are, and_units_are, group_count-parts, or_are, or_units_are, plan_count-parts, units_are, values_are}
 use Rattle.executor.proofs.GroupNodeLemmas as groups
 use Rattle.pair_sets.proofs.LeafLemmas.{sources_known}
 use Rattle.executor.proofs.NodeLemmas.{all_node, and_node, members_node, name_step, one_node, or_node, outside_passes, pairs_node, units_node, values_node, within_passes}
+use Rattle.executor.proofs.NodeWork.{call_floor, group_call_floor, group_floor, group_within, leaf_floor, leaf_reads, members_are, no_floor, no_floor_of_groups, no_minus, no_minus_of_units, no_pairs, no_pairs_of_units, node_floor, node_within, test_floor, test_found, test_outside, test_reads, test_within, two_floor, two_read, types_found, walk_is}
 use Rattle.executor.proofs.PartWork.{concepts_found, concepts_read, few_found, few_groups, few_joined, few_joined_groups, few_values, groups_found, groups_read}
 use Rattle.pair_sets.proofs.WithinLemmas.{all_of_none, all_within, none_within, some_of_none, some_within}
 use Rattle.pair_sets.proofs.WithinLemmas.{kept_groups, kept_set}
+use Rattle.number_lists.proofs.WhereLemmas.{numbers_where-all}
 use Rattle.executor.proofs.WithinNodes.{any_done, empty_within, found_as, found_for, groups_led_again, groups_led_all, groups_same, kept_node, led_again, led_all, meant_within, minus_groups, minus_node, nothing_within, walk_of_part, within_same}
-use Rattle.executor.proofs.WorkLemmas.{all_end, all_most, all_next, all_pass, all_start, all_turn, along_le, along_more, first_within, joined_reads, lead_inside, lead_is, led_reads, no_parts, some_end, some_next, some_start, some_turn}
+use Rattle.executor.proofs.WorkLemmas.{all_end, all_most, all_next, all_pass, all_start, all_turn, along_le, along_more, first_within, counted_beside, counted_first, counted_twice, counted_without, joined_reads, lead_inside, lead_is, led_reads, no_parts, some_end, some_next, some_start, some_turn, times_less, times_more}
 use Rattle.executor.proofs.+execute.Goals as goal
 use Rattle.executor.proofs.+execute.Goals.{joined_plans::in_all-then-place-lead+in_ok-extent+in_ok-next, joined_plans::in_all-else-place-lead, unit_plans::groups_in_all-then-place-lead+in_ok-extent+in_ok-next, unit_plans::groups_in_all-else-place-lead}
 
@@ -193,9 +195,9 @@ joined_plans::in_all-loop-place-preserved g t c =
             bound = ap (λ (found : _). g.S.ConceptSet.bound_of found) w.found-is ∙ w.in_ok-next.ensures.bound;
             work = all_turn c.loop-place.invariant.work c.index-parts-place.result c.loop-place-test.true c.index-parts-place.is
                 w.if-place-lead.true c.plan_floor.ensures.rest
-                (omega (arith, w.execute_within.ensures.grows, w.add.ensures.grows, ap (λ (visits : _). visits.count) w.visits-is))
+                (le_trans (le_trans w.execute_within.ensures.grows w.add.ensures.grows) (le_of_eq (sym (ap (λ (visits : _). visits.count) w.visits-is))))
                 (omega (arith, w.execute_within.ensures.within, w.add.ensures.count, w.in_ok-next.ensures.size, ap (λ (visits : _). visits.count) w.visits-is))
-                (omega (arith, w.in_ok-next.ensures.floor, w.add.ensures.grows, ap (λ (visits : _). visits.count) w.visits-is));
+                (le_trans (le_trans w.in_ok-next.ensures.floor w.add.ensures.grows) (le_of_eq (sym (ap (λ (visits : _). visits.count) w.visits-is))));
           }
       | joined_plans::in_all-else-place-lead w ↦
           record {
@@ -222,31 +224,25 @@ joined_plans::in_all-returns-clause-items g t c =
 pub joined_plans::in_all-returns-in_err-found-clause-within : goal.joined_plans::in_all-returns-in_err-found-clause-within
 joined_plans::in_all-returns-in_err-found-clause-within g t c =
     let inside = lead_inside c.lead_of.result c.is_empty.ensures c.if-is_empty.false c.min-lead.ensures in
-    omega (
-      arith,
-      c.led_by.ensures.within,
-      first_within of_concepts (concepts_read c.args.indexes.now) c.args.parts.now c.min-lead.result c.choices_at-at.ensures inside,
-    )
+    counted_first _ _ _ c.led_by.ensures.within
+    (first_within of_concepts (concepts_read c.args.indexes.now) c.args.parts.now c.min-lead.result c.choices_at-at.ensures inside)
 
 pub joined_plans::in_all-returns-in_err-extent-clause-within : goal.joined_plans::in_all-returns-in_err-extent-clause-within
 joined_plans::in_all-returns-in_err-extent-clause-within g t c =
     let inside = lead_inside c.lead_of.result c.is_empty.ensures c.if-is_empty.false c.min-lead.ensures in
-    omega (arith, all_most c.loop-place.invariant.work inside)
+    counted_twice _ _ _ (all_most c.loop-place.invariant.work inside)
 
 pub joined_plans::in_all-returns-in_err-next-clause-within : goal.joined_plans::in_all-returns-in_err-next-clause-within
 joined_plans::in_all-returns-in_err-next-clause-within g t c =
     let inside = lead_inside c.lead_of.result c.is_empty.ensures c.if-is_empty.false c.min-lead.ensures in
-    omega (
-      arith,
-      all_next {next = c.execute_within.new.visits.count} c.loop-place.invariant.work inside c.index-parts-place.result
-          c.loop-place-test.true c.index-parts-place.is c.if-place-lead.true
-          (omega (arith, c.execute_within.ensures.within)),
-    )
+    counted_twice _ _ _
+    (all_next {next = c.execute_within.new.visits.count} c.loop-place.invariant.work inside c.index-parts-place.result
+    c.loop-place-test.true c.index-parts-place.is c.if-place-lead.true (counted_beside _ _ _ c.execute_within.ensures.within))
 
 pub joined_plans::in_all-returns-clause-within : goal.joined_plans::in_all-returns-clause-within
 joined_plans::in_all-returns-clause-within g t c =
     let inside = lead_inside c.lead_of.result c.is_empty.ensures c.if-is_empty.false c.min-lead.ensures in
-    omega (arith, (all_end c.loop-place.invariant.work (omega arith) inside).within)
+    counted_twice _ _ _ (all_end c.loop-place.invariant.work (omega arith) inside).within
 
 pub joined_plans::in_all-returns-clause-floor : goal.joined_plans::in_all-returns-clause-floor
 joined_plans::in_all-returns-clause-floor g t c =
@@ -294,17 +290,12 @@ joined_plans::in_some-loop-part-preserved g t c =
 pub joined_plans::in_some-returns-in_err-next-clause-within : goal.joined_plans::in_some-returns-in_err-next-clause-within
 joined_plans::in_some-returns-in_err-next-clause-within g t c =
     let indexed = c.args.indexes.now in
-    omega (
-      arith,
-      some_next {next = c.execute_tallied.new.visits.count} c.loop-part.invariant.work c.part-item.result c.loop-part-test.true c.part-item.is 0
-          (omega (
-            arith,
-            mul-le-mul_right {m = c.loop-part.part-index} (total (sizes indexed c.args.choices.now (plans_of c.args.parts.now)))
-                (le_of_lt c.loop-part-test.true),
-          ))
-          (omega (arith, c.execute_tallied.ensures.within)),
-      ap (λ (count : ℕ). count * total (sizes indexed c.args.choices.now (plans_of c.args.parts.now))) (plan_count-parts c.args.parts.now),
-    )
+    let all : ℕ = total (sizes indexed c.args.choices.now (plans_of c.args.parts.now)) in
+    let most : ℕ = plans_sum (own_number indexed) c.args.choices.now (plans_of c.args.parts.now) in
+    subst (λ (count : ℕ). c.execute_tallied.new.visits.count ≤ c.args.visits.now.count + (count * all + most))
+    (sym (plan_count-parts c.args.parts.now))
+    (some_next {next = c.execute_tallied.new.visits.count} c.loop-part.invariant.work c.part-item.result c.loop-part-test.true c.part-item.is 0
+    (times_less all c.loop-part-test.true) (counted_without _ _ c.execute_tallied.ensures.within))
 
 pub joined_plans::in_some-returns-in_err-found-2-clause-within : goal.joined_plans::in_some-returns-in_err-found-2-clause-within
 joined_plans::in_some-returns-in_err-found-2-clause-within g t c =
@@ -320,15 +311,11 @@ joined_plans::in_some-returns-in_err-found-2-clause-within g t c =
     (sources_known release c.concept_count.ensures.rising c.attribute_count.ensures.by_source) c.args.choices.now
     (take c.loop-part.part-index c.args.parts.now) may (g.S.ConceptSet.items_of c.loop-part.found) c.loop-part.invariant.items)
     c.in_ok-next.ensures.size in
-    let more : (c.loop-part.part-index + 1) * all ≤ length c.args.parts.now * all = mul-le-mul_right all (omega (arith, c.loop-part-test.true)) in
-    omega (
-      arith,
-      some_next {next = c.add.new.self.count} c.loop-part.invariant.work c.part-item.result c.loop-part-test.true c.part-item.is
-          (length (g.S.ConceptSet.items_of c.loop-part.found) + length (g.S.ConceptSet.items_of c.in_ok-next.next))
-          (omega (arith, reads, more))
-          (omega (arith, c.execute_tallied.ensures.within, c.add.ensures.count)),
-      ap (λ (count : ℕ). count * all) (plan_count-parts c.args.parts.now),
-    )
+    let most : ℕ = plans_sum (own_number indexed) c.args.choices.now (plans_of c.args.parts.now) in
+    subst (λ (count : ℕ). c.add.new.self.count ≤ c.args.visits.now.count + (count * all + most)) (sym (plan_count-parts c.args.parts.now))
+    (some_next {next = c.add.new.self.count} c.loop-part.invariant.work c.part-item.result c.loop-part-test.true c.part-item.is
+    (length (g.S.ConceptSet.items_of c.loop-part.found) + length (g.S.ConceptSet.items_of c.in_ok-next.next))
+    (le_trans reads (times_more all c.loop-part-test.true)) (omega (arith, c.execute_tallied.ensures.within, c.add.ensures.count)))
 
 pub joined_plans::in_some-returns-clause-within : goal.joined_plans::in_some-returns-clause-within
 joined_plans::in_some-returns-clause-within g t c =
@@ -453,7 +440,7 @@ plans::tested_of-returns-in_ok-set-in-Within-clause-passes g t c =
     let release = c.args.snapshot.now.release in
     within_passes release (plan_of c.deref.result.now) c.args.indexes.now.concepts (g.S.ConceptSet.items_of c.in_ok-set-in-Within.set)
     (test_plan_of c.args.test.now)
-    (ap test_plan_of c.in-Within.is ∙ ap (λ (operand : ConceptPlan). within_plan (plan_of operand)) (sym c.deref.ensures))
+    (test_within c.in-Within.operand c.in-Within.is c.deref.ensures)
     c.requires.index.concepts c.in_ok-set-in-Within.ensures.items
 
 pub plans::tested_of-returns-in_ok-set-in-Outside-clause-passes : goal.plans::tested_of-returns-in_ok-set-in-Outside-clause-passes
@@ -461,7 +448,7 @@ plans::tested_of-returns-in_ok-set-in-Outside-clause-passes g t c =
     let release = c.args.snapshot.now.release in
     outside_passes release (plan_of c.deref-in-Outside.result.now) c.args.indexes.now.concepts (g.S.ConceptSet.items_of c.in_ok-set-in-Outside.set)
     (test_plan_of c.args.test.now)
-    (ap test_plan_of c.in-Outside.is ∙ ap (λ (operand : ConceptPlan). outside_plan (plan_of operand)) (sym c.deref-in-Outside.ensures))
+    (test_outside c.in-Outside.operand c.in-Outside.is c.deref-in-Outside.ensures)
     c.requires.index.concepts c.in_ok-set-in-Outside.ensures.items
 
 pub unit_plans::execute_groups-returns-then-none_left-clause-items : goal.unit_plans::execute_groups-returns-then-none_left-clause-items
@@ -544,9 +531,9 @@ unit_plans::groups_in_all-loop-place-preserved g t c =
             bound = ap (λ (found : _). g.S.ConceptSet.bound_of found) w.groups-is ∙ w.in_ok-next.ensures.bound;
             work = all_turn c.loop-place.invariant.work c.index-parts-place.result c.loop-place-test.true c.index-parts-place.is
                 w.if-place-lead.true c.unit_floor.ensures.rest
-                (omega (arith, w.execute_groups.ensures.grows, w.add.ensures.grows, ap (λ (visits : _). visits.count) w.visits-is))
+                (le_trans (le_trans w.execute_groups.ensures.grows w.add.ensures.grows) (le_of_eq (sym (ap (λ (visits : _). visits.count) w.visits-is))))
                 (omega (arith, w.execute_groups.ensures.within, w.add.ensures.count, w.in_ok-next.ensures.size, ap (λ (visits : _). visits.count) w.visits-is))
-                (omega (arith, w.in_ok-next.ensures.floor, w.add.ensures.grows, ap (λ (visits : _). visits.count) w.visits-is));
+                (le_trans (le_trans w.in_ok-next.ensures.floor w.add.ensures.grows) (le_of_eq (sym (ap (λ (visits : _). visits.count) w.visits-is))));
           }
       | unit_plans::groups_in_all-else-place-lead w ↦
           record {
@@ -574,31 +561,25 @@ unit_plans::groups_in_all-returns-clause-items g t c =
 pub unit_plans::groups_in_all-returns-in_err-groups-clause-within : goal.unit_plans::groups_in_all-returns-in_err-groups-clause-within
 unit_plans::groups_in_all-returns-in_err-groups-clause-within g t c =
     let inside = lead_inside c.group_lead_of.result c.is_empty.ensures c.if-is_empty.false c.min-lead.ensures in
-    omega (
-      arith,
-      c.groups_led_by.ensures.within,
-      first_within of_groups (groups_read c.args.indexes.now) c.args.parts.now c.min-lead.result c.unit_choices_at-at.ensures inside,
-    )
+    counted_first _ _ _ c.groups_led_by.ensures.within
+    (first_within of_groups (groups_read c.args.indexes.now) c.args.parts.now c.min-lead.result c.unit_choices_at-at.ensures inside)
 
 pub unit_plans::groups_in_all-returns-in_err-extent-clause-within : goal.unit_plans::groups_in_all-returns-in_err-extent-clause-within
 unit_plans::groups_in_all-returns-in_err-extent-clause-within g t c =
     let inside = lead_inside c.group_lead_of.result c.is_empty.ensures c.if-is_empty.false c.min-lead.ensures in
-    omega (arith, all_most c.loop-place.invariant.work inside)
+    counted_twice _ _ _ (all_most c.loop-place.invariant.work inside)
 
 pub unit_plans::groups_in_all-returns-in_err-next-clause-within : goal.unit_plans::groups_in_all-returns-in_err-next-clause-within
 unit_plans::groups_in_all-returns-in_err-next-clause-within g t c =
     let inside = lead_inside c.group_lead_of.result c.is_empty.ensures c.if-is_empty.false c.min-lead.ensures in
-    omega (
-      arith,
-      all_next {next = c.execute_groups.new.visits.count} c.loop-place.invariant.work inside c.index-parts-place.result
-          c.loop-place-test.true c.index-parts-place.is c.if-place-lead.true
-          (omega (arith, c.execute_groups.ensures.within)),
-    )
+    counted_twice _ _ _
+    (all_next {next = c.execute_groups.new.visits.count} c.loop-place.invariant.work inside c.index-parts-place.result
+    c.loop-place-test.true c.index-parts-place.is c.if-place-lead.true (counted_beside _ _ _ c.execute_groups.ensures.within))
 
 pub unit_plans::groups_in_all-returns-clause-within : goal.unit_plans::groups_in_all-returns-clause-within
 unit_plans::groups_in_all-returns-clause-within g t c =
     let inside = lead_inside c.group_lead_of.result c.is_empty.ensures c.if-is_empty.false c.min-lead.ensures in
-    omega (arith, (all_end c.loop-place.invariant.work (omega arith) inside).within)
+    counted_twice _ _ _ (all_end c.loop-place.invariant.work (omega arith) inside).within
 
 pub unit_plans::groups_in_all-returns-clause-floor : goal.unit_plans::groups_in_all-returns-clause-floor
 unit_plans::groups_in_all-returns-clause-floor g t c =
@@ -659,26 +640,21 @@ unit_plans::groups_in_some-returns-in_err-groups-2-clause-within g t c =
     (take c.loop-part.part-index c.args.parts.now) may (g.S.ConceptSet.items_of c.loop-part.groups)
     (any_done release may (take c.loop-part.part-index c.args.parts.now) (g.S.ConceptSet.items_of c.loop-part.groups) c.loop-part.invariant.items))
     c.in_ok-next.ensures.size in
-    let more : (c.loop-part.part-index + 1) * all ≤ length c.args.parts.now * all = mul-le-mul_right all (omega (arith, c.loop-part-test.true)) in
-    omega (
-      arith,
-      some_next {next = c.add.new.self.count} c.loop-part.invariant.work c.part-item.result c.loop-part-test.true c.part-item.is
-          (length (g.S.ConceptSet.items_of c.loop-part.groups) + length (g.S.ConceptSet.items_of c.in_ok-next.next))
-          (omega (arith, reads, more))
-          (omega (arith, c.execute_groups.ensures.within, c.add.ensures.count)),
-      ap (λ (count : ℕ). count * all) (group_count-parts c.args.parts.now),
-    )
+    let most : ℕ = groups_sum (own_number indexed) c.args.choices.now (unit_plans_of c.args.parts.now) in
+    subst (λ (count : ℕ). c.add.new.self.count ≤ c.args.visits.now.count + (count * all + most)) (sym (group_count-parts c.args.parts.now))
+    (some_next {next = c.add.new.self.count} c.loop-part.invariant.work c.part-item.result c.loop-part-test.true c.part-item.is
+    (length (g.S.ConceptSet.items_of c.loop-part.groups) + length (g.S.ConceptSet.items_of c.in_ok-next.next))
+    (le_trans reads (times_more all c.loop-part-test.true)) (omega (arith, c.execute_groups.ensures.within, c.add.ensures.count)))
 
 pub unit_plans::groups_in_some-returns-in_err-next-clause-within : goal.unit_plans::groups_in_some-returns-in_err-next-clause-within
 unit_plans::groups_in_some-returns-in_err-next-clause-within g t c =
     let indexed = c.args.indexes.now in
     let all : ℕ = total (group_sizes indexed c.args.choices.now (unit_plans_of c.args.parts.now)) in
-    omega (
-      arith,
-      some_next {next = c.execute_groups.new.visits.count} c.loop-part.invariant.work c.part-item.result c.loop-part-test.true c.part-item.is 0
-          (omega (arith, mul-le-mul_right {m = c.loop-part.part-index} all (le_of_lt c.loop-part-test.true))) (omega (arith, c.execute_groups.ensures.within)),
-      ap (λ (count : ℕ). count * all) (group_count-parts c.args.parts.now),
-    )
+    let most : ℕ = groups_sum (own_number indexed) c.args.choices.now (unit_plans_of c.args.parts.now) in
+    subst (λ (count : ℕ). c.execute_groups.new.visits.count ≤ c.args.visits.now.count + (count * all + most))
+    (sym (group_count-parts c.args.parts.now))
+    (some_next {next = c.execute_groups.new.visits.count} c.loop-part.invariant.work c.part-item.result c.loop-part-test.true c.part-item.is 0
+    (times_less all c.loop-part-test.true) (counted_without _ _ c.execute_groups.ensures.within))
 
 pub unit_plans::groups_in_some-returns-clause-within : goal.unit_plans::groups_in_some-returns-clause-within
 unit_plans::groups_in_some-returns-clause-within g t c =
@@ -746,7 +722,7 @@ plans::execute_node-returns-in-Walk-clause-items g t c =
     let may : ℕ → Bool = may_be g.S.ConceptSet.items_of c.args.candidates.now in
     found_as g.S.ConceptSet.items_of c.walk_from.result
     (meant_within release may (plan_of c.args.plan.now) (walk_plan c.in-Walk.operator (plan_of c.deref.result.now))
-    (ap plan_of c.in-Walk.is ∙ ap (λ (plan : ConceptPlan). walk_plan c.in-Walk.operator (plan_of plan)) (sym c.deref.ensures)))
+    (walk_is c.in-Walk.operator c.in-Walk.operand c.in-Walk.is c.deref.ensures))
     c.walk_from.ensures.items
 
 pub plans::execute_node-returns-in-Members-clause-items : goal.plans::execute_node-returns-in-Members-clause-items
@@ -755,7 +731,7 @@ plans::execute_node-returns-in-Members-clause-items g t c =
     let may : ℕ → Bool = may_be g.S.ConceptSet.items_of c.args.candidates.now in
     found_as g.S.ConceptSet.items_of c.members_of.result
     (meant_within release may (plan_of c.args.plan.now) (members_plan (plan_of c.deref-in-Members.result.now))
-    (ap plan_of c.in-Members.is ∙ ap (λ (plan : ConceptPlan). members_plan (plan_of plan)) (sym c.deref-in-Members.ensures)))
+    (members_are c.in-Members.operand c.in-Members.is c.deref-in-Members.ensures))
     c.members_of.ensures.items
 
 pub plans::execute_node-returns-in-And-clause-items : goal.plans::execute_node-returns-in-And-clause-items
@@ -765,8 +741,7 @@ plans::execute_node-returns-in-And-clause-items g t c =
     let plan : Plan = plan_of c.args.plan.now in
     let parts = c.deref-in-And.result.now in
     let some : ℕ → Bool = λ concept. list_all (λ part. means release (plan_of part) concept) parts in
-    let is = ap plan_of c.in-And.is ∙ plan_of-And c.in-And.parts
-    ∙ ap (λ (parts : List ConceptPlan). and_plan (plans_of parts)) (sym c.deref-in-And.ensures.value) in
+    let is = and_are c.in-And.parts c.in-And.is c.deref-in-And.ensures.value in
     found_as g.S.ConceptSet.items_of c.in_all.result
     (within_same release may some (means release plan) (and_node release plan (numbers_in release some) parts is refl))
     c.in_all.ensures.items
@@ -778,8 +753,7 @@ plans::execute_node-returns-in-Or-clause-items g t c =
     let plan : Plan = plan_of c.args.plan.now in
     let parts = c.deref-in-Or.result.now in
     let some : ℕ → Bool = λ concept. list_any (λ part. means release (plan_of part) concept) parts in
-    let is = ap plan_of c.in-Or.is ∙ plan_of-Or c.in-Or.parts
-    ∙ ap (λ (parts : List ConceptPlan). or_plan (plans_of parts)) (sym c.deref-in-Or.ensures.value) in
+    let is = or_are c.in-Or.parts c.in-Or.is c.deref-in-Or.ensures.value in
     found_as g.S.ConceptSet.items_of c.in_some.result
     (within_same release may some (means release plan) (or_node release plan (numbers_in release some) parts is refl))
     c.in_some.ensures.items
@@ -791,7 +765,7 @@ plans::execute_node-returns-in-Units-clause-items g t c =
     let plan : Plan = plan_of c.args.plan.now in
     let units = c.deref-in-Units.result.now in
     let some : ℕ → Bool = has_groups release c.in-Units.count (unit_means release (unit_plan_of units)) in
-    let is = ap plan_of c.in-Units.is ∙ ap (λ (units : UnitPlan). units_plan c.in-Units.count (unit_plan_of units)) (sym c.deref-in-Units.ensures) in
+    let is = units_are c.in-Units.units c.in-Units.is c.deref-in-Units.ensures in
     found_as g.S.ConceptSet.items_of c.units_within.result
     (within_same release may some (means release plan)
     (units_node release plan (numbers_in release some) c.in-Units.count (unit_plan_of units) is refl))
@@ -821,8 +795,7 @@ unit_plans::execute_group_node-returns-in-And-clause-items g t c =
     let plan : PlanOfUnits = unit_plan_of c.args.plan.now in
     let parts = c.deref.result.now in
     let some : List Pair → Bool = λ pairs. list_all (λ part. unit_means release (unit_plan_of part) pairs) parts in
-    let is = ap unit_plan_of c.in-And.is ∙ unit_plan_of-And c.in-And.parts
-    ∙ ap (λ (parts : List UnitPlan). and_units (unit_plans_of parts)) (sym c.deref.ensures.value) in
+    let is = and_units_are c.in-And.parts c.in-And.is c.deref.ensures.value in
     found_as g.S.ConceptSet.items_of c.groups_in_all.result
     (groups_same release may some (unit_means release plan) (groups.and_node release plan (groups_where release some) parts is refl))
     c.groups_in_all.ensures.items
@@ -834,8 +807,7 @@ unit_plans::execute_group_node-returns-in-Or-clause-items g t c =
     let plan : PlanOfUnits = unit_plan_of c.args.plan.now in
     let parts = c.deref-in-Or.result.now in
     let some : List Pair → Bool = λ pairs. list_any (λ part. unit_means release (unit_plan_of part) pairs) parts in
-    let is = ap unit_plan_of c.in-Or.is ∙ unit_plan_of-Or c.in-Or.parts
-    ∙ ap (λ (parts : List UnitPlan). or_units (unit_plans_of parts)) (sym c.deref-in-Or.ensures.value) in
+    let is = or_units_are c.in-Or.parts c.in-Or.is c.deref-in-Or.ensures.value in
     found_as g.S.ConceptSet.items_of c.groups_in_some.result
     (groups_same release may some (unit_means release plan) (groups.or_node release plan (groups_where release some) parts is refl))
     c.groups_in_some.ensures.items
@@ -936,7 +908,8 @@ unit_plans::groups_in_first_alone-returns-in_ok-groups-in-Minus-clause-items g t
     (ap unit_plan_of c.in-Minus.is ∙ (λ i. minus_units (unit_plan_of (sym c.deref.ensures i)) (unit_plan_of (sym c.deref-in-Minus-3.ensures i))))
     c.in_ok-left-in-Minus.ensures.items c.in_ok-right-in-Minus.ensures.items c.in_ok-groups-in-Minus.ensures.items
 
-pub unit_plans::groups_with_pairs-returns-in_ok-found-in-Pairs-clause-items : goal.unit_plans::groups_with_pairs-returns-in_ok-found-in-Pairs-clause-items
+pub unit_plans::groups_with_pairs-returns-in_ok-found-in-Pairs-clause-items :
+    goal.unit_plans::groups_with_pairs-returns-in_ok-found-in-Pairs-clause-items
 unit_plans::groups_with_pairs-returns-in_ok-found-in-Pairs-clause-items g t c =
     let release = c.args.snapshot.now.release in
     let may : ℕ → Bool = may_be g.S.ConceptSet.items_of c.args.candidates.now in
@@ -951,3 +924,324 @@ unit_plans::groups_with_pairs-returns-in_ok-found-in-Pairs-clause-items g t c =
     (ap unit_plan_of c.in-Pairs.is
     ∙ ap (λ (types : ConceptPlan). pairs_units c.in-Pairs.count (plan_of types) (test_plan_of c.in-Pairs.test)) (sym c.deref-in-Pairs.ensures))
     c.requires.index.concepts c.in_ok-typed-in-Pairs.ensures.items refl)
+
+pub joined_plans::in_all-returns-then-is_empty-clause-items : goal.joined_plans::in_all-returns-then-is_empty-clause-items
+joined_plans::in_all-returns-then-is_empty-clause-items g t c =
+    let release = c.args.snapshot.now.release in
+    let may : ℕ → Bool = may_be g.S.ConceptSet.items_of c.args.candidates.now in
+    kept_set release may (λ concept. true) (range_with_len 0 (length release.concepts)) (g.S.ConceptSet.items_of c.in_ok-every.every)
+    (sym (numbers_where-all (length release.concepts))) c.in_ok-every.ensures.items
+    ∙ ap (λ (parts : List ConceptPlan). numbers_within release may (λ concept. list_all (λ part. means release (plan_of part) concept) parts))
+    (sym (nil_from_length c.args.parts.now (no_parts c.is_empty.ensures c.if-is_empty.true)))
+
+pub joined_plans::in_all-returns-then-is_empty-clause-floor : goal.joined_plans::in_all-returns-then-is_empty-clause-floor
+joined_plans::in_all-returns-then-is_empty-clause-floor g t c =
+    no_floor c.args.indexes.now c.args.choices.now c.args.visits.now.count
+    (nil_from_length c.args.parts.now (no_parts c.is_empty.ensures c.if-is_empty.true))
+
+pub unit_plans::groups_in_all-returns-then-is_empty-clause-floor : goal.unit_plans::groups_in_all-returns-then-is_empty-clause-floor
+unit_plans::groups_in_all-returns-then-is_empty-clause-floor g t c =
+    no_floor_of_groups c.args.indexes.now c.args.choices.now c.args.visits.now.count
+    (nil_from_length c.args.parts.now (no_parts c.is_empty.ensures c.if-is_empty.true))
+
+pub joined_plans::led_by-returns-in_err-found-clause-within : goal.joined_plans::led_by-returns-in_err-found-clause-within
+joined_plans::led_by-returns-in_err-found-clause-within g t c =
+    let indexed = c.args.indexes.now in
+    omega (
+      arith,
+      c.execute_within.ensures.within,
+      lead_is ((concepts_read indexed).of_part c.args.choices.now) c.args.parts.now c.args.lead c.index-parts-lead.result c.requires.lead
+          c.index-parts-lead.is,
+    )
+
+pub unit_plans::groups_led_by-returns-in_err-groups-clause-within : goal.unit_plans::groups_led_by-returns-in_err-groups-clause-within
+unit_plans::groups_led_by-returns-in_err-groups-clause-within g t c =
+    let indexed = c.args.indexes.now in
+    omega (
+      arith,
+      c.execute_groups.ensures.within,
+      lead_is ((groups_read indexed).of_part c.args.choices.now) c.args.parts.now c.args.lead c.index-parts-lead.result c.requires.lead
+          c.index-parts-lead.is,
+    )
+
+-- what the function of an arm counts is told of the plan that the node is
+
+pub plans::execute_node-returns-in-Walk-clause-within : goal.plans::execute_node-returns-in-Walk-clause-within
+plans::execute_node-returns-in-Walk-clause-within g t c =
+    node_within c.args.indexes.now c.args.choices.now c.args.visits.now.count (walk_is c.in-Walk.operator c.in-Walk.operand c.in-Walk.is c.deref.ensures)
+    c.walk_from.ensures.within
+
+pub plans::execute_node-returns-in-Walk-clause-floor : goal.plans::execute_node-returns-in-Walk-clause-floor
+plans::execute_node-returns-in-Walk-clause-floor g t c =
+    call_floor c.args.indexes.now c.args.choices.now c.args.visits.now.count c.walk_from.result c.walk_from.new.visits.count
+    (walk_is c.in-Walk.operator c.in-Walk.operand c.in-Walk.is c.deref.ensures) refl c.walk_from.ensures.floor
+
+pub plans::execute_node-returns-in-Members-clause-within : goal.plans::execute_node-returns-in-Members-clause-within
+plans::execute_node-returns-in-Members-clause-within g t c =
+    node_within c.args.indexes.now c.args.choices.now c.args.visits.now.count (members_are c.in-Members.operand c.in-Members.is c.deref-in-Members.ensures)
+    c.members_of.ensures.within
+
+pub plans::execute_node-returns-in-Members-clause-floor : goal.plans::execute_node-returns-in-Members-clause-floor
+plans::execute_node-returns-in-Members-clause-floor g t c =
+    call_floor c.args.indexes.now c.args.choices.now c.args.visits.now.count c.members_of.result c.members_of.new.visits.count
+    (members_are c.in-Members.operand c.in-Members.is c.deref-in-Members.ensures) refl c.members_of.ensures.floor
+
+pub plans::execute_node-returns-in-And-clause-within : goal.plans::execute_node-returns-in-And-clause-within
+plans::execute_node-returns-in-And-clause-within g t c =
+    node_within c.args.indexes.now c.args.choices.now c.args.visits.now.count
+    (and_are c.in-And.parts c.in-And.is c.deref-in-And.ensures.value) c.in_all.ensures.within
+
+pub plans::execute_node-returns-in-And-clause-floor : goal.plans::execute_node-returns-in-And-clause-floor
+plans::execute_node-returns-in-And-clause-floor g t c =
+    call_floor c.args.indexes.now c.args.choices.now c.args.visits.now.count c.in_all.result c.in_all.new.visits.count
+    (and_are c.in-And.parts c.in-And.is c.deref-in-And.ensures.value) (zero-add _) c.in_all.ensures.floor
+
+pub plans::execute_node-returns-in-Or-clause-within : goal.plans::execute_node-returns-in-Or-clause-within
+plans::execute_node-returns-in-Or-clause-within g t c =
+    node_within c.args.indexes.now c.args.choices.now c.args.visits.now.count
+    (or_are c.in-Or.parts c.in-Or.is c.deref-in-Or.ensures.value) c.in_some.ensures.within
+
+pub plans::execute_node-returns-in-Or-clause-floor : goal.plans::execute_node-returns-in-Or-clause-floor
+plans::execute_node-returns-in-Or-clause-floor g t c =
+    call_floor c.args.indexes.now c.args.choices.now c.args.visits.now.count c.in_some.result c.in_some.new.visits.count
+    (or_are c.in-Or.parts c.in-Or.is c.deref-in-Or.ensures.value) (zero-add _) c.in_some.ensures.floor
+
+pub plans::execute_node-returns-in-Units-clause-floor : goal.plans::execute_node-returns-in-Units-clause-floor
+plans::execute_node-returns-in-Units-clause-floor g t c =
+    call_floor c.args.indexes.now c.args.choices.now c.args.visits.now.count c.units_within.result c.units_within.new.visits.count
+    (units_are c.in-Units.units c.in-Units.is c.deref-in-Units.ensures) refl c.units_within.ensures.floor
+
+pub unit_plans::execute_group_node-returns-in-And-clause-within : goal.unit_plans::execute_group_node-returns-in-And-clause-within
+unit_plans::execute_group_node-returns-in-And-clause-within g t c =
+    group_within c.args.indexes.now c.args.choices.now c.args.visits.now.count (and_units_are c.in-And.parts c.in-And.is c.deref.ensures.value)
+    c.groups_in_all.ensures.within
+
+pub unit_plans::execute_group_node-returns-in-And-clause-floor : goal.unit_plans::execute_group_node-returns-in-And-clause-floor
+unit_plans::execute_group_node-returns-in-And-clause-floor g t c =
+    group_call_floor c.args.indexes.now c.args.choices.now c.args.visits.now.count c.groups_in_all.result c.groups_in_all.new.visits.count
+    (and_units_are c.in-And.parts c.in-And.is c.deref.ensures.value) (zero-add _) c.groups_in_all.ensures.floor
+
+pub unit_plans::execute_group_node-returns-in-Or-clause-within : goal.unit_plans::execute_group_node-returns-in-Or-clause-within
+unit_plans::execute_group_node-returns-in-Or-clause-within g t c =
+    group_within c.args.indexes.now c.args.choices.now c.args.visits.now.count (or_units_are c.in-Or.parts c.in-Or.is c.deref-in-Or.ensures.value)
+    c.groups_in_some.ensures.within
+
+pub unit_plans::execute_group_node-returns-in-Or-clause-floor : goal.unit_plans::execute_group_node-returns-in-Or-clause-floor
+unit_plans::execute_group_node-returns-in-Or-clause-floor g t c =
+    group_call_floor c.args.indexes.now c.args.choices.now c.args.visits.now.count c.groups_in_some.result c.groups_in_some.new.visits.count
+    (or_units_are c.in-Or.parts c.in-Or.is c.deref-in-Or.ensures.value) (zero-add _) c.groups_in_some.ensures.floor
+
+pub plans::tested_of-returns-in_ok-set-in-Within-clause-within : goal.plans::tested_of-returns-in_ok-set-in-Within-clause-within
+plans::tested_of-returns-in_ok-set-in-Within-clause-within g t c =
+    test_reads c.args.indexes.now c.args.choices.now c.args.visits.now.count
+    (test_within c.in-Within.operand c.in-Within.is c.deref.ensures) c.execute_tallied.ensures.within
+
+pub plans::tested_of-returns-in_ok-set-in-Within-clause-floor : goal.plans::tested_of-returns-in_ok-set-in-Within-clause-floor
+plans::tested_of-returns-in_ok-set-in-Within-clause-floor g t c =
+    test_floor c.args.indexes.now c.args.choices.now c.args.visits.now.count (test_within c.in-Within.operand c.in-Within.is c.deref.ensures)
+    c.in_ok-set-in-Within.ensures.floor
+
+pub plans::tested_of-returns-in_ok-set-in-Outside-clause-within : goal.plans::tested_of-returns-in_ok-set-in-Outside-clause-within
+plans::tested_of-returns-in_ok-set-in-Outside-clause-within g t c =
+    test_reads c.args.indexes.now c.args.choices.now c.args.visits.now.count (test_outside c.in-Outside.operand c.in-Outside.is c.deref-in-Outside.ensures)
+    c.in_ok-set-in-Outside.ensures.within
+
+pub plans::tested_of-returns-in_ok-set-in-Outside-clause-floor : goal.plans::tested_of-returns-in_ok-set-in-Outside-clause-floor
+plans::tested_of-returns-in_ok-set-in-Outside-clause-floor g t c =
+    test_floor c.args.indexes.now c.args.choices.now c.args.visits.now.count (test_outside c.in-Outside.operand c.in-Outside.is c.deref-in-Outside.ensures)
+    c.in_ok-set-in-Outside.ensures.floor
+
+pub plans::tested_of-returns-in_ok-set-in-Outside-clause-size : goal.plans::tested_of-returns-in_ok-set-in-Outside-clause-size
+plans::tested_of-returns-in_ok-set-in-Outside-clause-size g t c =
+    subst (λ (test : TestPlan). length (g.S.ConceptSet.items_of c.in_ok-set-in-Outside.set) ≤ test_size c.args.indexes.now c.args.choices.now test)
+    (sym (test_outside c.in-Outside.operand c.in-Outside.is c.deref-in-Outside.ensures)) c.in_ok-set-in-Outside.ensures.size
+
+pub plans::pairs_within-returns-in_default : goal.plans::pairs_within-returns-in_default
+plans::pairs_within-returns-in_default g t c = absurd (no_pairs c.args.plan.now c.requires.plan c.in_default.not-Pairs)
+
+pub plans::in_first_alone-returns-in_default : goal.plans::in_first_alone-returns-in_default
+plans::in_first_alone-returns-in_default g t c = absurd (no_minus c.args.plan.now c.requires.plan c.in_default.not-Minus)
+
+pub unit_plans::groups_with_pairs-returns-in_default : goal.unit_plans::groups_with_pairs-returns-in_default
+unit_plans::groups_with_pairs-returns-in_default g t c = absurd (no_pairs_of_units c.args.plan.now c.requires.plan c.in_default.not-Pairs)
+
+pub unit_plans::groups_in_first_alone-returns-in_default : goal.unit_plans::groups_in_first_alone-returns-in_default
+unit_plans::groups_in_first_alone-returns-in_default g t c = absurd (no_minus_of_units c.args.plan.now c.requires.plan c.in_default.not-Minus)
+
+pub plans::pairs_within-concept_leaf_limits-limits-requires-clause-types : goal.plans::pairs_within-concept_leaf_limits-limits-requires-clause-types
+plans::pairs_within-concept_leaf_limits-limits-requires-clause-types g t c =
+    types_found c.args.indexes.now c.args.choices.now (c.deref-in-Pairs.ensures ∙ sym c.deref-in-Pairs-3.ensures) c.after_first-of_types.ensures
+    (subst (λ (found : ℕ). found ≤ size c.args.indexes.now c.after_first-of_types.result.now (plan_of c.deref-in-Pairs.result.now))
+    (sym c.count.ensures) c.in_ok-typed-in-Pairs.ensures.size)
+
+pub plans::pairs_within-concept_leaf_limits-limits-requires-clause-test : goal.plans::pairs_within-concept_leaf_limits-limits-requires-clause-test
+plans::pairs_within-concept_leaf_limits-limits-requires-clause-test g t c =
+    test_found c.args.indexes.now c.args.choices.now (test_plan_of c.in-Pairs.test) (c.deref.ensures ∙ sym c.deref-in-Pairs-3.ensures)
+    c.after_first-of_types.ensures c.plan_floor.ensures.rest
+    (subst (λ (found : ℕ). found ≤ test_size c.args.indexes.now c.plan_floor.result.rest.now (test_plan_of c.in-Pairs.test))
+    (sym c.count_of_test.ensures) c.in_ok-tested-in-Pairs.ensures.size)
+
+pub plans::pairs_within-returns-in_ok-found-in-Pairs-clause-within : goal.plans::pairs_within-returns-in_ok-found-in-Pairs-clause-within
+plans::pairs_within-returns-in_ok-found-in-Pairs-clause-within g t c =
+    let indexed = c.args.indexes.now in
+    let choices = c.args.choices.now in
+    let test = test_plan_of c.in-Pairs.test in
+    node_within indexed choices c.args.visits.now.count (ap plan_of c.in-Pairs.is)
+    (leaf_reads indexed choices test c.args.visits.now.count c.deref.ensures c.deref-in-Pairs.ensures
+    c.after_first-of_types.ensures c.plan_floor.ensures.rest c.execute_within.ensures.within c.tested_of.ensures.within
+    (λ types. own_bound indexed choices (pairs_plan c.in-Pairs.back c.in-Pairs.count (plan_of types) test))
+    c.deref-in-Pairs-3.ensures c.concept_leaf_limits-limits.ensures.within c.with_pairs_within.ensures.within)
+
+pub plans::pairs_within-returns-in_err-found-in-Pairs-clause-within : goal.plans::pairs_within-returns-in_err-found-in-Pairs-clause-within
+plans::pairs_within-returns-in_err-found-in-Pairs-clause-within g t c =
+    let indexed = c.args.indexes.now in
+    let choices = c.args.choices.now in
+    let test = test_plan_of c.in-Pairs.test in
+    node_within indexed choices c.args.visits.now.count (ap plan_of c.in-Pairs.is)
+    (leaf_reads indexed choices test c.args.visits.now.count c.deref.ensures c.deref-in-Pairs.ensures
+    c.after_first-of_types.ensures c.plan_floor.ensures.rest c.execute_within.ensures.within c.tested_of.ensures.within
+    (λ types. own_bound indexed choices (pairs_plan c.in-Pairs.back c.in-Pairs.count (plan_of types) test))
+    c.deref-in-Pairs-3.ensures c.concept_leaf_limits-limits.ensures.within c.with_pairs_within.ensures.within)
+
+pub plans::pairs_within-returns-in_ok-found-in-Pairs-clause-floor : goal.plans::pairs_within-returns-in_ok-found-in-Pairs-clause-floor
+plans::pairs_within-returns-in_ok-found-in-Pairs-clause-floor g t c =
+    let indexed = c.args.indexes.now in
+    let choices = c.args.choices.now in
+    let test = test_plan_of c.in-Pairs.test in
+    node_floor indexed choices c.args.visits.now.count (ap plan_of c.in-Pairs.is)
+    (leaf_floor indexed choices test c.args.visits.now.count c.deref.ensures c.deref-in-Pairs.ensures
+    c.after_first-of_types.ensures c.plan_floor.ensures.rest c.in_ok-typed-in-Pairs.ensures.floor c.in_ok-tested-in-Pairs.ensures.floor
+    (λ types. own_floor indexed choices (pairs_plan c.in-Pairs.back c.in-Pairs.count (plan_of types) test))
+    c.deref-in-Pairs-3.ensures c.concept_leaf_limits-limits.ensures.floor c.in_ok-found-in-Pairs.ensures.floor)
+
+pub plans::pairs_within-returns-in_ok-found-in-Pairs-clause-grows : goal.plans::pairs_within-returns-in_ok-found-in-Pairs-clause-grows
+plans::pairs_within-returns-in_ok-found-in-Pairs-clause-grows g t c =
+    le_trans c.execute_within.ensures.grows (le_trans c.tested_of.ensures.grows c.with_pairs_within.ensures.grows)
+
+pub plans::pairs_within-returns-in_ok-found-in-Pairs-clause-bound : goal.plans::pairs_within-returns-in_ok-found-in-Pairs-clause-bound
+plans::pairs_within-returns-in_ok-found-in-Pairs-clause-bound g t c = c.in_ok-found-in-Pairs.ensures.bound
+
+pub plans::pairs_within-with_pairs_within-requires-clause-bound : goal.plans::pairs_within-with_pairs_within-requires-clause-bound
+plans::pairs_within-with_pairs_within-requires-clause-bound g t c = c.in_ok-typed-in-Pairs.ensures.bound ∙ ap length (sym c.requires.index.concepts)
+
+pub plans::pairs_within-with_pairs_within-requires-clause-limits : goal.plans::pairs_within-with_pairs_within-requires-clause-limits
+plans::pairs_within-with_pairs_within-requires-clause-limits g t c = c.concept_leaf_limits-limits.ensures.ordered
+
+pub plans::in_first_alone-returns-in_ok-found-in-Minus-clause-within : goal.plans::in_first_alone-returns-in_ok-found-in-Minus-clause-within
+plans::in_first_alone-returns-in_ok-found-in-Minus-clause-within g t c =
+    let indexed = c.args.indexes.now in
+    let choices = c.args.choices.now in
+    node_within indexed choices c.args.visits.now.count (ap plan_of c.in-Minus.is)
+    (two_read of_concepts choices c.args.visits.now.count (concept_sum (own_number indexed))
+    (λ first second. own_bound indexed choices (minus_plan (plan_of first) (plan_of second)))
+    c.deref.ensures c.deref-in-Minus.ensures c.deref-in-Minus-2.ensures c.deref-in-Minus-3.ensures
+    c.in_ok-part-in-Minus.ensures.choices c.execute_within.ensures.within c.second_part.ensures.within c.execute_within-in-Minus.ensures.within)
+
+pub plans::in_first_alone-returns-in_err-found-in-Minus-clause-within : goal.plans::in_first_alone-returns-in_err-found-in-Minus-clause-within
+plans::in_first_alone-returns-in_err-found-in-Minus-clause-within g t c =
+    let indexed = c.args.indexes.now in
+    let choices = c.args.choices.now in
+    node_within indexed choices c.args.visits.now.count (ap plan_of c.in-Minus.is)
+    (two_read of_concepts choices c.args.visits.now.count (concept_sum (own_number indexed))
+    (λ first second. own_bound indexed choices (minus_plan (plan_of first) (plan_of second)))
+    c.deref.ensures c.deref-in-Minus.ensures c.deref-in-Minus-2.ensures c.deref-in-Minus-3.ensures
+    c.in_ok-part-in-Minus.ensures.choices c.execute_within.ensures.within c.second_part.ensures.within c.execute_within-in-Minus.ensures.within)
+
+pub unit_plans::groups_in_first_alone-returns-in_ok-groups-in-Minus-clause-within :
+    goal.unit_plans::groups_in_first_alone-returns-in_ok-groups-in-Minus-clause-within
+unit_plans::groups_in_first_alone-returns-in_ok-groups-in-Minus-clause-within g t c =
+    let indexed = c.args.indexes.now in
+    let choices = c.args.choices.now in
+    group_within indexed choices c.args.visits.now.count (ap unit_plan_of c.in-Minus.is)
+    (two_read of_groups choices c.args.visits.now.count (unit_sum (own_number indexed))
+    (λ first second. group_own_bound indexed choices (minus_units (unit_plan_of first) (unit_plan_of second)))
+    c.deref.ensures c.deref-in-Minus.ensures c.deref-in-Minus-2.ensures c.deref-in-Minus-3.ensures
+    c.in_ok-part-in-Minus.ensures.choices c.execute_groups.ensures.within c.second_unit_part.ensures.within c.execute_groups-in-Minus.ensures.within)
+
+pub unit_plans::groups_in_first_alone-returns-in_err-groups-in-Minus-clause-within :
+    goal.unit_plans::groups_in_first_alone-returns-in_err-groups-in-Minus-clause-within
+unit_plans::groups_in_first_alone-returns-in_err-groups-in-Minus-clause-within g t c =
+    let indexed = c.args.indexes.now in
+    let choices = c.args.choices.now in
+    group_within indexed choices c.args.visits.now.count (ap unit_plan_of c.in-Minus.is)
+    (two_read of_groups choices c.args.visits.now.count (unit_sum (own_number indexed))
+    (λ first second. group_own_bound indexed choices (minus_units (unit_plan_of first) (unit_plan_of second)))
+    c.deref.ensures c.deref-in-Minus.ensures c.deref-in-Minus-2.ensures c.deref-in-Minus-3.ensures
+    c.in_ok-part-in-Minus.ensures.choices c.execute_groups.ensures.within c.second_unit_part.ensures.within c.execute_groups-in-Minus.ensures.within)
+
+pub plans::in_first_alone-returns-in_ok-found-in-Minus-clause-floor : goal.plans::in_first_alone-returns-in_ok-found-in-Minus-clause-floor
+plans::in_first_alone-returns-in_ok-found-in-Minus-clause-floor g t c =
+    let choices = c.args.choices.now in
+    node_floor c.args.indexes.now choices c.args.visits.now.count (ap plan_of c.in-Minus.is)
+    (two_floor of_concepts choices c.args.visits.now.count (concept_sum (floor_number c.args.indexes.now))
+    c.deref.ensures c.deref-in-Minus.ensures c.deref-in-Minus-3.ensures c.in_ok-part-in-Minus.ensures.choices
+    c.in_ok-left-in-Minus.ensures.floor c.second_part.ensures.grows c.in_ok-right-in-Minus.ensures.floor)
+
+pub unit_plans::groups_in_first_alone-returns-in_ok-groups-in-Minus-clause-floor :
+    goal.unit_plans::groups_in_first_alone-returns-in_ok-groups-in-Minus-clause-floor
+unit_plans::groups_in_first_alone-returns-in_ok-groups-in-Minus-clause-floor g t c =
+    let choices = c.args.choices.now in
+    group_floor c.args.indexes.now choices c.args.visits.now.count (ap unit_plan_of c.in-Minus.is)
+    (two_floor of_groups choices c.args.visits.now.count (unit_sum (floor_number c.args.indexes.now))
+    c.deref.ensures c.deref-in-Minus.ensures c.deref-in-Minus-3.ensures c.in_ok-part-in-Minus.ensures.choices
+    c.in_ok-left-in-Minus.ensures.floor c.second_unit_part.ensures.grows c.in_ok-right-in-Minus.ensures.floor)
+
+pub unit_plans::groups_with_pairs-returns-in_ok-found-in-Pairs-clause-within :
+    goal.unit_plans::groups_with_pairs-returns-in_ok-found-in-Pairs-clause-within
+unit_plans::groups_with_pairs-returns-in_ok-found-in-Pairs-clause-within g t c =
+    let indexed = c.args.indexes.now in
+    let test = test_plan_of c.in-Pairs.test in
+    group_within indexed c.args.choices.now c.args.visits.now.count (ap unit_plan_of c.in-Pairs.is)
+    (leaf_reads indexed c.args.choices.now test c.args.visits.now.count c.deref.ensures c.deref-in-Pairs.ensures
+    c.after_first-of_types.ensures c.plan_floor.ensures.rest c.execute_within.ensures.within c.tested_of.ensures.within
+    (λ types. group_own_bound indexed c.args.choices.now (pairs_units c.in-Pairs.count (plan_of types) test))
+    c.deref-in-Pairs-3.ensures c.group_leaf_limits-limits.ensures.within c.groups_with_pairs_within.ensures.within)
+
+pub unit_plans::groups_with_pairs-returns-in_err-found-in-Pairs-clause-within :
+    goal.unit_plans::groups_with_pairs-returns-in_err-found-in-Pairs-clause-within
+unit_plans::groups_with_pairs-returns-in_err-found-in-Pairs-clause-within g t c =
+    let indexed = c.args.indexes.now in
+    let test = test_plan_of c.in-Pairs.test in
+    group_within indexed c.args.choices.now c.args.visits.now.count (ap unit_plan_of c.in-Pairs.is)
+    (leaf_reads indexed c.args.choices.now test c.args.visits.now.count c.deref.ensures c.deref-in-Pairs.ensures
+    c.after_first-of_types.ensures c.plan_floor.ensures.rest c.execute_within.ensures.within c.tested_of.ensures.within
+    (λ types. group_own_bound indexed c.args.choices.now (pairs_units c.in-Pairs.count (plan_of types) test))
+    c.deref-in-Pairs-3.ensures c.group_leaf_limits-limits.ensures.within c.groups_with_pairs_within.ensures.within)
+
+pub unit_plans::groups_with_pairs-returns-in_ok-found-in-Pairs-clause-floor :
+    goal.unit_plans::groups_with_pairs-returns-in_ok-found-in-Pairs-clause-floor
+unit_plans::groups_with_pairs-returns-in_ok-found-in-Pairs-clause-floor g t c =
+    let indexed = c.args.indexes.now in
+    let test = test_plan_of c.in-Pairs.test in
+    group_floor indexed c.args.choices.now c.args.visits.now.count (ap unit_plan_of c.in-Pairs.is)
+    (leaf_floor indexed c.args.choices.now test c.args.visits.now.count c.deref.ensures c.deref-in-Pairs.ensures
+    c.after_first-of_types.ensures c.plan_floor.ensures.rest c.in_ok-typed-in-Pairs.ensures.floor c.in_ok-tested-in-Pairs.ensures.floor
+    (λ types. group_own_floor indexed c.args.choices.now (pairs_units c.in-Pairs.count (plan_of types) test))
+    c.deref-in-Pairs-3.ensures c.group_leaf_limits-limits.ensures.floor c.in_ok-found-in-Pairs.ensures.floor)
+
+pub unit_plans::groups_with_pairs-group_leaf_limits-limits-requires-clause-types :
+    goal.unit_plans::groups_with_pairs-group_leaf_limits-limits-requires-clause-types
+unit_plans::groups_with_pairs-group_leaf_limits-limits-requires-clause-types g t c =
+    types_found c.args.indexes.now c.args.choices.now (c.deref-in-Pairs.ensures ∙ sym c.deref-in-Pairs-3.ensures) c.after_first-of_types.ensures
+    (subst (λ (found : ℕ). found ≤ size c.args.indexes.now c.after_first-of_types.result.now (plan_of c.deref-in-Pairs.result.now))
+    (sym c.count.ensures) c.in_ok-typed-in-Pairs.ensures.size)
+
+pub unit_plans::groups_with_pairs-group_leaf_limits-limits-requires-clause-test :
+    goal.unit_plans::groups_with_pairs-group_leaf_limits-limits-requires-clause-test
+unit_plans::groups_with_pairs-group_leaf_limits-limits-requires-clause-test g t c =
+    test_found c.args.indexes.now c.args.choices.now (test_plan_of c.in-Pairs.test) (c.deref.ensures ∙ sym c.deref-in-Pairs-3.ensures)
+    c.after_first-of_types.ensures c.plan_floor.ensures.rest
+    (subst (λ (found : ℕ). found ≤ test_size c.args.indexes.now c.plan_floor.result.rest.now (test_plan_of c.in-Pairs.test))
+    (sym c.count_of_test.ensures) c.in_ok-tested-in-Pairs.ensures.size)
+
+pub unit_plans::groups_with_pairs-returns-in_ok-found-in-Pairs-clause-bound :
+    goal.unit_plans::groups_with_pairs-returns-in_ok-found-in-Pairs-clause-bound
+unit_plans::groups_with_pairs-returns-in_ok-found-in-Pairs-clause-bound g t c = c.in_ok-found-in-Pairs.ensures.bound
+
+pub unit_plans::groups_with_pairs-groups_with_pairs_within-requires-clause-bound :
+    goal.unit_plans::groups_with_pairs-groups_with_pairs_within-requires-clause-bound
+unit_plans::groups_with_pairs-groups_with_pairs_within-requires-clause-bound g t c =
+    c.in_ok-typed-in-Pairs.ensures.bound ∙ ap length (sym c.requires.index.concepts)
+
+pub plans::pairs_within-with_pairs_within-requires-clause-tested : goal.plans::pairs_within-with_pairs_within-requires-clause-tested
+plans::pairs_within-with_pairs_within-requires-clause-tested g t c = c.in_ok-tested-in-Pairs.ensures.bound

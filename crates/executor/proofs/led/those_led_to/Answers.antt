@@ -1,4 +1,6 @@
-use Rattle.std.proofs.Common.{ℕ, Vec, Bool, true, false, ◌∙◌, sym, ap, append-nil}
+use Rattle.std.proofs.Common.{ℕ, Vec, Bool, true, false, ◌∙◌, sym, ap, append-nil, arith}
+use Rattle.std.specs.Prelude.{filter}
+use Rattle.std.proofs.lemmas.List.{take_all}
 use Rattle.number_lists.specs.Members.{has}
 use Rattle.idset.proofs.Places.{filter_step}
 use Rattle.executor.specs.inside.Steps.{lists_of, stepped}
@@ -24,3 +26,11 @@ loop-concept-preserved g c =
           c.loop-concept-test.true c.loop-concept.invariant (sym w.if-is_led_to.false ∙ c.is_led_to.ensures)
           (ap (λ (kept : Vec ℕ _). kept.items) w.kept-is ∙ sym (append-nil c.loop-concept.kept.items))
     ]
+
+pub returns : goal.returns
+returns g c =
+    let test : ℕ → Bool =
+    has (stepped (lists_of c.args.index.now c.args.step.family) (g.S.ConceptSet.bound_of c.args.operand.now)
+    c.args.step.reach (g.S.ConceptSet.items_of c.args.operand.now)) in
+    c.loop-concept.invariant
+    ∙ ap (filter test) (take_all c.loop-concept.concept-index c.args.concepts.now (omega arith))

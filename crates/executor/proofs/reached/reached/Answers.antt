@@ -9,9 +9,22 @@ use Rattle.executor.specs.inside.Joined.{AreJoined, near_of, turn_of}
 use Rattle.executor.specs.inside.Steps.{lists_of}
 use Rattle.executor.specs.declared.family.Family.{Family}
 use Rattle.number_lists.proofs.RisingLemmas.{all_below}
-use Rattle.executor.proofs.ReachedLemmas.{IsPassed, all_among, near_rises, near_there, passed_all, passed_first, passed_on, passed_over}
+use Rattle.executor.proofs.ReachedLemmas.{IsPassed, all_among, near_rises, near_there, passed_all, passed_first, passed_on, passed_over, turn_within}
 use Rattle.executor.proofs.reached.reached.Goals as goal
 use Rattle.executor.proofs.reached.reached.Goals.{then-is_in_first_alone+in_ok-add_all, else-is_in_first_alone}
+
+pub offset_bounds-order-place_of_turn : goal.offset_bounds-order-place_of_turn
+offset_bounds-order-place_of_turn g c =
+    let order = c.parents_first-order.result.now in
+    let below : turn_of c.args.family (length order) c.loop-turn.turn < length order =
+    turn_within (length order) c.args.family c.loop-turn.turn c.loop-turn-test.true in
+    omega arith
+
+pub bounds-order-place_of_turn : goal.bounds-order-place_of_turn
+bounds-order-place_of_turn g c =
+    let order = c.parents_first-order.result.now in
+    subst (λ (place : ℕ). place < length order) (sym c.place_of_turn.ensures)
+    (turn_within (length order) c.args.family c.loop-turn.turn c.loop-turn-test.true)
 
 pub loop-turn-init : goal.loop-turn-init
 loop-turn-init g c = record {

@@ -1,6 +1,8 @@
 use Rattle.std.proofs.Common.{ℕ, List, ◌<◌, ◌∙◌, arith, length, sym, ap, subst, get_or}
+use Rattle.std.proofs.lemmas.List.{take_all}
 use Rattle.number_lists.specs.Rising.{IsRising}
 use Rattle.number_lists.specs.KeyedLists.{list_of}
+use Rattle.executor.specs.inside.Components.{is_in_one_of}
 use Rattle.executor.proofs.MemberLemmas.{members_rise}
 use Rattle.executor.proofs.reference_sets.is_component.Goals as goal
 
@@ -13,3 +15,9 @@ has_number-found-requires c =
     (c.requires.below c.loop-refset.refset-index 0 c.loop-refset-test.true) in
     subst IsRising (sym (c.members.ensures ∙ ap (λ (lists : List (List ℕ)). list_of lists refset) c.requires.index.members))
     (members_rise release refset below (omega (arith, c.concept_count.ensures.few)))
+
+pub returns : goal.returns
+returns c =
+    c.loop-refset.invariant
+    ∙ ap (λ (refsets : List ℕ). is_in_one_of c.args.indexes.now.members refsets c.args.concept)
+    (take_all c.loop-refset.refset-index c.args.refsets.now (omega arith))
