@@ -1,14 +1,17 @@
 -- Lines behind one another, and what loops over the parts of a node keep of them.
-use Rattle.std.proofs.Common.{ℕ, suc, ◌+◌, ◌++◌, ◌∷◌, [], ◌≡◌, ◌≤◌, ◌<◌, ◌∙◌, List, drop, length, get_or, refl, sym, ap, append-nil, append_assoc, length-append}
+use Rattle.std.proofs.Common.{ℕ, suc, ◌+◌, ◌++◌, ◌∷◌, [], ◌≡◌, ◌≤◌, ◌<◌, ◌∙◌, ◌⊎◌, inl, inr, List, drop, length, get_or, refl, sym, ap, append-nil, append_assoc, length-append}
 use Rattle.std.proofs.Math.Seq.{drop-nil}
 use Rattle.set_algebra.specs.declared.plan.ConceptPlan.{ConceptPlan}
 use Rattle.set_algebra.specs.declared.plan.UnitPlan.{UnitPlan}
-use Rattle.set_algebra.specs.Plan.{unit_plan_of, unit_plans_of, plan_of, plans_of}
+use Rattle.constraint_tree.specs.declared.operator.Cardinality.{Cardinality}
+use Rattle.constraint_tree.specs.declared.operator.Operator.{Operator}
+use Rattle.set_algebra.specs.Plan.{Plan, Plans, PlanOfUnits, PlansOfUnits, and_plan, and_units, members_plan, or_plan, or_units, plan_of, plans_of, unit_plan_of, unit_plans_of, units_plan, walk_plan}
 use Rattle.set_algebra.specs.declared.choice.Choice.{Choice}
 use Rattle.std.proofs.lemmas.List.{drop-drop}
+use Rattle.planner.specs.Leaves.{group_leaves, groups_leaves, leaves, plans_leaves}
 use Rattle.planner.proofs.LoopLemmas.{Joined, Sort, joined_end, joined_turn, of_concepts, of_groups}
 use Rattle.answer_printer.specs.inside.PlanLines.{before_bound, first_bound, with_bounds}
-use Rattle.answer_printer.specs.PlanText.{bound_line, group_outline, groups_outline, outline, plans_outline}
+use Rattle.answer_printer.specs.PlanText.{bound_line, group_outline, group_words, groups_outline, node_words, outline, plans_outline}
 
 -- behind the first, so many more
 pub drop_behind : {X : Type 0} (count : ℕ) (xs : List X) → drop count (drop 1 xs) ≡ drop (suc count) xs
@@ -78,6 +81,62 @@ parts_written given before first second spaces count choices bounds {line} {behi
     (left_is ∙ (λ i. drop (length (first (inner_is i) (asked_is i))) behind))
     (last_is ∙ (λ i. text ++ with_bounds (second (inner_is i) (later_are i)) left))
     (rest_is ∙ (λ i. drop (length (second (inner_is i) (later_are i))) left))
+
+-- the line of a node and those of its parts behind it were written
+pub record NodeWritten (given : List ℕ) (outlined : List (List ℕ)) (bounds last rest : List ℕ) : Type 0 where
+  pub lines : last ≡ given ++ with_bounds outlined bounds
+  pub behind : rest ≡ drop (length outlined) bounds
+
+-- where one call has written those of the parts, by the spaces that it was given
+pub behind_written : (given before : List ℕ) (parts : List ℕ → List (List ℕ))
+    (spaces bounds : List ℕ) {outlined : List (List ℕ)} {line behind inner last rest : List ℕ}
+    → outlined ≡ before ∷ parts spaces → line ≡ given ++ bound_line before (first_bound bounds)
+    → behind ≡ drop 1 bounds → inner ≡ spaces → last ≡ line ++ with_bounds (parts inner) behind
+    → rest ≡ drop (length (parts inner)) behind → NodeWritten given outlined bounds last rest
+behind_written given before parts spaces bounds outlined_is line_is behind_is inner_is last_is rest_is = record {
+  lines =
+      last_is
+      ∙ (λ i. line_is i ++ with_bounds (parts (inner_is i)) (behind_is i))
+      ∙ append_assoc given (bound_line before (first_bound bounds)) (with_bounds (parts spaces) (drop 1 bounds))
+      ∙ ap (λ (all : List (List ℕ)). given ++ with_bounds all bounds) (sym outlined_is);
+  behind =
+      rest_is
+      ∙ (λ i. drop (length (parts (inner_is i))) (behind_is i))
+      ∙ drop_behind (length (parts spaces)) bounds
+      ∙ ap (λ (all : List (List ℕ)). drop (length all) bounds) (sym outlined_is);
+}
+
+-- which parts these are, and that the node has their leaves
+pub record BehindPlan (spaces : List ℕ) (choices : List Choice) (plan : Plan) (parts : List (List ℕ))
+    (count : ℕ) : Type 0 where
+  pub lines : outline before_bound spaces choices plan ≡ (spaces ++ node_words choices plan) ∷ parts
+  pub leaves_are : leaves plan ≡ count
+
+pub record BehindUnits (spaces : List ℕ) (choices : List Choice) (plan : PlanOfUnits) (parts : List (List ℕ))
+    (count : ℕ) : Type 0 where
+  pub lines : group_outline before_bound spaces choices plan ≡ (spaces ++ group_words choices plan) ∷ parts
+  pub leaves_are : group_leaves plan ≡ count
+
+module _ (spaces : List ℕ) (choices : List Choice) where
+  pub of_joined : {plan : Plan} (parts : Plans) → (plan ≡ and_plan parts) ⊎ (plan ≡ or_plan parts)
+      → BehindPlan spaces choices plan (plans_outline before_bound (32 ∷ spaces) choices parts) (plans_leaves parts)
+  of_joined parts (inl is) = rw is (record { lines = refl; leaves_are = refl })
+  of_joined parts (inr is) = rw is (record { lines = refl; leaves_are = refl })
+
+  pub of_walk : {plan : Plan} (operand : Plan)
+      → ((operator : Operator) × (plan ≡ walk_plan operator operand)) ⊎ (plan ≡ members_plan operand)
+      → BehindPlan spaces choices plan (outline before_bound (32 ∷ spaces) choices operand) (leaves operand)
+  of_walk operand (inl (operator, is)) = rw is (record { lines = refl; leaves_are = refl })
+  of_walk operand (inr is) = rw is (record { lines = refl; leaves_are = refl })
+
+  pub of_units : {plan : Plan} (count : Cardinality) (units : PlanOfUnits) → plan ≡ units_plan count units
+      → BehindPlan spaces choices plan (group_outline before_bound (32 ∷ spaces) choices units) (group_leaves units)
+  of_units count units is = rw is (record { lines = refl; leaves_are = refl })
+
+  pub of_joined_units : {plan : PlanOfUnits} (parts : PlansOfUnits) → (plan ≡ and_units parts) ⊎ (plan ≡ or_units parts)
+      → BehindUnits spaces choices plan (groups_outline before_bound (32 ∷ spaces) choices parts) (groups_leaves parts)
+  of_joined_units parts (inl is) = rw is (record { lines = refl; leaves_are = refl })
+  of_joined_units parts (inr is) = rw is (record { lines = refl; leaves_are = refl })
 
 -- what stands before the bounds of the nodes of a part, of either sort
 abbrev pub Outlines : (Part : Type 0) → Sort Part → Type 0

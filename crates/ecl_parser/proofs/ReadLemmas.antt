@@ -1,13 +1,17 @@
 -- Steps of reading: a list, one thing more; and what stands in brackets.
-use Rattle.std.proofs.Common.{◌≡◌, ◌<◌, ◌-◌, ◌+◌, ℕ, zero, suc, List, [], ◌∷◌, ◌++◌, map, None, Some, refl, ap, sym, ◌∙◌, arith, append_assoc}
-use Rattle.std.proofs.lemmas.List.{append-nil, map_push}
+use Rattle.std.proofs.Common.{◌≡◌, ◌<◌, ◌-◌, ◌+◌, ℕ, zero, suc, true, false, List, [], ◌∷◌, ◌++◌, length, length-drop, map, None, Some, refl, ap, sym, ◌∙◌, arith, append_assoc}
+use Rattle.std.proofs.lemmas.List.{append-nil, length-map, map_push}
 use Rattle.ecl_lexer.specs.declared.fault.QueryFault.{QueryFault}
 use Rattle.ecl_lexer.specs.declared.fault.QueryFault.TheVariants.{Syntax, Memory}
-use Rattle.constraint_tree.specs.Grammar.{Symbol}
-use Rattle.constraint_tree.specs.Tree.{Tree, RefinementTree, AttributeSetTree, group_refinement}
+use Rattle.constraint_tree.specs.Grammar.{Symbol, symbol_of}
+use Rattle.constraint_tree.specs.Tree.{Tree, minus_tree, refined_tree, member_tree, RefinementTree, and_refinement, group_refinement, one_refinement, or_refinement, refinements_from, AttributeSetTree, and_set, one_set, or_set, sets_from, AttributeTree, within_test}
 use Rattle.constraint_tree.specs.declared.operator.Cardinality.{Cardinality}
-use Rattle.ecl_parser.specs.inside.Gives.{Fails}
-use Rattle.ecl_parser.specs.inside.Reading.{◌>>=◌, Found, behind, bracketed_at, constraint_in, digits_at, focus_in, item_behind, item_in, many, part_in, readers, refinement_in, set_in, with_front}
+use Rattle.constraint_tree.specs.declared.operator.Compare.{Compare}
+use Rattle.constraint_tree.specs.declared.operator.Compare.TheVariants as compare
+use Rattle.ecl_lexer.specs.Tokens.{spelled}
+use Rattle.ecl_lexer.specs.declared.token.Token.{Token}
+use Rattle.ecl_parser.specs.inside.Gives.{Fails, symbols, symbols_from}
+use Rattle.ecl_parser.specs.inside.Reading.{◌>>=◌, Found, Readers, all_behind, behind, bracketed_at, constraint_in, constraint_behind, count_at, digits_at, focus_in, item_behind, item_in, many, member_in, number_at, pair_in, part_in, readers, refinement_behind, refinement_in, set_behind, set_in, stands, sub_in, test_in, with_front}
 use Rattle.ecl_parser.specs.declared.tokens.Mark.{Mark}
 use Rattle.ecl_parser.specs.declared.tokens.Mark.TheVariants as marks
 
@@ -25,6 +29,16 @@ module _ {T : Type 0} (reader : List Symbol → Found T) (wanted : Mark) where
   unfolding many
   many_more turns left front item tokens rest after is found read =
       rw (is, found, read) (sym (with_more front item (many reader wanted left after)))
+
+  -- before the first turn: there are as many turns as tokens from a place on
+  pub no_turn : (tokens : List Token) (at : ℕ) (front : List T)
+      → with_front front (many reader wanted (length tokens - at) (symbols_from tokens at))
+      ≡ with_front front (all_behind reader wanted (symbols_from tokens at))
+  no_turn tokens at front =
+      let counted = length-map tokens (λ (token : Token). symbol_of (spelled token)) in
+      let left : length (symbols_from tokens at) ≡ length tokens - at =
+      length-drop at (symbols tokens) ∙ ap (λ (count : ℕ). count - at) counted in
+      ap (λ (turns : ℕ). with_front front (many reader wanted turns (symbols_from tokens at))) (sym left)
 
   -- one more turn, where what is read is put behind the things that stand for what was read before
   pub turn_read : {Thing : Type 0} (view : Thing → T) (things pushed : List Thing) (thing : Thing) (turn end : ℕ)
@@ -103,3 +117,141 @@ pub group_in_braces : (depth : ℕ) (count : Cardinality) (tree : AttributeSetTr
     → behind marks.BraceClose after ≡ Some last → item_behind (readers depth) count tokens ≡ Some (group_refinement count tree, last)
 unfolding item_behind
 group_in_braces depth count tree tokens rest after last more found read close = rw (readers_inside depth more, found, read, close) refl
+
+-- what has no closing bracket behind it is not read
+pub focus_not_closed : (depth : ℕ) (tree : Tree) (tokens rest after : List Symbol) → 0 < depth
+    → digits_at 6 tokens ≡ None → behind marks.Wildcard tokens ≡ None → behind marks.RoundOpen tokens ≡ Some rest
+    → constraint_in (readers (depth - 1)) rest ≡ Some (tree, after) → behind marks.RoundClose after ≡ None
+    → focus_in (readers depth) tokens ≡ None
+unfolding focus_in
+focus_not_closed depth tree tokens rest after more no_digits no_star found read unclosed =
+    rw (readers_inside depth more, no_digits, no_star, found, read, unclosed) refl
+
+pub item_not_closed : (depth : ℕ) (tree : RefinementTree) (tokens rest after : List Symbol) → 0 < depth
+    → bracketed_at tokens ≡ Some rest → refinement_in (readers (depth - 1)) rest ≡ Some (tree, after)
+    → behind marks.RoundClose after ≡ None → item_in (readers depth) tokens ≡ None
+unfolding item_in
+item_not_closed depth tree tokens rest after more found read unclosed =
+    rw (readers_inside depth more, found, read, unclosed) refl
+
+pub part_not_closed : (depth : ℕ) (tree : AttributeSetTree) (tokens rest after : List Symbol) → 0 < depth
+    → bracketed_at tokens ≡ Some rest → set_in (readers (depth - 1)) rest ≡ Some (tree, after)
+    → behind marks.RoundClose after ≡ None → part_in (readers depth) tokens ≡ None
+unfolding part_in
+part_not_closed depth tree tokens rest after more found read unclosed =
+    rw (readers_inside depth more, found, read, unclosed) refl
+
+pub group_not_closed : (depth : ℕ) (count : Cardinality) (tree : AttributeSetTree) (tokens rest after : List Symbol)
+    → 0 < depth
+    → behind marks.BraceOpen tokens ≡ Some rest → set_in (readers (depth - 1)) rest ≡ Some (tree, after)
+    → behind marks.BraceClose after ≡ None → item_behind (readers depth) count tokens ≡ None
+unfolding item_behind
+group_not_closed depth count tree tokens rest after more found read unclosed =
+    rw (readers_inside depth more, found, read, unclosed) refl
+
+-- nor is what begins with a bracket too many
+pub part_too_deep : (depth : ℕ) (tokens rest : List Symbol) → depth ≡ 0 → bracketed_at tokens ≡ Some rest
+    → part_in (readers depth) tokens ≡ None
+unfolding part_in readers
+part_too_deep depth tokens rest is found = rw (is, found) refl
+
+pub group_too_deep : (depth : ℕ) (count : Cardinality) (tokens rest : List Symbol) → depth ≡ 0
+    → behind marks.BraceOpen tokens ≡ Some rest
+    → item_behind (readers depth) count tokens ≡ None
+unfolding item_behind readers
+group_too_deep depth count tokens rest is found = rw (is, found) refl
+
+-- what is read where there are no brackets, one form of the grammar from its parts
+module _ (inner : Readers) where
+  pub part_read : (count : Cardinality) (pair : AttributeTree) (tokens after rest : List Symbol)
+      → bracketed_at tokens ≡ None
+      → count_at tokens ≡ Some (count, after) → pair_in inner count false after ≡ Some (pair, rest)
+      → part_in inner tokens ≡ Some (one_set pair, rest)
+  unfolding part_in
+  part_read count pair tokens after rest none counted read = rw (none, counted, read) refl
+
+  pub item_read : (count : Cardinality) (tokens after : List Symbol) → bracketed_at tokens ≡ None
+      → count_at tokens ≡ Some (count, after) → item_in inner tokens ≡ item_behind inner count after
+  unfolding item_in
+  item_read count tokens after none counted = rw (none, counted) refl
+
+  pub pair_read : (count : Cardinality) (pair : AttributeTree) (tokens rest : List Symbol)
+      → behind marks.BraceOpen tokens ≡ None
+      → behind marks.Reverse tokens ≡ None → pair_in inner count false tokens ≡ Some (pair, rest)
+      → item_behind inner count tokens ≡ Some (one_refinement pair, rest)
+  unfolding item_behind
+  pair_read count pair tokens rest no_brace no_reverse read = rw (no_brace, no_reverse, read) refl
+
+  pub reverse_read : (count : Cardinality) (pair : AttributeTree) (tokens after rest : List Symbol)
+      → behind marks.BraceOpen tokens ≡ None
+      → behind marks.Reverse tokens ≡ Some after → pair_in inner count true after ≡ Some (pair, rest)
+      → item_behind inner count tokens ≡ Some (one_refinement pair, rest)
+  unfolding item_behind
+  reverse_read count pair tokens after rest no_brace reverse read = rw (no_brace, reverse, read) refl
+
+  pub member_read : (sets : Tree) (tokens after rest : List Symbol) → behind marks.MemberOf tokens ≡ Some after
+      → focus_in inner after ≡ Some (sets, rest) → member_in inner tokens ≡ Some (member_tree sets, rest)
+  unfolding member_in
+  member_read sets tokens after rest found read = rw (found, read) refl
+
+  pub within_read : (c : Compare) (value : Tree) (tokens rest : List Symbol) → c ≡ compare.Equal
+      → number_at tokens ≡ None
+      → sub_in inner tokens ≡ Some (value, rest) → test_in inner c tokens ≡ Some (within_test value, rest)
+  unfolding test_in
+  within_read c value tokens rest is none read = rw (is, none, read) refl
+
+  -- an item, and what is behind it
+  module _ (first : RefinementTree) (tokens after : List Symbol)
+      (read : item_in inner tokens ≡ Some (first, after)) where
+    pub all_items_read : (trees : List RefinementTree) (rest : List Symbol) → stands marks.And after ≡ true
+        → with_front (first ∷ []) (all_behind (item_in inner) marks.And after) ≡ Some (trees, rest)
+        → refinement_in inner tokens ≡ Some (and_refinement (refinements_from trees), rest)
+    unfolding refinement_in refinement_behind
+    all_items_read trees rest is_and others = rw (read, is_and, others) refl
+
+    pub some_items_read : (trees : List RefinementTree) (rest : List Symbol) → stands marks.And after ≡ false
+        → stands marks.Or after ≡ true
+        → with_front (first ∷ []) (all_behind (item_in inner) marks.Or after) ≡ Some (trees, rest)
+        → refinement_in inner tokens ≡ Some (or_refinement (refinements_from trees), rest)
+    unfolding refinement_in refinement_behind
+    some_items_read trees rest no_and is_or others = rw (read, no_and, is_or, others) refl
+
+  -- a part, and what is behind it
+  module _ (first : AttributeSetTree) (tokens after : List Symbol)
+      (read : part_in inner tokens ≡ Some (first, after)) where
+    pub all_parts_read : (trees : List AttributeSetTree) (rest : List Symbol) → stands marks.And after ≡ true
+        → with_front (first ∷ []) (all_behind (part_in inner) marks.And after) ≡ Some (trees, rest)
+        → set_in inner tokens ≡ Some (and_set (sets_from trees), rest)
+    unfolding set_in set_behind
+    all_parts_read trees rest is_and others = rw (read, is_and, others) refl
+
+    pub some_parts_read : (trees : List AttributeSetTree) (rest : List Symbol) → stands marks.And after ≡ false
+        → stands marks.Or after ≡ true
+        → with_front (first ∷ []) (all_behind (part_in inner) marks.Or after) ≡ Some (trees, rest)
+        → set_in inner tokens ≡ Some (or_set (sets_from trees), rest)
+    unfolding set_in set_behind
+    some_parts_read trees rest no_and is_or others = rw (read, no_and, is_or, others) refl
+
+  -- a Sub, and what is behind it
+  module _ (first : Tree) (tokens after : List Symbol) (read : sub_in inner tokens ≡ Some (first, after)) where
+    pub alone_read : stands marks.And after ≡ false → stands marks.Or after ≡ false → stands marks.Dot after ≡ false
+        → behind marks.Colon after ≡ None → behind marks.Minus after ≡ None
+        → constraint_in inner tokens ≡ Some (first, after)
+    unfolding constraint_in constraint_behind
+    alone_read no_and no_or no_dot no_colon no_minus = rw (read, no_and, no_or, no_dot, no_colon, no_minus) refl
+
+    pub refined_read : (what : RefinementTree) (behind_colon rest : List Symbol) → stands marks.And after ≡ false
+        → stands marks.Or after ≡ false → stands marks.Dot after ≡ false → behind marks.Colon after ≡ Some behind_colon
+        → refinement_in inner behind_colon ≡ Some (what, rest)
+        → constraint_in inner tokens ≡ Some (refined_tree first what, rest)
+    unfolding constraint_in constraint_behind
+    refined_read what behind_colon rest no_and no_or no_dot colon found =
+        rw (read, no_and, no_or, no_dot, colon, found) refl
+
+    pub minus_read : (second : Tree) (behind_minus rest : List Symbol) → stands marks.And after ≡ false
+        → stands marks.Or after ≡ false → stands marks.Dot after ≡ false → behind marks.Colon after ≡ None
+        → behind marks.Minus after ≡ Some behind_minus → sub_in inner behind_minus ≡ Some (second, rest)
+        → constraint_in inner tokens ≡ Some (minus_tree first second, rest)
+    unfolding constraint_in constraint_behind
+    minus_read second behind_minus rest no_and no_or no_dot no_colon minus found =
+        rw (read, no_and, no_or, no_dot, no_colon, minus, found) refl

@@ -1,6 +1,7 @@
 -- What reading finds is the tree of a form in front of the tokens that are left.
 use Rattle.std.proofs.Common.{◌≡◌, ◌⊎◌, inl, inr, ℕ, zero, suc, ℤ, Bool, true, false, cond, List, [], ◌∷◌, drop, Option, None, Some, refl, ap, sym, ◌∙◌, subst}
 use Rattle.std.specs.Prelude.{IsTrue}
+use Rattle.std.proofs.lemmas.Option.{none-some}
 use Rattle.numerals.specs.Numbers.{is_number, number_of}
 use Rattle.numerals.specs.Decimals.{decimal_of}
 use Rattle.constraint_tree.specs.declared.operator.Cardinality.{Cardinality}
@@ -11,7 +12,7 @@ use Rattle.constraint_tree.specs.Grammar.{Symbol, digits, decimal, mark, CountFo
 use Rattle.constraint_tree.specs.Tree.{Tree, concept_tree, any_tree, member_tree, walk_tree, minus_tree, refined_tree, trees_from, dotted_tree, RefinementTree, one_refinement, group_refinement, one_set, AttributeTree, attribute_tree, TestTree, within_test, outside_test, number_test}
 use Rattle.ecl_parser.specs.inside.Reading.{◌>>=◌, Readers, all_behind, behind, behind_term, bracketed_at, closed, compare_at, constraint_behind, constraint_in, count_at, digits_at, focus_in, item_behind, item_in, member_in, number_at, operator_at, otherwise, pair_in, part_in, readers, refinement_behind, refinement_in, set_behind, set_in, stands, sub_in, test_in, value_test, with_front}
 use Rattle.ecl_parser.specs.declared.tokens.Mark.TheVariants as marks
-use Rattle.ecl_parser.proofs.SoundParts.{AreSound, Derives, IsSound, behind_is, bind_some, bracketed_is, closed_some, compare_is, conjunctions, count_sound, digits_is, disjunctions, either_some, forms_sound, joined_refinements, joined_sets, joined_sound, joints_sound, made, number_is, operator_is, otherwise_some, several_items, several_parts, several_subs}
+use Rattle.ecl_parser.proofs.SoundParts.{AreSound, Derives, IsSound, behind_is, bind_some, bracketed_is, closed_some, compare_is, conjunctions, count_sound, digits_is, disjunctions, either_some, forms_sound, joined_refinements, joined_sets, joined_sound, joints_sound, made, number_is, operator_is, otherwise_some, several_items, several_parts, several_subs, some_is}
 
 module _ (inner : Readers) (sound : AreSound inner) where
   focus_sound : IsSound focus_tokens focus_tree (focus_in inner)
@@ -27,7 +28,7 @@ module _ (inner : Readers) (sound : AreSound inner) where
             (λ left. closed marks.RoundClose (inner.constraint left))) (λ left. Some (any_tree, left)) (tree, rest) next) [
               | inl (none', next') ↦
                   elim (otherwise_some (behind marks.RoundOpen tokens) None (λ left. closed marks.RoundClose (inner.constraint left)) (tree, rest) next') [
-                    | inl (none'', end) ↦ (cc)
+                    | inl (none'', end) ↦ absurd (none-some (tree, rest) end)
                     | inr (left, found, read) ↦
                         let close = closed_some marks.RoundClose (inner.constraint left) tree rest read in
                         let form = sound.constraint left close.0 tree close.1 in (
@@ -40,7 +41,7 @@ module _ (inner : Readers) (sound : AreSound inner) where
                         )
                   ]
               | inr (left, found, end) ↦
-                  let same : (any_tree, left) ≡ (tree, rest) = (cc) in (
+                  let same : (any_tree, left) ≡ (tree, rest) = some_is end in (
                     any,
                     behind_is marks.Wildcard tokens left found
                         ∙ ap (λ (p : Tree × List Symbol). mark token.Wildcard ∷ p.1) same,
@@ -49,7 +50,7 @@ module _ (inner : Readers) (sound : AreSound inner) where
             ]
         | inr (read, found, end) ↦
             let run = digits_is 6 tokens read.1 read.0 found in
-            let same : (concept_tree read.0, behind_term read.1) ≡ (tree, rest) = (cc) in
+            let same : (concept_tree read.0, behind_term read.1) ≡ (tree, rest) = some_is end in
             let tree_is : tree ≡ concept_tree (number_of run.0) = sym (ap (λ (p : Tree × List Symbol). p.0) same) ∙ ap concept_tree run.3 in
             termed run.0 run.1 tokens read.1 rest tree run.2 (ap (λ (p : Tree × List Symbol). p.1) same) tree_is
       ]
@@ -82,7 +83,7 @@ module _ (inner : Readers) (sound : AreSound inner) where
         | inl (none, read) ↦ inl (focus_sound tokens rest tree read)
         | inr (left, found, next) ↦
             let read = bind_some (focus_in inner left) (λ focus after. Some (member_tree focus, after)) (tree, rest) next in
-            let same : (member_tree read.0.0, read.0.1) ≡ (tree, rest) = (cc) in
+            let same : (member_tree read.0.0, read.0.1) ≡ (tree, rest) = some_is read.2 in
             let ends : read.0.1 ≡ rest = ap (λ (p : Tree × List Symbol). p.1) same in
             inr (
               left,
@@ -106,7 +107,7 @@ module _ (inner : Readers) (sound : AreSound inner) where
             ]
         | inr (op, found, next) ↦
             let read = bind_some (member_in inner op.1) (λ operand after. Some (walk_tree op.0 operand, after)) (tree, rest) next in
-            let same : (walk_tree op.0 read.0.0, read.0.1) ≡ (tree, rest) = (cc) in
+            let same : (walk_tree op.0 read.0.0, read.0.1) ≡ (tree, rest) = some_is read.2 in
             let ends : read.0.1 ≡ rest = ap (λ (p : Tree × List Symbol). p.1) same in
             let tree_is : tree ≡ walk_tree op.0 read.0.0 = sym (ap (λ (p : Tree × List Symbol). p.0) same) in
             let first : tokens ≡ mark (operator_kind op.0) ∷ op.1 = operator_is tokens op.1 op.0 found in
@@ -134,7 +135,7 @@ module _ (inner : Readers) (sound : AreSound inner) where
         | inl (none, read) ↦ inr (by c read)
         | inr (found, read, end) ↦
             let text = number_is tokens found.1 found.0 read in
-            let same : (number_test c found.0, found.1) ≡ (test, rest) = (cc) in
+            let same : (number_test c found.0, found.1) ≡ (test, rest) = some_is end in
             inl (
               text.0,
               found.0,
@@ -150,18 +151,18 @@ module _ (inner : Readers) (sound : AreSound inner) where
           ⊎ ((c ≡ compare.NotEqual) × ((value : SubForm) × (tokens ≡ sub_tokens value rest) × (test ≡ outside_test (sub_tree value))))
       by compare.Equal read =
           let found = bind_some (sub_in inner tokens) (λ value after. Some (within_test value, after)) (test, rest) read in
-          let same : (within_test found.0.0, found.0.1) ≡ (test, rest) = (cc) in
+          let same : (within_test found.0.0, found.0.1) ≡ (test, rest) = some_is found.2 in
           let form = sub_sound tokens rest found.0.0 (found.1 ∙ ap (λ (p : TestTree × List Symbol). Some (found.0.0, p.1)) same) in
           inl (refl, (form.0, form.1, sym (ap (λ (p : TestTree × List Symbol). p.0) same) ∙ ap within_test form.2))
       by compare.NotEqual read =
           let found = bind_some (sub_in inner tokens) (λ value after. Some (outside_test value, after)) (test, rest) read in
-          let same : (outside_test found.0.0, found.0.1) ≡ (test, rest) = (cc) in
+          let same : (outside_test found.0.0, found.0.1) ≡ (test, rest) = some_is found.2 in
           let form = sub_sound tokens rest found.0.0 (found.1 ∙ ap (λ (p : TestTree × List Symbol). Some (found.0.0, p.1)) same) in
           inr (refl, (form.0, form.1, sym (ap (λ (p : TestTree × List Symbol). p.0) same) ∙ ap outside_test form.2))
-      by compare.Less read = (cc)
-      by compare.LessOrEqual read = (cc)
-      by compare.Greater read = (cc)
-      by compare.GreaterOrEqual read = (cc)
+      by compare.Less read = absurd (none-some (test, rest) read)
+      by compare.LessOrEqual read = absurd (none-some (test, rest) read)
+      by compare.Greater read = absurd (none-some (test, rest) read)
+      by compare.GreaterOrEqual read = absurd (none-some (test, rest) read)
 
   pair_sound : (count : Option CountForm) (reverse : Bool) (tokens rest : List Symbol) (tree : AttributeTree)
       → pair_in inner (cardinality_of count) reverse tokens ≡ Some (tree, rest)
@@ -176,7 +177,8 @@ module _ (inner : Readers) (sound : AreSound inner) where
       (attribute_tree (cardinality_of count) reverse name.0.0 test, left)) (tree, rest) name.2 in
       let test = bind_some (test_in inner c.0.0 c.0.1)
       (λ test left. Some (attribute_tree (cardinality_of count) reverse name.0.0 test, left)) (tree, rest) c.2 in
-      let same : (attribute_tree (cardinality_of count) reverse name.0.0 test.0.0, test.0.1) ≡ (tree, rest) = (cc) in
+      let same : (attribute_tree (cardinality_of count) reverse name.0.0 test.0.0, test.0.1) ≡ (tree, rest) =
+      some_is test.2 in
       let form = sub_sound tokens name.0.1 name.0.0 name.1 in
       let front : tokens ≡ sub_tokens form.0 (mark (compare_kind c.0.0) ∷ c.0.1) = form.1 ∙ ap (sub_tokens form.0) (compare_is name.0.1 c.0.1 c.0.0 c.1) in
       let tree_is : tree ≡ attribute_tree (cardinality_of count) reverse (sub_tree form.0) test.0.0 =
@@ -211,7 +213,7 @@ module _ (inner : Readers) (sound : AreSound inner) where
       → (form : PairForm) × (tokens ≡ pair_tokens form rest) × (tree ≡ make (pair_tree count reverse form))
   counted_sound {Tree} make count reverse tokens rest tree is =
       let read = bind_some (pair_in inner (cardinality_of count) reverse tokens) (λ pair left. Some (make pair, left)) (tree, rest) is in
-      let same : (make read.0.0, read.0.1) ≡ (tree, rest) = (cc) in
+      let same : (make read.0.0, read.0.1) ≡ (tree, rest) = some_is read.2 in
       let form = pair_sound count reverse tokens rest read.0.0 (read.1 ∙ ap (λ (p : Tree × List Symbol). Some (read.0.0, p.1)) same) in
       (form.0, form.1, sym (ap (λ (p : Tree × List Symbol). p.0) same) ∙ ap make form.2)
 
@@ -291,7 +293,7 @@ module _ (inner : Readers) (sound : AreSound inner) where
                 let set = bind_some (closed marks.BraceClose (inner.set more))
                 (λ set after. Some (group_refinement (cardinality_of count) set, after)) (tree, rest) next in
                 let close = closed_some marks.BraceClose (inner.set more) set.0.0 set.0.1 set.1 in
-                let same : (group_refinement (cardinality_of count) set.0.0, set.0.1) ≡ (tree, rest) = (cc) in
+                let same : (group_refinement (cardinality_of count) set.0.0, set.0.1) ≡ (tree, rest) = some_is set.2 in
                 let form = sound.set more close.0 set.0.0 close.1 in (
                   group count form.0,
                   front ∙ ap (counted_tokens count) (behind_is marks.BraceOpen left more found ∙ ap (λ after. mark token.BraceOpen ∷ after) form.1
@@ -347,7 +349,7 @@ module _ (inner : Readers) (sound : AreSound inner) where
                         (λ left. sub_in inner left >>= λ second after. Some
                         (minus_tree first second, after)) (tree, rest) last) [
                           | inl (no_minus, end) ↦
-                              let same : (first, tail) ≡ (tree, rest) = (cc) in (
+                              let same : (first, tail) ≡ (tree, rest) = some_is end in (
                                 alone sub,
                                 front ∙ ap (λ (p : Tree × List Symbol). sub_tokens sub p.1)
                                     same,
@@ -355,7 +357,7 @@ module _ (inner : Readers) (sound : AreSound inner) where
                               )
                           | inr (left, found, end) ↦
                               let read = bind_some (sub_in inner left) (λ second after. Some (minus_tree first second, after)) (tree, rest) end in
-                              let same : (minus_tree first read.0.0, read.0.1) ≡ (tree, rest) = (cc) in
+                              let same : (minus_tree first read.0.0, read.0.1) ≡ (tree, rest) = some_is read.2 in
                               let second = sub_sound left rest read.0.0 (read.1 ∙ ap (λ (p : Tree × List Symbol). Some (read.0.0, p.1)) same) in (
                                 exclusion sub second.0,
                                 front ∙ ap (sub_tokens sub) (behind_is marks.Minus tail left found ∙ ap (λ after. mark token.Minus ∷ after) second.1),
@@ -367,7 +369,7 @@ module _ (inner : Readers) (sound : AreSound inner) where
                     | inr (left, found, end) ↦
                         let read = bind_some (refinement_in inner left)
                         (λ refinement after. Some (refined_tree first refinement, after)) (tree, rest) end in
-                        let same : (refined_tree first read.0.0, read.0.1) ≡ (tree, rest) = (cc) in
+                        let same : (refined_tree first read.0.0, read.0.1) ≡ (tree, rest) = some_is read.2 in
                         let what = refinement_sound left rest read.0.0 (read.1 ∙ ap (λ (p : Tree × List Symbol). Some (read.0.0, p.1)) same) in (
                           refined sub what.0,
                           front ∙ ap (sub_tokens sub) (behind_is marks.Colon tail left found ∙ ap (λ after. mark token.Colon ∷ after) what.1),
@@ -388,9 +390,9 @@ module _ (inner : Readers) (sound : AreSound inner) where
 readers_sound : (most : ℕ) → AreSound (readers most)
 unfolding readers
 readers_sound zero = record {
-  constraint = λ tokens rest tree is. (cc);
-  refinement = λ tokens rest tree is. (cc);
-  set = λ tokens rest tree is. (cc);
+  constraint = λ tokens rest tree is. absurd (none-some (tree, rest) is);
+  refinement = λ tokens rest tree is. absurd (none-some (tree, rest) is);
+  set = λ tokens rest tree is. absurd (none-some (tree, rest) is);
 }
 readers_sound (suc most) = record {
   constraint = constraint_sound (readers most) (readers_sound most);

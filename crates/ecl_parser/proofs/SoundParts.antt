@@ -18,6 +18,10 @@ use Rattle.ecl_parser.specs.declared.tokens.Mark.TheVariants as marks
 use Rattle.ecl_parser.proofs.MarkLemmas.{kind_of, mark_kind}
 use Rattle.std.proofs.lemmas.Bool.{false≢true}
 
+-- what two equal options have is equal
+pub some_is : {A : Type 0} {one other : A} → Some one ≡ Some other → one ≡ other
+some_is same = (cc)
+
 -- how an answer came about
 pub bind_some : {S T : Type 0} (found : Found S) (next : S → List Symbol → Option T) (answer : T) → (found >>= next) ≡ Some answer
     → (read : S × List Symbol) × (found ≡ Some read) × (next read.0 read.1 ≡ Some answer)

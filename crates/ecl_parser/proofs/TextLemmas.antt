@@ -3,6 +3,7 @@ use Rattle.std.proofs.Common.{◌≡◌, ◌∙◌, ℕ, zero, suc, Bool, true, 
 use Rattle.std.specs.Prelude.{Result, Ok, Err, nat_le, nat_lt, option_and_then}
 use Rattle.std.specs.List.{list_all}
 use Rattle.std.proofs.lemmas.Bool.{and_parts, leb-true}
+use Rattle.std.proofs.lemmas.Option.{none-some}
 use Rattle.ecl_lexer.specs.Pieces.{Piece, bytes_of, piece_text}
 use Rattle.ecl_lexer.specs.Reading.{reading}
 use Rattle.ecl_lexer.specs.Refusals.{IsRead}
@@ -18,6 +19,7 @@ use Rattle.constraint_tree.specs.WorkedQueries.{Gives}
 use Rattle.constraint_tree.proofs.PieceLemmas.{low_bytes}
 use Rattle.ecl_parser.specs.inside.Reading.{Found, bounds_at, constraint_behind, constraint_in, focus_in, item_behind, item_in, many, member_in, pair_in, part_in, readers, refinement_behind, refinement_in, set_behind, set_in, sub_in, test_in}
 use Rattle.ecl_parser.proofs.Sound.{constraint_derives}
+use Rattle.ecl_parser.proofs.SoundParts.{some_is}
 
 -- the pieces of a text that is read to its end in so many turns
 abbrev piece_then : (List ℕ → Option (List Piece)) → List ℕ → Result Piece QueryFault → Option (List Piece)
@@ -44,9 +46,9 @@ piece_cut text piece pieces is cut =
 -- such pieces are a cut of the text
 cut_in : (turns : ℕ) (text : List ℕ) (pieces : List Piece) → pieces_in turns text ≡ Some pieces → IsCut text pieces []
 cut_in turns [] pieces is =
-    let none : [] ≡ pieces = (cc) in
+    let none : [] ≡ pieces = some_is is in
     subst (λ (found : List Piece). IsCut [] found []) none (record { whole = refl; each = tt })
-cut_in zero (byte ∷ behind) pieces is = absurd (cc)
+cut_in zero (byte ∷ behind) pieces is = absurd (none-some pieces is)
 cut_in (suc turns) (byte ∷ behind) pieces is =
     by_result (λ rest found same. cut_in turns rest found same) (reading 0 (byte ∷ behind)) refl is
   where
@@ -55,16 +57,16 @@ cut_in (suc turns) (byte ∷ behind) pieces is =
         → IsCut (drop (length (bytes_of piece)) (byte ∷ behind)) found [])
         → (more : Option (List Piece)) → pieces_in turns (drop (length (bytes_of piece)) (byte ∷ behind)) ≡ more
         → option_map (λ found. piece ∷ found) more ≡ Some pieces → IsCut (byte ∷ behind) pieces []
-    by_more piece read cut None same found = absurd (cc)
+    by_more piece read cut None same found = absurd (none-some pieces found)
     by_more piece read cut (Some rest) same found =
-        let whole : piece ∷ rest ≡ pieces = (cc) in
+        let whole : piece ∷ rest ≡ pieces = some_is found in
         subst (λ (found : List Piece). IsCut (byte ∷ behind) found []) whole
         (piece_cut (byte ∷ behind) piece rest read (cut rest same))
 
     by_result : ((rest : List ℕ) (found : List Piece) → pieces_in turns rest ≡ Some found → IsCut rest found [])
         → (read : Result Piece QueryFault) → reading 0 (byte ∷ behind) ≡ read
         → piece_then (λ rest. pieces_in turns rest) (byte ∷ behind) read ≡ Some pieces → IsCut (byte ∷ behind) pieces []
-    by_result cuts (Err fault) read found = absurd (cc)
+    by_result cuts (Err fault) read found = absurd (none-some pieces found)
     by_result cuts (Ok piece) read found =
         let rest = drop (length (bytes_of piece)) (byte ∷ behind) in
         by_more piece read (λ more same. cuts rest more same) (pieces_in turns rest) refl found
@@ -107,7 +109,7 @@ tree_among-is text pieces tree readable cut is = by_depth (is_deep 0 (spelled_to
     by_depth : (deep : Bool) → is_deep 0 (spelled_tokens pieces) ≡ deep
         → (if deep then None else whole (constraint_in (readers 1) (map symbol_of (spelled_tokens pieces)))) ≡ Some tree
         → IsConstraint text tree
-    by_depth true same found = absurd (cc)
+    by_depth true same found = absurd (none-some tree found)
     by_depth false same found = record {
       readable = readable;
       tokens = spelled_tokens pieces;
@@ -122,14 +124,14 @@ tree_in-is text tree is = by_plain (is_plain_text text) refl is
   where
     by_pieces : IsReadable text → (found : Option (List Piece)) → pieces_in (length text) text ≡ found
         → option_and_then tree_among found ≡ Some tree → IsConstraint text tree
-    by_pieces readable None same read = absurd (cc)
+    by_pieces readable None same read = absurd (none-some tree read)
     by_pieces readable (Some pieces) same read =
         tree_among-is text pieces tree readable (cut_in (length text) text pieces same) read
 
     by_plain : (plain : Bool) → is_plain_text text ≡ plain
         → (if plain then option_and_then tree_among (pieces_in (length text) text) else None) ≡ Some tree
         → IsConstraint text tree
-    by_plain false same read = absurd (cc)
+    by_plain false same read = absurd (none-some tree read)
     by_plain true same read =
         let parts = and_parts (list_all (λ byte. nat_lt byte 128) text) (nat_le (length text) most_bytes) same in
         by_pieces (leb-true (length text) most_bytes parts.1, low_bytes text parts.0) (pieces_in (length text) text) refl read

@@ -1,5 +1,7 @@
 use Rattle.std.proofs.lemmas.Result.{on_err_weaker, on_ok_weaker}
-use Rattle.streams.proofs.WaitingLemmas.{Puts-cut, Puts-then}
+use Rattle.std.proofs.Common.{append_assoc, subst}
+use Rattle.streams.specs.Waiting.{WritesFront}
+use Rattle.streams.proofs.WaitingLemmas.{Puts-cut, Puts-then, WritesFront-more}
 use Rattle.answer_printer.proofs.answer.put_answer.Goals as goal
 
 -- the lines are put behind the first
@@ -14,3 +16,9 @@ returns-in-Ok-clause-err g c =
     on_err_weaker c.put_lines.result
     (Puts-cut _ _ _ c.args.piece.now c.args.head.now c.put.new.self c.in-Ok.ensures.ok _)
     c.put_lines.ensures.err
+
+-- the output failed at the first line
+pub returns-in-Err-clause-err : goal.returns-in-Err-clause-err
+returns-in-Err-clause-err g c =
+    subst (WritesFront (g.W.AnswerOutput.written c.args.output.now) (g.W.AnswerOutput.written c.put.new.output))
+    (append_assoc c.args.piece.now c.args.head.now _) (WritesFront-more _ _ _ _ c.in-Err.ensures.err)

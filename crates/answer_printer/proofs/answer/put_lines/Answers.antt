@@ -1,11 +1,12 @@
-use Rattle.std.proofs.Common.{◌≡◌, ◌+◌, ◌++◌, ◌∙◌, List, ℕ, ap, append_assoc, arith, drop, map, subst, sym}
+use Rattle.std.proofs.Common.{◌≡◌, ◌+◌, ◌++◌, ◌∙◌, List, ℕ, ap, append_assoc, arith, drop, map, refl, subst, sym}
 use Rattle.std.proofs.lemmas.Grind.{common_steps}
 use Rattle.std.specs.Prelude.{slice_index}
 use Rattle.std.specs.List.{flat_map}
-use Rattle.streams.specs.Waiting.{WritesFront}
+use Rattle.streams.specs.Waiting.{Puts, WritesFront}
 use Rattle.streams.proofs.WaitingLemmas.{Puts-cut-more, Puts-then}
 use Rattle.snapshot.specs.Name.{name_of}
 use Rattle.snapshot.specs.Line.{concept_line}
+use Rattle.answer_printer.proofs.AnswerLemmas.{text_end}
 use Rattle.answer_printer.proofs.answer.put_lines.Goals as goal
 
 -- the lines so far, the line at hand and those that are left are all lines
@@ -40,3 +41,13 @@ returns-in-Err-clause-err g c =
     subst (λ (text : List ℕ). WritesFront (g.W.AnswerOutput.written c.args.output.now) (g.W.AnswerOutput.written c.put.new.output) (c.args.piece.now ++ text))
     (joined done c.line.result.now rest left (lines c.args.concepts.now) next whole)
     (Puts-cut-more _ _ _ c.args.piece.now done c.loop-concept.piece put c.line.result.now rest c.in-Err.ensures.err)
+
+-- the lines so far are all lines
+pub returns-clause-ok : goal.returns-clause-ok
+returns-clause-ok g c =
+    let (done, put, whole) = c.loop-concept.invariant.put in
+    let release = c.args.snapshot.now.release in
+    let lines = λ (numbers : List ℕ). flat_map (concept_line (name_of release c.args.snapshot.now.language)) (map (slice_index release.concepts) numbers) in
+    subst (λ (text : List ℕ). Puts (g.W.AnswerOutput.written c.args.output.now)
+    (g.W.AnswerOutput.written c.loop-concept.output) c.args.piece.now text c.loop-concept.piece)
+    (text_end lines c.args.concepts.now c.loop-concept.concept-index done _ whole c.loop-concept-test.false refl) put

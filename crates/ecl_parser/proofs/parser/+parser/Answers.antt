@@ -1,9 +1,9 @@
-use Rattle.constraint_tree.proofs.TreeLemmas.{trees_of_items}
-use Rattle.std.proofs.Common.{rules, length, map, Some, ap, sym, ◌∙◌, arith}
-use Rattle.constraint_tree.specs.Tree.{refinement_tree_of, set_tree_of, tree_of}
+use Rattle.constraint_tree.proofs.TreeLemmas.{refinement_tree_of-And, refinement_tree_of-Or, set_tree_of-And, set_tree_of-Or}
+use Rattle.std.proofs.Common.{rules, length, map, Some, ap, refl, sym, ◌∙◌, arith}
+use Rattle.constraint_tree.specs.Tree.{member_tree, minus_tree, refined_tree, refinement_tree_of, set_tree_of, tree_of, within_test}
 use Rattle.ecl_parser.specs.inside.Gives.{symbols_from}
-use Rattle.ecl_parser.specs.inside.Reading.{item_in, part_in, readers, refinement_behind, refinement_in, set_behind, set_in, sub_in}
-use Rattle.ecl_parser.proofs.ReadLemmas.{focus_in_brackets, item_in_brackets, many_done, many_end, many_fails, turn_read, part_in_brackets, group_in_braces}
+use Rattle.ecl_parser.specs.inside.Reading.{item_in, member_in, pair_in, part_in, readers, refinement_behind, refinement_in, set_behind, set_in, sub_in}
+use Rattle.ecl_parser.proofs.ReadLemmas.{all_items_read, all_parts_read, alone_read, focus_in_brackets, focus_not_closed, group_in_braces, group_not_closed, group_too_deep, item_in_brackets, item_not_closed, item_read, many_done, many_end, many_fails, member_read, minus_read, no_turn, pair_read, part_in_brackets, part_not_closed, part_read, part_too_deep, refined_read, reverse_read, some_items_read, some_parts_read, turn_read, within_read}
 use Rattle.ecl_parser.proofs.parser.+parser.Goals.{subs-else-loop-turn-test, subs-then-loop-turn-test+then-not-take, items-else-loop-turn-test, items-then-loop-turn-test+then-not-take, parts-else-loop-turn-test, parts-then-loop-turn-test+then-not-take}
 use Rattle.ecl_parser.proofs.parser.+parser.Goals as goal
 
@@ -28,25 +28,192 @@ part-returns-then-take_bracket t c =
     part_in_brackets c.args.depth _ _ _ _ _ (omega arith)
     (search (rules, c.take_bracket.ensures.taken)) c.in_ok-found.ensures (search (rules, c.take.ensures.taken))
 
+pub focus-returns-then-not-take-2 : goal.focus-returns-then-not-take-2
+focus-returns-then-not-take-2 t c =
+    let same = c.take_digits.ensures.same c.in_default.is in
+    let same_still = c.take.ensures.same c.if-take.false ∙ same in
+    focus_not_closed c.args.depth _ (symbols_from c.args.tokens.now c.args.at.now) _ _ (omega arith)
+    (c.take_digits.ensures.left c.in_default.is) (rw same at (c.take.ensures.left c.if-take.false))
+    (rw same_still at (c.take-2.ensures.taken c.if-not-take.false)) c.in_ok-found.ensures
+    (c.take-3.ensures.left c.if-not-take-2.true)
+
+pub item-returns-then-not-take : goal.item-returns-then-not-take
+item-returns-then-not-take t c =
+    item_not_closed c.args.depth _ _ _ _ (omega arith)
+    (c.take_bracket.ensures.taken c.if-take_bracket.true) c.in_ok-found.ensures (c.take.ensures.left c.if-not-take.true)
+
 pub part-returns-then-not-take : goal.part-returns-then-not-take
-unfolding part_in readers
-part-returns-then-not-take t c = search rules
+part-returns-then-not-take t c =
+    part_not_closed c.args.depth _ _ _ _ (omega arith)
+    (c.take_bracket.ensures.taken c.if-take_bracket.true) c.in_ok-found.ensures (c.take.ensures.left c.if-not-take.true)
+
+pub part-returns-then-depth-eq0 : goal.part-returns-then-depth-eq0
+part-returns-then-depth-eq0 t c =
+    part_too_deep c.args.depth _ _ c.if-depth-eq0.true (c.take_bracket.ensures.taken c.if-take_bracket.true)
+
+pub counted_item-returns-then-not-take : goal.counted_item-returns-then-not-take
+counted_item-returns-then-not-take t c =
+    group_not_closed c.args.depth c.args.cardinality _ _ _ _ (omega arith)
+    (c.take.ensures.taken c.if-take.true) c.in_ok-found.ensures (c.take-then-take.ensures.left c.if-not-take.true)
+
+pub counted_item-returns-then-depth-eq0 : goal.counted_item-returns-then-depth-eq0
+counted_item-returns-then-depth-eq0 t c =
+    group_too_deep c.args.depth c.args.cardinality _ _ c.if-depth-eq0.true (c.take.ensures.taken c.if-take.true)
+
+pub counted_item-returns-then-take-2 : goal.counted_item-returns-then-take-2
+counted_item-returns-then-take-2 t c =
+    let same = c.take.ensures.same c.if-take.false in
+    reverse_read (readers c.args.depth) c.args.cardinality _ _ _ _ (c.take.ensures.left c.if-take.false)
+    (rw same at (c.take-2.ensures.taken c.if-take-2.true)) c.in_ok-found-2.ensures
+
+pub counted_item-returns : goal.counted_item-returns
+counted_item-returns t c =
+    let same = c.take.ensures.same c.if-take.false in
+    let same_still = c.take-2.ensures.same c.if-take-2.false ∙ same in
+    pair_read (readers c.args.depth) c.args.cardinality _ _ _ (c.take.ensures.left c.if-take.false)
+    (rw same at (c.take-2.ensures.left c.if-take-2.false)) (rw same_still at c.in_ok-found-3.ensures)
+
+pub item-returns : goal.item-returns
+item-returns t c =
+    let same = c.take_bracket.ensures.same c.if-take_bracket.false in
+    item_read (readers c.args.depth) _ _ _ (c.take_bracket.ensures.left c.if-take_bracket.false)
+    (rw same at c.in_ok-cardinality.ensures)
+    ∙ c.in_ok-found-2.ensures
+
+pub part-returns : goal.part-returns
+part-returns t c =
+    let same = c.take_bracket.ensures.same c.if-take_bracket.false in
+    part_read (readers c.args.depth) _ _ _ _ _ (c.take_bracket.ensures.left c.if-take_bracket.false)
+    (rw same at c.in_ok-cardinality.ensures) c.in_ok-found-2.ensures
+
+pub member-returns-then-take : goal.member-returns-then-take
+member-returns-then-take t c =
+    member_read (readers c.args.depth) _ _ _ _ (c.take.ensures.taken c.if-take.true) c.in_ok-sets.ensures
+    ∙ ap (λ sets. Some (member_tree (tree_of sets), symbols_from c.args.tokens.now c.focus.new.at))
+    (sym c.in_ok-sets-2.ensures.ok)
+
+pub test-returns-in_ok-value-in-Equal-2 : goal.test-returns-in_ok-value-in-Equal-2
+test-returns-in_ok-value-in-Equal-2 t c =
+    let same = c.take_number.ensures.same c.in_default.is in
+    within_read (readers c.args.depth) c.args.compare _ _ _ c.in-Equal.is (c.take_number.ensures.left c.in_default.is)
+    (rw same at c.in_ok-value-in-Equal.ensures)
+    ∙ ap (λ value. Some (within_test (tree_of value), symbols_from c.args.tokens.now c.sub.new.at))
+    (sym c.in_ok-value-in-Equal-2.ensures.ok)
+
+pub pair-returns-in_default : goal.pair-returns-in_default
+unfolding pair_in
+pair-returns-in_default t c = rw (c.in_ok-name.ensures, c.take_compare.ensures.left c.in_default.is) refl
+
+pub pair-returns : goal.pair-returns
+unfolding pair_in
+pair-returns t c = rw (c.in_ok-name.ensures, c.in-Some.ensures.taken, c.in_ok-test.ensures) refl
+
+pub sub-returns-in_ok-operand-in-Some-2 : goal.sub-returns-in_ok-operand-in-Some-2
+unfolding sub_in
+sub-returns-in_ok-operand-in-Some-2 t c =
+    rw (c.in-Some.ensures.taken, c.in_ok-operand-in-Some.ensures, c.in_ok-operand-in-Some-2.ensures.ok) refl
+
+pub sub-returns-in_ok-found-in-None : goal.sub-returns-in_ok-found-in-None
+unfolding sub_in
+sub-returns-in_ok-found-in-None t c =
+    let same = c.take_operator.ensures.same c.in-None.is in
+    rw (c.take_operator.ensures.left c.in-None.is) (rw same at c.in_ok-found-in-None.ensures)
+
+pub member-returns : goal.member-returns
+unfolding member_in
+member-returns t c =
+    let same = c.take.ensures.same c.if-take.false in
+    rw (c.take.ensures.left c.if-take.false) (rw same at c.in_ok-found.ensures)
+
+pub set-returns : goal.set-returns
+unfolding set_in set_behind
+set-returns t c =
+    let no_and = sym c.is_ahead.ensures.kind ∙ c.if-is_ahead.false in
+    let no_or = sym c.is_ahead-2.ensures.kind ∙ c.if-is_ahead-2.false in
+    rw (c.in_ok-first.ensures, no_and, no_or) refl
+
+pub refinement-returns : goal.refinement-returns
+unfolding refinement_in refinement_behind
+refinement-returns t c =
+    let no_and = sym c.is_ahead.ensures.kind ∙ c.if-is_ahead.false in
+    let no_or = sym c.is_ahead-2.ensures.kind ∙ c.if-is_ahead-2.false in
+    rw (c.in_ok-first.ensures, no_and, no_or) refl
 
 pub set-returns-then-is_ahead : goal.set-returns-then-is_ahead
-unfolding set_in set_behind
-set-returns-then-is_ahead t c = search (rules, trees_of_items)
+set-returns-then-is_ahead t c =
+    all_parts_read (readers c.args.depth) (set_tree_of c.in_ok-first.first) _
+    (symbols_from c.args.tokens.now c.part.new.at) c.in_ok-first.ensures
+    (map set_tree_of c.in_ok-list-2.list.items) _ (sym c.is_ahead.ensures.kind ∙ c.if-is_ahead.true)
+    (rw c.in_ok-list.ensures at c.in_ok-list-2.ensures)
+    ∙ ap (λ tree. Some (tree, symbols_from c.args.tokens.now c.parts.new.at))
+    (sym (set_tree_of-And c.in_ok-list-2.list))
 
 pub set-returns-then-is_ahead-2 : goal.set-returns-then-is_ahead-2
-unfolding set_in set_behind
-set-returns-then-is_ahead-2 t c = search (rules, trees_of_items)
+set-returns-then-is_ahead-2 t c =
+    some_parts_read (readers c.args.depth) (set_tree_of c.in_ok-first.first) _
+    (symbols_from c.args.tokens.now c.part.new.at) c.in_ok-first.ensures
+    (map set_tree_of c.in_ok-list-4.list.items) _ (sym c.is_ahead.ensures.kind ∙ c.if-is_ahead.false)
+    (sym c.is_ahead-2.ensures.kind ∙ c.if-is_ahead-2.true) (rw c.in_ok-list-3.ensures at c.in_ok-list-4.ensures)
+    ∙ ap (λ tree. Some (tree, symbols_from c.args.tokens.now c.parts-then-is_ahead-2.new.at))
+    (sym (set_tree_of-Or c.in_ok-list-4.list))
 
 pub refinement-returns-then-is_ahead : goal.refinement-returns-then-is_ahead
-unfolding refinement_in refinement_behind
-refinement-returns-then-is_ahead t c = search (rules, trees_of_items)
+refinement-returns-then-is_ahead t c =
+    all_items_read (readers c.args.depth) (refinement_tree_of c.in_ok-first.first) _
+    (symbols_from c.args.tokens.now c.item.new.at) c.in_ok-first.ensures
+    (map refinement_tree_of c.in_ok-parts-2.parts.items) _ (sym c.is_ahead.ensures.kind ∙ c.if-is_ahead.true)
+    (rw c.in_ok-parts.ensures at c.in_ok-parts-2.ensures)
+    ∙ ap (λ tree. Some (tree, symbols_from c.args.tokens.now c.items.new.at))
+    (sym (refinement_tree_of-And c.in_ok-parts-2.parts))
 
 pub refinement-returns-then-is_ahead-2 : goal.refinement-returns-then-is_ahead-2
-unfolding refinement_in refinement_behind
-refinement-returns-then-is_ahead-2 t c = search (rules, trees_of_items)
+refinement-returns-then-is_ahead-2 t c =
+    some_items_read (readers c.args.depth) (refinement_tree_of c.in_ok-first.first) _
+    (symbols_from c.args.tokens.now c.item.new.at) c.in_ok-first.ensures
+    (map refinement_tree_of c.in_ok-parts-4.parts.items) _ (sym c.is_ahead.ensures.kind ∙ c.if-is_ahead.false)
+    (sym c.is_ahead-2.ensures.kind ∙ c.if-is_ahead-2.true) (rw c.in_ok-parts-3.ensures at c.in_ok-parts-4.ensures)
+    ∙ ap (λ tree. Some (tree, symbols_from c.args.tokens.now c.items-then-is_ahead-2.new.at))
+    (sym (refinement_tree_of-Or c.in_ok-parts-4.parts))
+
+pub constraint-returns-then-take : goal.constraint-returns-then-take
+constraint-returns-then-take t c =
+    refined_read (readers c.args.depth) (tree_of c.in_ok-first.first) _ (symbols_from c.args.tokens.now c.sub.new.at)
+    c.in_ok-first.ensures _ _ _
+    (sym c.is_ahead.ensures.kind ∙ c.if-is_ahead.false) (sym c.is_ahead-2.ensures.kind ∙ search rules)
+    (sym c.is_ahead-3.ensures.kind ∙ search rules) (c.take.ensures.taken c.if-take.true) c.in_ok-what.ensures
+    ∙ (λ i. Some (
+      refined_tree (tree_of (sym c.in_ok-focus.ensures.ok i)) (refinement_tree_of (sym c.in_ok-what-2.ensures.ok i)),
+      symbols_from c.args.tokens.now c.refinement.new.at,
+    ))
+
+pub constraint-returns-then-take-2 : goal.constraint-returns-then-take-2
+constraint-returns-then-take-2 t c =
+    let same = c.take.ensures.same c.if-take.false in
+    minus_read (readers c.args.depth) (tree_of c.in_ok-first.first) _ (symbols_from c.args.tokens.now c.sub.new.at)
+    c.in_ok-first.ensures _ _ _
+    (sym c.is_ahead.ensures.kind ∙ c.if-is_ahead.false) (sym c.is_ahead-2.ensures.kind ∙ search rules)
+    (sym c.is_ahead-3.ensures.kind ∙ search rules) (c.take.ensures.left c.if-take.false)
+    (rw same at (c.take-2.ensures.taken c.if-take-2.true)) c.in_ok-second.ensures
+    ∙ (λ i. Some (
+      minus_tree (tree_of (sym c.in_ok-first-2.ensures.ok i)) (tree_of (sym c.in_ok-second-2.ensures.ok i)),
+      symbols_from c.args.tokens.now c.sub-then-take-2.new.at,
+    ))
+
+pub constraint-returns : goal.constraint-returns
+constraint-returns t c =
+    let same = c.take.ensures.same c.if-take.false in
+    let same_still = c.take-2.ensures.same c.if-take-2.false ∙ same in
+    alone_read (readers c.args.depth) (tree_of c.in_ok-first.first) _ (symbols_from c.args.tokens.now c.sub.new.at)
+    c.in_ok-first.ensures
+    (sym c.is_ahead.ensures.kind ∙ c.if-is_ahead.false) (sym c.is_ahead-2.ensures.kind ∙ search rules)
+    (sym c.is_ahead-3.ensures.kind ∙ search rules) (c.take.ensures.left c.if-take.false)
+    (rw same at (c.take-2.ensures.left c.if-take-2.false))
+    ∙ ap (λ at. Some (tree_of c.in_ok-first.first, symbols_from c.args.tokens.now at)) (sym same_still)
+
+pub subs-loop-turn-init : goal.subs-loop-turn-init
+subs-loop-turn-init t c =
+    no_turn (sub_in (readers c.args.depth)) c.args.joint c.args.tokens.now c.args.at.now
+    (map tree_of c.args.parts.items)
 
 pub subs-loop-turn-preserved : goal.subs-loop-turn-preserved
 subs-loop-turn-preserved t c =
@@ -76,6 +243,11 @@ subs-returns t c =
           ∙ ap (λ at. Some (map tree_of c.loop-turn.parts.items, symbols_from c.args.tokens.now at)) (search (rules, w.take.ensures.same, w.at-is))
     ]
 
+pub items-loop-turn-init : goal.items-loop-turn-init
+items-loop-turn-init t c =
+    no_turn (item_in (readers c.args.depth)) c.args.joint c.args.tokens.now c.args.at.now
+    (map refinement_tree_of c.args.parts.items)
+
 pub items-loop-turn-preserved : goal.items-loop-turn-preserved
 items-loop-turn-preserved t c =
     turn_read (item_in (readers c.args.depth)) c.args.joint refinement_tree_of c.loop-turn.parts.items c.push.new.self.items c.in-Ok.part
@@ -103,6 +275,11 @@ items-returns t c =
           (symbols_from c.args.tokens.now c.loop-turn.at) (search (rules, w.take.ensures.left))
           ∙ ap (λ at. Some (map refinement_tree_of c.loop-turn.parts.items, symbols_from c.args.tokens.now at)) (search (rules, w.take.ensures.same, w.at-is))
     ]
+
+pub parts-loop-turn-init : goal.parts-loop-turn-init
+parts-loop-turn-init t c =
+    no_turn (part_in (readers c.args.depth)) c.args.joint c.args.tokens.now c.args.at.now
+    (map set_tree_of c.args.list.items)
 
 pub parts-loop-turn-preserved : goal.parts-loop-turn-preserved
 parts-loop-turn-preserved t c =
