@@ -1,16 +1,15 @@
 -- What is read where a text begins, and why nothing is.
-use Rattle.std.proofs.Common.{ℕ, ◌≡◌, ◌+◌, ◌<◌, ◌++◌, ◌∙◌, List, [], ◌∷◌, length, take, drop, Bool, true, false, Option, None, Some, inl, inr, refl, sym, ap, subst, arith}
-use Rattle.std.specs.Prelude.{if◌then◌else◌, option_map, Result, Ok, Err}
+use Rattle.std.proofs.Common.{ℕ, ◌≡◌, ◌+◌, ◌<◌, ◌++◌, ◌∙◌, List, [], ◌∷◌, length, take, drop, Option, None, Some, inl, inr, refl, sym, ap, subst, arith}
+use Rattle.std.specs.Prelude.{Ok, Err}
 use Rattle.std.proofs.lemmas.Bool.{cases_Bool}
 use Rattle.std.proofs.lemmas.Option.{none-some}
 use Rattle.std.proofs.lemmas.List.{append_assoc, length-append, drop_at, take_at}
 use Rattle.ecl_lexer.specs.declared.fault.Feature.{Feature}
-use Rattle.ecl_lexer.specs.declared.pieces.Piece.{Piece as Found}
 use Rattle.ecl_lexer.specs.declared.fault.QueryFault.{QueryFault}
-use Rattle.ecl_lexer.specs.declared.fault.QueryFault.TheVariants.{Limit, Token}
+use Rattle.ecl_lexer.specs.declared.fault.QueryFault.TheVariants.{Limit}
 use Rattle.ecl_lexer.specs.Pieces.{Piece, space, comment, symbol, word, digits, number, term, Sign, unsigned, plus, minus, sign_text, fraction_text, piece_text, bytes_of, Stands}
 use Rattle.ecl_lexer.specs.Refusals.{Cause, form, nothing, limit, IsRead, Refuses, fault_at, is_within_limit, unsupported}
-use Rattle.ecl_lexer.specs.Reading.{found, found_of, piece_at, reading, supported, within_limit}
+use Rattle.ecl_lexer.specs.Reading.{found, piece_at, reading, supported, within_limit}
 use Rattle.ecl_lexer.proofs.FoundLemmas.{piece_at-stands}
 use Rattle.ecl_lexer.proofs.SymbolLemmas.{symbol_some}
 use Rattle.ecl_lexer.proofs.StandsLemmas.{piece_at-read}
@@ -99,26 +98,6 @@ reading-Ok offset text piece found = by_form (unsupported text) refl found
     by_form : (o : Option Feature) → unsupported text ≡ o → supported offset o (piece_at text) ≡ Ok piece → ReadIn text piece
     by_form (Some feature) is found = absurd cc
     by_form None is found = by_piece is (piece_at text) refl found
-
--- what the code answers to the piece that it has found, or has not
-abbrev pub answer_of : ℕ → Option Found → Result Found QueryFault
-answer_of offset None = Err (Token offset)
-answer_of offset (Some piece) = if piece.is_within_limit then Ok piece else Err (Limit offset)
-
-pub found_of-reading : (offset : ℕ) (text : List ℕ) → unsupported text ≡ None
-    → found_of (reading offset text) ≡ answer_of offset (option_map found (piece_at text))
-found_of-reading offset text none =
-    ap (λ (o : Option Feature). found_of (supported offset o (piece_at text))) none ∙ by_piece (piece_at text)
-  where
-    by_limit : (few : Bool) (piece : Piece)
-        → found_of (if few then Ok piece else Err (Limit offset))
-        ≡ (if few then Ok (found piece) else Err (Limit offset))
-    by_limit true piece = refl
-    by_limit false piece = refl
-
-    by_piece : (o : Option Piece) → found_of (within_limit offset o) ≡ answer_of offset (option_map found o)
-    by_piece None = refl
-    by_piece (Some piece) = by_limit (is_within_limit piece) piece
 
 -- why nothing is read
 
