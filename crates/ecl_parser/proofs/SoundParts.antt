@@ -1,5 +1,6 @@
 -- What the readers of marks, of lists and of joined forms find, for `Sound`.
-use Rattle.std.proofs.Common.{◌≡◌, ◌⊎◌, inl, inr, ℕ, zero, suc, ℤ, Bool, true, false, cond, List, [], ◌∷◌, ◌++◌, length, drop, Option, None, Some, option_map, refl, ap, sym, ◌∙◌}
+use Rattle.std.proofs.Common.{◌≡◌, ◌⊎◌, inl, inr, ℕ, zero, suc, ℤ, Bool, true, false, cond, List, [], ◌∷◌, ◌++◌, length}
+use Rattle.std.proofs.Common.{drop, Option, None, Some, option_map, refl, ap, sym, ◌∙◌}
 use Rattle.std.specs.Prelude.{IsTrue, is_some}
 use Rattle.numerals.specs.Numbers.{is_number, number_of}
 use Rattle.numerals.specs.Decimals.{decimal_of}
@@ -10,9 +11,16 @@ use Rattle.constraint_tree.specs.declared.operator.Operator.{Operator}
 use Rattle.constraint_tree.specs.declared.operator.Operator.TheVariants as operator
 use Rattle.ecl_lexer.specs.declared.token.TokenKind.{TokenKind}
 use Rattle.ecl_lexer.specs.declared.token.TokenKind.TheVariants as token
-use Rattle.constraint_tree.specs.Grammar.{Symbol, digits, decimal, mark, CountForm, at_least, between, conjunction, disjunction, no_subs, sub_then, one_item, all_items, some_items, no_items, item_then, one_part, all_parts, some_parts, no_parts, part_then, operator_kind, compare_kind, counted_tokens, constraint_tokens, subs_tokens, sub_tokens, refinement_tokens, items_tokens, item_tokens, set_tokens, parts_tokens, part_tokens, cardinality_of, constraint_tree, sub_trees, sub_tree, refinement_tree, item_trees, item_tree, set_tree, part_trees, part_tree}
-use Rattle.constraint_tree.specs.Tree.{trees_from, tree_then, and_tree, or_tree, refinements_from, refinement_then, and_refinement, or_refinement, sets_from, set_then, and_set, or_set, AttributeTree}
-use Rattle.ecl_parser.specs.inside.Reading.{◌>>=◌, Found, Readers, all_behind, behind, behind_close, bounds_at, bracketed_at, closed, compare_at, compare_of, count_at, digits_at, is_mark, many, most_at, number_at, operator_at, operator_of, otherwise, some_or_more, stands, with_front}
+use Rattle.constraint_tree.specs.Grammar.{Symbol, digits, decimal, mark, CountForm, at_least, between, conjunction, disjunction, no_subs, sub_then}
+use Rattle.constraint_tree.specs.Grammar.{one_item, all_items, some_items, no_items, item_then, one_part, all_parts, some_parts, no_parts, part_then}
+use Rattle.constraint_tree.specs.Grammar.{operator_kind, compare_kind, counted_tokens, constraint_tokens, subs_tokens, sub_tokens, refinement_tokens}
+use Rattle.constraint_tree.specs.Grammar.{items_tokens, item_tokens, set_tokens, parts_tokens, part_tokens, cardinality_of, constraint_tree}
+use Rattle.constraint_tree.specs.Grammar.{sub_trees, sub_tree, refinement_tree, item_trees, item_tree, set_tree, part_trees, part_tree}
+use Rattle.constraint_tree.specs.Tree.{trees_from, tree_then, and_tree, or_tree, refinements_from, refinement_then, and_refinement, or_refinement}
+use Rattle.constraint_tree.specs.Tree.{sets_from, set_then, and_set, or_set, AttributeTree}
+use Rattle.ecl_parser.specs.inside.Reading.{◌>>=◌, Found, Readers, all_behind, behind, behind_close, bounds_at, bracketed_at, closed, compare_at}
+use Rattle.ecl_parser.specs.inside.Reading.{compare_of, count_at, digits_at, is_mark, many, most_at, number_at, operator_at, operator_of, otherwise}
+use Rattle.ecl_parser.specs.inside.Reading.{some_or_more, stands, with_front}
 use Rattle.ecl_parser.specs.declared.tokens.Mark.{Mark}
 use Rattle.ecl_parser.specs.declared.tokens.Mark.TheVariants as marks
 use Rattle.ecl_parser.proofs.MarkLemmas.{kind_of, mark_kind}
@@ -28,12 +36,14 @@ pub bind_some : {S T : Type 0} (found : Found S) (next : S → List Symbol → O
 bind_some None next answer is = (cc)
 bind_some (Some read) next answer is = (read, refl, is)
 
-pub otherwise_some : {A B : Type 0} (item : Option A) (absent : Option B) (present : A → Option B) (answer : B) → otherwise item absent present ≡ Some answer
+pub otherwise_some : {A B : Type 0} (item : Option A) (absent : Option B) (present : A → Option B) (answer : B)
+    → otherwise item absent present ≡ Some answer
     → ((item ≡ None) × (absent ≡ Some answer)) ⊎ ((found : A) × (item ≡ Some found) × (present found ≡ Some answer))
 otherwise_some None absent present answer is = inl (refl, is)
 otherwise_some (Some found) absent present answer is = inr (found, refl, is)
 
-map_some : {A B : Type 0} (f : A → B) (item : Option A) (answer : B) → option_map f item ≡ Some answer → (found : A) × (item ≡ Some found) × (f found ≡ answer)
+map_some : {A B : Type 0} (f : A → B) (item : Option A) (answer : B) → option_map f item ≡ Some answer
+    → (found : A) × (item ≡ Some found) × (f found ≡ answer)
 map_some f None answer is = (cc)
 map_some f (Some found) answer is = (found, refl, (cc))
 
@@ -232,7 +242,8 @@ count_sound tokens rest found is =
 stands_some : (wanted : Mark) (tokens : List Symbol) → stands wanted tokens ≡ true → (left : List Symbol) × (behind wanted tokens ≡ Some left)
 stands_some wanted tokens is = by (behind wanted tokens) refl is
   where
-    by : (found : Option (List Symbol)) → behind wanted tokens ≡ found → is_some found ≡ true → (left : List Symbol) × (behind wanted tokens ≡ Some left)
+    by : (found : Option (List Symbol)) → behind wanted tokens ≡ found → is_some found ≡ true
+        → (left : List Symbol) × (behind wanted tokens ≡ Some left)
     by None found is = absurd (false≢true is)
     by (Some left) found is = (left, found)
 

@@ -1,5 +1,7 @@
 -- What slots and a tree find, once one more key is met.
-use Rattle.std.proofs.Common.{arith, ℕ, suc, zero, ◌≡◌, ◌≢◌, ◌<◌, ◌≤◌, ◌+◌, ◌-◌, ◌^◌, ◌⊎◌, ◌∙◌, sym, ap, subst, cond, inl, inr, nat_cmp, false, List, [], ◌∷◌, ◌++◌, length, nat_eq, Option, None, Some, IfSome, position, refl, slice_get, slice_set, slice_index_or}
+use Rattle.std.proofs.Common.{arith, ℕ, suc, zero, ◌≡◌, ◌≢◌, ◌<◌, ◌≤◌, ◌+◌, ◌-◌, ◌^◌, ◌⊎◌, ◌∙◌, sym}
+use Rattle.std.proofs.Common.{ap, subst, cond, inl, inr, nat_cmp, false, List, [], ◌∷◌, ◌++◌, length, nat_eq, Option, None, Some, IfSome}
+use Rattle.std.proofs.Common.{position, refl, slice_get, slice_set, slice_index_or}
 use Rattle.std.specs.BTreeMap.{is_at}
 use Rattle.std.proofs.lemmas.Bool.{cases_eq, eq-eqb}
 use Rattle.std.proofs.lemmas.Bool.Decides.{nat_tests}
@@ -85,7 +87,8 @@ pub places_more : (count : ℕ) (at : Option ℕ) → IfSome at (λ place. (plac
 places_more count None places = places
 places_more count (Some place) places = place_more count place places
 
-pub places_written : (slots : List ℕ) (count number : ℕ) → number < length slots → ArePlaces count slots → ArePlaces (count + 1) (slice_set slots number count)
+pub places_written : (slots : List ℕ) (count number : ℕ) → number < length slots → ArePlaces count slots
+    → ArePlaces (count + 1) (slice_set slots number count)
 places_written slots count number within places other = elim (cases_eq other number) [
   | inl same ↦ rw same (rw (get_written slots number count within) (inl (omega arith)))
   | inr apart ↦ rw (get_unwritten slots number other count (differ other number apart)) (places_more count (slice_get slots other) (places other))
@@ -124,7 +127,8 @@ module _ (keys slots : List ℕ) (tree : ℕ → Option ℕ) (key place : ℕ) (
         let none = sym (finds.found other) ∙ ap (found_by keys tree other) (ap (slice_get slots) same ∙ in_slot)
         ∙ none_by_free keys tree other place few free in
         let absent = not_in_tree keys other (tree other) (finds.known other) none in
-        ap (found_from tree other (length keys)) (get_last keys key) ∙ grind (arith, common_steps, nat_tests, apart, absent, none, (place_stays keys key other))
+        ap (found_from tree other (length keys)) (get_last keys key)
+        ∙ grind (arith, common_steps, nat_tests, apart, absent, none, (place_stays keys key other))
   ]
 
   -- a key of another slot
@@ -202,13 +206,15 @@ module _ (keys slots : List ℕ) (tree : ℕ → Option ℕ) (few : length keys 
   known_alike key (Some place) alike = sym alike
 
   -- the place in a key's slot is not behind the key's
-  not_behind : (key place first_place : ℕ) → slice_get slots (slot key) ≡ Some first_place → position (nat_eq key) keys ≡ Some place → first_place ≤ place
+  not_behind : (key place first_place : ℕ) → slice_get slots (slot key) ≡ Some first_place
+      → position (nat_eq key) keys ≡ Some place → first_place ≤ place
   not_behind key place first_place in_slot is =
       let least = first.least place (has_place keys key place is) in
       subst (λ at. IfSome at (λ first_place. first_place ≤ place)) (ap (λ met. slice_get slots (slot met)) (is_at_place keys key place is) ∙ in_slot) least
 
   -- a key that is first in its slot is found there
-  found_first : (key place : ℕ) → slice_get slots (slot key) ≡ Some place → slice_get keys place ≡ Some key → Some place ≡ position (nat_eq key) keys
+  found_first : (key place : ℕ) → slice_get slots (slot key) ≡ Some place → slice_get keys place ≡ Some key
+      → Some place ≡ position (nat_eq key) keys
   found_first key place in_slot is =
       let known = at_or_before keys key place is in
       let least = not_behind key known.0 place in_slot known.1 in
@@ -254,7 +260,8 @@ all_in_tree keys tree finds key = finds.found key
 -- what a look-up tells by a slot
 pub absent : (keys slots : List ℕ) (tree : ℕ → Option ℕ) (key place : ℕ) → Finds keys slots tree → slice_get slots (slot key) ≡ Some place
     → slice_get keys place ≡ None → None ≡ position (nat_eq key) keys
-absent keys slots tree key place finds in_slot free = ap (found_from tree key place) (sym free) ∙ ap (found_by keys tree key) (sym in_slot) ∙ finds.found key
+absent keys slots tree key place finds in_slot free = ap (found_from tree key place) (sym free)
+    ∙ ap (found_by keys tree key) (sym in_slot) ∙ finds.found key
 
 pub with_no_slot : (keys slots : List ℕ) (tree : ℕ → Option ℕ) (key : ℕ) → Finds keys slots tree → slice_get slots (slot key) ≡ None
     → tree key ≡ position (nat_eq key) keys

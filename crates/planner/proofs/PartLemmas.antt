@@ -7,7 +7,8 @@ use Rattle.set_algebra.specs.declared.plan.ConceptPlan.TheVariants as concept_pl
 use Rattle.set_algebra.specs.declared.plan.UnitPlan.{UnitPlan}
 use Rattle.set_algebra.specs.declared.plan.UnitPlan.TheVariants as unit_plan
 use Rattle.set_algebra.specs.declared.plan.ValueTest.{ValueTest}
-use Rattle.set_algebra.specs.Plan.{and_plan, and_units, minus_plan, minus_units, or_plan, or_units, pairs_plan, pairs_units, plan_of, plans_of, test_plan_of, unit_plan_of, unit_plans_of, units_plan, values_plan}
+use Rattle.set_algebra.specs.Plan.{and_plan, and_units, minus_plan, minus_units, or_plan, or_units, pairs_plan, pairs_units, plan_of, plans_of}
+use Rattle.set_algebra.specs.Plan.{test_plan_of, unit_plan_of, unit_plans_of, units_plan, values_plan}
 use Rattle.set_algebra.proofs.PlanLemmas.{plan_of-And, plan_of-Or, plan_of-Values, unit_plan_of-And, unit_plan_of-Or}
 use Rattle.set_algebra.specs.declared.choice.Choice.{Choice}
 use Rattle.planner.specs.Leaves.{group_count, plan_count}
@@ -68,13 +69,15 @@ units_are boxed {count = count} is units_is = ap plan_of is ∙ ap (λ (units : 
 
 -- the plan of the values along types, by what its start and its types lend
 pub values_are : (start : Box ConceptPlan Global) (names : Vec ConceptPlan Global) {plan from : ConceptPlan} {along : List ConceptPlan}
-    → plan ≡ concept_plan.Values start names → from ≡ start.value → along ≡ names.items → plan_of plan ≡ values_plan (plan_of from) (plans_of along)
+    → plan ≡ concept_plan.Values start names → from ≡ start.value → along ≡ names.items
+    → plan_of plan ≡ values_plan (plan_of from) (plans_of along)
 values_are start names is from_is along_is =
     ap plan_of is ∙ plan_of-Values start names ∙ (λ i. values_plan (plan_of (sym from_is i)) (plans_of (sym along_is i)))
 
 -- ---- the choices behind a node
 -- behind two parts are those behind the second
-pub behind_both : {all : ℕ} (first second : ℕ) (choices : List Choice) {inner rest : List Choice} → all ≡ first + second → inner ≡ drop first choices
+pub behind_both : {all : ℕ} (first second : ℕ) (choices : List Choice) {inner rest : List Choice}
+    → all ≡ first + second → inner ≡ drop first choices
     → rest ≡ drop second inner → rest ≡ drop all choices
 behind_both first second choices all_is inner_is rest_is =
     rest_is ∙ ap (drop second) inner_is ∙ drop-drop second first choices ∙ ap (λ (n : ℕ). drop n choices) (sym all_is)

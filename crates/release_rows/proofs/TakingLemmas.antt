@@ -1,7 +1,8 @@
 -- Going over places one after another, and up to one that is refused.
 use Rattle.std.proofs.lemmas.Bool.Decides.{nat_tests}
 use Rattle.std.proofs.lemmas.Grind.{common_steps}
-use Rattle.std.proofs.Common.{ℕ, ◌≡◌, ◌+◌, ◌<◌, ◌≤◌, List, [], ◌∷◌, ◌++◌, append_assoc, ap, arith, drop, drop-cons, get_or, length, map, ◌∙◌, refl, subst, sym, ◌^◌, true, false, Option, Some, Result, IfErr, IfOk, IfSome}
+use Rattle.std.proofs.Common.{ℕ, ◌≡◌, ◌+◌, ◌<◌, ◌≤◌, List, [], ◌∷◌, ◌++◌, append_assoc, ap, arith, drop, drop-cons}
+use Rattle.std.proofs.Common.{get_or, length, map, ◌∙◌, refl, subst, sym, ◌^◌, true, false, Option, Some, Result, IfErr, IfOk, IfSome}
 use Rattle.std.proofs.lemmas.List.{drop_all}
 use Rattle.release_files.specs.Source.{file_text}
 use Rattle.release_files.specs.declared.NamedBytes.{NamedBytes}
@@ -79,7 +80,8 @@ module _ {Held : Type 0} (takes : Held → Place → Held → Type 0) (refuses :
 
 -- the places of the files from one on are its own and those of the files behind it
 pub places_from-next : (i : ℕ) (files : List NamedBytes) (d : NamedBytes) → i < length files
-    → places_from i (map file_text (drop i files)) ≡ places_of_file i (file_text (get_or files i d)) ++ places_from (i + 1) (map file_text (drop (i + 1) files))
+    → places_from i (map file_text (drop i files))
+    ≡ places_of_file i (file_text (get_or files i d)) ++ places_from (i + 1) (map file_text (drop (i + 1) files))
 places_from-next i files d within = grind (arith, common_steps, nat_tests, drop-cons, get_or)
 
 -- a place of the file from which on they are left is refused
@@ -161,7 +163,8 @@ pub fails_since : (count more old middle new : ℕ) (fault : LoadFault) → more
 fails_since count more old middle new fault same before failed = grind (arith, common_steps, nat_tests)
 
 -- where no failure is counted none is answered
-pub no_device : (count old : ℕ) (fault : LoadFault) → old + 1 < 2 ^ 64 → (is_device fault ≡ true → FailsBelow count old old fault) → is_device fault ≡ false
+pub no_device : (count old : ℕ) (fault : LoadFault) → old + 1 < 2 ^ 64
+    → (is_device fault ≡ true → FailsBelow count old old fault) → is_device fault ≡ false
 no_device count old fault few fails = grind (arith, common_steps, nat_tests, cases_Bool)
 
 -- two things that are said of a fault

@@ -3,8 +3,13 @@ use Rattle.std.proofs.Common.{rules, length, map, Some, ap, refl, sym, ◌∙◌
 use Rattle.constraint_tree.specs.Tree.{member_tree, minus_tree, refined_tree, refinement_tree_of, set_tree_of, tree_of, within_test}
 use Rattle.ecl_parser.specs.inside.Gives.{symbols_from}
 use Rattle.ecl_parser.specs.inside.Reading.{item_in, member_in, pair_in, part_in, readers, refinement_behind, refinement_in, set_behind, set_in, sub_in}
-use Rattle.ecl_parser.proofs.ReadLemmas.{all_items_read, all_parts_read, alone_read, focus_in_brackets, focus_not_closed, group_in_braces, group_not_closed, group_too_deep, item_in_brackets, item_not_closed, item_read, many_done, many_end, many_fails, member_read, minus_read, no_turn, pair_read, part_in_brackets, part_not_closed, part_read, part_too_deep, refined_read, reverse_read, some_items_read, some_parts_read, turn_read, within_read}
-use Rattle.ecl_parser.proofs.parser.+parser.Goals.{subs-else-loop-turn-test, subs-then-loop-turn-test+then-not-take, items-else-loop-turn-test, items-then-loop-turn-test+then-not-take, parts-else-loop-turn-test, parts-then-loop-turn-test+then-not-take}
+use Rattle.ecl_parser.proofs.ReadLemmas.{all_items_read, all_parts_read, alone_read, focus_in_brackets, focus_not_closed, group_in_braces}
+use Rattle.ecl_parser.proofs.ReadLemmas.{group_not_closed, group_too_deep, item_in_brackets, item_not_closed, item_read, many_done, many_end}
+use Rattle.ecl_parser.proofs.ReadLemmas.{many_fails, member_read, minus_read, no_turn, pair_read, part_in_brackets, part_not_closed, part_read}
+use Rattle.ecl_parser.proofs.ReadLemmas.{part_too_deep, refined_read, reverse_read, some_items_read, some_parts_read, turn_read, within_read}
+use Rattle.ecl_parser.proofs.parser.+parser.Goals.{subs-else-loop-turn-test, subs-then-loop-turn-test+then-not-take, items-else-loop-turn-test}
+use Rattle.ecl_parser.proofs.parser.+parser.Goals.{items-then-loop-turn-test+then-not-take, parts-else-loop-turn-test}
+use Rattle.ecl_parser.proofs.parser.+parser.Goals.{parts-then-loop-turn-test+then-not-take}
 use Rattle.ecl_parser.proofs.parser.+parser.Goals as goal
 
 pub counted_item-returns-then-take : goal.counted_item-returns-then-take
