@@ -1,4 +1,3 @@
 mod AnswerLemmas
 pub mod LineLemmas
 pub mod LinedLemmas
-pub mod Rules

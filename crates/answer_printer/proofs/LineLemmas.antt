@@ -1,16 +1,13 @@
 -- Lines behind one another, and what loops over the parts of a node keep of them.
-use Rattle.std.proofs.Common.{ℕ, suc, ◌+◌, ◌++◌, ◌∷◌, [], ◌≡◌, ◌≤◌, ◌<◌, ◌∙◌, ◌⊎◌, inl, inr, List, drop, length, get_or, refl, sym, ap, append-nil, append_assoc, length-append}
+use Rattle.std.proofs.Common.{ℕ, suc, ◌+◌, ◌++◌, ◌∷◌, [], ◌≡◌, ◌≤◌, ◌<◌, ◌∙◌, List, drop, length, get_or, refl, sym, ap, append-nil, append_assoc, length-append}
 use Rattle.std.proofs.Math.Seq.{drop-nil}
 use Rattle.set_algebra.specs.declared.plan.ConceptPlan.{ConceptPlan}
 use Rattle.set_algebra.specs.declared.plan.UnitPlan.{UnitPlan}
-use Rattle.constraint_tree.specs.declared.operator.Cardinality.{Cardinality}
-use Rattle.constraint_tree.specs.declared.operator.Operator.{Operator}
-use Rattle.set_algebra.specs.Plan.{Plan, Plans, PlanOfUnits, PlansOfUnits, and_plan, and_units, members_plan, or_plan, or_units, plan_of, plans_of, unit_plan_of, unit_plans_of, units_plan, walk_plan}
+use Rattle.set_algebra.specs.Plan.{Plan, PlanOfUnits, all_plan, and_plan, and_units, empty_plan, every_unit, members_plan, minus_plan, minus_units, nothing_unit, one_plan, or_plan, or_units, pairs_plan, pairs_units, plan_of, plans_of, unit_plan_of, unit_plans_of, units_plan, values_plan, walk_plan}
 use Rattle.set_algebra.specs.declared.choice.Choice.{Choice}
 use Rattle.std.proofs.lemmas.List.{drop-drop}
-use Rattle.planner.specs.Leaves.{group_leaves, groups_leaves, leaves, plans_leaves}
 use Rattle.planner.proofs.LoopLemmas.{Joined, Sort, joined_end, joined_turn, of_concepts, of_groups}
-use Rattle.answer_printer.specs.inside.PlanLines.{before_bound, first_bound, with_bounds}
+use Rattle.answer_printer.specs.inside.PlanLines.{before_bound, below, below_group, first_bound, with_bounds}
 use Rattle.answer_printer.specs.PlanText.{bound_line, group_outline, group_words, groups_outline, node_words, outline, plans_outline}
 
 -- behind the first, so many more
@@ -22,11 +19,6 @@ drop_behind count (x ∷ xs) = refl
 pub drop_both : {X Y : Type 0} (one other : List X) (ys : List Y) → drop (length other) (drop (length one) ys) ≡ drop (length (one ++ other)) ys
 drop_both one other ys = drop-drop (length other) (length one) ys ∙ (λ i. drop (sym (length-append one other) i) ys)
 
--- and those behind a first
-pub drop_both_behind : {X Y : Type 0} (one other : List X) (ys : List Y)
-    → drop (length other) (drop (length one) (drop 1 ys)) ≡ drop (suc (length (one ++ other))) ys
-drop_both_behind one other ys = drop_both one other (drop 1 ys) ∙ drop_behind (length (one ++ other)) ys
-
 -- lines in front of others take their bounds from the front
 pub with_bounds-append : (one other : List (List ℕ)) (bounds : List ℕ)
     → with_bounds (one ++ other) bounds ≡ with_bounds one bounds ++ with_bounds other (drop (length one) bounds)
@@ -36,51 +28,6 @@ with_bounds-append (before ∷ one) other bounds =
     ap (λ (more : List ℕ). line ++ more) (with_bounds-append one other (drop 1 bounds))
     ∙ ap (λ (behind : List ℕ). line ++ (with_bounds one (drop 1 bounds) ++ with_bounds other behind)) (drop_behind (length one) bounds)
     ∙ sym (append_assoc line (with_bounds one (drop 1 bounds)) (with_bounds other (drop (suc (length one)) bounds)))
-
--- the line of a node and those of two parts behind it were written
-pub record TwoWritten (given before : List ℕ) (one other : List (List ℕ)) (bounds last rest : List ℕ) : Type 0 where
-  pub lines : last ≡ given ++ with_bounds (before ∷ (one ++ other)) bounds
-  pub behind : rest ≡ drop (suc (length (one ++ other))) bounds
-
-two_written : (given before : List ℕ) (one other : List (List ℕ)) (bounds : List ℕ) {line behind inner left last rest : List ℕ}
-    → line ≡ given ++ bound_line before (first_bound bounds) → behind ≡ drop 1 bounds
-    → inner ≡ line ++ with_bounds one behind → left ≡ drop (length one) behind
-    → last ≡ inner ++ with_bounds other left → rest ≡ drop (length other) left
-    → TwoWritten given before one other bounds last rest
-two_written given before one other bounds line_is behind_is inner_is left_is last_is rest_is =
-    let own = bound_line before (first_bound bounds) in
-    let first = with_bounds one (drop 1 bounds) in
-    let second = with_bounds other (drop (length one) (drop 1 bounds)) in
-    record {
-      lines =
-          last_is
-          ∙ (λ i. inner_is i ++ with_bounds other (left_is i))
-          ∙ (λ i. (line_is i ++ with_bounds one (behind_is i)) ++ with_bounds other (drop (length one) (behind_is i)))
-          ∙ append_assoc (given ++ own) first second
-          ∙ append_assoc given own (first ++ second)
-          ∙ ap (λ (more : List ℕ). given ++ (own ++ more)) (sym (with_bounds-append one other (drop 1 bounds)));
-      behind =
-          rest_is
-          ∙ ap (drop (length other)) left_is
-          ∙ ap (λ (bounds : List ℕ). drop (length other) (drop (length one) bounds)) behind_is
-          ∙ drop_both_behind one other bounds;
-    }
-
--- so it is of what two calls have written, by the spaces and choices that they were given
-pub parts_written : (given before : List ℕ) (first second : List ℕ → List Choice → List (List ℕ)) (spaces : List ℕ) (count : ℕ)
-    (choices : List Choice) (bounds : List ℕ) {line behind inner text left last rest : List ℕ} {asked later : List Choice}
-    → line ≡ given ++ bound_line before (first_bound bounds) → behind ≡ drop 1 bounds → inner ≡ spaces → asked ≡ choices
-    → text ≡ line ++ with_bounds (first inner asked) behind → later ≡ drop count asked → left ≡ drop (length (first inner asked)) behind
-    → last ≡ text ++ with_bounds (second inner later) left → rest ≡ drop (length (second inner later)) left
-    → TwoWritten given before (first spaces choices) (second spaces (drop count choices)) bounds last rest
-parts_written given before first second spaces count choices bounds {line} {behind} {text = text} {left = left}
-    line_is behind_is inner_is asked_is text_is later_is left_is last_is rest_is =
-    let later_are = later_is ∙ ap (drop count) asked_is in
-    two_written given before (first spaces choices) (second spaces (drop count choices)) bounds line_is behind_is
-    (text_is ∙ (λ i. line ++ with_bounds (first (inner_is i) (asked_is i)) behind))
-    (left_is ∙ (λ i. drop (length (first (inner_is i) (asked_is i))) behind))
-    (last_is ∙ (λ i. text ++ with_bounds (second (inner_is i) (later_are i)) left))
-    (rest_is ∙ (λ i. drop (length (second (inner_is i) (later_are i))) left))
 
 -- the line of a node and those of its parts behind it were written
 pub record NodeWritten (given : List ℕ) (outlined : List (List ℕ)) (bounds last rest : List ℕ) : Type 0 where
@@ -106,37 +53,57 @@ behind_written given before parts spaces bounds outlined_is line_is behind_is in
       ∙ ap (λ (all : List (List ℕ)). drop (length all) bounds) (sym outlined_is);
 }
 
--- which parts these are, and that the node has their leaves
-pub record BehindPlan (spaces : List ℕ) (choices : List Choice) (plan : Plan) (parts : List (List ℕ))
-    (count : ℕ) : Type 0 where
-  pub lines : outline before_bound spaces choices plan ≡ (spaces ++ node_words choices plan) ∷ parts
-  pub leaves_are : leaves plan ≡ count
-
-pub record BehindUnits (spaces : List ℕ) (choices : List Choice) (plan : PlanOfUnits) (parts : List (List ℕ))
-    (count : ℕ) : Type 0 where
-  pub lines : group_outline before_bound spaces choices plan ≡ (spaces ++ group_words choices plan) ∷ parts
-  pub leaves_are : group_leaves plan ≡ count
-
+-- what stands below a node follows its own line
 module _ (spaces : List ℕ) (choices : List Choice) where
-  pub of_joined : {plan : Plan} (parts : Plans) → (plan ≡ and_plan parts) ⊎ (plan ≡ or_plan parts)
-      → BehindPlan spaces choices plan (plans_outline before_bound (32 ∷ spaces) choices parts) (plans_leaves parts)
-  of_joined parts (inl is) = rw is (record { lines = refl; leaves_are = refl })
-  of_joined parts (inr is) = rw is (record { lines = refl; leaves_are = refl })
+  pub outline_is : (plan : Plan)
+      → outline before_bound spaces choices plan ≡ (spaces ++ node_words choices plan) ∷ below before_bound (32 ∷ spaces) choices plan
+  outline_is empty_plan = refl
+  outline_is all_plan = refl
+  outline_is (one_plan number) = refl
+  outline_is (walk_plan operator operand) = refl
+  outline_is (members_plan operand) = refl
+  outline_is (and_plan parts) = refl
+  outline_is (or_plan parts) = refl
+  outline_is (minus_plan first second) = refl
+  outline_is (values_plan start names) = refl
+  outline_is (pairs_plan back count types test) = refl
+  outline_is (units_plan count units) = refl
 
-  pub of_walk : {plan : Plan} (operand : Plan)
-      → ((operator : Operator) × (plan ≡ walk_plan operator operand)) ⊎ (plan ≡ members_plan operand)
-      → BehindPlan spaces choices plan (outline before_bound (32 ∷ spaces) choices operand) (leaves operand)
-  of_walk operand (inl (operator, is)) = rw is (record { lines = refl; leaves_are = refl })
-  of_walk operand (inr is) = rw is (record { lines = refl; leaves_are = refl })
+  pub group_outline_is : (plan : PlanOfUnits)
+      → group_outline before_bound spaces choices plan
+      ≡ (spaces ++ group_words choices plan) ∷ below_group before_bound (32 ∷ spaces) choices plan
+  group_outline_is nothing_unit = refl
+  group_outline_is every_unit = refl
+  group_outline_is (and_units parts) = refl
+  group_outline_is (or_units parts) = refl
+  group_outline_is (minus_units first second) = refl
+  group_outline_is (pairs_units count types test) = refl
 
-  pub of_units : {plan : Plan} (count : Cardinality) (units : PlanOfUnits) → plan ≡ units_plan count units
-      → BehindPlan spaces choices plan (group_outline before_bound (32 ∷ spaces) choices units) (group_leaves units)
-  of_units count units is = rw is (record { lines = refl; leaves_are = refl })
+-- behind the lines of one part, a call that writes those of another makes those of both, and leaves what is behind both
+pub record Both (given bounds inner left : List ℕ) (one second two : List (List ℕ)) (later behind : List Choice) : Type 0 where
+  pub lines : {last : List ℕ} → last ≡ inner ++ with_bounds second left → last ≡ given ++ with_bounds (one ++ two) bounds
+  pub later_left : (count : ℕ) {rest : List Choice} → rest ≡ drop count later → rest ≡ drop count behind
+  pub bounds_left : {rest : List ℕ} → rest ≡ drop (length second) left → rest ≡ drop (length (one ++ two)) bounds
 
-  pub of_joined_units : {plan : PlanOfUnits} (parts : PlansOfUnits) → (plan ≡ and_units parts) ⊎ (plan ≡ or_units parts)
-      → BehindUnits spaces choices plan (groups_outline before_bound (32 ∷ spaces) choices parts) (groups_leaves parts)
-  of_joined_units parts (inl is) = rw is (record { lines = refl; leaves_are = refl })
-  of_joined_units parts (inr is) = rw is (record { lines = refl; leaves_are = refl })
+-- so it is where the second goes on by the choices and the bounds that the first left
+pub both_written : (given bounds : List ℕ) (first second : List Choice → List (List ℕ)) (count : ℕ) (choices : List Choice)
+    {inner left : List ℕ} {asked later : List Choice} → asked ≡ choices → inner ≡ given ++ with_bounds (first asked) bounds
+    → later ≡ drop count asked → left ≡ drop (length (first asked)) bounds
+    → Both given bounds inner left (first choices) (second later) (second (drop count choices)) later (drop count choices)
+both_written given bounds first second count choices asked_is inner_is later_is left_is =
+    let one = first choices in
+    let two = second (drop count choices) in
+    let later_are = later_is ∙ ap (drop count) asked_is in
+    let left_are = left_is ∙ (λ i. drop (length (first (asked_is i))) bounds) in
+    record {
+      lines = λ last_is.
+          last_is
+          ∙ (λ i. (inner_is ∙ (λ j. given ++ with_bounds (first (asked_is j)) bounds)) i ++ with_bounds (second (later_are i)) (left_are i))
+          ∙ append_assoc given (with_bounds one bounds) (with_bounds two (drop (length one) bounds))
+          ∙ ap (λ (more : List ℕ). given ++ more) (sym (with_bounds-append one two bounds));
+      later_left = λ more rest_is. rest_is ∙ ap (drop more) later_are;
+      bounds_left = λ rest_is. rest_is ∙ (λ i. drop (length (second (later_are i))) (left_are i)) ∙ drop_both one two bounds;
+    }
 
 -- what stands before the bounds of the nodes of a part, of either sort
 abbrev pub Outlines : (Part : Type 0) → Sort Part → Type 0

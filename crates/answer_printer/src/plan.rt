@@ -3,7 +3,7 @@ ghost use Rattle.std.specs.Prelude.{◌≡◌, ◌++◌, ◌∷◌, IfOk, OnErr,
 ghost use Rattle.set_algebra.specs.Plan.{unit_plan_of, unit_plans_of, plan_of, plans_of, test_plan_of};
 ghost use Rattle.planner.specs.Leaves.{group_leaves, groups_leaves, leaves, plans_leaves, test_leaves};
 ghost use Rattle.answer_printer.specs.AnswerText.{number_line};
-ghost use Rattle.answer_printer.specs.inside.PlanLines.{before_bound, first_bound, with_bounds};
+ghost use Rattle.answer_printer.specs.inside.PlanLines.{before_bound, below, below_group, first_bound, with_bounds};
 ghost use Rattle.answer_printer.specs.PlanText.{bound_line, group_outline, group_words, groups_outline, node_words, outline, plan_text, plans_outline, test_outline};
 
 use crate::numbers::append_number;
@@ -61,7 +61,6 @@ struct Left<'a> {
 
 // Adds the lines of a plan of concepts behind some spaces, where its choices and its bounds stand at the front of two lists.
 #[cycle(write)]
-#[tactic(auto, using(crate::proofs::Rules::writing))]
 fn write_plan<'a>(
     alloc: Global,
     plan: &ConceptPlan,
@@ -76,45 +75,52 @@ fn write_plan<'a>(
 {
     let behind = write_line(plan, spaces, choices, bounds, text)?;
     let deeper = one_space_more(alloc, spaces)?;
-    let inner = deeper.as_slice();
+    let left = write_below(alloc, plan, deeper.as_slice(), choices, behind, text)?;
+    Ok(left)
+}
+
+// Adds those of what stands below a node of a plan of concepts.
+#[cycle(write)]
+fn write_below<'a>(
+    alloc: Global,
+    plan: &ConceptPlan,
+    spaces: &[u8],
+    choices: &'a [Choice],
+    bounds: &'a [u64],
+    text: &mut Vec<u8>,
+) -> Result<Left<'a>, AllocError>
+    ensures text { OnOk result (text.new.items ≡ text.old.items ++ with_bounds (below before_bound spaces.now choices.now (plan_of plan.now)) bounds.now) }
+    ensures choices { IfOk result (λ left. left.choices.now ≡ drop (leaves (plan_of plan.now)) choices.now) }
+    ensures bounds { IfOk result (λ left. left.bounds.now ≡ drop (length (below before_bound spaces.now choices.now (plan_of plan.now))) bounds.now) }
+{
     match plan {
-        ConceptPlan::Empty | ConceptPlan::All | ConceptPlan::One(_) => Ok(Left {
-            choices,
-            bounds: behind,
-        }),
+        ConceptPlan::Empty | ConceptPlan::All | ConceptPlan::One(_) => Ok(Left { choices, bounds }),
         ConceptPlan::Walk(_, operand) | ConceptPlan::Members(operand) => {
-            let left = write_plan(alloc, operand, inner, choices, behind, text)?;
-            Ok(left)
+            write_plan(alloc, operand, spaces, choices, bounds, text)
         }
         ConceptPlan::And(parts) | ConceptPlan::Or(parts) => {
-            let left = write_parts(alloc, parts, inner, choices, behind, text)?;
-            Ok(left)
+            write_parts(alloc, parts, spaces, choices, bounds, text)
         }
         ConceptPlan::Minus(first, second) => {
-            let left = write_plan(alloc, first, inner, choices, behind, text)?;
-            let last = write_plan(alloc, second, inner, left.choices, left.bounds, text)?;
-            Ok(last)
+            let left = write_plan(alloc, first, spaces, choices, bounds, text)?;
+            write_plan(alloc, second, spaces, left.choices, left.bounds, text)
         }
         ConceptPlan::Values(start, names) => {
-            let from = write_plan(alloc, start, inner, choices, behind, text)?;
-            let last = write_parts(alloc, names, inner, from.choices, from.bounds, text)?;
-            Ok(last)
+            let left = write_plan(alloc, start, spaces, choices, bounds, text)?;
+            write_parts(alloc, names, spaces, left.choices, left.bounds, text)
         }
         ConceptPlan::Pairs { types, test, .. } => {
-            let left = write_plan(alloc, types, inner, after_first(choices), behind, text)?;
-            let last = write_test(alloc, test, inner, left.choices, left.bounds, text)?;
-            Ok(last)
+            let left = write_plan(alloc, types, spaces, after_first(choices), bounds, text)?;
+            write_test(alloc, test, spaces, left.choices, left.bounds, text)
         }
         ConceptPlan::Units { units, .. } => {
-            let left = write_units(alloc, units, inner, choices, behind, text)?;
-            Ok(left)
+            write_units(alloc, units, spaces, choices, bounds, text)
         }
     }
 }
 
 // Adds those of a plan of groups.
 #[cycle(write)]
-#[tactic(auto, using(crate::proofs::Rules::writing))]
 fn write_units<'a>(
     alloc: Global,
     plan: &UnitPlan,
@@ -129,25 +135,36 @@ fn write_units<'a>(
 {
     let behind = write_unit_line(plan, spaces, choices, bounds, text)?;
     let deeper = one_space_more(alloc, spaces)?;
-    let inner = deeper.as_slice();
+    let left = write_below_unit(alloc, plan, deeper.as_slice(), choices, behind, text)?;
+    Ok(left)
+}
+
+// Adds those of what stands below a node of a plan of groups.
+#[cycle(write)]
+fn write_below_unit<'a>(
+    alloc: Global,
+    plan: &UnitPlan,
+    spaces: &[u8],
+    choices: &'a [Choice],
+    bounds: &'a [u64],
+    text: &mut Vec<u8>,
+) -> Result<Left<'a>, AllocError>
+    ensures text { OnOk result (text.new.items ≡ text.old.items ++ with_bounds (below_group before_bound spaces.now choices.now (unit_plan_of plan.now)) bounds.now) }
+    ensures choices { IfOk result (λ left. left.choices.now ≡ drop (group_leaves (unit_plan_of plan.now)) choices.now) }
+    ensures bounds { IfOk result (λ left. left.bounds.now ≡ drop (length (below_group before_bound spaces.now choices.now (unit_plan_of plan.now))) bounds.now) }
+{
     match plan {
-        UnitPlan::Nothing | UnitPlan::Every => Ok(Left {
-            choices,
-            bounds: behind,
-        }),
+        UnitPlan::Nothing | UnitPlan::Every => Ok(Left { choices, bounds }),
         UnitPlan::And(parts) | UnitPlan::Or(parts) => {
-            let left = write_unit_parts(alloc, parts, inner, choices, behind, text)?;
-            Ok(left)
+            write_unit_parts(alloc, parts, spaces, choices, bounds, text)
         }
         UnitPlan::Minus(first, second) => {
-            let left = write_units(alloc, first, inner, choices, behind, text)?;
-            let last = write_units(alloc, second, inner, left.choices, left.bounds, text)?;
-            Ok(last)
+            let left = write_units(alloc, first, spaces, choices, bounds, text)?;
+            write_units(alloc, second, spaces, left.choices, left.bounds, text)
         }
         UnitPlan::Pairs { types, test, .. } => {
-            let left = write_plan(alloc, types, inner, after_first(choices), behind, text)?;
-            let last = write_test(alloc, test, inner, left.choices, left.bounds, text)?;
-            Ok(last)
+            let left = write_plan(alloc, types, spaces, after_first(choices), bounds, text)?;
+            write_test(alloc, test, spaces, left.choices, left.bounds, text)
         }
     }
 }
@@ -168,8 +185,7 @@ fn write_test<'a>(
 {
     match test {
         ValueTest::Within(operand) | ValueTest::Outside(operand) => {
-            let left = write_plan(alloc, operand, spaces, choices, bounds, text)?;
-            Ok(left)
+            write_plan(alloc, operand, spaces, choices, bounds, text)
         }
         ValueTest::Number(_, _) => Ok(Left { choices, bounds }),
     }
