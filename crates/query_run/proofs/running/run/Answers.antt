@@ -1,4 +1,4 @@
-use Rattle.std.proofs.Common.{◌≡◌, ◌≢◌, ◌⊎◌, ℕ, ◌+◌, ◌-◌, ◌^◌, ◌++◌, [], List, take, Result, IfOk, subst, append-nil, length-append, Option, inl, inr, min, arith, rules}
+use Rattle.std.proofs.Common.{false, ◌≡◌, ◌≢◌, ◌⊎◌, ℕ, ◌+◌, ◌-◌, ◌^◌, ◌++◌, [], List, take, Result, IfOk, subst, append-nil, length-append, Option, inl, inr, min, arith, rules}
 use Rattle.std.specs.Io.KnownBytes.{Consumes}
 use Rattle.std.proofs.KnownBytes.{Consumes-trans, Consumes-kept, Consumes-nil}
 use Rattle.std.proofs.lemmas.Bool.{cases_lt}
@@ -9,7 +9,7 @@ use Rattle.query_run.specs.Lines.{query_lines}
 use Rattle.query_run.specs.declared.running.RunFault.{RunFault}
 use Rattle.query_run.proofs.KeptLemmas.{kept_clear, last_count, last_leaves, last_written}
 use Rattle.query_run.proofs.LineLemmas.{IsCutInto-pending, IsCutInto-then}
-use Rattle.query_run.proofs.FaultLemmas.{answers_none, answers_then}
+use Rattle.query_run.proofs.FaultLemmas.{AnswerFault-failed, AnswerFault-turns, answers_none, answers_then}
 use Rattle.query_run.proofs.RunLemmas.{WritesFirst_cut, feeds_cut, HasStopped_in, finish_count, finish_answers, finish_fault}
 use Rattle.query_run.proofs.running.run.Goals as goal
 
@@ -186,3 +186,42 @@ pub finish-requires-clause-unended : goal.finish-requires-clause-unended
 finish-requires-clause-unended g c =
     let (read, lines, consumed, (unended, cut, kept), count, wrote) = c.loop-turn.invariant.lines in
     kept_clear unended c.loop-turn.progress.pending.items kept cut.unended
+
+-- at the fault of an answer the input has not failed, and how often it was read is not told
+pub returns-in-Err-take_piece-clause-failed : goal.returns-in-Err-take_piece-clause-failed
+returns-in-Err-take_piece-clause-failed g c =
+    let (read, lines, consumed, (unended, cut, kept), count, wrote) = c.loop-turn.invariant.lines in
+    let (further, is, leaves) = c.in-Err-take_piece.ensures.fault unended cut.unended kept in
+    let sound : g.R.QueryInput.has_failed c.read.new.self ≡ false = search rules in
+    AnswerFault-failed c.in-Err-take_piece.fault _ _ _ sound is
+
+pub returns-in-Err-take_piece-clause-turns : goal.returns-in-Err-take_piece-clause-turns
+returns-in-Err-take_piece-clause-turns g c =
+    let (read, lines, consumed, (unended, cut, kept), count, wrote) = c.loop-turn.invariant.lines in
+    let (further, is, leaves) = c.in-Err-take_piece.ensures.fault unended cut.unended kept in
+    AnswerFault-turns c.in-Err-take_piece.fault _ _ _ _ is
+
+pub returns-then-count-eq0-clause-end : goal.returns-then-count-eq0-clause-end
+returns-then-count-eq0-clause-end g c =
+    let ended = c.in-Ok-read.ensures.bytes.1 c.if-count-eq0.true (omega (arith, c.loop-turn.invariant.room)) in
+    on_ok_weaker c.finish.result (λ sound. ended) c.finish.ensures.sound
+
+pub returns-then-count-eq0-clause-sound : goal.returns-then-count-eq0-clause-sound
+returns-then-count-eq0-clause-sound g c =
+    let input_sound : g.R.QueryInput.has_failed c.read.new.self ≡ false = search rules in
+    on_ok_weaker c.finish.result (λ sound. (input_sound, sound)) c.finish.ensures.sound
+
+pub returns-then-count-eq0-clause-failed : goal.returns-then-count-eq0-clause-failed
+returns-then-count-eq0-clause-failed g c =
+    let sound : g.R.QueryInput.has_failed c.read.new.self ≡ false = search rules in
+    IfErr-weaker c.finish.result _ _ (λ fault left. AnswerFault-failed fault _ _ _ sound left.0) c.finish.ensures.fault
+
+pub returns-then-count-eq0-clause-turns : goal.returns-then-count-eq0-clause-turns
+returns-then-count-eq0-clause-turns g c =
+    IfErr-weaker c.finish.result _ _ (λ fault left. AnswerFault-turns fault _ _ _ _ left.0) c.finish.ensures.fault
+
+pub returns-clause-turns : goal.returns-clause-turns
+returns-clause-turns g c = elim c.loop-turn.invariant.turns [
+  | inl is ↦ inl (omega (arith, is, c.loop-turn-test.false, c.loop-turn.auto._turn-end))
+  | inr is ↦ inr is
+]

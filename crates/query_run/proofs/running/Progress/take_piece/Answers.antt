@@ -102,3 +102,17 @@ returns-in-Err-keep-clause-fault g c unended clear kept =
             (sym (ap (take (length lines)) all ∙ take_at lines (query_lines (begun ++ rest)) (length lines) refl)) wrote,
       ),
     )
+
+pub loop-line-smaller : goal.loop-line-smaller
+loop-line-smaller g c =
+    let line = c.in-Some.line.now in
+    let later = c.in-Some.later.now in
+    let is : c.loop-line.rest.now ≡ line ++ 10 ∷ later = c.in-Some.ensures.0 in
+    omega (arith, ap length is, length-append line (10 ∷ later))
+
+pub answer_line-requires-clause-room : goal.answer_line-requires-clause-room
+answer_line-requires-clause-room g c =
+    let line = c.in-Some.line.now in
+    let later = c.in-Some.later.now in
+    let is : c.loop-line.rest.now ≡ line ++ 10 ∷ later = c.in-Some.ensures.0 in
+    omega (arith, ap length is, length-append line (10 ∷ later), c.loop-line.invariant.few, c.requires.room)
