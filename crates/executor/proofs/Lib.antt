@@ -1,14 +1,8 @@
-pub mod AskedLemmas
 pub mod CountingLemmas
 pub mod GroupNodeLemmas
-pub mod JoinedLemmas
-pub mod LedLemmas
-pub mod MemberLemmas
 pub mod NodeLemmas
 pub mod NodeWork
 pub mod PartWork
-pub mod ReachedLemmas
 pub mod Rules
-pub mod StepLemmas
 pub mod WithinNodes
 pub mod WorkLemmas

@@ -13,13 +13,13 @@ use Rattle.set_algebra.specs.declared.plan.ConceptPlan.{ConceptPlan}
 use Rattle.set_algebra.specs.Meaning.{all_mean, unit_means, has_groups, has_pairs, leads, means, pairs_of, some_means, value_passes}
 use Rattle.set_algebra.specs.Plan.{PlanOfUnits, Plan, Plans, TestPlan, all_plan, and_plan, members_plan, no_plans, one_plan, or_plan, outside_plan, pairs_plan, plan_of, plan_then, plans_of, units_plan, values_plan, walk_plan, within_plan}
 use Rattle.set_algebra.proofs.MeaningLemmas.{in_force_if_meant}
-use Rattle.executor.specs.inside.Components.{components_of}
+use Rattle.walks.specs.Components.{components_of}
 use Rattle.pair_sets.specs.Numbers.{numbers_in}
-use Rattle.executor.specs.inside.Steps.{led_to}
+use Rattle.walks.specs.Led.{led_to}
 use Rattle.pair_sets.specs.Tested.{is_one_of}
-use Rattle.executor.proofs.MemberLemmas.{components_in, one_of_set}
+use Rattle.walks.proofs.MemberLemmas.{components_in, one_of_set}
 use Rattle.pair_sets.proofs.Normal.{each_in_force, in_force_kept, numbers_in-agree}
-use Rattle.executor.proofs.StepLemmas.{led_is}
+use Rattle.walks.proofs.StepLemmas.{led_is}
 
 meant : (release : Release) (plan other : Plan) → plan ≡ other → numbers_in release (means release other) ≡ numbers_in release (means release plan)
 meant release plan other is = ap (λ (p : Plan). numbers_in release (means release p)) (sym is)

@@ -7,16 +7,12 @@ ghost use Rattle.set_algebra.specs.Plan.{unit_plan_of, members_plan, plan_of, un
 ghost use Rattle.planner.specs.Bounds.{own_bound};
 ghost use Rattle.planner.specs.Floors.{own_floor};
 ghost use Rattle.planner.specs.Sizes.{group_size, size as size_of};
-ghost use Rattle.executor.specs.inside.Components.{components_of};
-ghost use Rattle.executor.specs.inside.Steps.{led_to};
+ghost use Rattle.walks.specs.Components.{components_of};
+ghost use Rattle.walks.specs.Led.{led_to};
 ghost use Rattle.executor.specs.inside.WithUnits.{with_units};
 ghost use Rattle.pair_sets.specs.Within.{AreBelow, may_be};
 
 use crate::counting::{count_members, count_units, count_walk};
-use crate::family::Step;
-use crate::led::{led_among, walk_within};
-use crate::reference_sets::{members_way, members_within};
-use crate::walk_ways::{items_from_all, items_unlisted, walk_way};
 use constraint_tree::{Cardinality, Operator};
 use idset::ConceptSet;
 use pair_sets::{Candidates, RowTally, Visits, restricted, with_groups};
@@ -25,6 +21,10 @@ use postings::Indexes;
 use set_algebra::{ConceptPlan, UnitPlan};
 use snapshot::Snapshot;
 use std::alloc::{AllocError, Global};
+use walks::{
+    items_from_all, items_unlisted, keeps_apart, led_among, members_way, members_within, walk_way,
+    walk_within,
+};
 
 /// The candidates among the concepts that an operator leads to from a set, which an operand has found. To find it, so many items were
 /// read that are not counted. The rows are counted of what is found from one concept, if that is asked for.
@@ -143,7 +143,7 @@ fn walk_listed<S: ConceptSet>(
     let concepts = from.items(alloc)?;
     let own = concepts.as_slice();
     let way = walk_way(hierarchy, operator, own, from.bound(), candidates);
-    if own.len() != 1 || way.asks_candidates || Step::of(operator).is_apart() {
+    if own.len() != 1 || way.asks_candidates || keeps_apart(operator) {
         tally.forget();
     }
     let items = way.items.saturating_add(before);

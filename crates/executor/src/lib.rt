@@ -6,20 +6,14 @@
 
 mod counting;
 mod dotted_plans;
-mod family;
 mod found;
 mod guesses;
 mod joined_plans;
-mod led;
 mod nodes;
 mod plans;
-mod reached;
-mod reference_sets;
 mod second_part;
 mod unit_plans;
 mod walk_plans;
-mod walk_ways;
-mod walks;
 
 pub use crate::plans::execute;
 pub use pair_sets::Visits;

@@ -6,14 +6,12 @@ ghost use Rattle.set_algebra.specs.Plan.{plan_of, walk_plan};
 ghost use Rattle.planner.specs.Bounds.{own_number};
 ghost use Rattle.planner.specs.Floors.{floor_number};
 ghost use Rattle.planner.specs.Nodes.{node_sum};
-ghost use Rattle.executor.specs.inside.Asked.{AreEnough, asked_lists};
+ghost use Rattle.walks.specs.Asked.{AreEnough, asked_lists};
 ghost use Rattle.pair_sets.specs.Within.{AreBelow, may_be, numbers_within};
 
 use crate::found::walk_found;
 use crate::guesses::rows_without;
-use crate::led::enough_for;
 use crate::plans::execute_within;
-use crate::walk_ways::items_enough;
 use constraint_tree::Operator;
 use idset::ConceptSet;
 use pair_sets::{Candidates, RowTally, Visits, extent_of};
@@ -22,6 +20,7 @@ use postings::Indexes;
 use set_algebra::ConceptPlan;
 use snapshot::Snapshot;
 use std::alloc::{AllocError, Global};
+use walks::{enough_for, items_enough};
 
 /// The candidates among the concepts that an operator leads to from those that a plan means. Where few candidates are asked, it is
 /// executed for them and for what is in the lists by which they are asked alone.

@@ -17,7 +17,7 @@ use Rattle.postings.specs.Groups.{all_groups}
 use Rattle.pair_sets.specs.Groups.{groups_where, some_group_in}
 use Rattle.pair_sets.specs.Numbers.{numbers_in}
 use Rattle.constraint_tree.specs.Walks.{has_concept}
-use Rattle.executor.specs.inside.Components.{components_of}
+use Rattle.walks.specs.Components.{components_of}
 use Rattle.executor.specs.inside.WithUnits.{with_units}
 use Rattle.executor.specs.inside.Lead.{leads_off, leads_off_groups}
 use Rattle.pair_sets.specs.Within.{groups_within, may_be, numbers_within}

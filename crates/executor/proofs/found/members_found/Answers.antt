@@ -1,8 +1,8 @@
 use Rattle.std.proofs.Common.{ℕ, List, ◌∙◌, length, sym, ap}
 use Rattle.std.specs.Prelude.{filter}
-use Rattle.executor.specs.inside.Components.{components_of}
+use Rattle.walks.specs.Components.{components_of}
 use Rattle.pair_sets.specs.Within.{may_be}
-use Rattle.executor.proofs.MemberLemmas.{numbers_below}
+use Rattle.walks.proofs.MemberLemmas.{numbers_below}
 use Rattle.executor.proofs.found.members_found.Goals as goal
 
 -- the reference sets are concepts

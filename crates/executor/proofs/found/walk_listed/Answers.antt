@@ -1,9 +1,9 @@
 use Rattle.std.proofs.Common.{◌∙◌, sym, ap}
 use Rattle.std.specs.Prelude.{filter}
 use Rattle.ancestor_index.specs.HierarchyLists.{Hierarchy}
-use Rattle.executor.specs.inside.Steps.{led_to}
+use Rattle.walks.specs.Led.{led_to}
 use Rattle.pair_sets.specs.Within.{may_be}
-use Rattle.executor.proofs.MemberLemmas.{numbers_below}
+use Rattle.walks.proofs.MemberLemmas.{numbers_below}
 use Rattle.executor.proofs.found.walk_listed.Goals as goal
 
 pub walk_way-way-requires-clause-below : goal.walk_way-way-requires-clause-below

@@ -1,7 +1,0 @@
-use Rattle.std.proofs.Common.{◌≡◌, take}
-use Rattle.executor.specs.inside.Components.{is_in_one_of}
-use Rattle.executor.proofs.reference_sets.is_component.Given as goal
-
--- whether it is a component of one of the reference sets so far
-abbrev pub invariant-loop-refset : goal.invariant-loop-refset
-invariant-loop-refset l = l.found ≡ is_in_one_of l.indexes.members (take l.refset-index l.refsets) l.concept

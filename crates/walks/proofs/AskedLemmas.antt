@@ -1,0 +1,206 @@
+-- Where an operator leads from a set is known, of concepts that are asked by their own lists, of what the set has in these lists.
+use Rattle.std.proofs.Common.{ℕ, Bool, ◌≡◌, ◌<◌, ◌∙◌, ◌==◌, inl, inr, true, false, not, ◌&&◌, ◌||◌, List, length, [], ◌∷◌, get_or, refl, sym, ap, subst, arith}
+use Rattle.std.specs.Prelude.{All, filter}
+use Rattle.std.specs.List.{flat_map, list_any, range_with_len}
+use Rattle.std.proofs.lemmas.Bool.{eq-eqb, eqb-true, false≢true, or_cases, or_left, or_right}
+use Rattle.std.proofs.lemmas.List.{get_or_default, nil_from_length}
+use Rattle.std.proofs.lemmas.List.Filters.{length-filter_both}
+use Rattle.std.proofs.lemmas.List.FromFn.{length-range_with_len}
+use Rattle.std.proofs.lemmas.List.Elements.{All-append, All-cons, All-nil, All-tail}
+use Rattle.std.proofs.lemmas.List.Folds.{list_any-append}
+use Rattle.std.proofs.Math.Bool.{and-false}
+use Rattle.constraint_tree.specs.declared.operator.Operator.{Operator}
+use Rattle.constraint_tree.specs.declared.operator.Operator.TheVariants.{Descendants, DescendantsOrSelf, Children, ChildrenOrSelf, Ancestors, AncestorsOrSelf, Parents, ParentsOrSelf, Top, Bottom}
+use Rattle.number_lists.specs.Rising.{IsRisingBelow, listed_numbers, numbers_where}
+use Rattle.idset.specs.Sets.{all_items}
+use Rattle.number_lists.specs.Members.{has}
+use Rattle.number_lists.proofs.WhereLemmas.{filter-numbers_where, has-numbers_where, numbers_where-agree}
+use Rattle.number_lists.proofs.RisingLemmas.{numbers_where-rising, rising_is_numbers_where, all_below}
+use Rattle.number_lists.specs.KeyedLists.{list_of}
+use Rattle.ancestor_index.specs.HierarchyLists.{Hierarchy}
+use Rattle.number_lists.proofs.MemberLemmas.{contains_had, had_contained}
+use Rattle.walks.specs.Asked.{AreEnough, asked_lists}
+use Rattle.walks.specs.inside.Joined.{back_of}
+use Rattle.walks.specs.Led.{IsOver, apart, joined, led_to}
+use Rattle.walks.specs.inside.Steps.{lists_of}
+use Rattle.walks.specs.declared.family.Family.{Family}
+use Rattle.walks.specs.declared.family.Family.TheVariants as family
+use Rattle.walks.specs.declared.family.Reach.TheVariants.{Listed, ListedOrSelf, Apart}
+use Rattle.walks.proofs.LedLemmas.{asked_apart, asked_back, asked_or_self, led_rises}
+use Rattle.number_lists.proofs.ListLemmas.{any_agree}
+use Rattle.walks.proofs.JoinedLemmas.{over_list, stands}
+
+-- what is in the list of one of some concepts is in all of them, one behind the other
+in_joined : (each : ℕ → List ℕ) (concepts : List ℕ) (concept n : ℕ) → has concepts concept ≡ true → has (each concept) n ≡ true
+    → has (flat_map each concepts) n ≡ true
+in_joined each [] concept n there within = absurd (false≢true there)
+in_joined each (first ∷ rest) concept n there within =
+    list_any-append (λ item. item == n) (each first) (flat_map each rest)
+    ∙ elim (or_cases (first == concept) (has rest concept) there) [
+      | inl here ↦
+          or_left (has (each first) n) (has (flat_map each rest) n)
+          (ap (λ (k : ℕ). has (each k) n) (eqb-true first concept here) ∙ within)
+      | inr later ↦ or_right (has (each first) n) (has (flat_map each rest) n) (in_joined each rest concept n later within)
+    ]
+
+below_joined : (count : ℕ) (each : ℕ → List ℕ) (concepts : List ℕ) → All (λ concept. All (λ n. n < count) (each concept)) concepts
+    → All (λ n. n < count) (flat_map each concepts)
+below_joined count each [] below = All-nil (λ n. n < count)
+below_joined count each (concept ∷ rest) below =
+    All-append (λ n. n < count) (each concept) (flat_map each rest) (below 0 concept (omega arith))
+    (below_joined count each rest (All-tail (λ c. All (λ n. n < count) (each c)) concept rest below))
+
+module _ (count : ℕ) (hierarchy : Hierarchy) (over : IsOver count hierarchy) where
+  -- concepts, each with its list behind it, are numbers of concepts
+  pub with_lists_below : (f : Family) (concepts : List ℕ) → All (λ concept. concept < count) concepts
+      → All (λ n. n < count) (flat_map (λ concept. concept ∷ list_of (lists_of hierarchy f) concept) concepts)
+  with_lists_below f concepts below =
+      below_joined count (λ concept. concept ∷ list_of (lists_of hierarchy f) concept) concepts (λ k d within. each (get_or concepts k d) (below k d within))
+    where
+      each : (concept : ℕ) → concept < count → All (λ n. n < count) (concept ∷ list_of (lists_of hierarchy f) concept)
+      each concept inside =
+          All-cons (λ n. n < count) concept (list_of (lists_of hierarchy f) concept) inside
+          (all_below count (list_of (lists_of hierarchy f) concept)
+          (subst (IsRisingBelow count) (sym (over_list count hierarchy over f concept inside)) (numbers_where-rising count (stands over.release f concept))))
+
+  -- and they are enough for these
+  pub with_lists_enough : (f : Family) (concepts : List ℕ) → All (λ concept. concept < count) concepts
+      → AreEnough (lists_of hierarchy f) (has concepts)
+      (has (listed_numbers count (flat_map (λ concept. concept ∷ list_of (lists_of hierarchy f) concept) concepts)))
+  with_lists_enough f concepts below concept there = (
+    known concept (in_joined each concepts concept concept there (or_left (concept == concept) _ (eq-eqb concept concept refl))),
+    λ n listed. known n (in_joined each concepts concept n there (or_right (concept == n) _ listed)),
+  )
+    where
+      each : ℕ → List ℕ
+      each c = c ∷ list_of (lists_of hierarchy f) c
+
+      known : (n : ℕ) → has (flat_map each concepts) n ≡ true → has (listed_numbers count (flat_map each concepts)) n ≡ true
+      known n told =
+          let found = contains_had (flat_map each concepts) n told in
+          has-numbers_where count (has (flat_map each concepts)) n
+          (subst (λ (m : ℕ). m < count) found.2 (with_lists_below f concepts below found.0 n found.1))
+          ∙ told
+
+  -- what an operator leads to rises
+  operator_rises : (operator : Operator) (items : List ℕ) → IsRisingBelow count items → IsRisingBelow count (led_to hierarchy count operator items)
+  operator_rises Descendants items rises = led_rises count hierarchy over items rises hierarchy.descendants Listed
+  operator_rises DescendantsOrSelf items rises = led_rises count hierarchy over items rises hierarchy.descendants ListedOrSelf
+  operator_rises Children items rises = led_rises count hierarchy over items rises hierarchy.children Listed
+  operator_rises ChildrenOrSelf items rises = led_rises count hierarchy over items rises hierarchy.children ListedOrSelf
+  operator_rises Ancestors items rises = led_rises count hierarchy over items rises hierarchy.ancestors Listed
+  operator_rises AncestorsOrSelf items rises = led_rises count hierarchy over items rises hierarchy.ancestors ListedOrSelf
+  operator_rises Parents items rises = led_rises count hierarchy over items rises hierarchy.parents Listed
+  operator_rises ParentsOrSelf items rises = led_rises count hierarchy over items rises hierarchy.parents ListedOrSelf
+  operator_rises Top items rises = led_rises count hierarchy over items rises hierarchy.ancestors Apart
+  operator_rises Bottom items rises = led_rises count hierarchy over items rises hierarchy.descendants Apart
+
+  -- as many numbers below the count as it says are all of them, so that of these an operator leads to all that it leads to
+  pub led_from_all : (operator : Operator) (items : List ℕ) → IsRisingBelow count items → length items ≡ count
+      → filter (has items) (led_to hierarchy count operator items) ≡ led_to hierarchy count operator items
+  led_from_all operator items rises full =
+      ap (filter (has items)) (rising_is_numbers_where count led (operator_rises operator items rises))
+      ∙ filter-numbers_where count (has led) (has items)
+      ∙ numbers_where-agree count _ _ (λ n inside. with_all (has led n) (has items n) (each n inside))
+      ∙ sym (rising_is_numbers_where count led (operator_rises operator items rises))
+    where
+      led : List ℕ
+      led = led_to hierarchy count operator items
+
+      with_all : (b other : Bool) → other ≡ true → (b && other) ≡ b
+      with_all true other there = there
+      with_all false other there = refl
+
+      others : List ℕ
+      others = numbers_where count (λ n. not (has items n))
+
+      no_others : others ≡ []
+      no_others =
+          nil_from_length others (omega (
+            arith,
+            full,
+            ap (λ (xs : List ℕ). length xs) (rising_is_numbers_where count items rises),
+            length-filter_both (has items) (λ n. not (has items n)) (λ n. refl) (range_with_len 0 count),
+            length-range_with_len 0 count,
+          ))
+
+      each : (n : ℕ) → n < count → has items n ≡ true
+      each n inside =
+          told (has items n)
+          (sym (has-numbers_where count (λ m. not (has items m)) n inside) ∙ ap (λ (xs : List ℕ). has xs n) no_others)
+        where
+          told : (b : Bool) → not b ≡ false → b ≡ true
+          told true none = refl
+          told false none = sym none
+
+  -- a part of a set that has, of some numbers, what the set has
+  module _ (set part : List ℕ) (set_rises : IsRisingBelow count set) (part_rises : IsRisingBelow count part) (enough : ℕ → Bool)
+      (same : (n : ℕ) → enough n ≡ true → has part n ≡ has set n) where
+    -- a list of such numbers has one of the part where it has one of the set
+    same_any : (list : List ℕ) → ((n : ℕ) → has list n ≡ true → enough n ≡ true) → list_any (has part) list ≡ list_any (has set) list
+    same_any list all =
+        any_agree list (has part) (has set) 0
+        (λ k within. same (get_or list k 0) (all (get_or list k 0)
+        (had_contained list (get_or list k 0) (k, within, get_or_default list k (get_or list k 0) 0 within))))
+
+    module _ (f : Family) (concept : ℕ) (inside : concept < count) where
+      listed : ((n : ℕ) → has (list_of (lists_of hierarchy (back_of f)) concept) n ≡ true → enough n ≡ true)
+          → has (joined count (lists_of hierarchy f) part) concept ≡ has (joined count (lists_of hierarchy f) set) concept
+      listed all =
+          sym (asked_back count hierarchy over part part_rises f concept inside)
+          ∙ same_any (list_of (lists_of hierarchy (back_of f)) concept) all
+          ∙ asked_back count hierarchy over set set_rises f concept inside
+
+      or_self : enough concept ≡ true → ((n : ℕ) → has (list_of (lists_of hierarchy (back_of f)) concept) n ≡ true → enough n ≡ true)
+          → has (all_items count part (joined count (lists_of hierarchy f) part)) concept
+          ≡ has (all_items count set (joined count (lists_of hierarchy f) set)) concept
+      or_self own all =
+          sym (asked_or_self count hierarchy over part part_rises f concept inside)
+          ∙ (λ i. same concept own i || listed all i)
+          ∙ asked_or_self count hierarchy over set set_rises f concept inside
+
+      kept : enough concept ≡ true → ((n : ℕ) → has (list_of (lists_of hierarchy f) concept) n ≡ true → enough n ≡ true)
+          → has (apart (lists_of hierarchy f) part) concept ≡ has (apart (lists_of hierarchy f) set) concept
+      kept own all =
+          sym (asked_apart count hierarchy over part part_rises f concept inside)
+          ∙ (λ i. same concept own i && not (same_any (list_of (lists_of hierarchy f) concept) all i))
+          ∙ asked_apart count hierarchy over set set_rises f concept inside
+
+    -- an operator leads from the part to a concept for which the numbers are enough where it leads there from the set
+    same_led : (operator : Operator) (concept : ℕ) → concept < count → enough concept ≡ true
+        → ((n : ℕ) → has (list_of (asked_lists hierarchy operator) concept) n ≡ true → enough n ≡ true)
+        → has (led_to hierarchy count operator part) concept ≡ has (led_to hierarchy count operator set) concept
+    same_led Descendants concept inside own all = listed family.Descendants concept inside all
+    same_led DescendantsOrSelf concept inside own all = or_self family.Descendants concept inside own all
+    same_led Children concept inside own all = listed family.Children concept inside all
+    same_led ChildrenOrSelf concept inside own all = or_self family.Children concept inside own all
+    same_led Ancestors concept inside own all = listed family.Ancestors concept inside all
+    same_led AncestorsOrSelf concept inside own all = or_self family.Ancestors concept inside own all
+    same_led Parents concept inside own all = listed family.Parents concept inside all
+    same_led ParentsOrSelf concept inside own all = or_self family.Parents concept inside own all
+    same_led Top concept inside own all = kept family.Ancestors concept inside own all
+    same_led Bottom concept inside own all = kept family.Descendants concept inside own all
+
+    -- of the candidates it leads to the same
+    pub led_from_part : (operator : Operator) (may : ℕ → Bool) → AreEnough (asked_lists hierarchy operator) may enough
+        → filter may (led_to hierarchy count operator part) ≡ filter may (led_to hierarchy count operator set)
+    led_from_part operator may are_enough =
+        kept_of part part_rises ∙ numbers_where-agree count _ _ each ∙ sym (kept_of set set_rises)
+      where
+        led : List ℕ → List ℕ
+        led items = led_to hierarchy count operator items
+
+        kept_of : (items : List ℕ) → IsRisingBelow count items
+            → filter may (led items) ≡ numbers_where count (λ n. has (led items) n && may n)
+        kept_of items rises =
+            ap (filter may) (rising_is_numbers_where count (led items) (operator_rises operator items rises))
+            ∙ filter-numbers_where count (has (led items)) may
+
+        asked : (n : ℕ) → n < count → (b : Bool) → may n ≡ b → (has (led part) n && b) ≡ (has (led set) n && b)
+        asked n inside true told =
+            let here = are_enough n told in
+            ap (λ (there : Bool). there && true) (same_led operator n inside here.0 here.1)
+        asked n inside false told = and-false (has (led part) n) ∙ sym (and-false (has (led set) n))
+
+        each : (n : ℕ) → n < count → (has (led part) n && may n) ≡ (has (led set) n && may n)
+        each n inside = asked n inside (may n) refl

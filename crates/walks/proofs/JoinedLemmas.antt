@@ -1,0 +1,257 @@
+-- How the lists of some concepts are joined.
+use Rattle.std.proofs.Common.{ℕ, ◌≡◌, ◌<◌, ◌≤◌, ◌+◌, ◌++◌, ◌∷◌, [], ◌∙◌, ⊎_elim, Bool, true, false, ◌&&◌, ◌||◌, cond, List, length, get_or, take, refl, sym, ap, subst, arith, append-nil, append_assoc}
+use Rattle.std.specs.Prelude.{filter}
+use Rattle.std.specs.Bool.{beq}
+use Rattle.std.specs.List.{list_any}
+use Rattle.std.proofs.lemmas.Bool.{cases_lt, false≢true, le-ltb, lt-ltb}
+use Rattle.std.proofs.lemmas.List.{get_or_past}
+use Rattle.hierarchy.specs.Hierarchy.{one_row, reaches}
+use Rattle.rf2_rows.specs.Release.{Release}
+use Rattle.hierarchy.proofs.HierarchyLemmas.{chain_from_test, chain_of_two, test_from_chain}
+use Rattle.number_lists.proofs.ListLemmas.{passing_item, some_item_passes}
+use Rattle.idset.specs.Sets.{all_items}
+use Rattle.number_lists.specs.Members.{has}
+use Rattle.number_lists.specs.Rising.{IsRisingBelow, numbers_where}
+use Rattle.idset.specs.Words.{is_set}
+use Rattle.number_lists.proofs.WhereLemmas.{has-numbers_where_any, numbers_where-agree, there_where, where_there}
+use Rattle.idset.proofs.Places.{filter_step}
+use Rattle.number_lists.proofs.RisingLemmas.{has-past_bound, numbers_where-rising, rising_is_numbers_where, rising_is_where}
+use Rattle.number_lists.specs.KeyedLists.{list_of}
+use Rattle.ancestor_index.specs.HierarchyLists.{Hierarchy, hierarchy_of, is_child, lists_where}
+use Rattle.number_lists.proofs.MemberLemmas.{contains_had, had_contained}
+use Rattle.ancestor_index.proofs.ClosureLemmas.{length-where, list_of-where, row_there}
+use Rattle.std.proofs.lemmas.List.Folds.{list_any-append}
+use Rattle.std.proofs.Math.Bool.{or-false}
+use Rattle.walks.specs.inside.Joined.{AreJoined, is_long, is_whole, near_of, with_length}
+use Rattle.walks.specs.Led.{IsOver, joined}
+use Rattle.walks.specs.inside.Steps.{lists_of}
+use Rattle.walks.specs.declared.family.Family.{Family}
+use Rattle.walks.specs.declared.family.Family.TheVariants as family
+
+-- ---- the lists of a hierarchy
+-- how the concepts of a list stand to its concept
+abbrev pub stands : Release → Family → ℕ → ℕ → Bool
+stands release family.Ancestors a b = reaches release.isa (get_or release.concepts a 0) (get_or release.concepts b 0)
+stands release family.Descendants a b = reaches release.isa (get_or release.concepts b 0) (get_or release.concepts a 0)
+stands release family.Parents a b = is_child release.isa (get_or release.concepts a 0) (get_or release.concepts b 0)
+stands release family.Children a b = is_child release.isa (get_or release.concepts b 0) (get_or release.concepts a 0)
+
+lists_are : (release : Release) (f : Family) → lists_of (hierarchy_of release) f ≡ lists_where (length release.concepts) (stands release f)
+lists_are release family.Ancestors = refl
+lists_are release family.Descendants = refl
+lists_are release family.Parents = refl
+lists_are release family.Children = refl
+
+over_lists : (count : ℕ) (hierarchy : Hierarchy) (over : IsOver count hierarchy) (f : Family) → lists_of hierarchy f ≡ lists_where count (stands over.release f)
+over_lists count hierarchy over f =
+    ap (λ (h : Hierarchy). lists_of h f) over.hierarchy_is ∙ lists_are over.release f
+    ∙ ap (λ (n : ℕ). lists_where n (stands over.release f)) (sym over.count_is)
+
+-- there is a list for each concept
+pub over_length : (count : ℕ) (hierarchy : Hierarchy) → IsOver count hierarchy → (f : Family) → length (lists_of hierarchy f) ≡ count
+over_length count hierarchy over f = ap (λ (lists : List (List ℕ)). length lists) (over_lists count hierarchy over f)
+    ∙ length-where count (stands over.release f)
+
+-- the list of a concept has those that it stands to
+pub over_list : (count : ℕ) (hierarchy : Hierarchy) (over : IsOver count hierarchy) (f : Family) (concept : ℕ) → concept < count
+    → list_of (lists_of hierarchy f) concept ≡ numbers_where count (stands over.release f concept)
+over_list count hierarchy over f concept below =
+    ap (λ (lists : List (List ℕ)). list_of lists concept) (over_lists count hierarchy over f) ∙ list_of-where count (stands over.release f) concept below
+
+-- it rises
+pub over_rising : (count : ℕ) (hierarchy : Hierarchy) → IsOver count hierarchy → (f : Family) (concept : ℕ)
+    → concept < count → IsRisingBelow count (list_of (lists_of hierarchy f) concept)
+over_rising count hierarchy over f concept below =
+    subst (λ (xs : List ℕ). IsRisingBelow count xs) (sym (over_list count hierarchy over f concept below))
+    (numbers_where-rising count (stands over.release f concept))
+
+-- what it has is so, and the other way round
+pub listed_stands : (count : ℕ) (hierarchy : Hierarchy) (over : IsOver count hierarchy) (f : Family) (concept n : ℕ) → concept < count
+    → has (list_of (lists_of hierarchy f) concept) n ≡ true → (n < count) × (stands over.release f concept n ≡ true)
+listed_stands count hierarchy over f concept n below told =
+    there_where count (stands over.release f concept) n
+    (contains_had (numbers_where count (stands over.release f concept)) n
+    (ap (λ (xs : List ℕ). has xs n) (sym (over_list count hierarchy over f concept below)) ∙ told))
+
+pub stands_listed : (count : ℕ) (hierarchy : Hierarchy) (over : IsOver count hierarchy) (f : Family) (concept n : ℕ) → concept < count → n < count
+    → stands over.release f concept n ≡ true → has (list_of (lists_of hierarchy f) concept) n ≡ true
+stands_listed count hierarchy over f concept n below within holds =
+    ap (λ (xs : List ℕ). has xs n) (over_list count hierarchy over f concept below)
+    ∙ had_contained (numbers_where count (stands over.release f concept)) n (where_there count (stands over.release f concept) n within holds)
+
+-- the list of a concept that is in a list is in that list, if the family is whole
+stands_on : (release : Release) (f : Family) → is_whole f ≡ true → (a b c : ℕ) → stands release f a b ≡ true
+    → stands release f b c ≡ true → stands release f a c ≡ true
+stands_on release family.Ancestors whole a b c one other =
+    let id : ℕ → ℕ = λ n. get_or release.concepts n 0 in
+    test_from_chain release.isa (chain_of_two (chain_from_test release.isa (id a) (id b) one) (chain_from_test release.isa (id b) (id c) other))
+stands_on release family.Descendants whole a b c one other =
+    let id : ℕ → ℕ = λ n. get_or release.concepts n 0 in
+    test_from_chain release.isa (chain_of_two (chain_from_test release.isa (id c) (id b) other) (chain_from_test release.isa (id b) (id a) one))
+stands_on release family.Parents whole a b c one other = absurd (false≢true whole)
+stands_on release family.Children whole a b c one other = absurd (false≢true whole)
+
+pub over_whole : (count : ℕ) (hierarchy : Hierarchy) → IsOver count hierarchy → (f : Family) → is_whole f ≡ true → (a b n : ℕ) → a < count → b < count
+    → has (list_of (lists_of hierarchy f) a) b ≡ true → has (list_of (lists_of hierarchy f) b) n ≡ true
+    → has (list_of (lists_of hierarchy f) a) n ≡ true
+over_whole count hierarchy over f whole a b n a_below b_below one other =
+    let first = listed_stands count hierarchy over f a b a_below one in
+    let second = listed_stands count hierarchy over f b n b_below other in
+    stands_listed count hierarchy over f a n a_below second.0 (stands_on over.release f whole a b n first.1 second.1)
+
+-- what is one is-a row away is reached
+pub near_stands : (release : Release) (f : Family) (a b : ℕ) → stands release (near_of f) a b ≡ true → stands release f a b ≡ true
+near_stands release family.Ancestors a b near =
+    test_from_chain release.isa (one_row (row_there release.isa (get_or release.concepts a 0) (get_or release.concepts b 0) near))
+near_stands release family.Descendants a b near =
+    test_from_chain release.isa (one_row (row_there release.isa (get_or release.concepts b 0) (get_or release.concepts a 0) near))
+near_stands release family.Parents a b near = near
+near_stands release family.Children a b near = near
+
+pub over_near : (count : ℕ) (hierarchy : Hierarchy) → IsOver count hierarchy → (f : Family) (concept : ℕ) → concept < count → (set : ℕ → Bool)
+    → list_any set (list_of (lists_of hierarchy (near_of f)) concept) ≡ true → list_any set (list_of (lists_of hierarchy f) concept) ≡ true
+over_near count hierarchy over f concept below set told =
+    let found = passing_item set (list_of (lists_of hierarchy (near_of f)) concept) told in
+    let at = listed_stands count hierarchy over (near_of f) concept found.0 below
+    (had_contained (list_of (lists_of hierarchy (near_of f)) concept) found.0 found.1) in
+    some_item_passes set (list_of (lists_of hierarchy f) concept) found.0
+    (contains_had (list_of (lists_of hierarchy f) concept) found.0
+    (stands_listed count hierarchy over f concept found.0 below at.0 (near_stands over.release f concept found.0 at.1)))
+    found.2
+
+-- ---- joining
+-- one list more
+any_more : (lists : List (List ℕ)) (before : List ℕ) (concept n : ℕ)
+    → list_any (λ c. has (list_of lists c) n) (before ++ concept ∷ [])
+    ≡ (list_any (λ c. has (list_of lists c) n) before || has (list_of lists concept) n)
+any_more lists before concept n =
+    list_any-append (λ c. has (list_of lists c) n) before (concept ∷ [])
+    ∙ ap (λ (b : Bool). list_any (λ c. has (list_of lists c) n) before || b) (or-false (has (list_of lists concept) n))
+
+-- what has a list added to it has what it had and what the list has
+pub has_all : (count : ℕ) (numbers list next : List ℕ) → IsRisingBelow count numbers → IsRisingBelow count list → next ≡ all_items count numbers list
+    → (n : ℕ) → has next n ≡ (has numbers n || has list n)
+has_all count numbers list next rises list_rises next_is n =
+    ap (λ (xs : List ℕ). has xs n) next_is
+    ∙ has-numbers_where_any count (λ m. has numbers m || has list m) n
+    ∙ ⊎_elim
+    (λ (within : n < count) i. lt-ltb n count within i && (has numbers n || has list n))
+    (λ (past : count ≤ n).
+    let one : has numbers n ≡ false = has-past_bound 0 count numbers n rises past in
+    let other : has list n ≡ false = has-past_bound 0 count list n list_rises past in
+    (λ i. le-ltb n count past i && (has numbers n || has list n)) ∙ (λ i. sym one i || sym other i))
+    (cases_lt n count)
+
+pub join_list : (lists : List (List ℕ)) (before numbers list next : List ℕ) (count concept : ℕ) → IsRisingBelow count numbers → IsRisingBelow count list
+    → list ≡ list_of lists concept → next ≡ all_items count numbers list → AreJoined lists before numbers → AreJoined lists (before ++ concept ∷ []) next
+join_list lists before numbers list next count concept rises list_rises is next_is joined n =
+    has_all count numbers list next rises list_rises next_is n ∙ (λ i. joined n i || has (is i) n) ∙ sym (any_more lists before concept n)
+
+-- the list of a concept that is there already brings nothing
+pub join_skipped : (count : ℕ) (hierarchy : Hierarchy) → IsOver count hierarchy → (f : Family) → is_whole f ≡ true
+    → (before numbers : List ℕ) (concept : ℕ) → concept < count
+    → has numbers concept ≡ true → AreJoined (lists_of hierarchy f) before numbers → AreJoined (lists_of hierarchy f) (before ++ concept ∷ []) numbers
+join_skipped count hierarchy over f whole before numbers concept below there joined n =
+    joined n ∙ sym (absorbed (list_any (λ c. has (list_of lists c) n) before)
+    (has (list_of lists concept) n) brings) ∙ sym (any_more lists before concept n)
+  where
+    lists : List (List ℕ)
+    lists = lists_of hierarchy f
+
+    absorbed : (a b : Bool) → (b ≡ true → a ≡ true) → (a || b) ≡ a
+    absorbed true b from = refl
+    absorbed false true from = sym (from refl)
+    absorbed false false from = refl
+
+    brings : has (list_of lists concept) n ≡ true → list_any (λ c. has (list_of lists c) n) before ≡ true
+    brings told =
+        let found = passing_item (λ c. has (list_of lists c) concept) before (sym (joined concept) ∙ there) in
+        some_item_passes (λ c. has (list_of lists c) n) before found.0 found.1
+        (⊎_elim
+        (λ (within : found.0 < count). over_whole count hierarchy over f whole found.0 concept n within below found.2 told)
+        (λ (past : count ≤ found.0).
+        let nothing : list_of lists found.0 ≡ [] = get_or_past lists found.0 [] (omega (arith, past, over_length count hierarchy over f)) in
+        absurd (false≢true (ap (λ (xs : List ℕ). has xs concept) (sym nothing) ∙ found.2)))
+        (cases_lt found.0 count))
+
+-- one concept more of those with long lists, or with short ones
+pub with_length_more : (lists : List (List ℕ)) (long : Bool) (concepts before : List ℕ) (k : ℕ) → k < length concepts
+    → beq (is_long (list_of lists (get_or concepts k 0))) long ≡ true
+    → before ++ with_length lists long (take (k + 1) concepts) ≡ (before ++ with_length lists long (take k concepts)) ++ get_or concepts k 0 ∷ []
+with_length_more lists long concepts before k within chosen =
+    let test : ℕ → Bool = λ concept. beq (is_long (list_of lists concept)) long in
+    ap (λ (xs : List ℕ). before ++ xs) (sym (filter_step test concepts (filter test (take k concepts))
+    (filter test (take k concepts) ++ get_or concepts k 0 ∷ []) k true within refl (sym chosen) refl))
+    ∙ sym (append_assoc before (filter test (take k concepts)) (get_or concepts k 0 ∷ []))
+
+pub with_length_same : (lists : List (List ℕ)) (long : Bool) (concepts : List ℕ) (k : ℕ) → k < length concepts
+    → beq (is_long (list_of lists (get_or concepts k 0))) long ≡ false
+    → with_length lists long (take (k + 1) concepts) ≡ with_length lists long (take k concepts)
+with_length_same lists long concepts k within passed =
+    let test : ℕ → Bool = λ concept. beq (is_long (list_of lists concept)) long in
+    sym (filter_step test concepts (filter test (take k concepts))
+    (filter test (take k concepts)) k false within refl (sym passed) (sym (append-nil (filter test (take k concepts)))))
+
+-- the long ones and then the short ones are all
+any_split : {X : Type 0} (test : X → Bool) (long : X → Bool) (xs : List X)
+    → list_any test (filter (λ x. beq (long x) true) xs ++ filter (λ x. beq (long x) false) xs) ≡ list_any test xs
+any_split test long [] = refl
+any_split {X = X} test long (x ∷ xs) =
+    list_any-append test (filter (λ y. beq (long y) true) (x ∷ xs)) (filter (λ y. beq (long y) false) (x ∷ xs))
+    ∙ by_case (long x)
+    ∙ ap (λ (b : Bool). test x || b) (sym (list_any-append test longs shorts) ∙ any_split test long xs)
+  where
+    longs : List X
+    longs = filter (λ y. beq (long y) true) xs
+
+    shorts : List X
+    shorts = filter (λ y. beq (long y) false) xs
+
+    by_case : (b : Bool) → (list_any test (cond (beq b true) (x ∷ longs) longs)
+        || list_any test (cond (beq b false) (x ∷ shorts) shorts)) ≡ (test x || (list_any test longs || list_any test shorts))
+    by_case true = left (test x) (list_any test longs) (list_any test shorts)
+      where
+        left : (a b c : Bool) → ((a || b) || c) ≡ (a || (b || c))
+        left true b c = refl
+        left false b c = refl
+    by_case false = right (test x) (list_any test longs) (list_any test shorts)
+      where
+        right : (a b c : Bool) → (b || (a || c)) ≡ (a || (b || c))
+        right true true c = refl
+        right true false c = refl
+        right false b c = refl
+
+pub both_joined : (lists : List (List ℕ)) (concepts numbers : List ℕ)
+    → AreJoined lists (with_length lists true concepts ++ with_length lists false concepts) numbers → AreJoined lists concepts numbers
+both_joined lists concepts numbers joined n = joined n
+    ∙ any_split (λ concept. has (list_of lists concept) n) (λ concept. is_long (list_of lists concept)) concepts
+
+pub all_joined : (count : ℕ) (lists : List (List ℕ)) (concepts numbers : List ℕ) → IsRisingBelow count numbers → AreJoined lists concepts numbers
+    → numbers ≡ joined count lists concepts
+all_joined count lists concepts numbers rises joined =
+    rising_is_where count numbers (λ n. list_any (λ concept. has (list_of lists concept) n) concepts) rises (λ n within. joined n)
+
+-- ---- one list alone
+one_joined : (count : ℕ) (lists : List (List ℕ)) (concept : ℕ) → numbers_where count (has (list_of lists concept)) ≡ joined count lists (concept ∷ [])
+one_joined count lists concept =
+    numbers_where-agree count (has (list_of lists concept)) (λ n. list_any (λ c. has (list_of lists c) n) (concept ∷ []))
+    (λ n within. sym (or-false (has (list_of lists concept) n)))
+
+pub list_joined : (count : ℕ) (lists : List (List ℕ)) (concept : ℕ) (list : List ℕ) → IsRisingBelow count list
+    → list ≡ list_of lists concept → list ≡ joined count lists (concept ∷ [])
+list_joined count lists concept list rises is =
+    rising_is_numbers_where count list rises ∙ ap (λ (xs : List ℕ). numbers_where count (has xs)) is ∙ one_joined count lists concept
+
+pub words_are : (count : ℕ) (words list : List ℕ) → ((n : ℕ) → is_set words n ≡ has list n)
+    → numbers_where count (is_set words) ≡ numbers_where count (has list)
+words_are count words list marked = numbers_where-agree count (is_set words) (has list) (λ n within. marked n)
+
+pub words_list : (count bound : ℕ) (words list : List ℕ) → bound ≡ count → IsRisingBelow count list
+    → ((n : ℕ) → is_set words n ≡ has list n) → numbers_where bound (is_set words) ≡ list
+words_list count bound words list is rises marked =
+    ap (λ (n : ℕ). numbers_where n (is_set words)) is ∙ words_are count words list marked ∙ sym (rising_is_numbers_where count list rises)
+
+pub words_joined : (count : ℕ) (lists : List (List ℕ)) (concept : ℕ) (words : List ℕ)
+    → ((n : ℕ) → is_set words n ≡ has (list_of lists concept) n)
+    → numbers_where count (is_set words) ≡ joined count lists (concept ∷ [])
+words_joined count lists concept words marked = words_are count words (list_of lists concept) marked ∙ one_joined count lists concept

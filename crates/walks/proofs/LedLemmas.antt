@@ -1,0 +1,123 @@
+-- Where an operator leads, asked of one concept by its own lists.
+use Rattle.std.proofs.Common.{ℕ, Bool, ◌≡◌, ◌<◌, ◌∙◌, true, false, not, ◌&&◌, ◌||◌, List, refl, sym, ap, subst}
+use Rattle.std.specs.Prelude.{filter}
+use Rattle.std.specs.List.{list_any}
+use Rattle.rf2_rows.specs.Release.{Release}
+use Rattle.number_lists.specs.KeyedLists.{list_of}
+use Rattle.number_lists.proofs.ListLemmas.{passing_item, some_item_passes, both_ways}
+use Rattle.number_lists.specs.Rising.{IsRisingBelow}
+use Rattle.idset.specs.Sets.{all_items}
+use Rattle.number_lists.specs.Members.{has}
+use Rattle.number_lists.proofs.WhereLemmas.{filter-numbers_where, has-numbers_where}
+use Rattle.number_lists.proofs.RisingLemmas.{numbers_where-rising, rises_within-filter, rising_is_numbers_where, all_below}
+use Rattle.ancestor_index.specs.HierarchyLists.{Hierarchy}
+use Rattle.number_lists.proofs.MemberLemmas.{contains_had, had_contained}
+use Rattle.walks.specs.inside.Joined.{AreJoined, back_of, is_whole, near_of}
+use Rattle.walks.specs.Led.{IsOver, apart, joined}
+use Rattle.walks.specs.inside.Steps.{lists_of, stepped}
+use Rattle.walks.specs.declared.family.Family.{Family}
+use Rattle.walks.specs.declared.family.Family.TheVariants as family
+use Rattle.walks.specs.declared.family.Reach.{Reach}
+use Rattle.walks.specs.declared.family.Reach.TheVariants.{Listed, ListedOrSelf, Apart}
+use Rattle.pair_sets.proofs.AmongLemmas.{has_kept}
+use Rattle.walks.proofs.JoinedLemmas.{listed_stands, over_near, stands, stands_listed}
+use Rattle.pair_sets.proofs.WithinLemmas.{restricted_to}
+
+-- one concept stands to another as the other stands back to it
+stands_back : (release : Release) (f : Family) (a b : ℕ) → stands release f a b ≡ stands release (back_of f) b a
+stands_back release family.Ancestors a b = refl
+stands_back release family.Descendants a b = refl
+stands_back release family.Parents a b = refl
+stands_back release family.Children a b = refl
+
+back_and_forth : (f : Family) → back_of (back_of f) ≡ f
+back_and_forth family.Ancestors = refl
+back_and_forth family.Descendants = refl
+back_and_forth family.Parents = refl
+back_and_forth family.Children = refl
+
+-- the lists that lead back from whole lists are whole
+pub back_is_whole : (f : Family) → is_whole f ≡ true → is_whole (back_of f) ≡ true
+back_is_whole family.Ancestors whole = refl
+back_is_whole family.Descendants whole = refl
+back_is_whole family.Parents whole = whole
+back_is_whole family.Children whole = whole
+
+module _ (count : ℕ) (hierarchy : Hierarchy) (over : IsOver count hierarchy) (items : List ℕ) (rises : IsRisingBelow count items) where
+  module _ (f : Family) (concept : ℕ) (inside : concept < count) where
+    abbrev lists : List (List ℕ)
+    lists = lists_of hierarchy f
+
+    abbrev own : List ℕ
+    own = list_of (lists_of hierarchy (back_of f)) concept
+
+    there : list_any (λ other. has (list_of lists other) concept) items ≡ true → list_any (has items) own ≡ true
+    there told =
+        let from = passing_item (λ other. has (list_of lists other) concept) items told in
+        let below : from.0 < count = subst (λ (n : ℕ). n < count) from.1.2 (all_below count items rises from.1.0 from.0 from.1.1) in
+        let stood = listed_stands count hierarchy over f from.0 concept below from.2 in
+        some_item_passes (has items) own from.0
+        (contains_had own from.0 (stands_listed count hierarchy over (back_of f) concept from.0 inside below
+        (sym (stands_back over.release f from.0 concept) ∙ stood.1)))
+        (had_contained items from.0 from.1)
+
+    again : list_any (has items) own ≡ true → list_any (λ other. has (list_of lists other) concept) items ≡ true
+    again told =
+        let from = passing_item (has items) own told in
+        let stood = listed_stands count hierarchy over (back_of f) concept from.0 inside (had_contained own from.0 from.1) in
+        some_item_passes (λ other. has (list_of lists other) concept) items from.0 (contains_had items from.0 from.2)
+        (stands_listed count hierarchy over f from.0 concept stood.0 inside (stands_back over.release f from.0 concept ∙ stood.1))
+
+    -- it is in the list of one of them where one of them is in the list that leads back
+    pub asked_any : list_any (has items) own ≡ list_any (λ other. has (list_of lists other) concept) items
+    asked_any = both_ways (list_any (has items) own) (list_any (λ other. has (list_of lists other) concept) items) again there
+
+    pub asked_back : list_any (has items) own ≡ has (joined count lists items) concept
+    asked_back = asked_any ∙ sym (has-numbers_where count (λ n. list_any (λ other. has (list_of lists other) n) items) concept inside)
+
+    pub asked_or_self : (has items concept || has (joined count lists items) concept)
+        ≡ has (all_items count items (joined count lists items)) concept
+    asked_or_self = sym (has-numbers_where count (λ n. has items n || has (joined count lists items) n) concept inside)
+
+    pub asked_apart : (has items concept && not (list_any (has items) (list_of lists concept))) ≡ has (apart lists items) concept
+    asked_apart = sym (has_kept (λ other. not (list_any (has items) (list_of lists other))) items concept)
+
+  -- none of them is in its list where it is none of those that they lead back to
+  pub asked_outside : (f : Family) (concept : ℕ) → concept < count → (found : List ℕ) → AreJoined (lists_of hierarchy (back_of f)) items found
+      → not (has found concept) ≡ not (list_any (has items) (list_of (lists_of hierarchy f) concept))
+  asked_outside f concept inside found joined =
+      ap not (joined concept ∙ sym (asked_any (back_of f) concept inside)
+      ∙ (λ i. list_any (has items) (list_of (lists_of hierarchy (back_and_forth f i)) concept)))
+
+  -- where none of them is in the list, none is one is-a row away
+  pub apart_near : (f : Family) (concept : ℕ) → concept < count
+      → (not (list_any (has items) (list_of (lists_of hierarchy (near_of f)) concept))
+      && not (list_any (has items) (list_of (lists_of hierarchy f) concept)))
+      ≡ not (list_any (has items) (list_of (lists_of hierarchy f) concept))
+  apart_near f concept inside =
+      by_near (list_any (has items) (list_of (lists_of hierarchy (near_of f)) concept))
+      (over_near count hierarchy over f concept inside (has items))
+    where
+      by_near : (near : Bool) → (near ≡ true → list_any (has items) (list_of (lists_of hierarchy f) concept) ≡ true)
+          → (not near && not (list_any (has items) (list_of (lists_of hierarchy f) concept)))
+          ≡ not (list_any (has items) (list_of (lists_of hierarchy f) concept))
+      by_near true far = sym (ap not (far refl))
+      by_near false far = refl
+
+  -- what a step leads to rises
+  pub led_rises : (lists : List (List ℕ)) (reach : Reach) → IsRisingBelow count (stepped lists count reach items)
+  led_rises lists Listed = numbers_where-rising count (λ n. list_any (λ other. has (list_of lists other) n) items)
+  led_rises lists ListedOrSelf = numbers_where-rising count (λ n. has items n || has (joined count lists items) n)
+  led_rises lists Apart = rises_within-filter 0 count (λ concept. not (list_any (has items) (list_of lists concept))) items rises
+
+  -- those of a rising list that it leads to are those that it leads to of the list
+  pub led_asked : (lists : List (List ℕ)) (reach : Reach) (wanted : List ℕ) → IsRisingBelow count wanted
+      → filter (has (stepped lists count reach items)) wanted ≡ filter (has wanted) (stepped lists count reach items)
+  led_asked lists reach wanted wanted_rises =
+      ap (filter (has led)) (rising_is_numbers_where count wanted wanted_rises)
+      ∙ filter-numbers_where count (has wanted) (has led)
+      ∙ sym (restricted_to count (has wanted) (has led) led (filter (has wanted) led)
+      (rising_is_numbers_where count led (led_rises lists reach)) refl)
+    where
+      led : List ℕ
+      led = stepped lists count reach items

@@ -1,0 +1,6 @@
+pub mod AskedLemmas
+pub mod JoinedLemmas
+pub mod LedLemmas
+pub mod MemberLemmas
+pub mod ReachedLemmas
+pub mod StepLemmas

@@ -1,0 +1,24 @@
+use Rattle.std.proofs.Common.{◌≡◌, ◌∙◌, ◌||◌, true, false, sym}
+use Rattle.number_lists.specs.Members.{has}
+use Rattle.walks.specs.Led.{joined}
+use Rattle.walks.specs.inside.Steps.{lists_of}
+use Rattle.walks.proofs.LedLemmas.{asked_or_self}
+use Rattle.walks.proofs.led.is_listed_or_self.Goals as goal
+
+pub returns-then-has : goal.returns-then-has
+returns-then-has g c =
+    let count = g.S.ConceptSet.bound_of c.args.operand.now in
+    let items = g.S.ConceptSet.items_of c.args.operand.now in
+    let own : has items c.args.concept ≡ true = sym c.has.ensures ∙ c.if-has.true in
+    c.if-has.true
+    ∙ sym (λ i. own i || has (joined count (lists_of c.args.index.now c.args.family) items) c.args.concept)
+    ∙ asked_or_self count c.args.index.now c.requires.over items (g.met.S.ConceptSet.rising c.args.operand.now) c.args.family c.args.concept c.requires.below
+
+pub returns-else-has : goal.returns-else-has
+returns-else-has g c =
+    let count = g.S.ConceptSet.bound_of c.args.operand.now in
+    let items = g.S.ConceptSet.items_of c.args.operand.now in
+    let own : has items c.args.concept ≡ false = sym c.has.ensures ∙ c.if-has.false in
+    c.is_listed.ensures
+    ∙ sym (λ i. own i || has (joined count (lists_of c.args.index.now c.args.family) items) c.args.concept)
+    ∙ asked_or_self count c.args.index.now c.requires.over items (g.met.S.ConceptSet.rising c.args.operand.now) c.args.family c.args.concept c.requires.below

@@ -1,0 +1,42 @@
+use Rattle.std.proofs.Common.{ℕ, List, ◌≡◌, ◌<◌, ◌+◌, length, rules, ◌∙◌, ◌++◌, ◌∷◌, [], take, get_or, sym, ap, append_assoc, append-nil, arith}
+use Rattle.std.specs.List.{flat_map}
+use Rattle.std.proofs.lemmas.Grind.{flat_map-append}
+use Rattle.std.proofs.lemmas.List.{take_all, take_more}
+use Rattle.number_lists.specs.KeyedLists.{list_of}
+use Rattle.walks.specs.inside.Steps.{lists_of}
+use Rattle.walks.proofs.JoinedLemmas.{over_length}
+use Rattle.walks.proofs.led.with_lists.Goals as goal
+
+-- the next concept comes behind what the earlier ones have, and its list behind it
+with_lists_more : (lists : List (List ℕ)) (concepts : List ℕ) (k : ℕ) {before pushed list next : List ℕ} → k < length concepts
+    → before ≡ flat_map (λ concept. concept ∷ list_of lists concept) (take k concepts)
+    → pushed ≡ before ++ get_or concepts k 0 ∷ [] → list ≡ list_of lists (get_or concepts k 0) → next ≡ pushed ++ list
+    → next ≡ flat_map (λ concept. concept ∷ list_of lists concept) (take (k + 1) concepts)
+with_lists_more lists concepts k within so_far with_concept is with_list =
+    let entries : ℕ → List ℕ = λ concept. concept ∷ list_of lists concept in
+    let concept : ℕ = get_or concepts k 0 in
+    with_list
+    ∙ (λ i. (with_concept ∙ (λ j. so_far j ++ concept ∷ [])) i ++ is i)
+    ∙ append_assoc (flat_map entries (take k concepts)) (concept ∷ []) (list_of lists concept)
+    ∙ ap (λ (own : List ℕ). flat_map entries (take k concepts) ++ concept ∷ own) (sym (append-nil (list_of lists concept)))
+    ∙ sym (flat_map-append entries (take k concepts) (concept ∷ []))
+    ∙ ap (flat_map entries) (sym (take_more concepts k 0 within))
+
+pub list-requires : goal.list-requires
+list-requires c =
+    omega (
+      arith,
+      c.requires.below c.loop-concept.concept-index 0 c.loop-concept-test.true,
+      over_length c.args._count c.args.index.now c.requires.over c.args.family,
+    )
+
+pub loop-concept-preserved : goal.loop-concept-preserved
+loop-concept-preserved c =
+    with_lists_more (lists_of c.args.index.now c.args.family) c.args.concepts.now c.loop-concept.concept-index
+    c.loop-concept-test.true c.loop-concept.invariant c.in_ok-push.ensures.items c.list.ensures (search rules)
+
+pub returns : goal.returns
+returns c =
+    c.loop-concept.invariant
+    ∙ ap (flat_map (λ concept. concept ∷ list_of (lists_of c.args.index.now c.args.family) concept))
+    (take_all c.loop-concept.concept-index c.args.concepts.now (omega arith))

@@ -1,0 +1,10 @@
+use Rattle.std.proofs.Common.{◌≡◌, ◌∷◌, take}
+use Rattle.std.specs.List.{flat_map}
+use Rattle.number_lists.specs.KeyedLists.{list_of}
+use Rattle.walks.specs.inside.Steps.{lists_of}
+use Rattle.walks.proofs.led.with_lists.Given as goal
+
+-- the concepts so far, each with its list behind it
+abbrev pub invariant-loop-concept : goal.invariant-loop-concept
+invariant-loop-concept l =
+    l.numbers.items ≡ flat_map (λ concept. concept ∷ list_of (lists_of l.index l.family) concept) (take l.concept-index l.concepts)

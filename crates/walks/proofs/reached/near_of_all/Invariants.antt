@@ -1,0 +1,13 @@
+use Rattle.std.proofs.Common.{◌≡◌, take}
+use Rattle.number_lists.specs.Rising.{numbers_where}
+use Rattle.idset.specs.Words.{is_set}
+use Rattle.walks.specs.inside.Joined.{AreJoined}
+use Rattle.walks.specs.inside.Steps.{lists_of}
+use Rattle.walks.proofs.reached.near_of_all.Given as goal
+
+-- the lists of the concepts so far are there
+abbrev pub invariant-loop-concept : goal.invariant-loop-concept
+invariant-loop-concept l = record {
+  joined : AreJoined (lists_of l.index l.near) (take l.concept-index l.concepts) (numbers_where l.found.bound (is_set l.found.words.items));
+  bound : l.found.bound ≡ l.count;
+}

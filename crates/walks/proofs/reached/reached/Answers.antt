@@ -1,0 +1,136 @@
+use Rattle.std.proofs.Common.{ℕ, List, ◌≡◌, ◌<◌, ◌+◌, not, ◌&&◌, ◌∙◌, length, get_or, sym, ap, subst, arith}
+use Rattle.std.specs.Prelude.{All}
+use Rattle.number_lists.specs.KeyedLists.{list_of}
+use Rattle.number_lists.specs.Rising.{IsRisingBelow, numbers_where}
+use Rattle.idset.specs.Sets.{all_items}
+use Rattle.number_lists.specs.Members.{has}
+use Rattle.idset.specs.Words.{is_set}
+use Rattle.walks.specs.inside.Joined.{AreJoined, near_of, turn_of}
+use Rattle.walks.specs.inside.Steps.{lists_of}
+use Rattle.walks.specs.declared.family.Family.{Family}
+use Rattle.number_lists.proofs.RisingLemmas.{all_below}
+use Rattle.walks.proofs.ReachedLemmas.{IsPassed, all_among, near_rises, near_there, passed_all, passed_first, passed_on, passed_over, turn_within}
+use Rattle.walks.proofs.reached.reached.Goals as goal
+use Rattle.walks.proofs.reached.reached.Goals.{then-is_in_first_alone+in_ok-add_all, else-is_in_first_alone}
+
+pub offset_bounds-order-place_of_turn : goal.offset_bounds-order-place_of_turn
+offset_bounds-order-place_of_turn g c =
+    let order = c.parents_first-order.result.now in
+    let below : turn_of c.args.family (length order) c.loop-turn.turn < length order =
+    turn_within (length order) c.args.family c.loop-turn.turn c.loop-turn-test.true in
+    omega arith
+
+pub bounds-order-place_of_turn : goal.bounds-order-place_of_turn
+bounds-order-place_of_turn g c =
+    let order = c.parents_first-order.result.now in
+    subst (λ (place : ℕ). place < length order) (sym c.place_of_turn.ensures)
+    (turn_within (length order) c.args.family c.loop-turn.turn c.loop-turn-test.true)
+
+pub loop-turn-init : goal.loop-turn-init
+loop-turn-init g c = record {
+  passed = passed_first c.args.snapshot.now.release c.isa_rows.result.now c.parents_first-order.result.now
+      c.concept_count.ensures.rising c.isa_rows.ensures.within
+      c.isa_rows.ensures.rows (c.parents_first-order.ensures c.isa_rows.result.now c.isa_rows.ensures.rows c.isa_rows.ensures.within)
+      (g.S.ConceptSet.bound_of c.args.set.now) c.args.index.now c.requires.over.hierarchy_is c.requires.over.count_is c.args.family c.requires.whole
+      (g.S.ConceptSet.items_of c.args.set.now) (g.met.S.ConceptSet.rising c.args.set.now)
+      (numbers_where c.in_ok-found.found.bound (is_set c.in_ok-found.found.words.items))
+      (subst (λ (own : List ℕ). AreJoined (lists_of c.args.index.now (near_of c.args.family)) own
+      (numbers_where c.in_ok-found.found.bound (is_set c.in_ok-found.found.words.items))) c.requires.concepts
+      (subst (λ (near : Family). AreJoined (lists_of c.args.index.now near) c.args.concepts.now
+      (numbers_where c.in_ok-found.found.bound (is_set c.in_ok-found.found.words.items))) c.near-near.ensures c.in_ok-found.ensures.joined));
+  bound = c.in_ok-found.ensures.bound ∙ c.bound.ensures;
+}
+
+pub near_of_all-requires-clause-below : goal.near_of_all-requires-clause-below
+near_of_all-requires-clause-below g c =
+    let count = g.S.ConceptSet.bound_of c.args.set.now in
+    let items = g.S.ConceptSet.items_of c.args.set.now in
+    subst (λ (bound : ℕ). All (λ concept. concept < bound) c.args.concepts.now) (sym c.bound.ensures)
+    (subst (λ (concepts : List ℕ). All (λ concept. concept < count) concepts) (sym c.requires.concepts)
+    (all_below count items (g.met.S.ConceptSet.rising c.args.set.now)))
+
+pub list-requires : goal.list-requires
+list-requires g c =
+    let order = c.parents_first-order.result.now in
+    subst (λ (f : Family). get_or order c.place_of_turn.result 0 < length (lists_of c.args.index.now f)) (sym c.near-near.ensures)
+    (subst (λ (place : ℕ). get_or order place 0 < length (lists_of c.args.index.now (near_of c.args.family))) (sym c.place_of_turn.ensures)
+    (near_there c.args.snapshot.now.release c.isa_rows.result.now order c.concept_count.ensures.rising c.isa_rows.ensures.within
+    c.isa_rows.ensures.rows (c.parents_first-order.ensures c.isa_rows.result.now c.isa_rows.ensures.rows c.isa_rows.ensures.within)
+    (g.S.ConceptSet.bound_of c.args.set.now) c.args.index.now c.requires.over.hierarchy_is c.requires.over.count_is c.args.family c.requires.whole
+    (g.S.ConceptSet.items_of c.args.set.now) (g.met.S.ConceptSet.rising c.args.set.now) c.loop-turn.turn c.loop-turn-test.true))
+
+pub add_all-requires : goal.add_all-requires
+add_all-requires g c =
+    let order = c.parents_first-order.result.now in
+    let listed : c.list.result.now ≡ list_of (lists_of c.args.index.now (near_of c.args.family))
+    (get_or order (turn_of c.args.family (length order) c.loop-turn.turn) 0) =
+    c.list.ensures ∙ (λ i. list_of (lists_of c.args.index.now (c.near-near.ensures i)) (get_or order (c.place_of_turn.ensures i) 0)) in
+    subst (λ (bound : ℕ). IsRisingBelow bound c.list.result.now) (sym c.loop-turn.invariant.bound)
+    (subst (λ (list : List ℕ). IsRisingBelow (g.S.ConceptSet.bound_of c.args.set.now) list) (sym listed)
+    (near_rises c.args.snapshot.now.release c.isa_rows.result.now order c.concept_count.ensures.rising c.isa_rows.ensures.within
+    c.isa_rows.ensures.rows (c.parents_first-order.ensures c.isa_rows.result.now c.isa_rows.ensures.rows c.isa_rows.ensures.within)
+    (g.S.ConceptSet.bound_of c.args.set.now) c.args.index.now c.requires.over.hierarchy_is c.requires.over.count_is c.args.family c.requires.whole
+    (g.S.ConceptSet.items_of c.args.set.now) (g.met.S.ConceptSet.rising c.args.set.now) c.loop-turn.turn c.loop-turn-test.true))
+
+pub loop-turn-preserved : goal.loop-turn-preserved
+loop-turn-preserved g c =
+    let order = c.parents_first-order.result.now in
+    let f = c.args.family in
+    let count = g.S.ConceptSet.bound_of c.args.set.now in
+    let items = g.S.ConceptSet.items_of c.args.set.now in
+    let turn = c.loop-turn.turn in
+    let found : List ℕ = numbers_where c.loop-turn.found.bound (is_set c.loop-turn.found.words.items) in
+    let concept : ℕ = get_or order (turn_of f (length order) turn) 0 in
+    let asked : (has found concept && not (has items concept)) ≡ c.is_in_first_alone.result =
+    (λ i. has found (get_or order (sym c.place_of_turn.ensures i) 0) && not (has items (get_or order (sym c.place_of_turn.ensures i) 0)))
+    ∙ sym c.is_in_first_alone.ensures in
+    elim c.if-is_in_first_alone.branch [
+      | then-is_in_first_alone+in_ok-add_all w ↦ record {
+        passed =
+            subst (IsPassed (lists_of c.args.index.now f) (lists_of c.args.index.now (near_of f))
+            (λ turn. get_or order (turn_of f (length order) turn) 0) (turn + 1) items)
+            (sym (ap (λ (set : _). numbers_where set.bound (is_set set.words.items)) w.found-is))
+            (passed_on c.args.snapshot.now.release c.isa_rows.result.now order c.concept_count.ensures.rising c.isa_rows.ensures.within
+            c.isa_rows.ensures.rows (c.parents_first-order.ensures c.isa_rows.result.now c.isa_rows.ensures.rows c.isa_rows.ensures.within)
+            count c.args.index.now c.requires.over.hierarchy_is c.requires.over.count_is f c.requires.whole items
+            (g.met.S.ConceptSet.rising c.args.set.now) turn found
+            w.list.result.now (numbers_where w.add_all.new.self.bound (is_set w.add_all.new.self.words.items)) c.loop-turn-test.true
+            (subst (λ (bound : ℕ). IsRisingBelow bound found) c.loop-turn.invariant.bound c.loop-turn.found.rising)
+            (w.list.ensures ∙ (λ i. list_of (lists_of c.args.index.now (c.near-near.ensures i)) (get_or order (c.place_of_turn.ensures i) 0)))
+            (w.in_ok-add_all.ensures.items ∙ (λ i. all_items (c.loop-turn.invariant.bound i) found w.list.result.now))
+            (asked ∙ w.if-is_in_first_alone.true) c.loop-turn.invariant.passed);
+        bound = ap (λ (set : _). set.bound) w.found-is ∙ w.in_ok-add_all.ensures.bound ∙ c.loop-turn.invariant.bound;
+      }
+      | else-is_in_first_alone w ↦ record {
+        passed =
+            subst (IsPassed (lists_of c.args.index.now f) (lists_of c.args.index.now (near_of f))
+            (λ turn. get_or order (turn_of f (length order) turn) 0) (turn + 1) items)
+            (sym (ap (λ (set : _). numbers_where set.bound (is_set set.words.items)) w.found-is))
+            (passed_over c.args.snapshot.now.release c.isa_rows.result.now order c.concept_count.ensures.rising c.isa_rows.ensures.within
+            c.isa_rows.ensures.rows (c.parents_first-order.ensures c.isa_rows.result.now c.isa_rows.ensures.rows c.isa_rows.ensures.within)
+            count c.args.index.now c.requires.over.hierarchy_is c.requires.over.count_is f c.requires.whole items
+            (g.met.S.ConceptSet.rising c.args.set.now) turn found
+            (asked ∙ w.if-is_in_first_alone.false) c.loop-turn.invariant.passed);
+        bound = ap (λ (set : _). set.bound) w.found-is ∙ c.loop-turn.invariant.bound;
+      }
+    ]
+
+pub returns-then-closed-clause-joined : goal.returns-then-closed-clause-joined
+returns-then-closed-clause-joined g c =
+    let items = g.S.ConceptSet.items_of c.args.set.now in
+    let found : List ℕ = numbers_where c.in_ok-found.found.bound (is_set c.in_ok-found.found.words.items) in
+    all_among c.args.snapshot.now.release c.isa_rows.result.now c.parents_first-order.result.now c.concept_count.ensures.rising c.isa_rows.ensures.within
+    c.isa_rows.ensures.rows (c.parents_first-order.ensures c.isa_rows.result.now c.isa_rows.ensures.rows c.isa_rows.ensures.within)
+    (g.S.ConceptSet.bound_of c.args.set.now) c.args.index.now c.requires.over.hierarchy_is c.requires.over.count_is c.args.family c.requires.whole
+    items (g.met.S.ConceptSet.rising c.args.set.now) found
+    (subst (λ (own : List ℕ). AreJoined (lists_of c.args.index.now (near_of c.args.family)) own found) c.requires.concepts
+    (subst (λ (near : Family). AreJoined (lists_of c.args.index.now near) c.args.concepts.now found) c.near-near.ensures c.in_ok-found.ensures.joined))
+    (sym c.in_ok-closed.ensures ∙ c.if-closed.true)
+
+pub returns-clause-joined : goal.returns-clause-joined
+returns-clause-joined g c =
+    passed_all c.args.snapshot.now.release c.isa_rows.result.now c.parents_first-order.result.now c.concept_count.ensures.rising c.isa_rows.ensures.within
+    c.isa_rows.ensures.rows (c.parents_first-order.ensures c.isa_rows.result.now c.isa_rows.ensures.rows c.isa_rows.ensures.within)
+    (g.S.ConceptSet.bound_of c.args.set.now) c.args.index.now c.requires.over.hierarchy_is c.requires.over.count_is c.args.family c.requires.whole
+    (g.S.ConceptSet.items_of c.args.set.now) (g.met.S.ConceptSet.rising c.args.set.now)
+    c.loop-turn.turn (numbers_where c.loop-turn.found.bound (is_set c.loop-turn.found.words.items)) (omega arith) c.loop-turn.invariant.passed

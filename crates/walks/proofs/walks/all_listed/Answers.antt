@@ -1,0 +1,41 @@
+use Rattle.std.proofs.Common.{ℕ, List, true, ◌∙◌, [], All, ◌<◌, sym, ap, subst}
+use Rattle.number_lists.specs.Members.{has}
+use Rattle.number_lists.specs.Rising.{numbers_where}
+use Rattle.idset.specs.Words.{is_set}
+use Rattle.walks.specs.inside.Joined.{AreJoined, with_length}
+use Rattle.walks.specs.inside.Steps.{lists_of}
+use Rattle.number_lists.proofs.RisingLemmas.{all_below}
+use Rattle.walks.proofs.JoinedLemmas.{both_joined}
+use Rattle.walks.proofs.walks.all_listed.Goals as goal
+
+pub returns-clause-joined : goal.returns-clause-joined
+returns-clause-joined g c =
+    let lists = lists_of c.args.index.now c.args.family in
+    let concepts = c.args.concepts.now in
+    let found = c.add_lists-2.new.found in
+    let items : List ℕ = numbers_where found.bound (is_set found.words.items) in
+    let first = c.in_ok-found.found in
+    let none : AreJoined lists [] (numbers_where first.bound (is_set first.words.items)) =
+    λ n. ap (λ (xs : List ℕ). has xs n) c.in_ok-found.ensures.items in
+    subst (λ (own : List ℕ). AreJoined lists own items) c.requires.concepts
+    (both_joined lists concepts items
+    (c.in_ok-short.ensures.joined c.if-not-short.false (with_length lists true concepts) (c.in_ok-long.ensures.joined c.if-not-long.false [] none)))
+
+pub add_lists-requires-clause-below : goal.add_lists-requires-clause-below
+add_lists-requires-clause-below g c =
+    subst (λ (count : ℕ). All (λ concept. concept < count) c.args.concepts.now) (sym (c.in_ok-found.ensures.bound ∙ c.bound-2.ensures))
+    (subst (All (λ concept. concept < g.S.ConceptSet.bound_of c.args.operand.now)) (sym c.requires.concepts)
+    (all_below (g.S.ConceptSet.bound_of c.args.operand.now) (g.S.ConceptSet.items_of c.args.operand.now) (g.met.S.ConceptSet.rising c.args.operand.now)))
+
+pub add_lists-requires-2-clause-below : goal.add_lists-requires-2-clause-below
+add_lists-requires-2-clause-below g c =
+    subst (λ (count : ℕ). All (λ concept. concept < count) c.args.concepts.now)
+    (sym (c.add_lists.ensures.bound ∙ c.in_ok-found.ensures.bound ∙ c.bound-2.ensures))
+    (subst (All (λ concept. concept < g.S.ConceptSet.bound_of c.args.operand.now)) (sym c.requires.concepts)
+    (all_below (g.S.ConceptSet.bound_of c.args.operand.now) (g.S.ConceptSet.items_of c.args.operand.now) (g.met.S.ConceptSet.rising c.args.operand.now)))
+
+pub has_more_items-requires-clause-below : goal.has_more_items-requires-clause-below
+has_more_items-requires-clause-below g c =
+    subst (λ (count : ℕ). All (λ concept. concept < count) c.args.concepts.now) (sym c.bound.ensures)
+    (subst (All (λ concept. concept < g.S.ConceptSet.bound_of c.args.operand.now)) (sym c.requires.concepts)
+    (all_below (g.S.ConceptSet.bound_of c.args.operand.now) (g.S.ConceptSet.items_of c.args.operand.now) (g.met.S.ConceptSet.rising c.args.operand.now)))

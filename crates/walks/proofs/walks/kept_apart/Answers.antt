@@ -1,0 +1,46 @@
+use Rattle.std.proofs.Common.{ℕ, List, Bool, not, ◌&&◌, ◌<◌, ◌∙◌, sym, ap, subst}
+use Rattle.std.specs.Prelude.{All, filter, slice_index_or}
+use Rattle.std.specs.List.{list_any}
+use Rattle.std.proofs.lemmas.Result.{IfOk-weaker}
+use Rattle.std.proofs.lemmas.List.Elements.{All-filter}
+use Rattle.number_lists.specs.KeyedLists.{list_of}
+use Rattle.number_lists.specs.Members.{has}
+use Rattle.number_lists.proofs.BlockLemmas.{filter-twice, filter-within}
+use Rattle.walks.specs.inside.Joined.{near_of}
+use Rattle.walks.specs.Led.{IsOver}
+use Rattle.walks.specs.inside.Steps.{lists_of}
+use Rattle.walks.specs.declared.family.Family.{Family}
+use Rattle.walks.proofs.LedLemmas.{apart_near}
+use Rattle.walks.proofs.walks.kept_apart.Goals as goal
+
+-- those that are left are some of the concepts
+pub kept_in_room-requires-clause-below : goal.kept_in_room-requires-clause-below
+kept_in_room-requires-clause-below g c =
+    let set = has (g.S.ConceptSet.items_of c.args.set.now) in
+    subst (λ (concepts : List ℕ). All (λ concept. concept < g.S.ConceptSet.bound_of c.args.set.now) concepts)
+    (sym (c.as_slice.ensures.value ∙ c.in_ok-left.ensures))
+    (All-filter (λ concept. not (list_any set (list_of (lists_of c.args.index.now c.near.result) concept)))
+    (λ concept. concept < g.S.ConceptSet.bound_of c.args.set.now) c.args.concepts.now c.requires.below)
+
+pub returns : goal.returns
+returns g c =
+    let count = g.S.ConceptSet.bound_of c.args.set.now in
+    let items = g.S.ConceptSet.items_of c.args.set.now in
+    let over : IsOver count c.args.index.now = record {
+      release = c.args.snapshot.now.release;
+      hierarchy_is = c.requires.over.hierarchy_is;
+      count_is = c.requires.over.count_is;
+    } in
+    let none : Family → ℕ → Bool = λ family concept. not (list_any (has items) (list_of (lists_of c.args.index.now family) concept)) in
+    let near = none (near_of c.args.family) in
+    let far = none c.args.family in
+    IfOk-weaker c.kept_in_room.result _ _
+    (λ kept same.
+    same
+    ∙ ap (filter far) (c.as_slice.ensures.value ∙ c.in_ok-left.ensures ∙ (λ i. filter (none (c.near.ensures i)) c.args.concepts.now))
+    ∙ filter-twice far near c.args.concepts.now
+    ∙ filter-within (λ concept. near concept && far concept) far c.args.concepts.now
+    (λ k d inside.
+    apart_near count c.args.index.now over items (g.met.S.ConceptSet.rising c.args.set.now) c.args.family
+    (slice_index_or c.args.concepts.now k d) (c.requires.below k d inside)))
+    c.kept_in_room.ensures

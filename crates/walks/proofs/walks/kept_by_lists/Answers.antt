@@ -1,0 +1,43 @@
+use Rattle.std.proofs.Common.{ℕ, List, Vec, Bool, ◌≡◌, ◌<◌, not, true, false, get_or, ◌∙◌, sym, ap, append-nil, arith}
+use Rattle.std.specs.Prelude.{filter}
+use Rattle.std.specs.List.{list_any}
+use Rattle.std.proofs.lemmas.List.{take_all}
+use Rattle.number_lists.specs.KeyedLists.{list_of}
+use Rattle.number_lists.specs.Members.{has}
+use Rattle.idset.proofs.Places.{filter_step}
+use Rattle.walks.specs.inside.Steps.{lists_of}
+use Rattle.walks.proofs.JoinedLemmas.{over_length}
+use Rattle.walks.proofs.walks.kept_by_lists.Goals as goal
+use Rattle.walks.proofs.walks.kept_by_lists.Goals.{then-not-meets+in_ok-push, else-not-meets}
+
+pub list-requires : goal.list-requires
+list-requires g c =
+    let below : get_or c.args.concepts.now c.loop-concept.concept-index 0 < g.S.ConceptSet.bound_of c.args.set.now =
+    c.requires.below c.loop-concept.concept-index 0 c.loop-concept-test.true in
+    omega (arith, below, over_length (g.S.ConceptSet.bound_of c.args.set.now) c.args.index.now c.requires.over c.args.family)
+
+pub loop-concept-preserved : goal.loop-concept-preserved
+loop-concept-preserved g c =
+    let none : List ℕ → Bool = λ list. not (list_any (has (g.S.ConceptSet.items_of c.args.set.now)) list) in
+    let lists = lists_of c.args.index.now c.args.family in
+    let test : ℕ → Bool = λ concept. none (list_of lists concept) in
+    let k = c.loop-concept.concept-index in
+    let asked : not c.meets.result ≡ test (get_or c.args.concepts.now k 0) =
+    ap not c.meets.ensures ∙ ap none c.list.ensures in
+    elim c.if-not-meets.branch [
+      | then-not-meets+in_ok-push w ↦
+          filter_step test c.args.concepts.now c.loop-concept.kept.items c.if-not-meets.kept.items k true
+          c.loop-concept-test.true c.loop-concept.invariant (sym (ap not w.if-not-meets.true) ∙ asked)
+          (ap (λ (kept : Vec ℕ _). kept.items) w.kept-is ∙ w.in_ok-push.ensures.items)
+      | else-not-meets w ↦
+          filter_step test c.args.concepts.now c.loop-concept.kept.items c.if-not-meets.kept.items k false
+          c.loop-concept-test.true c.loop-concept.invariant (sym (ap not w.if-not-meets.false) ∙ asked)
+          (ap (λ (kept : Vec ℕ _). kept.items) w.kept-is ∙ sym (append-nil c.loop-concept.kept.items))
+    ]
+
+pub returns : goal.returns
+returns g c =
+    let test : ℕ → Bool = λ concept. not (list_any (has (g.S.ConceptSet.items_of c.args.set.now))
+    (list_of (lists_of c.args.index.now c.args.family) concept)) in
+    c.loop-concept.invariant
+    ∙ ap (filter test) (take_all c.loop-concept.concept-index c.args.concepts.now (omega arith))

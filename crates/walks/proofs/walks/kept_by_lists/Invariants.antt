@@ -1,0 +1,12 @@
+use Rattle.std.proofs.Common.{◌≡◌, not, take}
+use Rattle.std.specs.Prelude.{filter}
+use Rattle.std.specs.List.{list_any}
+use Rattle.number_lists.specs.Members.{has}
+use Rattle.number_lists.specs.KeyedLists.{list_of}
+use Rattle.walks.specs.inside.Steps.{lists_of}
+use Rattle.walks.proofs.walks.kept_by_lists.Given as goal
+
+abbrev pub invariant-loop-concept : goal.invariant-loop-concept
+invariant-loop-concept g l =
+    l.kept.items ≡ filter (λ concept. not (list_any (has (g.S.ConceptSet.items_of l.set))
+    (list_of (lists_of l.index l.family) concept))) (take l.concept-index l.concepts)

@@ -1,0 +1,41 @@
+use Rattle.std.proofs.Common.{ℕ, List, not, ◌∙◌, ap, subst}
+use Rattle.std.specs.Prelude.{slice_index_or}
+use Rattle.std.specs.List.{list_any}
+use Rattle.std.proofs.lemmas.Result.{IfOk-weaker}
+use Rattle.number_lists.specs.KeyedLists.{list_of}
+use Rattle.number_lists.specs.Members.{has}
+use Rattle.number_lists.specs.Rising.{numbers_where}
+use Rattle.idset.specs.Words.{is_set}
+use Rattle.number_lists.proofs.BlockLemmas.{filter-within}
+use Rattle.walks.specs.inside.Joined.{AreJoined, back_of, is_whole}
+use Rattle.walks.specs.Led.{IsOver}
+use Rattle.walks.specs.inside.Steps.{lists_of}
+use Rattle.walks.specs.declared.family.Family.{Family}
+use Rattle.walks.proofs.LedLemmas.{asked_outside, back_is_whole}
+use Rattle.walks.proofs.walks.kept_in_room.Goals as goal
+
+pub reached-requires-clause-whole : goal.reached-requires-clause-whole
+reached-requires-clause-whole g c = ap is_whole c.back.ensures ∙ back_is_whole c.args.family c.requires.whole
+
+-- a concept has none of the set in its list where it is none of those that the set leads back to
+pub returns-then-items_of_lists-room : goal.returns-then-items_of_lists-room
+returns-then-items_of_lists-room g c =
+    let count = g.S.ConceptSet.bound_of c.args.set.now in
+    let items = g.S.ConceptSet.items_of c.args.set.now in
+    let over : IsOver count c.args.index.now = record {
+      release = c.args.snapshot.now.release;
+      hierarchy_is = c.requires.over.hierarchy_is;
+      count_is = c.requires.over.count_is;
+    } in
+    let found : List ℕ = numbers_where c.in_ok-found.found.bound (is_set c.in_ok-found.found.words.items) in
+    let joined : AreJoined (lists_of c.args.index.now (back_of c.args.family)) items found =
+    subst (λ (family : Family). AreJoined (lists_of c.args.index.now family) items found) c.back.ensures c.in_ok-found.ensures.joined in
+    IfOk-weaker c.kept_outside.result _ _
+    (λ kept same.
+    same
+    ∙ filter-within (λ concept. not (has found concept))
+    (λ concept. not (list_any (has items) (list_of (lists_of c.args.index.now c.args.family) concept))) c.args.concepts.now
+    (λ k d inside.
+    asked_outside count c.args.index.now over items (g.met.S.ConceptSet.rising c.args.set.now) c.args.family
+    (slice_index_or c.args.concepts.now k d) (c.requires.below k d inside) found joined))
+    c.kept_outside.ensures

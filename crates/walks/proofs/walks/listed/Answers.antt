@@ -1,0 +1,24 @@
+use Rattle.std.proofs.Common.{ℕ, List, ◌≡◌, ◌<◌, ◌≤◌, ◌∷◌, [], ◌∙◌, length, get_or, refl, sym, arith}
+use Rattle.std.proofs.lemmas.Result.{IfOk-weaker}
+use Rattle.walks.specs.Led.{joined}
+use Rattle.walks.specs.inside.Steps.{lists_of}
+use Rattle.walks.proofs.MemberLemmas.{numbers_below}
+use Rattle.walks.proofs.walks.listed.Goals as goal
+
+-- a list of one item
+only_item : (items : List ℕ) → 1 ≤ length items → length items < 2 → get_or items 0 0 ∷ [] ≡ items
+only_item [] some few = absurd (omega arith)
+only_item (item ∷ []) some few = refl
+only_item (item ∷ (other ∷ items)) some few = absurd (omega arith)
+
+pub list_of_one-requires-clause-below : goal.list_of_one-requires-clause-below
+list_of_one-requires-clause-below g c =
+    numbers_below (g.met.S.ConceptSet.rising c.args.operand.now) (sym c.bound.ensures) c.requires.concepts
+    0 0 (omega arith)
+
+pub returns-in-len1-clause-items : goal.returns-in-len1-clause-items
+returns-in-len1-clause-items g c =
+    let only = only_item c.args.concepts.now c.in-len1.len_at_least c.in-len1.len_below ∙ c.requires.concepts in
+    IfOk-weaker c.list_of_one.result _ _
+    (λ found same. same ∙ (λ i. joined (c.bound.ensures i) (lists_of c.args.index.now c.args.family) (only i)))
+    c.list_of_one.ensures.items

@@ -1,0 +1,23 @@
+use Rattle.std.proofs.Common.{ℕ, List, ◌∙◌, refl, sym, subst}
+use Rattle.number_lists.specs.Rising.{IsRisingBelow}
+use Rattle.idset.specs.Sets.{all_items}
+use Rattle.idset.proofs.Normal.{all_items-swap}
+use Rattle.walks.specs.Led.{joined}
+use Rattle.walks.specs.inside.Steps.{lists_of}
+use Rattle.walks.proofs.walks.listed_or_self.Goals as goal
+
+pub add_all-requires : goal.add_all-requires
+add_all-requires g c =
+    subst (λ (bound : ℕ). IsRisingBelow bound c.args.concepts.now) (sym c.in_ok-found.ensures.bound)
+    (subst (λ (items : List ℕ). IsRisingBelow (g.S.ConceptSet.bound_of c.args.operand.now) items) (sym c.requires.concepts)
+    (g.met.S.ConceptSet.rising c.args.operand.now))
+
+-- the order of the two does not matter
+pub returns-clause-items : goal.returns-clause-items
+returns-clause-items g c =
+    let bound = g.S.ConceptSet.bound_of c.args.operand.now in
+    let items = g.S.ConceptSet.items_of c.args.operand.now in
+    let others : List ℕ = joined bound (lists_of c.args.index.now c.args.family) items in
+    c.in_ok-add_all.ensures.items
+    ∙ (λ i. all_items (c.in_ok-found.ensures.bound i) (c.in_ok-found.ensures.items i) (c.requires.concepts i))
+    ∙ all_items-swap bound bound items others refl

@@ -1,0 +1,4 @@
+pub mod Asked
+pub mod Components
+pub mod inside
+pub mod Led

@@ -1,0 +1,4 @@
+-- Definitions that private functions alone need: no contract of a public call names one.
+pub mod Components
+pub mod Joined
+pub mod Steps

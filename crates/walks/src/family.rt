@@ -1,0 +1,166 @@
+//! The four families of lists of a hierarchy.
+ghost use Rattle.std.specs.Prelude.{◌≡◌, ◌↔◌, ◌<◌, IfSome, IsSome, length};
+ghost use Rattle.number_lists.specs.Members.{has};
+ghost use Rattle.idset.specs.Words.{MarkedBelow};
+ghost use Rattle.number_lists.specs.KeyedLists.{list_of};
+ghost use Rattle.walks.specs.inside.Joined.{back_of, is_whole as is_whole_of, near_of, turn_of};
+ghost use Rattle.walks.specs.inside.Steps.{HasWords, IsStepFor, asked_of, lists_of};
+
+use ancestor_index::AncestorIndex;
+use constraint_tree::Operator;
+use pair_sets::ListExtent;
+
+/// A family of lists, one for each concept.
+#[derive(Clone, Copy)]
+pub enum Family {
+    /// The concepts that a concept reaches.
+    Ancestors,
+    /// The concepts that reach a concept.
+    Descendants,
+    /// The concepts that an is-a row of a concept leads to.
+    Parents,
+    /// The concepts from which an is-a row leads to a concept.
+    Children,
+}
+
+impl Family {
+    /// Whether the list of a concept has in it the lists of all concepts that it has.
+    pub fn is_whole(self) -> bool
+        ensures { result ≡ is_whole_of self }
+    {
+        match self {
+            Family::Ancestors | Family::Descendants => true,
+            Family::Parents | Family::Children => false,
+        }
+    }
+
+    /// The family that is one is-a row away: a list of it has nothing that the list of this one has not.
+    pub fn near(self) -> Family
+        ensures { result ≡ near_of self }
+    {
+        match self {
+            Family::Ancestors | Family::Parents => Family::Parents,
+            Family::Descendants | Family::Children => Family::Children,
+        }
+    }
+
+    /// The family whose lists lead back.
+    pub fn back(self) -> Family
+        ensures { result ≡ back_of self }
+    {
+        match self {
+            Family::Ancestors => Family::Descendants,
+            Family::Descendants => Family::Ancestors,
+            Family::Parents => Family::Children,
+            Family::Children => Family::Parents,
+        }
+    }
+
+    /// The place in an order, parents before their children, of the concept of a turn. There are so many turns, and
+    /// each concept has its own before those of the near family's list of it.
+    pub fn place_of_turn(self, turn: usize, turns: usize) -> usize
+        requires { turn < turns }
+        ensures { result ≡ turn_of self turns turn }
+    {
+        match self {
+            Family::Ancestors | Family::Parents => turns - 1 - turn,
+            Family::Descendants | Family::Children => turn,
+        }
+    }
+
+    /// The list of a concept.
+    pub fn list(self, index: &AncestorIndex, concept: u32) -> &[u32]
+        requires { concept < length (lists_of index.now self) }
+        ensures { result.now ≡ list_of (lists_of index.now self) concept }
+    {
+        match self {
+            Family::Ancestors => index.ancestors(concept),
+            Family::Descendants => index.descendants(concept),
+            Family::Parents => index.parents(concept),
+            Family::Children => index.children(concept),
+        }
+    }
+
+    /// The list of a concept as words of bits, if the index has them.
+    pub fn words(self, index: &AncestorIndex, concept: u32) -> Option<&[u64]>
+        requires { concept < length (lists_of index.now self) }
+        ensures some { IfSome result (λ words. MarkedBelow (length (lists_of index.now self)) words.now (has (list_of (lists_of index.now self) concept))) }
+        ensures wide { IsSome result ↔ HasWords index.now self concept }
+    {
+        match self {
+            Family::Descendants => index.descendant_words(concept),
+            Family::Ancestors | Family::Parents | Family::Children => None,
+        }
+    }
+
+    /// How many items the lists of this family have, of concepts of which that is known.
+    pub fn items_of(self, lists: ListExtent) -> u64 {
+        match self {
+            Family::Ancestors => lists.ancestors,
+            Family::Descendants => lists.descendants,
+            Family::Parents => lists.parents,
+            Family::Children => lists.children,
+        }
+    }
+}
+
+/// Which concepts a step from some concepts leads to, by a list of each.
+#[derive(Clone, Copy)]
+pub enum Reach {
+    /// Those in one of the lists.
+    Listed,
+    /// Those in one of the lists, and the concepts themselves.
+    ListedOrSelf,
+    /// Those of the concepts whose own list has none of them.
+    Apart,
+}
+
+/// A step from some concepts: along which lists, and which concepts it leads to.
+#[derive(Clone, Copy)]
+pub struct Step {
+    /// The family of the lists.
+    pub family: Family,
+    /// Which concepts it leads to.
+    pub reach: Reach,
+}
+
+impl Step {
+    /// The step of an operator (Expression Constraint Language, "Simple Expression Constraints").
+    pub fn of(operator: Operator) -> Step
+        ensures { IsStepFor operator result }
+    {
+        let (family, reach) = match operator {
+            Operator::Descendants => (Family::Descendants, Reach::Listed),
+            Operator::DescendantsOrSelf => (Family::Descendants, Reach::ListedOrSelf),
+            Operator::Children => (Family::Children, Reach::Listed),
+            Operator::ChildrenOrSelf => (Family::Children, Reach::ListedOrSelf),
+            Operator::Ancestors => (Family::Ancestors, Reach::Listed),
+            Operator::AncestorsOrSelf => (Family::Ancestors, Reach::ListedOrSelf),
+            Operator::Parents => (Family::Parents, Reach::Listed),
+            Operator::ParentsOrSelf => (Family::Parents, Reach::ListedOrSelf),
+            Operator::Top => (Family::Ancestors, Reach::Apart),
+            Operator::Bottom => (Family::Descendants, Reach::Apart),
+        };
+        Step { family, reach }
+    }
+
+    /// The family of the lists by which a concept is asked whether it leads there.
+    pub fn asked(self) -> Family
+        ensures { result ≡ asked_of self }
+    {
+        match self.reach {
+            Reach::Listed | Reach::ListedOrSelf => self.family.back(),
+            Reach::Apart => self.family,
+        }
+    }
+
+    /// Whether it leads to some of the concepts alone.
+    pub fn is_apart(self) -> bool {
+        matches!(self.reach, Reach::Apart)
+    }
+}
+
+/// Whether an operator leads to none but the concepts themselves: to those that have no other of them above (`!!>`), or below (`!!<`).
+pub fn keeps_apart(operator: Operator) -> bool {
+    Step::of(operator).is_apart()
+}

@@ -1,0 +1,17 @@
+//! The concepts that an operator leads to, and the components of reference sets.
+//!
+//! Both are found as sets of numbers, of some candidates alone, in the way that reads the fewest items; how many it reads is
+//! known before. Where an operator leads is read from the lists of each concept, or by one pass over the is-a rows.
+#![tactic(auto)]
+
+mod family;
+mod led;
+mod reached;
+mod reference_sets;
+mod walk_ways;
+mod walks;
+
+pub use crate::family::keeps_apart;
+pub use crate::led::{enough_for, led_among, walk_within};
+pub use crate::reference_sets::{MembersWay, members_way, members_within};
+pub use crate::walk_ways::{WalkWay, items_enough, items_from_all, items_unlisted, walk_way};

@@ -1,0 +1,419 @@
+//! Where an operator leads from a set.
+ghost use Rattle.std.specs.Prelude.{ℕ, ◌≡◌, ◌<◌, ◌++◌, ◌∷◌, [], false, not, true, List, All, IfOk, OnOk, filter};
+ghost use Rattle.std.specs.List.{list_any};
+ghost use Rattle.idset.specs.Sets.{all_items};
+ghost use Rattle.number_lists.specs.Members.{has};
+ghost use Rattle.number_lists.specs.KeyedLists.{list_of};
+ghost use Rattle.walks.specs.inside.Joined.{AreJoined, is_long as is_long_of, is_whole as is_whole_of, with_length};
+ghost use Rattle.walks.specs.Led.{apart as apart_of, IsOf, IsOver, joined};
+ghost use Rattle.walks.specs.inside.Steps.{lists_of, stepped};
+
+use crate::family::{Family, Reach, Step};
+use crate::reached::reached;
+use ancestor_index::AncestorIndex;
+use idset::{ConceptSet, WordSet};
+use pair_sets::RowTally;
+use snapshot::Snapshot;
+use std::alloc::{AllocError, Global};
+
+// A list of so many items is joined before the shorter ones: what it has need not be looked at again.
+const LONG: usize = 64;
+
+// To go to one is-a row after the other in the order of the hierarchy takes about as long as to read so many items of lists.
+const PASS: u64 = 8;
+
+/// The concepts that a step leads to from those of a set. The set is given as a list too, since it is read once. The rows are counted
+/// of what is found from one concept, if that is asked for. Which lists are looked at first, where the set is looked for in them, is
+/// as `WalkWay` says.
+pub fn walk<S: ConceptSet>(
+    alloc: Global,
+    snapshot: &Snapshot,
+    index: &AncestorIndex,
+    step: Step,
+    operand: &S,
+    concepts: &[u32],
+    near_first: Option<u64>,
+    tally: &mut RowTally<'_>,
+) -> Result<S, AllocError>
+    requires over { IsOf snapshot.now.release (S.bound_of operand.now) index.now }
+    requires whole { step.reach ≡ Reach.Apart → is_whole_of step.family ≡ true }
+    requires concepts { concepts.now ≡ S.items_of operand.now }
+    ensures items { IfOk result (λ found. S.items_of found ≡ stepped (lists_of index.now step.family) (S.bound_of operand.now) step.reach (S.items_of operand.now)) }
+    ensures bound { IfOk result (λ found. S.bound_of found ≡ S.bound_of operand.now) }
+{
+    let family = step.family;
+    match step.reach {
+        Reach::Listed => listed(alloc, snapshot, index, family, operand, concepts, tally),
+        Reach::ListedOrSelf => {
+            listed_or_self(alloc, snapshot, index, family, operand, concepts, tally)
+        }
+        Reach::Apart => apart(
+            alloc, snapshot, index, family, operand, concepts, near_first,
+        ),
+    }
+}
+
+// The concepts in the list of one of a set.
+fn listed<S: ConceptSet>(
+    alloc: Global,
+    snapshot: &Snapshot,
+    index: &AncestorIndex,
+    family: Family,
+    operand: &S,
+    concepts: &[u32],
+    tally: &mut RowTally<'_>,
+) -> Result<S, AllocError>
+    requires over { IsOf snapshot.now.release (S.bound_of operand.now) index.now }
+    requires concepts { concepts.now ≡ S.items_of operand.now }
+    ensures items { IfOk result (λ found. S.items_of found ≡ joined (S.bound_of operand.now) (lists_of index.now family) (S.items_of operand.now)) }
+    ensures bound { IfOk result (λ found. S.bound_of found ≡ S.bound_of operand.now) }
+{
+    match concepts {
+        [concept] => list_of_one(alloc, index, family, *concept, operand.bound(), tally),
+        concepts => union(alloc, snapshot, index, family, concepts, operand),
+    }
+}
+
+// The same, and the concepts of the set.
+fn listed_or_self<S: ConceptSet>(
+    alloc: Global,
+    snapshot: &Snapshot,
+    index: &AncestorIndex,
+    family: Family,
+    operand: &S,
+    concepts: &[u32],
+    tally: &mut RowTally<'_>,
+) -> Result<S, AllocError>
+    requires over { IsOf snapshot.now.release (S.bound_of operand.now) index.now }
+    requires concepts { concepts.now ≡ S.items_of operand.now }
+    ensures items { IfOk result (λ found. S.items_of found ≡ all_items (S.bound_of operand.now) (S.items_of operand.now) (joined (S.bound_of operand.now) (lists_of index.now family) (S.items_of operand.now))) }
+    ensures bound { IfOk result (λ found. S.bound_of found ≡ S.bound_of operand.now) }
+{
+    let mut found: S = listed(alloc, snapshot, index, family, operand, concepts, tally)?;
+    tally.add(concepts);
+    found.add_all(alloc, concepts)?;
+    Ok(found)
+}
+
+// The concepts in the list of one concept.
+fn list_of_one<S: ConceptSet>(
+    alloc: Global,
+    index: &AncestorIndex,
+    family: Family,
+    concept: u32,
+    count: u32,
+    tally: &mut RowTally<'_>,
+) -> Result<S, AllocError>
+    requires over { IsOver count index.now }
+    requires below { concept < count }
+    ensures items { IfOk result (λ found. S.items_of found ≡ joined count (lists_of index.now family) (concept ∷ [])) }
+    ensures bound { IfOk result (λ found. S.bound_of found ≡ count) }
+{
+    let list = family.list(index, concept);
+    if tally.asks_for(list.len()) {
+        let own = tally.read(alloc, list)?;
+        return S::from_items(alloc, own.as_slice(), count);
+    }
+    tally.forget();
+    match family.words(index, concept) {
+        Some(words) => S::from_words(alloc, words, count),
+        None => S::from_items(alloc, list, count),
+    }
+}
+
+// The concepts in the lists of those of a set.
+fn union<S: ConceptSet>(
+    alloc: Global,
+    snapshot: &Snapshot,
+    index: &AncestorIndex,
+    family: Family,
+    concepts: &[u32],
+    operand: &S,
+) -> Result<S, AllocError>
+    requires over { IsOf snapshot.now.release (S.bound_of operand.now) index.now }
+    requires concepts { concepts.now ≡ S.items_of operand.now }
+    ensures items { IfOk result (λ found. S.items_of found ≡ joined (S.bound_of operand.now) (lists_of index.now family) (S.items_of operand.now)) }
+    ensures bound { IfOk result (λ found. S.bound_of found ≡ S.bound_of operand.now) }
+{
+    let found = all_listed(alloc, snapshot, index, family, concepts, operand)?;
+    S::from_words(alloc, found.words(), operand.bound())
+}
+
+// The same as words. Where the lists have too many items, one pass over the is-a rows is the shorter way.
+fn all_listed<S: ConceptSet>(
+    alloc: Global,
+    snapshot: &Snapshot,
+    index: &AncestorIndex,
+    family: Family,
+    concepts: &[u32],
+    operand: &S,
+) -> Result<WordSet, AllocError>
+    requires over { IsOf snapshot.now.release (S.bound_of operand.now) index.now }
+    requires concepts { concepts.now ≡ S.items_of operand.now }
+    ensures joined { IfOk result (λ found. AreJoined (lists_of index.now family) (S.items_of operand.now) (⟦<WordSet as ConceptSet>⟧.items_of found)) }
+    ensures bound { IfOk result (λ found. ⟦<WordSet as ConceptSet>⟧.bound_of found ≡ S.bound_of operand.now) }
+{
+    let mut left = most_items(index);
+    if family.is_whole() && has_more_items(index, family, concepts, operand.bound(), left) {
+        return reached(alloc, snapshot, index, family, operand, concepts);
+    }
+    let mut found = WordSet::from_items(alloc, &[], operand.bound())?;
+    let long = add_lists(alloc, index, family, concepts, true, &mut left, &mut found)?;
+    if !long {
+        return reached(alloc, snapshot, index, family, operand, concepts);
+    }
+    let short = add_lists(alloc, index, family, concepts, false, &mut left, &mut found)?;
+    if !short {
+        return reached(alloc, snapshot, index, family, operand, concepts);
+    }
+    Ok(found)
+}
+
+/// How many items of lists are read at the most before the lists are left for a pass over the is-a rows. With those of the
+/// pass they are no more than all lists have.
+pub fn most_items(index: &AncestorIndex) -> u64 {
+    let links = index.link_count() as u64;
+    let pairs = index.ancestor_count() as u64;
+    links.saturating_mul(PASS).min(pairs.saturating_sub(links))
+}
+
+// Whether the lists of some concepts have more items than so many, so that not all are read. Of descendants this shows as they
+// are read: most often one list has the others in it.
+fn has_more_items(
+    index: &AncestorIndex,
+    family: Family,
+    concepts: &[u32],
+    count: u32,
+    most: u64,
+) -> bool
+    requires over { IsOver count index.now }
+    requires below { All (λ concept. concept < count) concepts.now }
+{
+    matches!(family, Family::Ancestors)
+        && items_of_lists(index, family, concepts, count, most) > most
+}
+
+/// How many items the lists of some concepts have, if these are no more than so many; else a number above that.
+pub fn items_of_lists(
+    index: &AncestorIndex,
+    family: Family,
+    concepts: &[u32],
+    count: u32,
+    most: u64,
+) -> u64
+    requires over { IsOver count index.now }
+    requires below { All (λ concept. concept < count) concepts.now }
+{
+    let mut items = 0u64;
+    for concept in concepts {
+        items = items.saturating_add(family.list(index, *concept).len() as u64);
+        if items > most {
+            return items;
+        }
+    }
+    items
+}
+
+// Adds to a set the lists of those concepts whose lists are long, or are not. Tells whether it has added all: of lists that
+// hold those of their own concepts no more items are read than are left of some.
+fn add_lists<S: ConceptSet>(
+    alloc: Global,
+    index: &AncestorIndex,
+    family: Family,
+    concepts: &[u32],
+    long: bool,
+    left: &mut u64,
+    found: &mut S,
+) -> Result<bool, AllocError>
+    requires over { IsOver (S.bound_of found.old) index.now }
+    requires below { All (λ concept. concept < S.bound_of found.old) concepts.now }
+    ensures joined { IfOk result (λ all. all ≡ true → (before : List ℕ) → AreJoined (lists_of index.now family) before (S.items_of found.old)
+        → AreJoined (lists_of index.now family) (before ++ with_length (lists_of index.now family) long concepts.now) (S.items_of found.new)) }
+    ensures whole { IfOk result (λ all. all ≡ false → is_whole_of family ≡ true) }
+    ensures bound { S.bound_of found.new ≡ S.bound_of found.old }
+{
+    for concept in concepts {
+        let list = family.list(index, *concept);
+        if is_long(list) == long {
+            let is_there = found.has(*concept);
+            if !may_be_read(family, list.len() as u64, is_there, left) {
+                return Ok(false);
+            }
+            add_list(alloc, index, family, *concept, found)?;
+        }
+    }
+    Ok(true)
+}
+
+// Whether a list of so many items may still be read, which are taken from what is left. All lists may that hold no lists of
+// their own concepts, since these have no more items together than there are is-a rows, and those that are there already.
+fn may_be_read(family: Family, items: u64, is_there: bool, left: &mut u64) -> bool
+    ensures { result ≡ false → is_whole_of family ≡ true }
+{
+    if is_there || !family.is_whole() {
+        return true;
+    }
+    let is_left = items <= *left;
+    *left = left.saturating_sub(items);
+    is_left
+}
+
+// Adds the list of a concept to a set, unless the set has the concept, and with it its list.
+fn add_list<S: ConceptSet>(
+    alloc: Global,
+    index: &AncestorIndex,
+    family: Family,
+    concept: u32,
+    found: &mut S,
+) -> Result<(), AllocError>
+    requires over { IsOver (S.bound_of found.old) index.now }
+    requires below { concept < S.bound_of found.old }
+    ensures joined { OnOk result ((before : List ℕ) → AreJoined (lists_of index.now family) before (S.items_of found.old)
+        → AreJoined (lists_of index.now family) (before ++ concept ∷ []) (S.items_of found.new)) }
+    ensures bound { S.bound_of found.new ≡ S.bound_of found.old }
+{
+    if family.is_whole() && found.has(concept) {
+        return Ok(());
+    }
+    match family.words(index, concept) {
+        Some(words) => {
+            let wide = S::from_words(alloc, words, found.bound())?;
+            let both = found.or(alloc, &wide)?;
+            *found = both;
+            Ok(())
+        }
+        None => found.add_all(alloc, family.list(index, concept)),
+    }
+}
+
+// Whether a list is joined before the short ones.
+fn is_long(list: &[u32]) -> bool
+    ensures { result ≡ is_long_of list.now }
+{
+    list.len() >= LONG
+}
+
+// The concepts of a set none of which is in their list.
+fn apart<S: ConceptSet>(
+    alloc: Global,
+    snapshot: &Snapshot,
+    index: &AncestorIndex,
+    family: Family,
+    operand: &S,
+    concepts: &[u32],
+    near_first: Option<u64>,
+) -> Result<S, AllocError>
+    requires over { IsOf snapshot.now.release (S.bound_of operand.now) index.now }
+    requires whole { is_whole_of family ≡ true }
+    requires concepts { concepts.now ≡ S.items_of operand.now }
+    ensures items { IfOk result (λ found. S.items_of found ≡ apart_of (lists_of index.now family) (S.items_of operand.now)) }
+    ensures bound { IfOk result (λ found. S.bound_of found ≡ S.bound_of operand.now) }
+{
+    let kept = kept_apart(
+        alloc, snapshot, index, family, concepts, operand, near_first,
+    )?;
+    S::from_items(alloc, kept.as_slice(), operand.bound())
+}
+
+// Those of the concepts of a set whose list has none of it. Where that is asked for, the concepts one is-a row away are looked at
+// first: most often one of them is in the set, and the whole list lies far off in memory.
+fn kept_apart<S: ConceptSet>(
+    alloc: Global,
+    snapshot: &Snapshot,
+    index: &AncestorIndex,
+    family: Family,
+    concepts: &[u32],
+    set: &S,
+    near_first: Option<u64>,
+) -> Result<Vec<u32>, AllocError>
+    requires over { IsOf snapshot.now.release (S.bound_of set.now) index.now }
+    requires whole { is_whole_of family ≡ true }
+    requires concepts { concepts.now ≡ S.items_of set.now }
+    requires below { All (λ concept. concept < S.bound_of set.now) concepts.now }
+    ensures { IfOk result (λ kept. kept.items ≡ filter (λ concept. not (list_any (has (S.items_of set.now)) (list_of (lists_of index.now family) concept))) concepts.now) }
+{
+    let Some(room) = near_first else {
+        return kept_by_lists(alloc, index, family, concepts, set);
+    };
+    let left = kept_by_lists(alloc, index, family.near(), concepts, set)?;
+    kept_in_room(
+        alloc,
+        snapshot,
+        index,
+        family,
+        left.as_slice(),
+        set,
+        concepts,
+        room,
+    )
+}
+
+// Those of some concepts whose list has none of a set, which is given as a list too. Where the lists have more items than there is
+// room for, one pass over the is-a rows takes their place.
+fn kept_in_room<S: ConceptSet>(
+    alloc: Global,
+    snapshot: &Snapshot,
+    index: &AncestorIndex,
+    family: Family,
+    concepts: &[u32],
+    set: &S,
+    own: &[u32],
+    room: u64,
+) -> Result<Vec<u32>, AllocError>
+    requires over { IsOf snapshot.now.release (S.bound_of set.now) index.now }
+    requires whole { is_whole_of family ≡ true }
+    requires own { own.now ≡ S.items_of set.now }
+    requires below { All (λ concept. concept < S.bound_of set.now) concepts.now }
+    ensures { IfOk result (λ kept. kept.items ≡ filter (λ concept. not (list_any (has (S.items_of set.now)) (list_of (lists_of index.now family) concept))) concepts.now) }
+{
+    if items_of_lists(index, family, concepts, set.bound(), room) > room {
+        let found = reached(alloc, snapshot, index, family.back(), set, own)?;
+        return kept_outside(alloc, concepts, &found);
+    }
+    kept_by_lists(alloc, index, family, concepts, set)
+}
+
+// The same, by the list of each.
+fn kept_by_lists<S: ConceptSet>(
+    alloc: Global,
+    index: &AncestorIndex,
+    family: Family,
+    concepts: &[u32],
+    set: &S,
+) -> Result<Vec<u32>, AllocError>
+    requires over { IsOver (S.bound_of set.now) index.now }
+    requires below { All (λ concept. concept < S.bound_of set.now) concepts.now }
+    ensures { IfOk result (λ kept. kept.items ≡ filter (λ concept. not (list_any (has (S.items_of set.now)) (list_of (lists_of index.now family) concept))) concepts.now) }
+{
+    let mut kept = Vec::new(alloc);
+    for concept in concepts {
+        if !meets(family.list(index, *concept), set) {
+            kept.push(*concept)?;
+        }
+    }
+    Ok(kept)
+}
+
+// Those of some concepts that are not in a set.
+fn kept_outside<S: ConceptSet>(
+    alloc: Global,
+    concepts: &[u32],
+    set: &S,
+) -> Result<Vec<u32>, AllocError>
+    ensures { IfOk result (λ kept. kept.items ≡ filter (λ concept. not (has (S.items_of set.now) concept)) concepts.now) }
+{
+    let mut kept = Vec::new(alloc);
+    for concept in concepts {
+        if !set.has(*concept) {
+            kept.push(*concept)?;
+        }
+    }
+    Ok(kept)
+}
+
+/// Whether a set has one of the concepts of a list.
+pub fn meets<S: ConceptSet>(list: &[u32], set: &S) -> bool
+    ensures { result ≡ list_any (has (S.items_of set.now)) list.now }
+{
+    list.iter().any(|concept| set.has(*concept))
+}
