@@ -9,6 +9,7 @@ pub mod LeadLemmas
 pub mod LeafLemmas
 pub mod LeastLemmas
 pub mod ListLemmas
+pub mod ListedLemmas
 pub mod LoopLemmas
 pub mod OfferedLemmas
 pub mod PartLemmas

@@ -1,12 +1,13 @@
 //! The own bounds of all nodes of a plan, a node before its children.
 ghost use Rattle.std.specs.Prelude.{◌≡◌, ◌<◌, ◌++◌, ◌∷◌, [], IfOk, OnOk, drop, length};
 ghost use Rattle.std.specs.List.{slice_set};
-ghost use Rattle.set_algebra.specs.Plan.{unit_plan_of, unit_plans_of, plan_of, plans_of, test_plan_of};
+ghost use Rattle.set_algebra.specs.Plan.{and_plan, and_units, members_plan, minus_plan, minus_units, or_plan, or_units, plan_of, plans_of, test_plan_of, unit_plan_of, unit_plans_of, units_plan, values_plan, walk_plan};
 ghost use Rattle.planner.specs.Bounds.{own_bounds, own_list};
 ghost use Rattle.planner.specs.Leaves.{group_leaves, groups_leaves, leaves, plans_leaves, test_leaves};
 ghost use Rattle.planner.specs.Nodes.{group_list, groups_list, node_list, plans_list, test_list};
 ghost use Rattle.planner.specs.Sizes.{group_size, group_sizes, size as size_of, sizes, test_size};
-ghost use Rattle.planner.specs.inside.Tallies.{IsTallyOf, no_tally, tally_with};
+ghost use Rattle.planner.specs.inside.ListedNodes.{IsGroupNode, IsLeafNode, IsNode};
+ghost use Rattle.planner.specs.inside.Tallies.{IsTallyOf};
 
 use crate::choice::{after_first, first_choice};
 use crate::counts::{
@@ -14,6 +15,7 @@ use crate::counts::{
     values, walk,
 };
 use crate::tally::Tally;
+use constraint_tree::{Cardinality, Operator};
 use postings::Indexes;
 use set_algebra::{Choice, ConceptPlan, UnitPlan, ValueTest};
 use std::alloc::AllocError;
@@ -34,9 +36,15 @@ struct ListedParts<'a> {
     rest: &'a [Choice],
 }
 
+// A node whose sub-plans are listed: its own cost, and the choices behind it.
+#[derive(Clone, Copy)]
+struct Node<'a> {
+    own: NodeCost,
+    rest: &'a [Choice],
+}
+
 /// Adds the own bounds of a plan of concepts, whose choices are those at the front of a list.
 #[cycle(list)]
-#[tactic(auto, using(crate::proofs::Rules::listing))]
 pub fn list<'a>(
     plan: &ConceptPlan,
     choices: &'a [Choice],
@@ -47,67 +55,206 @@ pub fn list<'a>(
     ensures size { IfOk result (λ found. found.size ≡ size_of indexes.now choices.now (plan_of plan.now)) }
     ensures rest { IfOk result (λ found. found.rest.now ≡ drop (leaves (plan_of plan.now)) choices.now) }
 {
-    let all = concepts(indexes);
     let at = open(bounds)?;
+    let node = list_behind(plan, choices, indexes, bounds)?;
+    Ok(closed(bounds, at, &node))
+}
+
+// Adds those of the sub-plans of a plan of concepts, and answers its own.
+#[cycle(list)]
+#[tactic(auto, using(crate::proofs::Rules::listing))]
+fn list_behind<'a>(
+    plan: &ConceptPlan,
+    choices: &'a [Choice],
+    indexes: &Indexes,
+    bounds: &mut Vec<u64>,
+) -> Result<Node<'a>, AllocError>
+    ensures { IfOk result (λ node. IsNode indexes.now choices.now (plan_of plan.now) bounds.old.items bounds.new.items node.own node.rest.now) }
+{
     match plan {
         ConceptPlan::Empty => Ok(without_parts(0, choices)),
-        ConceptPlan::All => Ok(without_parts(all, choices)),
+        ConceptPlan::All => Ok(without_parts(concepts(indexes), choices)),
         ConceptPlan::One(_) => Ok(without_parts(1, choices)),
         ConceptPlan::Walk(operator, operand) => {
-            let inner = list(operand, choices, indexes, bounds)?;
-            let own = walk(indexes, *operator, operand, inner.size);
-            Ok(closed(bounds, at, own, inner.rest))
+            list_walk(*operator, operand, choices, indexes, bounds)
         }
-        ConceptPlan::Members(operand) => {
-            let inner = list(operand, choices, indexes, bounds)?;
-            let own = members(indexes, operand, inner.size);
-            Ok(closed(bounds, at, own, inner.rest))
-        }
-        ConceptPlan::And(parts) => {
-            let inner = list_parts(parts, all, choices, indexes, bounds)?;
-            Ok(closed(bounds, at, in_all(&inner.tally), inner.rest))
-        }
-        ConceptPlan::Or(parts) => {
-            let inner = list_parts(parts, all, choices, indexes, bounds)?;
-            let own = in_some(all, &inner.tally, parts.len() as u64);
-            Ok(closed(bounds, at, own, inner.rest))
-        }
-        ConceptPlan::Minus(first, second) => {
-            let left = list(first, choices, indexes, bounds)?;
-            let right = list(second, left.rest, indexes, bounds)?;
-            let own = in_first(left.size, right.size);
-            Ok(closed(bounds, at, own, right.rest))
-        }
-        ConceptPlan::Values(start, names) => {
-            let from = list(start, choices, indexes, bounds)?;
-            let types = list_parts(names, 0, from.rest, indexes, bounds)?;
-            let own = values(indexes, names.len() as u64, from.size);
-            Ok(closed(bounds, at, own, types.rest))
-        }
+        ConceptPlan::Members(operand) => list_members(operand, choices, indexes, bounds),
+        ConceptPlan::And(parts) => list_and(parts, choices, indexes, bounds),
+        ConceptPlan::Or(parts) => list_or(parts, choices, indexes, bounds),
+        ConceptPlan::Minus(first, second) => list_minus(first, second, choices, indexes, bounds),
+        ConceptPlan::Values(start, names) => list_values(start, names, choices, indexes, bounds),
         ConceptPlan::Pairs {
             back,
             count,
             types,
             test,
         } => {
-            let of_types = list(types, after_first(choices), indexes, bounds)?;
-            let of_test = list_test(test, of_types.rest, indexes, bounds)?;
-            let sizes = (of_types.size, of_test.size);
-            let leaf = leaf(indexes, all, *back, *count, types, test, sizes);
-            let own = leaf.cost(first_choice(choices));
-            Ok(closed(bounds, at, own, of_test.rest))
+            let all = concepts(indexes);
+            list_pairs(all, *back, *count, types, test, choices, indexes, bounds)
         }
         ConceptPlan::Units { count, units } => {
-            let inner = list_units(units, choices, indexes, bounds)?;
-            let own = units_of(*count, all, inner.size);
-            Ok(closed(bounds, at, own, inner.rest))
+            list_of_units(*count, units, choices, indexes, bounds)
         }
     }
 }
 
+// Adds those of the sub-plans of a walk.
+#[cycle(list)]
+fn list_walk<'a>(
+    operator: Operator,
+    operand: &ConceptPlan,
+    choices: &'a [Choice],
+    indexes: &Indexes,
+    bounds: &mut Vec<u64>,
+) -> Result<Node<'a>, AllocError>
+    ensures { IfOk result (λ node. IsNode indexes.now choices.now (walk_plan operator (plan_of operand.now)) bounds.old.items bounds.new.items node.own node.rest.now) }
+{
+    let inner = list(operand, choices, indexes, bounds)?;
+    let own = walk(indexes, operator, operand, inner.size);
+    Ok(Node {
+        own,
+        rest: inner.rest,
+    })
+}
+
+// Adds those of the sub-plans of the components of reference sets.
+#[cycle(list)]
+fn list_members<'a>(
+    operand: &ConceptPlan,
+    choices: &'a [Choice],
+    indexes: &Indexes,
+    bounds: &mut Vec<u64>,
+) -> Result<Node<'a>, AllocError>
+    ensures { IfOk result (λ node. IsNode indexes.now choices.now (members_plan (plan_of operand.now)) bounds.old.items bounds.new.items node.own node.rest.now) }
+{
+    let inner = list(operand, choices, indexes, bounds)?;
+    let own = members(indexes, operand, inner.size);
+    Ok(Node {
+        own,
+        rest: inner.rest,
+    })
+}
+
+// Adds those of the sub-plans of what all of some plans find.
+#[cycle(list)]
+fn list_and<'a>(
+    parts: &[ConceptPlan],
+    choices: &'a [Choice],
+    indexes: &Indexes,
+    bounds: &mut Vec<u64>,
+) -> Result<Node<'a>, AllocError>
+    ensures { IfOk result (λ node. IsNode indexes.now choices.now (and_plan (plans_of parts.now)) bounds.old.items bounds.new.items node.own node.rest.now) }
+{
+    let inner = list_parts(parts, concepts(indexes), choices, indexes, bounds)?;
+    Ok(Node {
+        own: in_all(&inner.tally),
+        rest: inner.rest,
+    })
+}
+
+// Adds those of the sub-plans of what one of some plans finds.
+#[cycle(list)]
+fn list_or<'a>(
+    parts: &[ConceptPlan],
+    choices: &'a [Choice],
+    indexes: &Indexes,
+    bounds: &mut Vec<u64>,
+) -> Result<Node<'a>, AllocError>
+    ensures { IfOk result (λ node. IsNode indexes.now choices.now (or_plan (plans_of parts.now)) bounds.old.items bounds.new.items node.own node.rest.now) }
+{
+    let all = concepts(indexes);
+    let inner = list_parts(parts, all, choices, indexes, bounds)?;
+    let own = in_some(all, &inner.tally, parts.len() as u64);
+    Ok(Node {
+        own,
+        rest: inner.rest,
+    })
+}
+
+// Adds those of the sub-plans of what the first of two plans finds and the second does not.
+#[cycle(list)]
+fn list_minus<'a>(
+    first: &ConceptPlan,
+    second: &ConceptPlan,
+    choices: &'a [Choice],
+    indexes: &Indexes,
+    bounds: &mut Vec<u64>,
+) -> Result<Node<'a>, AllocError>
+    ensures { IfOk result (λ node. IsNode indexes.now choices.now (minus_plan (plan_of first.now) (plan_of second.now)) bounds.old.items bounds.new.items node.own node.rest.now) }
+{
+    let left = list(first, choices, indexes, bounds)?;
+    let right = list(second, left.rest, indexes, bounds)?;
+    Ok(Node {
+        own: in_first(left.size, right.size),
+        rest: right.rest,
+    })
+}
+
+// Adds those of the sub-plans of the values along some types.
+#[cycle(list)]
+fn list_values<'a>(
+    start: &ConceptPlan,
+    names: &[ConceptPlan],
+    choices: &'a [Choice],
+    indexes: &Indexes,
+    bounds: &mut Vec<u64>,
+) -> Result<Node<'a>, AllocError>
+    ensures { IfOk result (λ node. IsNode indexes.now choices.now (values_plan (plan_of start.now) (plans_of names.now)) bounds.old.items bounds.new.items node.own node.rest.now) }
+{
+    let from = list(start, choices, indexes, bounds)?;
+    let types = list_parts(names, 0, from.rest, indexes, bounds)?;
+    let own = values(indexes, names.len() as u64, from.size);
+    Ok(Node {
+        own,
+        rest: types.rest,
+    })
+}
+
+// Adds those of the sub-plans of a leaf, of concepts or of groups.
+#[cycle(list)]
+fn list_pairs<'a>(
+    all: u64,
+    back: bool,
+    count: Cardinality,
+    types: &ConceptPlan,
+    test: &ValueTest,
+    choices: &'a [Choice],
+    indexes: &Indexes,
+    bounds: &mut Vec<u64>,
+) -> Result<Node<'a>, AllocError>
+    ensures { IfOk result (λ node. IsLeafNode indexes.now choices.now all back count (plan_of types.now) (test_plan_of test.now) bounds.old.items bounds.new.items node.own node.rest.now) }
+{
+    let of_types = list(types, after_first(choices), indexes, bounds)?;
+    let of_test = list_test(test, of_types.rest, indexes, bounds)?;
+    let sizes = (of_types.size, of_test.size);
+    let leaf = leaf(indexes, all, back, count, types, test, sizes);
+    Ok(Node {
+        own: leaf.cost(first_choice(choices)),
+        rest: of_test.rest,
+    })
+}
+
+// Adds those of the sub-plans of the concepts so many of whose groups a plan finds.
+#[cycle(list)]
+fn list_of_units<'a>(
+    count: Cardinality,
+    units: &UnitPlan,
+    choices: &'a [Choice],
+    indexes: &Indexes,
+    bounds: &mut Vec<u64>,
+) -> Result<Node<'a>, AllocError>
+    ensures { IfOk result (λ node. IsNode indexes.now choices.now (units_plan count (unit_plan_of units.now)) bounds.old.items bounds.new.items node.own node.rest.now) }
+{
+    let inner = list_units(units, choices, indexes, bounds)?;
+    let own = units_of(count, concepts(indexes), inner.size);
+    Ok(Node {
+        own,
+        rest: inner.rest,
+    })
+}
+
 // Adds those of a plan of groups.
 #[cycle(list)]
-#[tactic(auto, using(crate::proofs::Rules::listing))]
 fn list_units<'a>(
     plan: &UnitPlan,
     choices: &'a [Choice],
@@ -118,35 +265,90 @@ fn list_units<'a>(
     ensures size { IfOk result (λ found. found.size ≡ group_size indexes.now choices.now (unit_plan_of plan.now)) }
     ensures rest { IfOk result (λ found. found.rest.now ≡ drop (group_leaves (unit_plan_of plan.now)) choices.now) }
 {
-    let all = groups(indexes);
     let at = open(bounds)?;
+    let node = list_units_behind(plan, choices, indexes, bounds)?;
+    Ok(closed(bounds, at, &node))
+}
+
+// Adds those of the sub-plans of a plan of groups, and answers its own.
+#[cycle(list)]
+#[tactic(auto, using(crate::proofs::Rules::listing))]
+fn list_units_behind<'a>(
+    plan: &UnitPlan,
+    choices: &'a [Choice],
+    indexes: &Indexes,
+    bounds: &mut Vec<u64>,
+) -> Result<Node<'a>, AllocError>
+    ensures { IfOk result (λ node. IsGroupNode indexes.now choices.now (unit_plan_of plan.now) bounds.old.items bounds.new.items node.own node.rest.now) }
+{
     match plan {
         UnitPlan::Nothing => Ok(without_parts(0, choices)),
-        UnitPlan::Every => Ok(without_parts(all, choices)),
-        UnitPlan::And(parts) => {
-            let inner = list_unit_parts(parts, all, choices, indexes, bounds)?;
-            Ok(closed(bounds, at, in_all(&inner.tally), inner.rest))
-        }
-        UnitPlan::Or(parts) => {
-            let inner = list_unit_parts(parts, all, choices, indexes, bounds)?;
-            let own = in_some(all, &inner.tally, parts.len() as u64);
-            Ok(closed(bounds, at, own, inner.rest))
-        }
+        UnitPlan::Every => Ok(without_parts(groups(indexes), choices)),
+        UnitPlan::And(parts) => list_units_and(parts, choices, indexes, bounds),
+        UnitPlan::Or(parts) => list_units_or(parts, choices, indexes, bounds),
         UnitPlan::Minus(first, second) => {
-            let left = list_units(first, choices, indexes, bounds)?;
-            let right = list_units(second, left.rest, indexes, bounds)?;
-            let own = in_first(left.size, right.size);
-            Ok(closed(bounds, at, own, right.rest))
+            list_units_minus(first, second, choices, indexes, bounds)
         }
         UnitPlan::Pairs { count, types, test } => {
-            let of_types = list(types, after_first(choices), indexes, bounds)?;
-            let of_test = list_test(test, of_types.rest, indexes, bounds)?;
-            let sizes = (of_types.size, of_test.size);
-            let leaf = leaf(indexes, all, false, *count, types, test, sizes);
-            let own = leaf.cost(first_choice(choices));
-            Ok(closed(bounds, at, own, of_test.rest))
+            let all = groups(indexes);
+            list_pairs(all, false, *count, types, test, choices, indexes, bounds)
         }
     }
+}
+
+// Adds those of the sub-plans of what all of some plans of groups find.
+#[cycle(list)]
+fn list_units_and<'a>(
+    parts: &[UnitPlan],
+    choices: &'a [Choice],
+    indexes: &Indexes,
+    bounds: &mut Vec<u64>,
+) -> Result<Node<'a>, AllocError>
+    ensures { IfOk result (λ node. IsGroupNode indexes.now choices.now (and_units (unit_plans_of parts.now)) bounds.old.items bounds.new.items node.own node.rest.now) }
+{
+    let inner = list_unit_parts(parts, groups(indexes), choices, indexes, bounds)?;
+    Ok(Node {
+        own: in_all(&inner.tally),
+        rest: inner.rest,
+    })
+}
+
+// Adds those of the sub-plans of what one of some plans of groups finds.
+#[cycle(list)]
+fn list_units_or<'a>(
+    parts: &[UnitPlan],
+    choices: &'a [Choice],
+    indexes: &Indexes,
+    bounds: &mut Vec<u64>,
+) -> Result<Node<'a>, AllocError>
+    ensures { IfOk result (λ node. IsGroupNode indexes.now choices.now (or_units (unit_plans_of parts.now)) bounds.old.items bounds.new.items node.own node.rest.now) }
+{
+    let all = groups(indexes);
+    let inner = list_unit_parts(parts, all, choices, indexes, bounds)?;
+    let own = in_some(all, &inner.tally, parts.len() as u64);
+    Ok(Node {
+        own,
+        rest: inner.rest,
+    })
+}
+
+// Adds those of the sub-plans of what the first of two plans of groups finds and the second does not.
+#[cycle(list)]
+fn list_units_minus<'a>(
+    first: &UnitPlan,
+    second: &UnitPlan,
+    choices: &'a [Choice],
+    indexes: &Indexes,
+    bounds: &mut Vec<u64>,
+) -> Result<Node<'a>, AllocError>
+    ensures { IfOk result (λ node. IsGroupNode indexes.now choices.now (minus_units (unit_plan_of first.now) (unit_plan_of second.now)) bounds.old.items bounds.new.items node.own node.rest.now) }
+{
+    let left = list_units(first, choices, indexes, bounds)?;
+    let right = list_units(second, left.rest, indexes, bounds)?;
+    Ok(Node {
+        own: in_first(left.size, right.size),
+        rest: right.rest,
+    })
 }
 
 // Adds those of the plan of a test, if it has one.
@@ -163,10 +365,12 @@ fn list_test<'a>(
 {
     match test {
         ValueTest::Within(operand) | ValueTest::Outside(operand) => {
-            let found = list(operand, choices, indexes, bounds)?;
-            Ok(found)
+            list(operand, choices, indexes, bounds)
         }
-        ValueTest::Number(_, _) => Ok(without_parts(0, choices)),
+        ValueTest::Number(_, _) => Ok(Listed {
+            size: 0,
+            rest: choices,
+        }),
     }
 }
 
@@ -183,12 +387,14 @@ fn list_parts<'a>(
     ensures tally { IfOk result (λ found. IsTallyOf all (sizes indexes.now choices.now (plans_of parts.now)) found.tally) }
     ensures rest { IfOk result (λ found. found.rest.now ≡ drop (plans_leaves (plans_of parts.now)) choices.now) }
 {
-    let mut listed = no_parts(all, choices);
+    let mut tally = Tally::none(all);
+    let mut rest = choices;
     for place in 0..parts.len() {
-        let part = list(&parts[place], listed.rest, indexes, bounds)?;
-        listed = and_part(&listed, place as u64, &part);
+        let part = list(&parts[place], rest, indexes, bounds)?;
+        tally = tally.with(place as u64, part.size);
+        rest = part.rest;
     }
-    Ok(listed)
+    Ok(ListedParts { tally, rest })
 }
 
 // Adds those of some plans of groups.
@@ -204,34 +410,14 @@ fn list_unit_parts<'a>(
     ensures tally { IfOk result (λ found. IsTallyOf all (group_sizes indexes.now choices.now (unit_plans_of parts.now)) found.tally) }
     ensures rest { IfOk result (λ found. found.rest.now ≡ drop (groups_leaves (unit_plans_of parts.now)) choices.now) }
 {
-    let mut listed = no_parts(all, choices);
+    let mut tally = Tally::none(all);
+    let mut rest = choices;
     for place in 0..parts.len() {
-        let part = list_units(&parts[place], listed.rest, indexes, bounds)?;
-        listed = and_part(&listed, place as u64, &part);
+        let part = list_units(&parts[place], rest, indexes, bounds)?;
+        tally = tally.with(place as u64, part.size);
+        rest = part.rest;
     }
-    Ok(listed)
-}
-
-// Of no plans; a number stands for the least of their sizes.
-fn no_parts(all: u64, choices: &[Choice]) -> ListedParts<'_>
-    ensures tally { result.tally ≡ no_tally all }
-    ensures rest { result.rest.now ≡ choices.now }
-{
-    ListedParts {
-        tally: Tally::none(all),
-        rest: choices,
-    }
-}
-
-// Of one plan more, at a place.
-fn and_part<'a>(before: &ListedParts<'a>, place: u64, part: &Listed<'a>) -> ListedParts<'a>
-    ensures tally { result.tally ≡ tally_with place before.now.tally part.now.size }
-    ensures rest { result.rest.now ≡ part.now.rest.now }
-{
-    ListedParts {
-        tally: before.tally.with(place, part.size),
-        rest: part.rest,
-    }
+    Ok(ListedParts { tally, rest })
 }
 
 // A place for the bound of a node, before those of its children.
@@ -244,27 +430,28 @@ fn open(bounds: &mut Vec<u64>) -> Result<usize, AllocError>
     Ok(at)
 }
 
-// Puts the bound of a node in its place, where its children leave the rest of the choices.
-fn closed<'a>(bounds: &mut Vec<u64>, at: usize, own: NodeCost, rest: &'a [Choice]) -> Listed<'a>
+// Puts the bound of a node in its place, once those of its sub-plans are added.
+fn closed<'a>(bounds: &mut Vec<u64>, at: usize, node: &Node<'a>) -> Listed<'a>
     requires { at < length bounds.old.items }
-    ensures bounds { bounds.new.items ≡ slice_set bounds.old.items at own.bound }
-    ensures size { result.size ≡ own.size }
-    ensures rest { result.rest.now ≡ rest.now }
+    ensures bounds { bounds.new.items ≡ slice_set bounds.old.items at node.now.own.bound }
+    ensures size { result.size ≡ node.now.own.size }
+    ensures rest { result.rest.now ≡ node.now.rest.now }
 {
-    bounds[at] = own.bound;
+    bounds[at] = node.own.bound;
     Listed {
-        size: own.size,
-        rest,
+        size: node.own.size,
+        rest: node.rest,
     }
 }
 
-// Of a node that reads nothing.
-fn without_parts(size: u64, choices: &[Choice]) -> Listed<'_>
-    ensures size { result.size ≡ size }
+// A node without sub-plans, which reads nothing.
+fn without_parts(size: u64, choices: &[Choice]) -> Node<'_>
+    ensures size { result.own.size ≡ size }
+    ensures bound { result.own.bound ≡ 0 }
     ensures rest { result.rest.now ≡ choices.now }
 {
-    Listed {
-        size,
+    Node {
+        own: NodeCost { size, bound: 0 },
         rest: choices,
     }
 }

@@ -1,17 +1,19 @@
 //! The choices of a plan, and which part of each node that joins sets by AND is taken first.
 ghost use Rattle.std.specs.Prelude.{◌≡◌, ◌<◌, ◌++◌, ◌∷◌, [], IfOk, OnOk, drop, length};
 ghost use Rattle.std.specs.List.{slice_set};
-ghost use Rattle.set_algebra.specs.Plan.{unit_plan_of, unit_plans_of, plan_of, plans_of, test_plan_of};
+ghost use Rattle.set_algebra.specs.Plan.{and_plan, and_units, members_plan, minus_plan, minus_units, or_plan, or_units, plan_of, plans_of, test_plan_of, unit_plan_of, unit_plans_of, units_plan, values_plan, walk_plan};
 ghost use Rattle.planner.specs.Chosen.{chosen, group_chosen, groups_chosen, plans_chosen, test_chosen};
 ghost use Rattle.planner.specs.Leads.{lead_list};
 ghost use Rattle.planner.specs.Leaves.{group_leaves, groups_leaves, leaves, plans_leaves, test_leaves};
 ghost use Rattle.planner.specs.Nodes.{group_list, groups_list, node_list, plans_list, test_list};
 ghost use Rattle.planner.specs.Sizes.{group_size, group_sizes, size as size_of, sizes, test_size};
-ghost use Rattle.planner.specs.inside.Tallies.{IsTallyOf, no_tally, tally_with};
+ghost use Rattle.planner.specs.inside.SettledNodes.{IsGroupSettled, IsLeafSettled, IsNodeSettled};
+ghost use Rattle.planner.specs.inside.Tallies.{IsTallyOf};
 
 use crate::choice::{after_first, first};
 use crate::counts::{concepts, groups, leaf, members, units as units_of, values, walk};
 use crate::tally::Tally;
+use constraint_tree::{Cardinality, Operator};
 use postings::Indexes;
 use set_algebra::{Choice, ConceptPlan, UnitPlan, ValueTest};
 use std::alloc::{AllocError, Global};
@@ -58,7 +60,6 @@ pub fn nothing_chosen(alloc: Global) -> Choosing
 /// Adds the choices of a plan of concepts: of each leaf the one that is asked for, where it offers it; else another, where there
 /// is one; else the least. It goes through the plan once.
 #[cycle(settle)]
-#[tactic(auto, using(crate::proofs::Rules::settling))]
 pub fn settle<'a>(
     plan: &ConceptPlan,
     asked: &'a [Choice],
@@ -72,41 +73,36 @@ pub fn settle<'a>(
     ensures asked { IfOk result (λ found. found.asked.now ≡ drop (leaves (plan_of plan.now)) asked.now) }
     ensures others { IfOk result (λ found. found.others.now ≡ drop (leaves (plan_of plan.now)) others.now) }
 {
-    let all = concepts(indexes);
+    settle_node(plan, asked, others, indexes, choosing)
+}
+
+// The same, by the sort of its node; what is known of a node is one fact.
+#[cycle(settle)]
+#[tactic(auto, using(crate::proofs::Rules::settling))]
+fn settle_node<'a>(
+    plan: &ConceptPlan,
+    asked: &'a [Choice],
+    others: &'a [Choice],
+    indexes: &Indexes,
+    choosing: &mut Choosing,
+) -> Result<Settled<'a>, AllocError>
+    ensures { IfOk result (λ found. IsNodeSettled indexes.now asked.now others.now (plan_of plan.now) choosing.old choosing.new found) }
+{
     match plan {
         ConceptPlan::Empty => Ok(found_behind(0, asked, others)),
-        ConceptPlan::All => Ok(found_behind(all, asked, others)),
+        ConceptPlan::All => Ok(found_behind(concepts(indexes), asked, others)),
         ConceptPlan::One(_) => Ok(found_behind(1, asked, others)),
         ConceptPlan::Walk(operator, operand) => {
-            let inner = settle(operand, asked, others, indexes, choosing)?;
-            let own = walk(indexes, *operator, operand, inner.size);
-            Ok(found_behind(own.size, inner.asked, inner.others))
+            settle_walk(*operator, operand, asked, others, indexes, choosing)
         }
-        ConceptPlan::Members(operand) => {
-            let inner = settle(operand, asked, others, indexes, choosing)?;
-            let own = members(indexes, operand, inner.size);
-            Ok(found_behind(own.size, inner.asked, inner.others))
-        }
-        ConceptPlan::And(parts) => {
-            let at = free_lead(choosing)?;
-            let inner = settle_parts(parts, all, asked, others, indexes, choosing)?;
-            put_lead(choosing, at, inner.tally.lead);
-            Ok(found_behind(inner.tally.least, inner.asked, inner.others))
-        }
-        ConceptPlan::Or(parts) => {
-            let inner = settle_parts(parts, all, asked, others, indexes, choosing)?;
-            Ok(found_behind(all.min(inner.tally.sum), inner.asked, inner.others))
-        }
+        ConceptPlan::Members(operand) => settle_members(operand, asked, others, indexes, choosing),
+        ConceptPlan::And(parts) => settle_and(parts, asked, others, indexes, choosing),
+        ConceptPlan::Or(parts) => settle_or(parts, asked, others, indexes, choosing),
         ConceptPlan::Minus(first, second) => {
-            let left = settle(first, asked, others, indexes, choosing)?;
-            let right = settle(second, left.asked, left.others, indexes, choosing)?;
-            Ok(found_behind(left.size, right.asked, right.others))
+            settle_minus(first, second, asked, others, indexes, choosing)
         }
         ConceptPlan::Values(start, names) => {
-            let from = settle(start, asked, others, indexes, choosing)?;
-            let types = settle_parts(names, 0, from.asked, from.others, indexes, choosing)?;
-            let own = values(indexes, names.len() as u64, from.size);
-            Ok(found_behind(own.size, types.asked, types.others))
+            settle_values(start, names, asked, others, indexes, choosing)
         }
         ConceptPlan::Pairs {
             back,
@@ -114,27 +110,195 @@ pub fn settle<'a>(
             types,
             test,
         } => {
-            let at = free_choice(choosing)?;
-            let inside = (after_first(asked), after_first(others));
-            let of_types = settle(types, inside.0, inside.1, indexes, choosing)?;
-            let of_test = settle_test(test, of_types.asked, of_types.others, indexes, choosing)?;
-            let sizes = (of_types.size, of_test.size);
-            let leaf = leaf(indexes, all, *back, *count, types, test, sizes);
-            let choice = leaf.choice(first(asked), first(others));
-            put_choice(choosing, at, choice);
-            Ok(found_behind(leaf.size(choice), of_test.asked, of_test.others))
+            let all = concepts(indexes);
+            settle_pairs(
+                all, *back, *count, types, test, asked, others, indexes, choosing,
+            )
         }
         ConceptPlan::Units { count, units } => {
-            let inner = settle_units(units, asked, others, indexes, choosing)?;
-            let own = units_of(*count, all, inner.size);
-            Ok(found_behind(own.size, inner.asked, inner.others))
+            settle_of_units(*count, units, asked, others, indexes, choosing)
         }
     }
 }
 
+// Adds those of a walk.
+#[cycle(settle)]
+fn settle_walk<'a>(
+    operator: Operator,
+    operand: &ConceptPlan,
+    asked: &'a [Choice],
+    others: &'a [Choice],
+    indexes: &Indexes,
+    choosing: &mut Choosing,
+) -> Result<Settled<'a>, AllocError>
+    ensures { IfOk result (λ found. IsNodeSettled indexes.now asked.now others.now (walk_plan operator (plan_of operand.now)) choosing.old choosing.new found) }
+{
+    let inner = settle(operand, asked, others, indexes, choosing)?;
+    let own = walk(indexes, operator, operand, inner.size);
+    Ok(Settled {
+        size: own.size,
+        asked: inner.asked,
+        others: inner.others,
+    })
+}
+
+// Adds those of the components of reference sets.
+#[cycle(settle)]
+fn settle_members<'a>(
+    operand: &ConceptPlan,
+    asked: &'a [Choice],
+    others: &'a [Choice],
+    indexes: &Indexes,
+    choosing: &mut Choosing,
+) -> Result<Settled<'a>, AllocError>
+    ensures { IfOk result (λ found. IsNodeSettled indexes.now asked.now others.now (members_plan (plan_of operand.now)) choosing.old choosing.new found) }
+{
+    let inner = settle(operand, asked, others, indexes, choosing)?;
+    let own = members(indexes, operand, inner.size);
+    Ok(Settled {
+        size: own.size,
+        asked: inner.asked,
+        others: inner.others,
+    })
+}
+
+// Adds those of what all of some plans find.
+#[cycle(settle)]
+fn settle_and<'a>(
+    parts: &[ConceptPlan],
+    asked: &'a [Choice],
+    others: &'a [Choice],
+    indexes: &Indexes,
+    choosing: &mut Choosing,
+) -> Result<Settled<'a>, AllocError>
+    ensures { IfOk result (λ found. IsNodeSettled indexes.now asked.now others.now (and_plan (plans_of parts.now)) choosing.old choosing.new found) }
+{
+    let at = free_lead(choosing)?;
+    let inner = settle_parts(parts, concepts(indexes), asked, others, indexes, choosing)?;
+    put_lead(choosing, at, inner.tally.lead);
+    Ok(Settled {
+        size: inner.tally.least,
+        asked: inner.asked,
+        others: inner.others,
+    })
+}
+
+// Adds those of what one of some plans finds.
+#[cycle(settle)]
+fn settle_or<'a>(
+    parts: &[ConceptPlan],
+    asked: &'a [Choice],
+    others: &'a [Choice],
+    indexes: &Indexes,
+    choosing: &mut Choosing,
+) -> Result<Settled<'a>, AllocError>
+    ensures { IfOk result (λ found. IsNodeSettled indexes.now asked.now others.now (or_plan (plans_of parts.now)) choosing.old choosing.new found) }
+{
+    let all = concepts(indexes);
+    let inner = settle_parts(parts, all, asked, others, indexes, choosing)?;
+    Ok(Settled {
+        size: all.min(inner.tally.sum),
+        asked: inner.asked,
+        others: inner.others,
+    })
+}
+
+// Adds those of what the first of two plans finds and the second does not.
+#[cycle(settle)]
+fn settle_minus<'a>(
+    first: &ConceptPlan,
+    second: &ConceptPlan,
+    asked: &'a [Choice],
+    others: &'a [Choice],
+    indexes: &Indexes,
+    choosing: &mut Choosing,
+) -> Result<Settled<'a>, AllocError>
+    ensures { IfOk result (λ found. IsNodeSettled indexes.now asked.now others.now (minus_plan (plan_of first.now) (plan_of second.now)) choosing.old choosing.new found) }
+{
+    let left = settle(first, asked, others, indexes, choosing)?;
+    let right = settle(second, left.asked, left.others, indexes, choosing)?;
+    Ok(Settled {
+        size: left.size,
+        asked: right.asked,
+        others: right.others,
+    })
+}
+
+// Adds those of the values along some types.
+#[cycle(settle)]
+fn settle_values<'a>(
+    start: &ConceptPlan,
+    names: &[ConceptPlan],
+    asked: &'a [Choice],
+    others: &'a [Choice],
+    indexes: &Indexes,
+    choosing: &mut Choosing,
+) -> Result<Settled<'a>, AllocError>
+    ensures { IfOk result (λ found. IsNodeSettled indexes.now asked.now others.now (values_plan (plan_of start.now) (plans_of names.now)) choosing.old choosing.new found) }
+{
+    let from = settle(start, asked, others, indexes, choosing)?;
+    let types = settle_parts(names, 0, from.asked, from.others, indexes, choosing)?;
+    let own = values(indexes, names.len() as u64, from.size);
+    Ok(Settled {
+        size: own.size,
+        asked: types.asked,
+        others: types.others,
+    })
+}
+
+// Adds those of a leaf, of concepts or of groups.
+#[cycle(settle)]
+fn settle_pairs<'a>(
+    all: u64,
+    back: bool,
+    count: Cardinality,
+    types: &ConceptPlan,
+    test: &ValueTest,
+    asked: &'a [Choice],
+    others: &'a [Choice],
+    indexes: &Indexes,
+    choosing: &mut Choosing,
+) -> Result<Settled<'a>, AllocError>
+    ensures { IfOk result (λ found. IsLeafSettled indexes.now asked.now others.now all back count (plan_of types.now) (test_plan_of test.now) choosing.old choosing.new found) }
+{
+    let at = free_choice(choosing)?;
+    let inside = (after_first(asked), after_first(others));
+    let of_types = settle(types, inside.0, inside.1, indexes, choosing)?;
+    let of_test = settle_test(test, of_types.asked, of_types.others, indexes, choosing)?;
+    let sizes = (of_types.size, of_test.size);
+    let leaf = leaf(indexes, all, back, count, types, test, sizes);
+    let choice = leaf.choice(first(asked), first(others));
+    put_choice(choosing, at, choice);
+    Ok(Settled {
+        size: leaf.size(choice),
+        asked: of_test.asked,
+        others: of_test.others,
+    })
+}
+
+// Adds those of the concepts so many of whose groups a plan finds.
+#[cycle(settle)]
+fn settle_of_units<'a>(
+    count: Cardinality,
+    units: &UnitPlan,
+    asked: &'a [Choice],
+    others: &'a [Choice],
+    indexes: &Indexes,
+    choosing: &mut Choosing,
+) -> Result<Settled<'a>, AllocError>
+    ensures { IfOk result (λ found. IsNodeSettled indexes.now asked.now others.now (units_plan count (unit_plan_of units.now)) choosing.old choosing.new found) }
+{
+    let inner = settle_units(units, asked, others, indexes, choosing)?;
+    let own = units_of(count, concepts(indexes), inner.size);
+    Ok(Settled {
+        size: own.size,
+        asked: inner.asked,
+        others: inner.others,
+    })
+}
+
 // Adds those of a plan of groups.
 #[cycle(settle)]
-#[tactic(auto, using(crate::proofs::Rules::settling))]
 fn settle_units<'a>(
     plan: &UnitPlan,
     asked: &'a [Choice],
@@ -148,37 +312,98 @@ fn settle_units<'a>(
     ensures asked { IfOk result (λ found. found.asked.now ≡ drop (group_leaves (unit_plan_of plan.now)) asked.now) }
     ensures others { IfOk result (λ found. found.others.now ≡ drop (group_leaves (unit_plan_of plan.now)) others.now) }
 {
-    let all = groups(indexes);
+    settle_unit_node(plan, asked, others, indexes, choosing)
+}
+
+// The same, by the sort of its node.
+#[cycle(settle)]
+#[tactic(auto, using(crate::proofs::Rules::settling))]
+fn settle_unit_node<'a>(
+    plan: &UnitPlan,
+    asked: &'a [Choice],
+    others: &'a [Choice],
+    indexes: &Indexes,
+    choosing: &mut Choosing,
+) -> Result<Settled<'a>, AllocError>
+    ensures { IfOk result (λ found. IsGroupSettled indexes.now asked.now others.now (unit_plan_of plan.now) choosing.old choosing.new found) }
+{
     match plan {
         UnitPlan::Nothing => Ok(found_behind(0, asked, others)),
-        UnitPlan::Every => Ok(found_behind(all, asked, others)),
-        UnitPlan::And(parts) => {
-            let at = free_lead(choosing)?;
-            let inner = settle_unit_parts(parts, all, asked, others, indexes, choosing)?;
-            put_lead(choosing, at, inner.tally.lead);
-            Ok(found_behind(inner.tally.least, inner.asked, inner.others))
-        }
-        UnitPlan::Or(parts) => {
-            let inner = settle_unit_parts(parts, all, asked, others, indexes, choosing)?;
-            Ok(found_behind(all.min(inner.tally.sum), inner.asked, inner.others))
-        }
+        UnitPlan::Every => Ok(found_behind(groups(indexes), asked, others)),
+        UnitPlan::And(parts) => settle_units_and(parts, asked, others, indexes, choosing),
+        UnitPlan::Or(parts) => settle_units_or(parts, asked, others, indexes, choosing),
         UnitPlan::Minus(first, second) => {
-            let left = settle_units(first, asked, others, indexes, choosing)?;
-            let right = settle_units(second, left.asked, left.others, indexes, choosing)?;
-            Ok(found_behind(left.size, right.asked, right.others))
+            settle_units_minus(first, second, asked, others, indexes, choosing)
         }
         UnitPlan::Pairs { count, types, test } => {
-            let at = free_choice(choosing)?;
-            let inside = (after_first(asked), after_first(others));
-            let of_types = settle(types, inside.0, inside.1, indexes, choosing)?;
-            let of_test = settle_test(test, of_types.asked, of_types.others, indexes, choosing)?;
-            let sizes = (of_types.size, of_test.size);
-            let leaf = leaf(indexes, all, false, *count, types, test, sizes);
-            let choice = leaf.choice(first(asked), first(others));
-            put_choice(choosing, at, choice);
-            Ok(found_behind(leaf.size(choice), of_test.asked, of_test.others))
+            let all = groups(indexes);
+            settle_pairs(
+                all, false, *count, types, test, asked, others, indexes, choosing,
+            )
         }
     }
+}
+
+// Adds those of what all of some plans of groups find.
+#[cycle(settle)]
+fn settle_units_and<'a>(
+    parts: &[UnitPlan],
+    asked: &'a [Choice],
+    others: &'a [Choice],
+    indexes: &Indexes,
+    choosing: &mut Choosing,
+) -> Result<Settled<'a>, AllocError>
+    ensures { IfOk result (λ found. IsGroupSettled indexes.now asked.now others.now (and_units (unit_plans_of parts.now)) choosing.old choosing.new found) }
+{
+    let at = free_lead(choosing)?;
+    let inner = settle_unit_parts(parts, groups(indexes), asked, others, indexes, choosing)?;
+    put_lead(choosing, at, inner.tally.lead);
+    Ok(Settled {
+        size: inner.tally.least,
+        asked: inner.asked,
+        others: inner.others,
+    })
+}
+
+// Adds those of what one of some plans of groups finds.
+#[cycle(settle)]
+fn settle_units_or<'a>(
+    parts: &[UnitPlan],
+    asked: &'a [Choice],
+    others: &'a [Choice],
+    indexes: &Indexes,
+    choosing: &mut Choosing,
+) -> Result<Settled<'a>, AllocError>
+    ensures { IfOk result (λ found. IsGroupSettled indexes.now asked.now others.now (or_units (unit_plans_of parts.now)) choosing.old choosing.new found) }
+{
+    let all = groups(indexes);
+    let inner = settle_unit_parts(parts, all, asked, others, indexes, choosing)?;
+    Ok(Settled {
+        size: all.min(inner.tally.sum),
+        asked: inner.asked,
+        others: inner.others,
+    })
+}
+
+// Adds those of what the first of two plans of groups finds and the second does not.
+#[cycle(settle)]
+fn settle_units_minus<'a>(
+    first: &UnitPlan,
+    second: &UnitPlan,
+    asked: &'a [Choice],
+    others: &'a [Choice],
+    indexes: &Indexes,
+    choosing: &mut Choosing,
+) -> Result<Settled<'a>, AllocError>
+    ensures { IfOk result (λ found. IsGroupSettled indexes.now asked.now others.now (minus_units (unit_plan_of first.now) (unit_plan_of second.now)) choosing.old choosing.new found) }
+{
+    let left = settle_units(first, asked, others, indexes, choosing)?;
+    let right = settle_units(second, left.asked, left.others, indexes, choosing)?;
+    Ok(Settled {
+        size: left.size,
+        asked: right.asked,
+        others: right.others,
+    })
 }
 
 // Adds those of the plan of a test, if it has one.
@@ -198,8 +423,7 @@ fn settle_test<'a>(
 {
     match test {
         ValueTest::Within(operand) | ValueTest::Outside(operand) => {
-            let found = settle(operand, asked, others, indexes, choosing)?;
-            Ok(found)
+            settle(operand, asked, others, indexes, choosing)
         }
         ValueTest::Number(_, _) => Ok(found_behind(0, asked, others)),
     }
@@ -221,12 +445,26 @@ fn settle_parts<'a>(
     ensures asked { IfOk result (λ found. found.asked.now ≡ drop (plans_leaves (plans_of parts.now)) asked.now) }
     ensures others { IfOk result (λ found. found.others.now ≡ drop (plans_leaves (plans_of parts.now)) others.now) }
 {
-    let mut found = no_parts(all, asked, others);
+    let mut tally = Tally::none(all);
+    let mut asked_behind = asked;
+    let mut others_behind = others;
     for place in 0..parts.len() {
-        let part = settle(&parts[place], found.asked, found.others, indexes, choosing)?;
-        found = and_part(&found, place as u64, &part);
+        let part = settle(
+            &parts[place],
+            asked_behind,
+            others_behind,
+            indexes,
+            choosing,
+        )?;
+        tally = tally.with(place as u64, part.size);
+        asked_behind = part.asked;
+        others_behind = part.others;
     }
-    Ok(found)
+    Ok(SettledParts {
+        tally,
+        asked: asked_behind,
+        others: others_behind,
+    })
 }
 
 // Adds those of some plans of groups.
@@ -245,12 +483,26 @@ fn settle_unit_parts<'a>(
     ensures asked { IfOk result (λ found. found.asked.now ≡ drop (groups_leaves (unit_plans_of parts.now)) asked.now) }
     ensures others { IfOk result (λ found. found.others.now ≡ drop (groups_leaves (unit_plans_of parts.now)) others.now) }
 {
-    let mut found = no_parts(all, asked, others);
+    let mut tally = Tally::none(all);
+    let mut asked_behind = asked;
+    let mut others_behind = others;
     for place in 0..parts.len() {
-        let part = settle_units(&parts[place], found.asked, found.others, indexes, choosing)?;
-        found = and_part(&found, place as u64, &part);
+        let part = settle_units(
+            &parts[place],
+            asked_behind,
+            others_behind,
+            indexes,
+            choosing,
+        )?;
+        tally = tally.with(place as u64, part.size);
+        asked_behind = part.asked;
+        others_behind = part.others;
     }
-    Ok(found)
+    Ok(SettledParts {
+        tally,
+        asked: asked_behind,
+        others: others_behind,
+    })
 }
 
 // How much a plan finds, and the choices behind its own.
@@ -263,32 +515,6 @@ fn found_behind<'a>(size: u64, asked: &'a [Choice], others: &'a [Choice]) -> Set
         size,
         asked,
         others,
-    }
-}
-
-// Of no plans; a number stands for the least of their sizes.
-fn no_parts<'a>(all: u64, asked: &'a [Choice], others: &'a [Choice]) -> SettledParts<'a>
-    ensures tally { result.tally ≡ no_tally all }
-    ensures asked { result.asked.now ≡ asked.now }
-    ensures others { result.others.now ≡ others.now }
-{
-    SettledParts {
-        tally: Tally::none(all),
-        asked,
-        others,
-    }
-}
-
-// Of one plan more, at a place.
-fn and_part<'a>(before: &SettledParts<'a>, place: u64, part: &Settled<'a>) -> SettledParts<'a>
-    ensures tally { result.tally ≡ tally_with place before.now.tally part.now.size }
-    ensures asked { result.asked.now ≡ part.now.asked.now }
-    ensures others { result.others.now ≡ part.now.others.now }
-{
-    SettledParts {
-        tally: before.tally.with(place, part.size),
-        asked: part.asked,
-        others: part.others,
     }
 }
 

@@ -1,11 +1,12 @@
 //! The size and the bound of a plan, node by node, each from those of its children.
-ghost use Rattle.std.specs.Prelude.{◌≡◌, ◌+◌, drop};
-ghost use Rattle.set_algebra.specs.Plan.{unit_plan_of, unit_plans_of, plan_of, plans_of, test_plan_of};
-ghost use Rattle.planner.specs.Bounds.{bound as bound_of, capped, own_number};
-ghost use Rattle.planner.specs.Leaves.{group_leaves, groups_leaves, leaves, plans_leaves, test_leaves};
+ghost use Rattle.std.specs.Prelude.{◌≡◌, ◌+◌, drop, suc};
+ghost use Rattle.set_algebra.specs.Plan.{unit_plan_of, unit_plans_of, plan_of, plans_of, test_plan_of, values_plan};
+ghost use Rattle.planner.specs.Alternatives.{leaf_size};
+ghost use Rattle.planner.specs.Bounds.{bound as bound_of, capped, leaf_bound_at, own_number};
+ghost use Rattle.planner.specs.Leaves.{first_choice as first_choice_of, group_leaves, groups_leaves, leaves, plans_leaves, test_choices, test_leaves, type_choices};
 ghost use Rattle.planner.specs.Nodes.{group_sum, groups_sum, plans_sum, test_sum};
-ghost use Rattle.planner.specs.Sizes.{group_size, group_sizes, size as size_of, sizes, test_size};
-ghost use Rattle.planner.specs.inside.Tallies.{IsTallyOf, no_tally, tally_with};
+ghost use Rattle.planner.specs.Sizes.{group_size, group_sizes, leaf_at, size as size_of, sizes, test_size};
+ghost use Rattle.planner.specs.inside.Tallies.{IsTallyOf};
 
 use crate::choice::{after_first, first_choice};
 use crate::counts::{
@@ -13,6 +14,7 @@ use crate::counts::{
     values, walk,
 };
 use crate::tally::Tally;
+use constraint_tree::Cardinality;
 use postings::Indexes;
 use set_algebra::{Choice, ConceptPlan, UnitPlan, ValueTest};
 
@@ -72,30 +74,59 @@ pub fn cost<'a>(plan: &ConceptPlan, choices: &'a [Choice], indexes: &Indexes) ->
             let right = cost(second, left.rest, indexes);
             with_two(in_first(left.size, right.size), &left, &right)
         }
-        ConceptPlan::Values(start, names) => {
-            let from = cost(start, choices, indexes);
-            let types = parts_cost(names, 0, from.rest, indexes);
-            let own = values(indexes, names.len() as u64, from.size);
-            with_parts(own, from.bound.saturating_add(types.bound), types.rest)
-        }
+        ConceptPlan::Values(start, names) => values_cost(start, names, choices, indexes),
         ConceptPlan::Pairs {
             back,
             count,
             types,
             test,
-        } => {
-            let of_types = cost(types, after_first(choices), indexes);
-            let of_test = test_cost(test, of_types.rest, indexes);
-            let sizes = (of_types.size, of_test.size);
-            let leaf = leaf(indexes, all, *back, *count, types, test, sizes);
-            with_two(leaf.cost(first_choice(choices)), &of_types, &of_test)
-        }
+        } => pairs_cost(all, *back, *count, types, test, choices, indexes),
         ConceptPlan::Units { count, units } => {
             let inner = unit_cost(units, choices, indexes);
             let own = units_of(*count, all, inner.size);
             with_parts(own, inner.bound, inner.rest)
         }
     }
+}
+
+// Of the values along some types.
+#[cycle(cost)]
+fn values_cost<'a>(
+    start: &ConceptPlan,
+    names: &[ConceptPlan],
+    choices: &'a [Choice],
+    indexes: &Indexes,
+) -> PlanCost<'a>
+    ensures size { result.size ≡ size_of indexes.now choices.now (values_plan (plan_of start.now) (plans_of names.now)) }
+    ensures bound { result.bound ≡ capped (bound_of indexes.now choices.now (values_plan (plan_of start.now) (plans_of names.now))) }
+    ensures rest { result.rest.now ≡ drop (leaves (values_plan (plan_of start.now) (plans_of names.now))) choices.now }
+{
+    let from = cost(start, choices, indexes);
+    let types = parts_cost(names, 0, from.rest, indexes);
+    let own = values(indexes, names.len() as u64, from.size);
+    with_parts(own, from.bound.saturating_add(types.bound), types.rest)
+}
+
+// Of a leaf, of concepts or of groups.
+#[cycle(cost)]
+fn pairs_cost<'a>(
+    all: u64,
+    back: bool,
+    count: Cardinality,
+    types: &ConceptPlan,
+    test: &ValueTest,
+    choices: &'a [Choice],
+    indexes: &Indexes,
+) -> PlanCost<'a>
+    ensures size { result.size ≡ leaf_size (leaf_at indexes.now all back count (plan_of types.now) (test_plan_of test.now) choices.now) (first_choice_of choices.now) }
+    ensures bound { result.bound ≡ capped (leaf_bound_at indexes.now all back count (plan_of types.now) (test_plan_of test.now) choices.now + (bound_of indexes.now (type_choices choices.now) (plan_of types.now) + test_sum (own_number indexes.now) (test_choices choices.now (plan_of types.now)) (test_plan_of test.now))) }
+    ensures rest { result.rest.now ≡ drop (suc (leaves (plan_of types.now) + test_leaves (test_plan_of test.now))) choices.now }
+{
+    let of_types = cost(types, after_first(choices), indexes);
+    let of_test = test_cost(test, of_types.rest, indexes);
+    let sizes = (of_types.size, of_test.size);
+    let leaf = leaf(indexes, all, back, count, types, test, sizes);
+    with_two(leaf.cost(first_choice(choices)), &of_types, &of_test)
 }
 
 /// Of a plan of groups.
@@ -125,11 +156,7 @@ pub fn unit_cost<'a>(plan: &UnitPlan, choices: &'a [Choice], indexes: &Indexes) 
             with_two(in_first(left.size, right.size), &left, &right)
         }
         UnitPlan::Pairs { count, types, test } => {
-            let of_types = cost(types, after_first(choices), indexes);
-            let of_test = test_cost(test, of_types.rest, indexes);
-            let sizes = (of_types.size, of_test.size);
-            let leaf = leaf(indexes, all, false, *count, types, test, sizes);
-            with_two(leaf.cost(first_choice(choices)), &of_types, &of_test)
+            pairs_cost(all, false, *count, types, test, choices, indexes)
         }
     }
 }
@@ -143,12 +170,7 @@ fn test_cost<'a>(test: &ValueTest, choices: &'a [Choice], indexes: &Indexes) -> 
 {
     match test {
         ValueTest::Within(operand) | ValueTest::Outside(operand) => {
-            let inner = cost(operand, choices, indexes);
-            PlanCost {
-                size: inner.size,
-                bound: inner.bound,
-                rest: inner.rest,
-            }
+            cost(operand, choices, indexes)
         }
         ValueTest::Number(_, _) => without_parts(0, choices),
     }
@@ -166,12 +188,16 @@ fn parts_cost<'a>(
     ensures bound { result.bound ≡ capped (plans_sum (own_number indexes.now) choices.now (plans_of parts.now)) }
     ensures rest { result.rest.now ≡ drop (plans_leaves (plans_of parts.now)) choices.now }
 {
-    let mut sum = no_parts(all, choices);
+    let mut tally = Tally::none(all);
+    let mut bound = 0u64;
+    let mut rest = choices;
     for place in 0..parts.len() {
-        let part = cost(&parts[place], sum.rest, indexes);
-        sum = and_part(&sum, place as u64, &part);
+        let part = cost(&parts[place], rest, indexes);
+        tally = tally.with(place as u64, part.size);
+        bound = bound.saturating_add(part.bound);
+        rest = part.rest;
     }
-    sum
+    PartsCost { tally, bound, rest }
 }
 
 // Of some plans of groups.
@@ -186,38 +212,16 @@ fn unit_parts_cost<'a>(
     ensures bound { result.bound ≡ capped (groups_sum (own_number indexes.now) choices.now (unit_plans_of parts.now)) }
     ensures rest { result.rest.now ≡ drop (groups_leaves (unit_plans_of parts.now)) choices.now }
 {
-    let mut sum = no_parts(all, choices);
+    let mut tally = Tally::none(all);
+    let mut bound = 0u64;
+    let mut rest = choices;
     for place in 0..parts.len() {
-        let part = unit_cost(&parts[place], sum.rest, indexes);
-        sum = and_part(&sum, place as u64, &part);
+        let part = unit_cost(&parts[place], rest, indexes);
+        tally = tally.with(place as u64, part.size);
+        bound = bound.saturating_add(part.bound);
+        rest = part.rest;
     }
-    sum
-}
-
-// Of no plans; a number stands for the least of their sizes.
-fn no_parts(all: u64, choices: &[Choice]) -> PartsCost<'_>
-    ensures tally { result.tally ≡ no_tally all }
-    ensures bound { result.bound ≡ 0 }
-    ensures rest { result.rest.now ≡ choices.now }
-{
-    PartsCost {
-        tally: Tally::none(all),
-        bound: 0,
-        rest: choices,
-    }
-}
-
-// Of one plan more, at a place.
-fn and_part<'a>(before: &PartsCost<'a>, place: u64, part: &PlanCost<'a>) -> PartsCost<'a>
-    ensures tally { result.tally ≡ tally_with place before.now.tally part.now.size }
-    ensures bound { result.bound ≡ capped (before.now.bound + part.now.bound) }
-    ensures rest { result.rest.now ≡ part.now.rest.now }
-{
-    PartsCost {
-        tally: before.tally.with(place, part.size),
-        bound: before.bound.saturating_add(part.bound),
-        rest: part.rest,
-    }
+    PartsCost { tally, bound, rest }
 }
 
 // Of a node that reads nothing.

@@ -1,11 +1,11 @@
 //! The floor of a plan, node by node.
-ghost use Rattle.std.specs.Prelude.{◌≡◌, ◌+◌, drop, if◌then◌else◌};
+ghost use Rattle.std.specs.Prelude.{◌≡◌, ◌+◌, drop, if◌then◌else◌, suc};
 ghost use Rattle.set_algebra.specs.Plan.{unit_plan_of, unit_plans_of, plan_of, plans_of, test_plan_of};
 ghost use Rattle.snapshot.specs.Numbering.{concept_number};
 ghost use Rattle.planner.specs.Bounds.{capped};
 ghost use Rattle.planner.specs.Counts.{is_extreme as is_extreme_of, list_length as list_length_of, member_count as member_count_of, one_of};
 ghost use Rattle.planner.specs.Floors.{floor as floor_of, floor_number, if_in_force, leaf_floor as leaf_floor_of, of_one, within_floor};
-ghost use Rattle.planner.specs.Leaves.{group_leaves, groups_leaves, leaves, plans_leaves, test_leaves};
+ghost use Rattle.planner.specs.Leaves.{first_choice as first_choice_of, group_leaves, groups_leaves, leaves, plans_leaves, test_choices, test_leaves, type_choices};
 ghost use Rattle.planner.specs.Nodes.{group_sum, groups_sum, plans_sum, test_sum};
 
 use crate::choice::{after_first, first_choice};
@@ -58,12 +58,7 @@ pub fn plan_floor<'a>(plan: &ConceptPlan, choices: &'a [Choice], indexes: &Index
             types,
             test,
             ..
-        } => {
-            let of_types = plan_floor(types, after_first(choices), indexes);
-            let of_test = test_floor(test, of_types.rest, indexes);
-            let own = leaf_floor(indexes, *back, types, test, first_choice(choices));
-            with_leaf(own, &of_types, &of_test)
-        }
+        } => pairs_floor(*back, types, test, choices, indexes),
         ConceptPlan::Units { units, .. } => unit_floor(units, choices, indexes),
     }
 }
@@ -83,13 +78,26 @@ pub fn unit_floor<'a>(plan: &UnitPlan, choices: &'a [Choice], indexes: &Indexes)
             let right = unit_floor(second, left.rest, indexes);
             floor_behind(left.floor, right.floor, right.rest)
         }
-        UnitPlan::Pairs { types, test, .. } => {
-            let of_types = plan_floor(types, after_first(choices), indexes);
-            let of_test = test_floor(test, of_types.rest, indexes);
-            let own = leaf_floor(indexes, false, types, test, first_choice(choices));
-            with_leaf(own, &of_types, &of_test)
-        }
+        UnitPlan::Pairs { types, test, .. } => pairs_floor(false, types, test, choices, indexes),
     }
+}
+
+// Of a leaf, of concepts or of groups.
+#[cycle(floor)]
+fn pairs_floor<'a>(
+    back: bool,
+    types: &ConceptPlan,
+    test: &ValueTest,
+    choices: &'a [Choice],
+    indexes: &Indexes,
+) -> PlanFloor<'a>
+    ensures floor { result.floor ≡ capped (leaf_floor_of indexes.now back (plan_of types.now) (test_plan_of test.now) (first_choice_of choices.now) + (floor_of indexes.now (type_choices choices.now) (plan_of types.now) + test_sum (floor_number indexes.now) (test_choices choices.now (plan_of types.now)) (test_plan_of test.now))) }
+    ensures rest { result.rest.now ≡ drop (suc (leaves (plan_of types.now) + test_leaves (test_plan_of test.now))) choices.now }
+{
+    let of_types = plan_floor(types, after_first(choices), indexes);
+    let of_test = test_floor(test, of_types.rest, indexes);
+    let own = leaf_floor(indexes, back, types, test, first_choice(choices));
+    with_leaf(own, &of_types, &of_test)
 }
 
 // Of the plan of a test, if it has one.

@@ -107,13 +107,29 @@ pub fn choose_with(
     ensures choices { IfOk result (λ physical. physical.choices ≡ choices_with indexes.now asked.now (plan_of plan)) }
     ensures leads { IfOk result (λ physical. physical.leads ≡ leads indexes.now physical.choices (plan_of plan)) }
 {
-    let least = chosen_for(alloc, &plan, &[], &[], indexes)?;
-    let chosen = chosen_for(alloc, &plan, asked, least.choices.as_slice(), indexes)?;
+    let chosen = chosen_with(alloc, &plan, asked, indexes)?;
     Ok(PhysicalPlan {
         plan,
         choices: chosen.choices,
         leads: chosen.leads,
     })
+}
+
+// The choices of a plan, by those that are asked for and the least in their place.
+fn chosen_with(
+    alloc: Global,
+    plan: &ConceptPlan,
+    asked: &[Choice],
+    indexes: &Indexes,
+) -> Result<Choosing, AllocError>
+    ensures choices { IfOk result (λ found. found.choices.items ≡ choices_with indexes.now asked.now (plan_of plan.now)) }
+    ensures count { IfOk result (λ found. length found.choices.items ≡ leaves (plan_of plan.now)) }
+    ensures offered { IfOk result (λ found. AreOffered found.choices.items (plan_of plan.now)) }
+    ensures leads { IfOk result (λ found. found.leads.items ≡ leads indexes.now found.choices.items (plan_of plan.now)) }
+{
+    let least = chosen_for(alloc, plan, &[], &[], indexes)?;
+    let chosen = chosen_for(alloc, plan, asked, least.choices.as_slice(), indexes)?;
+    Ok(chosen)
 }
 
 // The choices of a plan, by those that are asked for and others in their place.

@@ -1,20 +1,81 @@
 -- What is left of the parts, with what was taken, is what all of them are.
 use Rattle.set_algebra.specs.declared.plan.ConceptPlan.{ConceptPlan}
 use Rattle.set_algebra.specs.declared.plan.UnitPlan.{UnitPlan}
+use Rattle.std.proofs.Common.{◌+◌, ◌*◌, max}
+use denote.Param.Weighed.{most}
+use Rattle.set_algebra.proofs.plan.ConceptPlan.TheLaws as concept_plan
+use Rattle.set_algebra.proofs.plan.UnitPlan.TheLaws as unit_plan
+use Rattle.set_algebra.proofs.plan.ValueTest.TheLaws as value_test
 use Rattle.planner.specs.Bounds.{own_list}
 use Rattle.planner.proofs.LoopLemmas.{ListLeft, RestLeft, SizesLeft, concept_list, concept_sizes, of_concepts, of_groups, unit_list, unit_sizes}
 use Rattle.planner.proofs.bound_list.+list.Given as goal
 
 abbrev pub invariant-list_parts-loop-place : goal.invariant-list_parts-loop-place
 invariant-list_parts-loop-place l = record {
-  rest : RestLeft ConceptPlan of_concepts l.choices l.parts l.place l.listed.rest.now;
-  sizes : SizesLeft ConceptPlan of_concepts (concept_sizes l.indexes) l.all l.choices l.parts l.place l.listed.tally l.listed.rest.now;
-  bounds : ListLeft ConceptPlan of_concepts (concept_list (own_list l.indexes)) l.fn.bounds.items l.choices l.parts l.place l.bounds.items l.listed.rest.now;
+  rest : RestLeft ConceptPlan of_concepts l.choices l.parts l.place l.rest;
+  sizes : SizesLeft ConceptPlan of_concepts (concept_sizes l.indexes) l.all l.choices l.parts l.place l.tally l.rest;
+  bounds : ListLeft ConceptPlan of_concepts (concept_list (own_list l.indexes)) l.fn.bounds.items l.choices l.parts l.place l.bounds.items l.rest;
 }
 
 abbrev pub invariant-list_unit_parts-loop-place : goal.invariant-list_unit_parts-loop-place
 invariant-list_unit_parts-loop-place l = record {
-  rest : RestLeft UnitPlan of_groups l.choices l.parts l.place l.listed.rest.now;
-  sizes : SizesLeft UnitPlan of_groups (unit_sizes l.indexes) l.all l.choices l.parts l.place l.listed.tally l.listed.rest.now;
-  bounds : ListLeft UnitPlan of_groups (unit_list (own_list l.indexes)) l.fn.bounds.items l.choices l.parts l.place l.bounds.items l.listed.rest.now;
+  rest : RestLeft UnitPlan of_groups l.choices l.parts l.place l.rest;
+  sizes : SizesLeft UnitPlan of_groups (unit_sizes l.indexes) l.all l.choices l.parts l.place l.tally l.rest;
+  bounds : ListLeft UnitPlan of_groups (unit_list (own_list l.indexes)) l.fn.bounds.items l.choices l.parts l.place l.bounds.items l.rest;
 }
+
+-- the functions go down a plan; what is called for the same plan comes after its caller
+abbrev pub decreases-list_behind : goal.decreases-list_behind
+decreases-list_behind l = 4 * goal.size-list_behind l
+
+abbrev pub decreases-list_units_behind : goal.decreases-list_units_behind
+decreases-list_units_behind l = 4 * goal.size-list_units_behind l
+
+abbrev pub decreases-list : goal.decreases-list
+decreases-list l = 4 * goal.size-list l + 1
+
+abbrev pub decreases-list_units : goal.decreases-list_units
+decreases-list_units l = 4 * goal.size-list_units l + 1
+
+abbrev pub decreases-list_test : goal.decreases-list_test
+decreases-list_test l = 4 * goal.size-list_test l
+
+abbrev pub decreases-list_parts : goal.decreases-list_parts
+decreases-list_parts l = 4 * goal.size-list_parts l + 2
+
+abbrev pub decreases-list_unit_parts : goal.decreases-list_unit_parts
+decreases-list_unit_parts l = 4 * goal.size-list_unit_parts l + 2
+
+abbrev pub decreases-list_walk : goal.decreases-list_walk
+decreases-list_walk l = 4 * goal.size-list_walk l + 2
+
+abbrev pub decreases-list_members : goal.decreases-list_members
+decreases-list_members l = 4 * goal.size-list_members l + 2
+
+abbrev pub decreases-list_of_units : goal.decreases-list_of_units
+decreases-list_of_units l = 4 * goal.size-list_of_units l + 2
+
+abbrev pub decreases-list_and : goal.decreases-list_and
+decreases-list_and l = 4 * goal.size-list_and l + 3
+
+abbrev pub decreases-list_or : goal.decreases-list_or
+decreases-list_or l = 4 * goal.size-list_or l + 3
+
+abbrev pub decreases-list_units_and : goal.decreases-list_units_and
+decreases-list_units_and l = 4 * goal.size-list_units_and l + 3
+
+abbrev pub decreases-list_units_or : goal.decreases-list_units_or
+decreases-list_units_or l = 4 * goal.size-list_units_or l + 3
+
+-- two sub-plans are as deep as the deeper of them
+abbrev pub decreases-list_minus : goal.decreases-list_minus
+decreases-list_minus l = 4 * max (concept_plan.the_size l.first.now) (concept_plan.the_size l.second.now) + 2
+
+abbrev pub decreases-list_units_minus : goal.decreases-list_units_minus
+decreases-list_units_minus l = 4 * max (unit_plan.the_size l.first.now) (unit_plan.the_size l.second.now) + 2
+
+abbrev pub decreases-list_values : goal.decreases-list_values
+decreases-list_values l = 4 * max (concept_plan.the_size l.start.now) (most concept_plan.the_size l.names.now) + 3
+
+abbrev pub decreases-list_pairs : goal.decreases-list_pairs
+decreases-list_pairs l = 4 * max (concept_plan.the_size l.types.now) (value_test.the_size l.test.now) + 2

@@ -1,4 +1,4 @@
-use Rattle.std.proofs.Common.{ℕ, ◌≡◌, ◌+◌, ◌*◌, ◌∙◌, List, drop, false, sym, ap, arith}
+use Rattle.std.proofs.Common.{ℕ, ◌≡◌, ◌+◌, ◌*◌, ◌∙◌, List, drop, refl, sym, ap, arith}
 use Rattle.set_algebra.specs.Plan.{Plan, PlanOfUnits, plan_of, plans_of, test_plan_of, unit_plan_of, unit_plans_of}
 use Rattle.set_algebra.specs.declared.choice.Choice.{Choice}
 use Rattle.planner.specs.Alternatives.{leaf_bound, leaf_size}
@@ -9,19 +9,17 @@ use Rattle.planner.specs.Nodes.{group_sum, plans_sum, test_sum}
 use Rattle.planner.specs.Sizes.{group_size, group_sizes, least_of, size, sizes, test_size, total, values_size}
 use Rattle.planner.proofs.ListLemmas.{capped_least, capped_product, capped_three, capped_two}
 use Rattle.planner.proofs.LoopLemmas.{rest_end, rest_turn, sizes_end, sizes_turn, sum_end, sum_turn}
-use Rattle.planner.proofs.PartLemmas.{and_are, and_units_are, behind_both, behind_leaf, group_count-parts, minus_are, minus_units_are, or_are, or_units_are, pairs_are, pairs_units_are, plan_count-parts, values_are}
+use Rattle.planner.proofs.PartLemmas.{and_are, and_units_are, behind_both, behind_leaf, group_count-parts, minus_are, minus_units_are, or_are, or_units_are, plan_count-parts, values_are}
 use Rattle.planner.proofs.costs.+cost.Goals as goal
 
 pub parts_cost-loop-place-preserved : goal.parts_cost-loop-place-preserved
 parts_cost-loop-place-preserved t c =
     let left = c.loop-place.invariant in
     let part = c.cost-part.ensures in
-    let next = c.and_part-sum.ensures in
-    let behind = next.rest ∙ part.rest in
     record {
-      rest = rest_turn left.rest c.loop-place-test.true c.index-parts-place.is behind;
-      sizes = sizes_turn left.sizes c.loop-place-test.true c.index-parts-place.is part.size behind next.tally;
-      sum = sum_turn left.sum c.loop-place-test.true c.index-parts-place.is part.bound behind next.bound;
+      rest = rest_turn left.rest c.loop-place-test.true c.index-parts-place.is part.rest;
+      sizes = sizes_turn left.sizes c.loop-place-test.true c.index-parts-place.is part.size part.rest c.with-tally.ensures;
+      sum = sum_turn left.sum c.loop-place-test.true c.index-parts-place.is part.bound part.rest c.saturating_add-bound.ensures;
     }
 
 pub parts_cost-returns : goal.parts_cost-returns
@@ -37,12 +35,10 @@ pub unit_parts_cost-loop-place-preserved : goal.unit_parts_cost-loop-place-prese
 unit_parts_cost-loop-place-preserved t c =
     let left = c.loop-place.invariant in
     let part = c.unit_cost-part.ensures in
-    let next = c.and_part-sum.ensures in
-    let behind = next.rest ∙ part.rest in
     record {
-      rest = rest_turn left.rest c.loop-place-test.true c.index-parts-place.is behind;
-      sizes = sizes_turn left.sizes c.loop-place-test.true c.index-parts-place.is part.size behind next.tally;
-      sum = sum_turn left.sum c.loop-place-test.true c.index-parts-place.is part.bound behind next.bound;
+      rest = rest_turn left.rest c.loop-place-test.true c.index-parts-place.is part.rest;
+      sizes = sizes_turn left.sizes c.loop-place-test.true c.index-parts-place.is part.size part.rest c.with-tally.ensures;
+      sum = sum_turn left.sum c.loop-place-test.true c.index-parts-place.is part.bound part.rest c.saturating_add-bound.ensures;
     }
 
 pub unit_parts_cost-returns : goal.unit_parts_cost-returns
@@ -115,53 +111,51 @@ pub cost-returns-in-Values : goal.cost-returns-in-Values
 cost-returns-in-Values t c =
     let indexed = c.args.indexes.now in
     let choices = c.args.choices.now in
-    let start = plan_of c.deref-in-Values.result.now in
-    let names = plans_of c.deref-in-Values-2.result.now in
     let is = values_are c.in-Values.start c.in-Values.names c.in-Values.is c.deref-in-Values.ensures c.deref-in-Values-2.ensures.value in
+    record {
+      size = c.values_cost.ensures.size ∙ sym (ap (size indexed choices) is);
+      bound = c.values_cost.ensures.bound ∙ sym (ap (λ (plan : Plan). capped (bound indexed choices plan)) is);
+      rest = c.values_cost.ensures.rest ∙ sym (ap (λ (plan : Plan). drop (leaves plan) choices) is);
+    }
+
+pub values_cost-returns : goal.values_cost-returns
+values_cost-returns t c =
+    let indexed = c.args.indexes.now in
+    let names = plans_of c.args.names.now in
     let from = c.cost-from.ensures in
     let types = c.parts_cost-types.ensures in
-    let count : c.len-in-Values.result ≡ plan_count names = omega (arith, plan_count-parts c.deref-in-Values-2.result.now) in
+    let count = sym (plan_count-parts c.args.names.now) in
     record {
-      size = c.with_parts-in-Values.ensures.size
-          ∙ c.values-own.ensures.size
-          ∙ (λ i. values_size indexed (count i) (from.size i))
-          ∙ sym (ap (size indexed choices) is);
+      size = c.with_parts.ensures.size ∙ c.values-own.ensures.size ∙ (λ i. values_size indexed (count i) (from.size i));
       bound = omega (
         arith,
-        ap (bound indexed choices) is,
         ap (λ (rest : List Choice). plans_sum (own_number indexed) rest names) from.rest,
         c.values-own.ensures.bound ∙ (λ i. capped (values_bound indexed (count i) (from.size i))),
       );
-      rest = c.with_parts-in-Values.ensures.rest ∙ behind_both _ _ choices (ap leaves is) from.rest types.rest;
+      rest = c.with_parts.ensures.rest ∙ behind_both _ _ c.args.choices.now refl from.rest types.rest;
     }
 
-pub cost-returns-in-Pairs : goal.cost-returns-in-Pairs
-cost-returns-in-Pairs t c =
+pub pairs_cost-returns : goal.pairs_cost-returns
+pairs_cost-returns t c =
     let indexed = c.args.indexes.now in
     let choices = c.args.choices.now in
-    let test = test_plan_of c.in-Pairs.test in
-    let types = plan_of c.deref-in-Pairs.result.now in
+    let test = test_plan_of c.args.test.now in
+    let types = plan_of c.args.types.now in
     let of_types = c.cost-of_types.ensures in
     let of_test = c.test_cost-of_test.ensures in
     let inside : c.after_first.result.now ≡ drop 1 choices = c.after_first.ensures in
     let behind = of_types.rest ∙ ap (drop (leaves types)) inside in
     let leaf = c.leaf-leaf.ensures
-    ∙ (λ i. leaf_of indexed (c.concepts-all.ensures i) c.in-Pairs.back c.in-Pairs.count
-    (plan_of ((c.deref-in-Pairs-2.ensures ∙ sym c.deref-in-Pairs.ensures) i)) test
+    ∙ (λ i. leaf_of indexed c.args.all c.args.back c.args.count types test
     ((of_types.size ∙ ap (λ (rest : List Choice). size indexed rest types) inside) i)
     ((of_test.size ∙ ap (λ (rest : List Choice). test_size indexed rest test) behind) i)) in
-    let is = pairs_are c.in-Pairs.types c.in-Pairs.is c.deref-in-Pairs.ensures in
     record {
-      size = c.with_two-in-Pairs.ensures.size
-          ∙ c.cost.ensures.size
-          ∙ (λ i. leaf_size (leaf i) (c.first_choice.ensures i))
-          ∙ sym (ap (size indexed choices) is);
-      bound = capped_three _ _ _ c.with_two-in-Pairs.ensures.bound
+      size = c.with_two.ensures.size ∙ c.cost.ensures.size ∙ (λ i. leaf_size (leaf i) (c.first_choice.ensures i));
+      bound = capped_three _ _ _ c.with_two.ensures.bound
           (c.cost.ensures.bound ∙ (λ i. capped (leaf_bound (leaf i) (c.first_choice.ensures i))))
           (of_types.bound ∙ ap (λ (rest : List Choice). capped (bound indexed rest types)) inside)
-          (of_test.bound ∙ ap (λ (rest : List Choice). capped (test_sum (own_number indexed) rest test)) behind)
-          ∙ sym (ap (λ (plan : Plan). capped (bound indexed choices plan)) is);
-      rest = c.with_two-in-Pairs.ensures.rest ∙ behind_leaf _ _ choices (ap leaves is) inside of_types.rest of_test.rest;
+          (of_test.bound ∙ ap (λ (rest : List Choice). capped (test_sum (own_number indexed) rest test)) behind);
+      rest = c.with_two.ensures.rest ∙ behind_leaf _ _ choices refl inside of_types.rest of_test.rest;
     }
 
 pub unit_cost-returns-in-And : goal.unit_cost-returns-in-And
@@ -219,33 +213,4 @@ unit_cost-returns-in-Minus t c =
           left.bound (right.bound ∙ ap (λ (rest : List Choice). capped (group_sum (own_number indexed) rest second)) left.rest)
           ∙ sym (ap (λ (plan : PlanOfUnits). capped (group_sum (own_number indexed) choices plan)) is);
       rest = c.with_two.ensures.rest ∙ behind_both _ _ choices (ap group_leaves is) left.rest right.rest;
-    }
-
-pub unit_cost-returns-in-Pairs : goal.unit_cost-returns-in-Pairs
-unit_cost-returns-in-Pairs t c =
-    let indexed = c.args.indexes.now in
-    let choices = c.args.choices.now in
-    let test = test_plan_of c.in-Pairs.test in
-    let types = plan_of c.deref-in-Pairs.result.now in
-    let of_types = c.cost-of_types.ensures in
-    let of_test = c.test_cost-of_test.ensures in
-    let inside : c.after_first.result.now ≡ drop 1 choices = c.after_first.ensures in
-    let behind = of_types.rest ∙ ap (drop (leaves types)) inside in
-    let leaf = c.leaf-leaf.ensures
-    ∙ (λ i. leaf_of indexed (c.groups-all.ensures i) false c.in-Pairs.count
-    (plan_of ((c.deref-in-Pairs-2.ensures ∙ sym c.deref-in-Pairs.ensures) i)) test
-    ((of_types.size ∙ ap (λ (rest : List Choice). size indexed rest types) inside) i)
-    ((of_test.size ∙ ap (λ (rest : List Choice). test_size indexed rest test) behind) i)) in
-    let is = pairs_units_are c.in-Pairs.types c.in-Pairs.is c.deref-in-Pairs.ensures in
-    record {
-      size = c.with_two-in-Pairs.ensures.size
-          ∙ c.cost.ensures.size
-          ∙ (λ i. leaf_size (leaf i) (c.first_choice.ensures i))
-          ∙ sym (ap (group_size indexed choices) is);
-      bound = capped_three _ _ _ c.with_two-in-Pairs.ensures.bound
-          (c.cost.ensures.bound ∙ (λ i. capped (leaf_bound (leaf i) (c.first_choice.ensures i))))
-          (of_types.bound ∙ ap (λ (rest : List Choice). capped (bound indexed rest types)) inside)
-          (of_test.bound ∙ ap (λ (rest : List Choice). capped (test_sum (own_number indexed) rest test)) behind)
-          ∙ sym (ap (λ (plan : PlanOfUnits). capped (group_sum (own_number indexed) choices plan)) is);
-      rest = c.with_two-in-Pairs.ensures.rest ∙ behind_leaf _ _ choices (ap group_leaves is) inside of_types.rest of_test.rest;
     }

@@ -1,11 +1,11 @@
-use Rattle.std.proofs.Common.{◌∙◌, List, ap, arith}
+use Rattle.std.proofs.Common.{◌∙◌, List, ap, arith, refl}
 use Rattle.set_algebra.specs.Plan.{plan_of, plans_of}
 use Rattle.set_algebra.specs.declared.choice.Choice.{Choice}
 use Rattle.planner.specs.Floors.{floor, floor_number}
 use Rattle.planner.specs.Leaves.{group_leaves, leaves}
 use Rattle.planner.specs.Nodes.{plans_sum}
 use Rattle.planner.proofs.LoopLemmas.{rest_end, rest_turn, sum_end, sum_turn}
-use Rattle.planner.proofs.PartLemmas.{behind_both, behind_leaf, pairs_are, pairs_units_are, values_are}
+use Rattle.planner.proofs.PartLemmas.{behind_both, behind_leaf, minus_are, minus_units_are, values_are}
 use Rattle.planner.proofs.floors.+floor.Goals as goal
 
 pub parts_floor-loop-place-preserved : goal.parts_floor-loop-place-preserved
@@ -38,6 +38,18 @@ unit_parts_floor-returns t c = record {
   rest = rest_end c.loop-place.invariant.rest c.loop-place-test.false;
 }
 
+pub plan_floor-returns-in-Minus-clause-rest : goal.plan_floor-returns-in-Minus-clause-rest
+plan_floor-returns-in-Minus-clause-rest t c =
+    let is = minus_are c.in-Minus.first c.in-Minus.second c.in-Minus.is c.deref-in-Minus.ensures c.deref-in-Minus-2.ensures in
+    c.floor_behind-in-Minus.ensures.rest
+    ∙ behind_both _ _ c.args.choices.now (ap leaves is) c.plan_floor-left.ensures.rest c.plan_floor-right.ensures.rest
+
+pub unit_floor-returns-in-Minus-clause-rest : goal.unit_floor-returns-in-Minus-clause-rest
+unit_floor-returns-in-Minus-clause-rest t c =
+    let is = minus_units_are c.in-Minus.first c.in-Minus.second c.in-Minus.is c.deref.ensures c.deref-in-Minus.ensures in
+    c.floor_behind.ensures.rest
+    ∙ behind_both _ _ c.args.choices.now (ap group_leaves is) c.unit_floor-left.ensures.rest c.unit_floor-right.ensures.rest
+
 pub plan_floor-returns-in-Values : goal.plan_floor-returns-in-Values
 plan_floor-returns-in-Values t c =
     let indexed = c.args.indexes.now in
@@ -55,16 +67,7 @@ plan_floor-returns-in-Values t c =
       rest = c.floor_behind-in-Values.ensures.rest ∙ behind_both _ _ choices (ap leaves is) behind c.parts_floor-types.ensures.rest;
     }
 
-pub plan_floor-returns-in-Pairs-clause-rest : goal.plan_floor-returns-in-Pairs-clause-rest
-plan_floor-returns-in-Pairs-clause-rest t c =
-    let choices = c.args.choices.now in
-    let is = pairs_are c.in-Pairs.types c.in-Pairs.is c.deref-in-Pairs.ensures in
+pub pairs_floor-returns-clause-rest : goal.pairs_floor-returns-clause-rest
+pairs_floor-returns-clause-rest t c =
     c.with_leaf.ensures.rest
-    ∙ behind_leaf _ _ choices (ap leaves is) c.after_first.ensures c.plan_floor-of_types.ensures.rest c.test_floor-of_test.ensures.rest
-
-pub unit_floor-returns-in-Pairs-clause-rest : goal.unit_floor-returns-in-Pairs-clause-rest
-unit_floor-returns-in-Pairs-clause-rest t c =
-    let choices = c.args.choices.now in
-    let is = pairs_units_are c.in-Pairs.types c.in-Pairs.is c.deref-in-Pairs.ensures in
-    c.with_leaf.ensures.rest
-    ∙ behind_leaf _ _ choices (ap group_leaves is) c.after_first.ensures c.plan_floor-of_types.ensures.rest c.test_floor-of_test.ensures.rest
+    ∙ behind_leaf _ _ c.args.choices.now refl c.after_first.ensures c.plan_floor-of_types.ensures.rest c.test_floor-of_test.ensures.rest

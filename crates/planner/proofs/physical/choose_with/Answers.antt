@@ -1,36 +1,10 @@
-use Rattle.std.proofs.Common.{◌∙◌, [], List, length, ap, subst, sym, arith}
-use Rattle.set_algebra.specs.Plan.{plan_of}
-use Rattle.set_algebra.specs.declared.choice.Choice.{Choice}
-use Rattle.planner.specs.Leads.{leads}
-use Rattle.planner.specs.Offered.{AreOffered}
-use Rattle.planner.specs.Chosen.{chosen, least_choices}
-use Rattle.planner.proofs.AskedLemmas.{chosen-asked}
-use Rattle.planner.proofs.FrontLemmas.{length-chosen}
-use Rattle.planner.proofs.OfferedLemmas.{chosen_are_offered, none_refused}
 use Rattle.planner.proofs.physical.choose_with.Goals as goal
 
 pub invariant_of-result : goal.invariant_of-result
 invariant_of-result c =
-    let indexed = c.args.indexes.now in
-    let plan = plan_of c.args.plan in
-    let asked = c.args.asked.now in
-    let others = c.as_slice.result.now in
-    let given = c.in_ok-chosen.ensures.choices in
-    let others_are = c.as_slice.ensures.value ∙ c.in_ok-least.ensures.choices in
-    let others_offered = subst (λ (choices : List Choice). AreOffered choices plan) (sym others_are)
-    (chosen_are_offered indexed [] [] plan (none_refused plan)) in
+    let chosen = c.in_ok-chosen.ensures in
     record {
-      count = ap (λ (choices : List Choice). length choices) given ∙ length-chosen indexed asked others plan;
-      offered = subst (λ (choices : List Choice). AreOffered choices plan) (sym given) (chosen_are_offered indexed asked others plan others_offered);
-      led = (indexed, c.in_ok-chosen.ensures.leads ∙ (λ i. leads indexed (sym given i) plan));
+      count = chosen.count;
+      offered = chosen.offered;
+      led = (c.args.indexes.now, chosen.leads);
     }
-
-pub returns-clause-choices : goal.returns-clause-choices
-returns-clause-choices c =
-    let indexed = c.args.indexes.now in
-    let plan = plan_of c.args.plan in
-    let asked = c.args.asked.now in
-    let others_are = c.as_slice.ensures.value ∙ c.in_ok-least.ensures.choices in
-    c.in_ok-chosen.ensures.choices
-    ∙ ap (λ (others : List Choice). chosen indexed asked others plan) others_are
-    ∙ chosen-asked indexed asked (least_choices indexed plan) plan (omega (arith, length-chosen indexed [] [] plan))
