@@ -1,7 +1,8 @@
 -- The plans of lists joined, and of a list made of another.
 use Rattle.std.proofs.Common.{ℕ, ◌≡◌, ◌<◌, ◌≤◌, ◌+◌, List, [], ◌∷◌, ◌++◌, length, get_or, take, map, refl}
-use Rattle.std.proofs.Common.{sym, ap, ◌∙◌}
+use Rattle.std.proofs.Common.{sym, ap, ◌∙◌, Result, Ok, IfOk}
 use Rattle.std.proofs.lemmas.List.{take_all, map_push, map_more}
+use Rattle.std.proofs.lemmas.Result.{IfOk-at_ok}
 use Rattle.set_algebra.specs.declared.plan.ConceptPlan.{ConceptPlan}
 use Rattle.set_algebra.specs.declared.plan.UnitPlan.{UnitPlan}
 use Rattle.set_algebra.specs.Plan.{Plan, plans_from, plan_of, plans_of, plan_then, PlanOfUnits, units_from}
@@ -24,7 +25,7 @@ unit_plans_of_joined (first ∷ rest) others = ap (unit_plan_then (unit_plan_of 
 module _ {Part Made P : Type 0} (look : Made → P) (make : Part → P) (made : List Made) (parts : List Part)
     (i : ℕ) where
   -- one more turn
-  pub made_more :
+  made_more :
       (next : List Made) (new : Made) (part : Part)
       → next ≡ made ++ new ∷ [] → i < length parts → part ≡ get_or parts i part
       → map look made ≡ map make (take i parts) → look new ≡ make part
@@ -35,6 +36,14 @@ module _ {Part Made P : Type 0} (look : Made → P) (make : Part → P) (made : 
       ∙ ap (λ (plans : List P). plans ++ look new ∷ []) so_far
       ∙ ap (λ (plan : P). map make (take i parts) ++ plan ∷ []) (one ∙ ap make part_is)
       ∙ sym (map_more make parts i part within)
+
+  pub more_made : {E : Type 0} (next : List Made) (new : Result Made E) (part : Part)
+      → (last : Made) × (new ≡ Ok last) × (next ≡ made ++ last ∷ []) → i < length parts → part ≡ get_or parts i part
+      → map look made ≡ map make (take i parts) → IfOk new (λ last. look last ≡ make part)
+      → map look next ≡ map make (take (i + 1) parts)
+  more_made next new part told within part_is so_far one =
+      made_more next told.0 part told.2 within part_is so_far
+      (IfOk-at_ok (λ (last : Made). look last ≡ make part) told.1 one)
 
   -- after the last turn an item is made of each
   pub all_made : length parts ≤ i → map look made ≡ map make (take i parts) → map look made ≡ map make parts

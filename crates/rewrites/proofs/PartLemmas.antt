@@ -10,7 +10,7 @@ use Rattle.set_algebra.specs.Plan.{PlansOfUnits, no_unit_plans, unit_plan_then, 
 use Rattle.set_algebra.specs.Plan.{unit_plans_of}
 use Rattle.rewrites.specs.declared.connective.Connective.{Connective}
 use Rattle.rewrites.specs.declared.connective.Connective.TheVariants.{And, Or}
-use Rattle.rewrites.specs.declared.rule.Rule.TheVariants.{Turn, Pair, Same}
+use Rattle.rewrites.specs.declared.rule.Rule.TheVariants.{Turn, Join, Pair, Same}
 use Rattle.rewrites.specs.Counts.{only_if}
 use Rattle.rewrites.specs.inside.Connected.{connected, connected_groups}
 use Rattle.rewrites.specs.PlanLists.{plans_then, plans_joined, groups_then, groups_joined}
@@ -42,6 +42,13 @@ not_turned Or (first ∷ []) few = refl
 not_turned connective (first ∷ (second ∷ rest)) few = absurd (omega arith)
 
 pub ruleset turning = (turned, not_turned)
+
+-- Join takes the parts of a first part of the same connective up among the others
+pub joined : (connective : Connective) (parts rest : Plans)
+    → rewritten Join (connected connective (plan_then (connected connective parts) rest))
+    ≡ Some (connected connective (plans_joined parts rest))
+joined And parts rest = refl
+joined Or parts rest = refl
 
 -- Pair takes the first two of three parts or more together, and makes nothing of fewer
 pub paired : (connective : Connective) (parts : List ConceptPlan) → 3 ≤ length parts
@@ -125,6 +132,12 @@ group_not_turned Or (first ∷ []) few = refl
 group_not_turned connective (first ∷ (second ∷ rest)) few = absurd (omega arith)
 
 pub ruleset group_turning = (group_turned, group_not_turned)
+
+pub groups_joined_up : (connective : Connective) (parts rest : PlansOfUnits)
+    → rewritten_group Join (connected_groups connective (unit_plan_then (connected_groups connective parts) rest))
+    ≡ Some (connected_groups connective (groups_joined parts rest))
+groups_joined_up And parts rest = refl
+groups_joined_up Or parts rest = refl
 
 pub group_paired : (connective : Connective) (parts : List UnitPlan) → 3 ≤ length parts
     → rewritten_group Pair (connected_groups connective (unit_plans_of parts))

@@ -32,17 +32,15 @@ made_of make own count both is told =
     made_at make own.min own.max ∙ ap (option_map make) (sym (told ∙ ap (option_and_then parts_of) is))
 
 -- RangeSplit makes the And of the plan with the one part and with the other for its count
-pub range_split_made : (plan one other new : Plan) (count least most : Cardinality) → Some count ≡ count_of plan
-    → Some (least, most) ≡ parts_of count → one ≡ with_count least plan → other ≡ with_count most plan
-    → new ≡ both_plan one other → rewritten RangeSplit plan ≡ Some new
-range_split_made (pairs_plan back own types test) one other new count least most is told one_is other_is new_is =
+pub range_split_made : (plan : Plan) (count least most : Cardinality) → Some count ≡ count_of plan
+    → Some (least, most) ≡ parts_of count
+    → rewritten RangeSplit plan ≡ Some (both_plan (with_count least plan) (with_count most plan))
+range_split_made (pairs_plan back own types test) count least most is told =
     made_of
     (λ (both : Cardinality × Cardinality).
     both_plan (pairs_plan back both.0 types test) (pairs_plan back both.1 types test))
     own count (least, most) is told
-    ∙ rw (new_is, one_is, other_is)
-range_split_made (units_plan own units) one other new count least most is told one_is other_is new_is =
+range_split_made (units_plan own units) count least most is told =
     made_of (λ (both : Cardinality × Cardinality). both_plan (units_plan both.0 units) (units_plan both.1 units)) own count
     (least, most) is told
-    ∙ rw (new_is, one_is, other_is)
-range_split_made plan one other new count least most is told one_is other_is new_is = cc
+range_split_made plan count least most is told = cc

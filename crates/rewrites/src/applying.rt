@@ -1,5 +1,5 @@
 //! Rules used at places of a plan that is given, one after another.
-ghost use Rattle.std.specs.Prelude.{◌≡◌, ◌≤◌, is_some, unwrap_or, IfOk, IfErr};
+ghost use Rattle.std.specs.Prelude.{◌≡◌, ◌≤◌, ◌<◌, is_some, unwrap_or, IfOk, IfErr};
 ghost use Rattle.set_algebra.specs.Depth.{plan_depth};
 ghost use Rattle.set_algebra.specs.Plan.{plan_of};
 ghost use Rattle.rewrites.specs.RulesAtPlaces.{Makes, MakesNothing, MakesTooDeep, AlwaysMeanTheSame};
@@ -52,14 +52,40 @@ fn new_plan(
     ensures not_applicable { IfErr result (λ fault. fault ≡ NotApplicable → MakesNothing rule place.now (plan_of plan.now)) }
     ensures too_deep { IfErr result (λ fault. fault ≡ TooDeep → MakesTooDeep rule place.now (plan_of plan.now)) }
 {
-    let mut new = plan.copy(alloc)?;
-    let fault = match change(alloc, &mut new, rule, place) {
-        Ok(true) if new.depth() <= DEEPEST => return Ok(new),
-        Ok(true) => ApplyFault::TooDeep,
-        Ok(false) => ApplyFault::NotApplicable,
-        Err(AllocError) => ApplyFault::Memory,
-    };
-    Err(fault)
+    let copy = plan.copy(alloc)?;
+    changed(alloc, copy, rule, place)
+}
+
+// The same of the plan itself, which is spent on a fault.
+fn changed(
+    alloc: Global,
+    plan: ConceptPlan,
+    rule: Rule,
+    place: &[u32],
+) -> Result<ConceptPlan, ApplyFault>
+    ensures taken { IfOk result (λ new. Makes rule place.now (plan_of plan) (plan_of new)) }
+    ensures shallow { IfOk result (λ new. plan_depth (plan_of new) ≤ 1024) }
+    ensures not_applicable { IfErr result (λ fault. fault ≡ NotApplicable → MakesNothing rule place.now (plan_of plan)) }
+    ensures too_deep { IfErr result (λ fault. fault ≡ TooDeep → MakesTooDeep rule place.now (plan_of plan)) }
+{
+    let mut new = plan;
+    match change(alloc, &mut new, rule, place) {
+        Ok(true) => if_shallow(new),
+        Ok(false) => Err(ApplyFault::NotApplicable),
+        Err(AllocError) => Err(ApplyFault::Memory),
+    }
+}
+
+// The plan, where it is not too deep.
+fn if_shallow(plan: ConceptPlan) -> Result<ConceptPlan, ApplyFault>
+    ensures same { IfOk result (λ same. same ≡ plan) }
+    ensures shallow { IfOk result (λ same. plan_depth (plan_of plan) ≤ 1024) }
+    ensures deep { IfErr result (λ fault. (fault ≡ TooDeep) × (1024 < plan_depth (plan_of plan))) }
+{
+    if plan.depth() > DEEPEST {
+        return Err(ApplyFault::TooDeep);
+    }
+    Ok(plan)
 }
 
 /// The plan after the steps in their order, and how many of them were used. A step that `apply` answers with

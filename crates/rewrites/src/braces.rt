@@ -1,17 +1,20 @@
 //! Rules of braces: BraceOr, BraceOne and BraceGuard.
-ghost use Rattle.std.specs.Prelude.{◌≡◌, IfOk};
-ghost use Rattle.set_algebra.specs.Plan.{plan_of, plans_of, unit_plans_of, units_plan};
+ghost use Rattle.std.specs.Prelude.{◌≡◌, false, IfOk};
+ghost use Rattle.set_algebra.specs.Lowering.{both_plan};
+ghost use Rattle.set_algebra.specs.Plan.{plan_of, plans_of, test_plan_of, unit_plan_of, unit_plans_of, pairs_plan, units_plan};
+ghost use Rattle.rewrites.specs.Counts.{at_least};
 ghost use Rattle.rewrites.specs.inside.Gives.{Gives};
 ghost use Rattle.rewrites.specs.PlanLists.{plans_of_each};
 ghost use Rattle.rewrites.specs.Rules.{rewritten};
 ghost use Rattle.rewrites.specs.declared.rule.Rule.TheVariants.{BraceOr, BraceOne, BraceGuard};
 
+use crate::connective::{Connective, given_parts};
 use crate::counts::{asks_none, asks_some, at_least};
 use crate::fault::RuleFault;
-use crate::made::{both, pairs, units};
+use crate::made::{both, given, more, pairs, units};
 use constraint_tree::Cardinality;
 use set_algebra::views::{first_unit_of, unit_and_of, unit_or_of, unit_pairs_of, units_of};
-use set_algebra::{ConceptPlan, UnitPlan};
+use set_algebra::{ConceptPlan, UnitPlan, ValueTest};
 use std::alloc::{AllocError, Global};
 
 #[tactic(auto, using(set_algebra::proofs::PlanLemmas::plans_of_items))]
@@ -22,10 +25,10 @@ pub(crate) fn brace_or(alloc: Global, plan: &ConceptPlan) -> Result<ConceptPlan,
         && let Ok(parts) = unit_or_of(groups)
     {
         if asks_some(count) {
-            return Ok(ConceptPlan::Or(each_units(alloc, count, parts)?));
+            return given_parts(Connective::Or, each_units(alloc, count, parts));
         }
         if asks_none(count) {
-            return Ok(ConceptPlan::And(each_units(alloc, count, parts)?));
+            return given_parts(Connective::And, each_units(alloc, count, parts));
         }
     }
     Err(RuleFault::NotApplicable)
@@ -40,8 +43,7 @@ fn each_units(
 {
     let mut made = Vec::new(alloc);
     for part in parts {
-        let new = units(alloc, count, part)?;
-        made.push(new)?;
+        made = more(made, units(alloc, count, part))?;
     }
     Ok(made)
 }
@@ -54,7 +56,7 @@ pub(crate) fn brace_one(alloc: Global, plan: &ConceptPlan) -> Result<ConceptPlan
         && (asks_some(count) || asks_none(count))
         && asks_some(some)
     {
-        return Ok(pairs(alloc, false, count, types, test)?);
+        return given(pairs(alloc, false, count, types, test));
     }
     Err(RuleFault::NotApplicable)
 }
@@ -69,9 +71,22 @@ pub(crate) fn brace_guard(alloc: Global, plan: &ConceptPlan) -> Result<ConceptPl
         && count.min >= 1
         && some.min >= 1
     {
-        let guard = pairs(alloc, false, at_least(1), types, test)?;
-        let guarded = units(alloc, count, groups)?;
-        return Ok(both(alloc, guard, guarded)?);
+        return given(guarded(alloc, count, groups, types, test));
     }
     Err(RuleFault::NotApplicable)
+}
+
+// Forward pairs [1..*], and the groups with their count.
+fn guarded(
+    alloc: Global,
+    count: Cardinality,
+    groups: &UnitPlan,
+    types: &ConceptPlan,
+    test: &ValueTest,
+) -> Result<ConceptPlan, AllocError>
+    ensures { IfOk result (λ new. plan_of new ≡ both_plan (pairs_plan false (at_least 1) (plan_of types.now) (test_plan_of test.now)) (units_plan count (unit_plan_of groups.now))) }
+{
+    let guard = pairs(alloc, false, at_least(1), types, test);
+    let groups = units(alloc, count, groups);
+    both(alloc, guard, groups)
 }

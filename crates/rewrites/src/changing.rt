@@ -1,5 +1,5 @@
 //! A rule at a place, in place.
-ghost use Rattle.std.specs.Prelude.{suc, ◌≡◌, ◌∷◌, Bool, IfOk, option_map};
+ghost use Rattle.std.specs.Prelude.{suc, ◌≡◌, ◌≤◌, ◌∷◌, Bool, IfOk, option_map};
 ghost use Rattle.set_algebra.specs.Plan.{Plan, plan_of, plans_of, unit_plan_of, unit_plans_of, test_plan_of, and_plan, or_plan, values_plan, pairs_plan, and_units, or_units, pairs_units};
 ghost use Rattle.set_algebra.specs.Places.{concept_node, group_node};
 ghost use Rattle.constraint_tree.specs.declared.operator.Cardinality.{Cardinality};
@@ -24,23 +24,54 @@ pub(crate) fn change(
 ) -> Result<bool, AllocError>
     ensures { IfOk result (λ fits. only_if fits (concept_node (plan_of plan.new)) ≡ rewritten_at rule place.now (concept_node (plan_of plan.old))) }
 {
-    let Some((number, rest)) = place.split_first() else {
-        let fits = change_here(alloc, plan, rule)?;
-        return Ok(fits);
-    };
-    let number = *number;
+    match place.split_first() {
+        None => change_here(alloc, plan, rule),
+        Some((0, rest)) => change_first(alloc, plan, rule, rest),
+        Some((number, rest)) => change_later(alloc, plan, rule, *number, rest),
+    }
+}
+
+// The same in the first child.
+#[cycle(change)]
+fn change_first(
+    alloc: Global,
+    plan: &mut ConceptPlan,
+    rule: Rule,
+    rest: &[u32],
+) -> Result<bool, AllocError>
+    ensures { IfOk result (λ fits. only_if fits (concept_node (plan_of plan.new)) ≡ rewritten_at rule (0 ∷ rest.now) (concept_node (plan_of plan.old))) }
+{
     match plan {
-        ConceptPlan::Walk(_, operand) if number == 0 => change(alloc, operand, rule, rest),
-        ConceptPlan::Members(operand) if number == 0 => change(alloc, operand, rule, rest),
+        ConceptPlan::Walk(_, operand) => change(alloc, operand, rule, rest),
+        ConceptPlan::Members(operand) => change(alloc, operand, rule, rest),
+        ConceptPlan::And(parts) => change_part(alloc, parts, rule, 0, rest),
+        ConceptPlan::Or(parts) => change_part(alloc, parts, rule, 0, rest),
+        ConceptPlan::Minus(first, _) => change(alloc, first, rule, rest),
+        ConceptPlan::Values(start, _) => change(alloc, start, rule, rest),
+        ConceptPlan::Pairs { types, .. } => change(alloc, types, rule, rest),
+        ConceptPlan::Units { units, .. } => change_unit(alloc, units, rule, rest),
+        _ => Ok(false),
+    }
+}
+
+// The same in a later child.
+#[cycle(change)]
+fn change_later(
+    alloc: Global,
+    plan: &mut ConceptPlan,
+    rule: Rule,
+    number: u32,
+    rest: &[u32],
+) -> Result<bool, AllocError>
+    requires { 1 ≤ number }
+    ensures { IfOk result (λ fits. only_if fits (concept_node (plan_of plan.new)) ≡ rewritten_at rule (number ∷ rest.now) (concept_node (plan_of plan.old))) }
+{
+    match plan {
+        ConceptPlan::Values(_start, names) => change_part(alloc, names, rule, number - 1, rest),
+        ConceptPlan::Pairs { test, .. } => change_test(alloc, test, rule, number - 1, rest),
+        ConceptPlan::Minus(_, second) if number == 1 => change(alloc, second, rule, rest),
         ConceptPlan::And(parts) => change_part(alloc, parts, rule, number, rest),
         ConceptPlan::Or(parts) => change_part(alloc, parts, rule, number, rest),
-        ConceptPlan::Minus(first, _) if number == 0 => change(alloc, first, rule, rest),
-        ConceptPlan::Minus(_, second) if number == 1 => change(alloc, second, rule, rest),
-        ConceptPlan::Values(start, _) if number == 0 => change(alloc, start, rule, rest),
-        ConceptPlan::Values(_, names) => change_part(alloc, names, rule, number - 1, rest),
-        ConceptPlan::Pairs { types, .. } if number == 0 => change(alloc, types, rule, rest),
-        ConceptPlan::Pairs { test, .. } => change_test(alloc, test, rule, number - 1, rest),
-        ConceptPlan::Units { units, .. } if number == 0 => { change_unit(alloc, units, rule, rest) }
         _ => Ok(false),
     }
 }
@@ -76,8 +107,7 @@ fn change_part(
     if number >= parts.len() {
         return Ok(false);
     }
-    let fits = change(alloc, &mut parts[number], rule, place)?;
-    Ok(fits)
+    change(alloc, &mut parts[number], rule, place)
 }
 
 // The same in the plan of a test, which has the number 0 here.
@@ -92,10 +122,13 @@ fn change_test(
     ensures pairs { IfOk result (λ fits. (back : Bool) (count : Cardinality) (types : Plan) → only_if fits (concept_node (pairs_plan back count types (test_plan_of test.new))) ≡ rewritten_at rule (suc number ∷ place.now) (concept_node (pairs_plan back count types (test_plan_of test.old)))) }
     ensures unit { IfOk result (λ fits. (count : Cardinality) (types : Plan) → only_if fits (group_node (pairs_units count types (test_plan_of test.new))) ≡ rewritten_at rule (suc number ∷ place.now) (group_node (pairs_units count types (test_plan_of test.old)))) }
 {
+    if number != 0 {
+        return Ok(false);
+    }
     match test {
-        ValueTest::Within(operand) if number == 0 => change(alloc, operand, rule, place),
-        ValueTest::Outside(operand) if number == 0 => change(alloc, operand, rule, place),
-        _ => Ok(false),
+        ValueTest::Within(operand) => change(alloc, operand, rule, place),
+        ValueTest::Outside(operand) => change(alloc, operand, rule, place),
+        ValueTest::Number(_, _) => Ok(false),
     }
 }
 
@@ -109,17 +142,46 @@ fn change_unit(
 ) -> Result<bool, AllocError>
     ensures { IfOk result (λ fits. only_if fits (group_node (unit_plan_of plan.new)) ≡ rewritten_at rule place.now (group_node (unit_plan_of plan.old))) }
 {
-    let Some((number, rest)) = place.split_first() else {
-        let fits = change_unit_here(alloc, plan, rule)?;
-        return Ok(fits);
-    };
-    let number = *number;
+    match place.split_first() {
+        None => change_unit_here(alloc, plan, rule),
+        Some((0, rest)) => change_unit_first(alloc, plan, rule, rest),
+        Some((number, rest)) => change_unit_later(alloc, plan, rule, *number, rest),
+    }
+}
+
+#[cycle(change)]
+fn change_unit_first(
+    alloc: Global,
+    plan: &mut UnitPlan,
+    rule: Rule,
+    rest: &[u32],
+) -> Result<bool, AllocError>
+    ensures { IfOk result (λ fits. only_if fits (group_node (unit_plan_of plan.new)) ≡ rewritten_at rule (0 ∷ rest.now) (group_node (unit_plan_of plan.old))) }
+{
+    match plan {
+        UnitPlan::And(parts) => change_unit_part(alloc, parts, rule, 0, rest),
+        UnitPlan::Or(parts) => change_unit_part(alloc, parts, rule, 0, rest),
+        UnitPlan::Minus(first, _) => change_unit(alloc, first, rule, rest),
+        UnitPlan::Pairs { types, .. } => change(alloc, types, rule, rest),
+        _ => Ok(false),
+    }
+}
+
+#[cycle(change)]
+fn change_unit_later(
+    alloc: Global,
+    plan: &mut UnitPlan,
+    rule: Rule,
+    number: u32,
+    rest: &[u32],
+) -> Result<bool, AllocError>
+    requires { 1 ≤ number }
+    ensures { IfOk result (λ fits. only_if fits (group_node (unit_plan_of plan.new)) ≡ rewritten_at rule (number ∷ rest.now) (group_node (unit_plan_of plan.old))) }
+{
     match plan {
         UnitPlan::And(parts) => change_unit_part(alloc, parts, rule, number, rest),
         UnitPlan::Or(parts) => change_unit_part(alloc, parts, rule, number, rest),
-        UnitPlan::Minus(first, _) if number == 0 => change_unit(alloc, first, rule, rest),
         UnitPlan::Minus(_, second) if number == 1 => change_unit(alloc, second, rule, rest),
-        UnitPlan::Pairs { types, .. } if number == 0 => change(alloc, types, rule, rest),
         UnitPlan::Pairs { test, .. } => change_test(alloc, test, rule, number - 1, rest),
         _ => Ok(false),
     }
@@ -153,6 +215,5 @@ fn change_unit_part(
     if number >= parts.len() {
         return Ok(false);
     }
-    let fits = change_unit(alloc, &mut parts[number], rule, place)?;
-    Ok(fits)
+    change_unit(alloc, &mut parts[number], rule, place)
 }

@@ -1,10 +1,13 @@
 //! And and Or alike, for the rules that are the same of both.
-ghost use Rattle.std.specs.Prelude.{◌≡◌, false, None, MatchResult};
-ghost use Rattle.set_algebra.specs.Plan.{plan_of, plans_of, unit_plan_of, unit_plans_of};
+ghost use Rattle.std.specs.Prelude.{◌≡◌, false, Some, None, MatchResult, IfOk};
+ghost use Rattle.set_algebra.specs.Plan.{Plans, PlansOfUnits, plan_of, plans_of, unit_plan_of, unit_plans_of};
 ghost use Rattle.rewrites.specs.inside.Connected.{connected, is_connected, parts_under, connected_groups, is_connected_group, group_parts_under};
+ghost use Rattle.rewrites.specs.inside.Gives.{Gives, GivesGroup};
 
+use crate::fault::RuleFault;
 use set_algebra::views::{OtherForm, and_of, or_of, unit_and_of, unit_or_of};
 use set_algebra::{ConceptPlan, UnitPlan};
+use std::alloc::AllocError;
 
 // Which of the two connects the parts of a plan.
 #[derive(Clone, Copy)]
@@ -48,6 +51,19 @@ pub(crate) fn connected(connective: Connective, parts: Vec<ConceptPlan>) -> Conc
     }
 }
 
+// What a rule answers that makes a plan of these parts.
+pub(crate) fn given_parts(
+    connective: Connective,
+    made: Result<Vec<ConceptPlan>, AllocError>,
+) -> Result<ConceptPlan, RuleFault>
+    ensures { (plans : Plans) → IfOk made (λ parts. plans_of parts.items ≡ plans) → Gives (Some (connected connective plans)) result }
+{
+    match made {
+        Ok(parts) => Ok(connected(connective, parts)),
+        Err(AllocError) => Err(RuleFault::Memory),
+    }
+}
+
 // The same of plans of groups.
 #[tactic(auto, using(set_algebra::proofs::PlanLemmas::plans_of_items))]
 pub(crate) fn unit_parts_of(plan: &UnitPlan) -> Result<(Connective, &[UnitPlan]), OtherForm>
@@ -79,5 +95,17 @@ pub(crate) fn connected_units(connective: Connective, parts: Vec<UnitPlan>) -> U
     match connective {
         Connective::And => UnitPlan::And(parts),
         Connective::Or => UnitPlan::Or(parts),
+    }
+}
+
+pub(crate) fn given_unit_parts(
+    connective: Connective,
+    made: Result<Vec<UnitPlan>, AllocError>,
+) -> Result<UnitPlan, RuleFault>
+    ensures { (plans : PlansOfUnits) → IfOk made (λ parts. unit_plans_of parts.items ≡ plans) → GivesGroup (Some (connected_groups connective plans)) result }
+{
+    match made {
+        Ok(parts) => Ok(connected_units(connective, parts)),
+        Err(AllocError) => Err(RuleFault::Memory),
     }
 }

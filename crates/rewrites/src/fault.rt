@@ -1,7 +1,6 @@
 //! Why a rule makes no plan.
 ghost use Rattle.std.specs.Prelude.{◌≡◌};
 
-use set_algebra::views::OtherForm;
 use std::alloc::AllocError;
 use thiserror::Error;
 
@@ -50,24 +49,4 @@ impl From<AllocError> for ApplyFault {
 pub(crate) enum RuleFault {
     NotApplicable,
     Memory,
-}
-
-impl From<AllocError> for RuleFault {
-    ghost use Rattle.rewrites.specs.declared.fault.RuleFault.TheVariants.{Memory};
-
-    ghost from_gives = { λ _ fault. fault ≡ Memory };
-
-    fn from(_error: AllocError) -> RuleFault {
-        RuleFault::Memory
-    }
-}
-
-impl From<OtherForm> for RuleFault {
-    ghost use Rattle.rewrites.specs.declared.fault.RuleFault.TheVariants.{NotApplicable};
-
-    ghost from_gives = { λ _ fault. fault ≡ NotApplicable };
-
-    fn from(_form: OtherForm) -> RuleFault {
-        RuleFault::NotApplicable
-    }
 }

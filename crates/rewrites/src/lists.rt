@@ -1,8 +1,9 @@
 //! Lists of plans, made of copies.
 ghost use Rattle.std.specs.Prelude.{◌≡◌, IfOk};
-ghost use Rattle.set_algebra.specs.Plan.{plan_of, plans_of, plan_then, and_plan};
+ghost use Rattle.set_algebra.specs.Plan.{Plans, plan_of, plans_of, plan_then, and_plan};
 ghost use Rattle.rewrites.specs.PlanLists.{plans_joined, plans_each};
 
+use crate::made::more;
 use set_algebra::ConceptPlan;
 use set_algebra::copy::each;
 use std::alloc::{AllocError, Global};
@@ -16,10 +17,22 @@ pub(crate) fn joined(
 ) -> Result<Vec<ConceptPlan>, AllocError>
     ensures { IfOk result (λ both. plans_of both.items ≡ plans_joined (plans_of parts.now) (plans_of others.now)) }
 {
-    let mut both = each(alloc, parts)?;
+    with_copies(alloc, each(alloc, parts), others)
+}
+
+// A list with copies of others after it.
+#[tactic(auto, using(crate::proofs::ListLemmas::plans_of_joined))]
+fn with_copies(
+    alloc: Global,
+    parts: Result<Vec<ConceptPlan>, AllocError>,
+    others: &[ConceptPlan],
+) -> Result<Vec<ConceptPlan>, AllocError>
+    ensures { (plans : Plans) → IfOk parts (λ made. plans_of made.items ≡ plans) → IfOk result (λ both. plans_of both.items ≡ plans_joined plans (plans_of others.now)) }
+{
+    let mut parts = parts?;
     let mut others = each(alloc, others)?;
-    both.append(&mut others)?;
-    Ok(both)
+    parts.append(&mut others)?;
+    Ok(parts)
 }
 
 // A list with one more at its front.
@@ -31,10 +44,8 @@ pub(crate) fn with_first(
 ) -> Result<Vec<ConceptPlan>, AllocError>
     ensures { IfOk result (λ all. plans_of all.items ≡ plan_then (plan_of first) (plans_of rest.now)) }
 {
-    let mut all = vec![in alloc; first]?;
-    let mut others = each(alloc, rest)?;
-    all.append(&mut others)?;
-    Ok(all)
+    let first = vec![in alloc; first]?;
+    with_copies(alloc, Ok(first), rest)
 }
 
 // The `And` of a plan and further ones.
@@ -60,8 +71,7 @@ pub(crate) fn each_with(
 {
     let mut made = Vec::new(alloc);
     for part in parts {
-        let new = and_first(alloc, part, rest)?;
-        made.push(new)?;
+        made = more(made, and_first(alloc, part, rest))?;
     }
     Ok(made)
 }

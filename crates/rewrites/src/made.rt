@@ -1,24 +1,95 @@
 //! Nodes made of copies of others.
-ghost use Rattle.std.specs.Prelude.{◌≡◌, IfOk};
+ghost use Rattle.std.specs.Prelude.{◌≡◌, Some, Ok, IfOk, [], ◌∷◌, ◌++◌};
 ghost use Rattle.set_algebra.specs.Lowering.{both_plan};
-ghost use Rattle.set_algebra.specs.Plan.{plan_of, unit_plan_of, test_plan_of, pairs_plan, units_plan, pairs_units, minus_plan, all_plan, minus_units, every_unit};
+ghost use Rattle.set_algebra.specs.Plan.{Plan, PlanOfUnits, plan_of, unit_plan_of, test_plan_of, walk_plan, members_plan, pairs_plan, units_plan, pairs_units, minus_plan, minus_units};
+ghost use Rattle.set_algebra.specs.declared.plan.ConceptPlan.{ConceptPlan};
+ghost use Rattle.set_algebra.specs.declared.plan.UnitPlan.{UnitPlan};
+ghost use Rattle.rewrites.specs.inside.Gives.{Gives, GivesGroup};
 ghost use Rattle.rewrites.specs.Rules.{both_groups};
 
-use constraint_tree::Cardinality;
+use crate::fault::RuleFault;
+use constraint_tree::{Cardinality, Operator};
 use set_algebra::copy::{boxed, boxed_unit};
 use set_algebra::{ConceptPlan, UnitPlan, ValueTest};
 use std::alloc::{AllocError, Global};
 
-pub(crate) fn in_box(alloc: Global, plan: ConceptPlan) -> Result<Box<ConceptPlan>, AllocError>
-    ensures { IfOk result (λ own. plan_of own.value ≡ plan_of plan) }
+// What a rule answers that makes this of a plan.
+pub(crate) fn given(made: Result<ConceptPlan, AllocError>) -> Result<ConceptPlan, RuleFault>
+    ensures { (plan : Plan) → IfOk made (λ new. plan_of new ≡ plan) → Gives (Some plan) result }
 {
-    Ok(Box::new(alloc, plan)?)
+    match made {
+        Ok(new) => Ok(new),
+        Err(AllocError) => Err(RuleFault::Memory),
+    }
 }
 
-pub(crate) fn unit_in_box(alloc: Global, plan: UnitPlan) -> Result<Box<UnitPlan>, AllocError>
-    ensures { IfOk result (λ own. unit_plan_of own.value ≡ unit_plan_of plan) }
+pub(crate) fn given_units(made: Result<UnitPlan, AllocError>) -> Result<UnitPlan, RuleFault>
+    ensures { (plan : PlanOfUnits) → IfOk made (λ new. unit_plan_of new ≡ plan) → GivesGroup (Some plan) result }
 {
-    Ok(Box::new(alloc, plan)?)
+    match made {
+        Ok(new) => Ok(new),
+        Err(AllocError) => Err(RuleFault::Memory),
+    }
+}
+
+// A list with one more at its end, where that is made.
+pub(crate) fn more(
+    plans: Vec<ConceptPlan>,
+    made: Result<ConceptPlan, AllocError>,
+) -> Result<Vec<ConceptPlan>, AllocError>
+    ensures { IfOk result (λ all. (last : ConceptPlan) × (made ≡ Ok last) × (all.items ≡ plans.items ++ last ∷ [])) }
+{
+    let last = made?;
+    let mut plans = plans;
+    plans.push(last)?;
+    Ok(plans)
+}
+
+pub(crate) fn more_units(
+    plans: Vec<UnitPlan>,
+    made: Result<UnitPlan, AllocError>,
+) -> Result<Vec<UnitPlan>, AllocError>
+    ensures { IfOk result (λ all. (last : UnitPlan) × (made ≡ Ok last) × (all.items ≡ plans.items ++ last ∷ [])) }
+{
+    let last = made?;
+    let mut plans = plans;
+    plans.push(last)?;
+    Ok(plans)
+}
+
+// What is made, in a box.
+pub(crate) fn in_box(
+    alloc: Global,
+    made: Result<ConceptPlan, AllocError>,
+) -> Result<Box<ConceptPlan>, AllocError>
+    ensures { (plan : Plan) → IfOk made (λ new. plan_of new ≡ plan) → IfOk result (λ own. plan_of own.value ≡ plan) }
+{
+    Ok(Box::new(alloc, made?)?)
+}
+
+pub(crate) fn unit_in_box(
+    alloc: Global,
+    made: Result<UnitPlan, AllocError>,
+) -> Result<Box<UnitPlan>, AllocError>
+    ensures { (plan : PlanOfUnits) → IfOk made (λ new. unit_plan_of new ≡ plan) → IfOk result (λ own. unit_plan_of own.value ≡ plan) }
+{
+    Ok(Box::new(alloc, made?)?)
+}
+
+pub(crate) fn walk(
+    alloc: Global,
+    operator: Operator,
+    operand: &ConceptPlan,
+) -> Result<ConceptPlan, AllocError>
+    ensures { IfOk result (λ new. plan_of new ≡ walk_plan operator (plan_of operand.now)) }
+{
+    Ok(ConceptPlan::Walk(operator, boxed(alloc, operand)?))
+}
+
+pub(crate) fn members(alloc: Global, operand: &ConceptPlan) -> Result<ConceptPlan, AllocError>
+    ensures { IfOk result (λ new. plan_of new ≡ members_plan (plan_of operand.now)) }
+{
+    Ok(ConceptPlan::Members(boxed(alloc, operand)?))
 }
 
 pub(crate) fn pairs(
@@ -66,40 +137,44 @@ pub(crate) fn unit_pairs(
     })
 }
 
-// What is in both.
+// What is in both, where both are made.
 #[tactic(auto, using(set_algebra::proofs::PlanLemmas::plans_of_items))]
 pub(crate) fn both(
     alloc: Global,
-    one: ConceptPlan,
-    other: ConceptPlan,
+    one: Result<ConceptPlan, AllocError>,
+    other: Result<ConceptPlan, AllocError>,
 ) -> Result<ConceptPlan, AllocError>
-    ensures { IfOk result (λ new. plan_of new ≡ both_plan (plan_of one) (plan_of other)) }
+    ensures { (first second : Plan) → IfOk one (λ new. plan_of new ≡ first) → IfOk other (λ new. plan_of new ≡ second) → IfOk result (λ new. plan_of new ≡ both_plan first second) }
 {
-    Ok(ConceptPlan::And(vec![in alloc; one, other]?))
+    Ok(ConceptPlan::And(vec![in alloc; one?, other?]?))
 }
 
 #[tactic(auto, using(set_algebra::proofs::PlanLemmas::plans_of_items))]
 pub(crate) fn both_units(
     alloc: Global,
-    one: UnitPlan,
-    other: UnitPlan,
+    one: Result<UnitPlan, AllocError>,
+    other: Result<UnitPlan, AllocError>,
 ) -> Result<UnitPlan, AllocError>
-    ensures { IfOk result (λ new. unit_plan_of new ≡ both_groups (unit_plan_of one) (unit_plan_of other)) }
+    ensures { (first second : PlanOfUnits) → IfOk one (λ new. unit_plan_of new ≡ first) → IfOk other (λ new. unit_plan_of new ≡ second) → IfOk result (λ new. unit_plan_of new ≡ both_groups first second) }
 {
-    Ok(UnitPlan::And(vec![in alloc; one, other]?))
+    Ok(UnitPlan::And(vec![in alloc; one?, other?]?))
 }
 
-// All but what is in the plan.
-pub(crate) fn all_but(alloc: Global, plan: ConceptPlan) -> Result<ConceptPlan, AllocError>
-    ensures { IfOk result (λ new. plan_of new ≡ minus_plan all_plan (plan_of plan)) }
+// What is in the first and not in the second, where both are made.
+pub(crate) fn minus(
+    first: Result<Box<ConceptPlan>, AllocError>,
+    second: Result<Box<ConceptPlan>, AllocError>,
+) -> Result<ConceptPlan, AllocError>
+    ensures { (from without : Plan) → IfOk first (λ own. plan_of own.value ≡ from) → IfOk second (λ own. plan_of own.value ≡ without) → IfOk result (λ new. plan_of new ≡ minus_plan from without) }
 {
-    let plan = Box::new(alloc, plan)?;
-    Ok(ConceptPlan::Minus(Box::new(alloc, ConceptPlan::All)?, plan))
+    Ok(ConceptPlan::Minus(first?, second?))
 }
 
-pub(crate) fn every_but(alloc: Global, plan: UnitPlan) -> Result<UnitPlan, AllocError>
-    ensures { IfOk result (λ new. unit_plan_of new ≡ minus_units every_unit (unit_plan_of plan)) }
+pub(crate) fn minus_units(
+    first: Result<Box<UnitPlan>, AllocError>,
+    second: Result<Box<UnitPlan>, AllocError>,
+) -> Result<UnitPlan, AllocError>
+    ensures { (from without : PlanOfUnits) → IfOk first (λ own. unit_plan_of own.value ≡ from) → IfOk second (λ own. unit_plan_of own.value ≡ without) → IfOk result (λ new. unit_plan_of new ≡ minus_units from without) }
 {
-    let plan = Box::new(alloc, plan)?;
-    Ok(UnitPlan::Minus(Box::new(alloc, UnitPlan::Every)?, plan))
+    Ok(UnitPlan::Minus(first?, second?))
 }

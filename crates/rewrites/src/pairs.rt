@@ -6,9 +6,10 @@ ghost use Rattle.rewrites.specs.PlanLists.{plans_each};
 ghost use Rattle.rewrites.specs.Rules.{rewritten};
 ghost use Rattle.rewrites.specs.declared.rule.Rule.TheVariants.{TypesOr, TestOr};
 
+use crate::connective::{Connective, given_parts};
 use crate::counts::asks_some;
 use crate::fault::RuleFault;
-use crate::made::pairs;
+use crate::made::{more, pairs};
 use constraint_tree::Cardinality;
 use set_algebra::copy::boxed;
 use set_algebra::views::{or_of, pairs_of, within_of};
@@ -23,7 +24,7 @@ pub(crate) fn types_or(alloc: Global, plan: &ConceptPlan) -> Result<ConceptPlan,
         && let Ok(parts) = or_of(types)
         && asks_some(count)
     {
-        return Ok(ConceptPlan::Or(each_type(alloc, back, count, parts, test)?));
+        return given_parts(Connective::Or, each_type(alloc, back, count, parts, test));
     }
     Err(RuleFault::NotApplicable)
 }
@@ -39,8 +40,7 @@ fn each_type(
 {
     let mut made = Vec::new(alloc);
     for part in parts {
-        let new = pairs(alloc, back, count, part, test)?;
-        made.push(new)?;
+        made = more(made, pairs(alloc, back, count, part, test))?;
     }
     Ok(made)
 }
@@ -54,7 +54,7 @@ pub(crate) fn test_or(alloc: Global, plan: &ConceptPlan) -> Result<ConceptPlan, 
         && let Ok(parts) = or_of(operand)
         && asks_some(count)
     {
-        return Ok(ConceptPlan::Or(each_value(alloc, back, count, types, parts)?));
+        return given_parts(Connective::Or, each_value(alloc, back, count, types, parts));
     }
     Err(RuleFault::NotApplicable)
 }
@@ -70,8 +70,7 @@ fn each_value(
 {
     let mut made = Vec::new(alloc);
     for part in parts {
-        let new = pairs_within(alloc, back, count, types, part)?;
-        made.push(new)?;
+        made = more(made, pairs_within(alloc, back, count, types, part))?;
     }
     Ok(made)
 }

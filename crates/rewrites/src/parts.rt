@@ -1,18 +1,20 @@
 //! Rules of the parts of `And`, `Or` and `Minus`: Turn, Join, Pair, Spread, Same, Only, MinusAnd and MinusOr.
-ghost use Rattle.set_algebra.specs.Plan.{plan_of};
+ghost use Rattle.std.specs.Prelude.{◌≡◌, IfOk};
+ghost use Rattle.set_algebra.specs.Plan.{plan_of, plans_of, plan_then, and_plan, or_plan, minus_plan};
+ghost use Rattle.rewrites.specs.inside.Connected.{connected};
 ghost use Rattle.rewrites.specs.inside.Gives.{Gives};
 ghost use Rattle.rewrites.specs.Rules.{rewritten};
 ghost use Rattle.rewrites.specs.declared.rule.Rule.TheVariants.{Turn, Join, Pair, Spread, Same, Only, MinusAnd, MinusOr};
 
-use crate::connective::{connected, parts_of, parts_under};
+use crate::connective::{Connective, connected, given_parts, parts_of, parts_under};
 use crate::fault::RuleFault;
 use crate::lists::{and_first, each_with, joined, with_first};
-use crate::made::in_box;
+use crate::made::{given, in_box, minus};
 use crate::shortening::begins_twice;
 use set_algebra::ConceptPlan;
 use set_algebra::copy::{boxed, each};
 use set_algebra::views::{and_of, first_of, minus_of, only_of, or_of};
-use std::alloc::Global;
+use std::alloc::{AllocError, Global};
 
 #[tactic(auto, using(crate::proofs::PartLemmas::turning))]
 pub(crate) fn turn(alloc: Global, plan: &ConceptPlan) -> Result<ConceptPlan, RuleFault>
@@ -22,11 +24,12 @@ pub(crate) fn turn(alloc: Global, plan: &ConceptPlan) -> Result<ConceptPlan, Rul
         && parts.len() >= 2
     {
         let (first, rest) = parts.split_at(1);
-        return Ok(connected(connective, joined(alloc, rest, first)?));
+        return given_parts(connective, joined(alloc, rest, first));
     }
     Err(RuleFault::NotApplicable)
 }
 
+#[tactic(auto, using(crate::proofs::PartLemmas::joined))]
 pub(crate) fn join(alloc: Global, plan: &ConceptPlan) -> Result<ConceptPlan, RuleFault>
     ensures { Gives (rewritten Join (plan_of plan.now)) result }
 {
@@ -34,7 +37,7 @@ pub(crate) fn join(alloc: Global, plan: &ConceptPlan) -> Result<ConceptPlan, Rul
         && let Ok((first, rest)) = first_of(parts)
         && let Ok(parts) = parts_under(connective, first)
     {
-        return Ok(connected(connective, joined(alloc, parts, rest)?));
+        return given_parts(connective, joined(alloc, parts, rest));
     }
     Err(RuleFault::NotApplicable)
 }
@@ -47,10 +50,22 @@ pub(crate) fn pair(alloc: Global, plan: &ConceptPlan) -> Result<ConceptPlan, Rul
         && parts.len() >= 3
     {
         let (two, rest) = parts.split_at(2);
-        let pair = connected(connective, each(alloc, two)?);
-        return Ok(connected(connective, with_first(alloc, pair, rest)?));
+        return given_parts(connective, paired(alloc, connective, two, rest));
     }
     Err(RuleFault::NotApplicable)
+}
+
+// A list that begins with the plan of some parts.
+fn paired(
+    alloc: Global,
+    connective: Connective,
+    two: &[ConceptPlan],
+    rest: &[ConceptPlan],
+) -> Result<Vec<ConceptPlan>, AllocError>
+    ensures { IfOk result (λ all. plans_of all.items ≡ plan_then (connected connective (plans_of two.now)) (plans_of rest.now)) }
+{
+    let pair = connected(connective, each(alloc, two)?);
+    with_first(alloc, pair, rest)
 }
 
 #[tactic(auto, using(set_algebra::proofs::PlanLemmas::plans_of_items))]
@@ -61,7 +76,7 @@ pub(crate) fn spread(alloc: Global, plan: &ConceptPlan) -> Result<ConceptPlan, R
         && let Ok((first, rest)) = first_of(parts)
         && let Ok(parts) = or_of(first)
     {
-        return Ok(ConceptPlan::Or(each_with(alloc, parts, rest)?));
+        return given_parts(Connective::Or, each_with(alloc, parts, rest));
     }
     Err(RuleFault::NotApplicable)
 }
@@ -79,7 +94,7 @@ pub(crate) fn same(alloc: Global, plan: &ConceptPlan) -> Result<ConceptPlan, Rul
         && begins_twice(parts)
     {
         let (_first, rest) = parts.split_at(1);
-        return Ok(connected(connective, each(alloc, rest)?));
+        return given_parts(connective, each(alloc, rest));
     }
     Err(RuleFault::NotApplicable)
 }
@@ -90,7 +105,7 @@ pub(crate) fn only(alloc: Global, plan: &ConceptPlan) -> Result<ConceptPlan, Rul
     if let Ok((_connective, parts)) = parts_of(plan)
         && let Ok(only) = only_of(parts)
     {
-        return Ok(only.copy(alloc)?);
+        return given(only.copy(alloc));
     }
     Err(RuleFault::NotApplicable)
 }
@@ -103,10 +118,21 @@ pub(crate) fn minus_and(alloc: Global, plan: &ConceptPlan) -> Result<ConceptPlan
         && let Ok((first, rest)) = first_of(parts)
         && let Ok((from, without)) = minus_of(first)
     {
-        let kept = in_box(alloc, and_first(alloc, from, rest)?)?;
-        return Ok(ConceptPlan::Minus(kept, boxed(alloc, without)?));
+        return given(minus_from_and(alloc, from, rest, without));
     }
     Err(RuleFault::NotApplicable)
+}
+
+fn minus_from_and(
+    alloc: Global,
+    from: &ConceptPlan,
+    rest: &[ConceptPlan],
+    without: &ConceptPlan,
+) -> Result<ConceptPlan, AllocError>
+    ensures { IfOk result (λ new. plan_of new ≡ minus_plan (and_plan (plan_then (plan_of from.now) (plans_of rest.now))) (plan_of without.now)) }
+{
+    let kept = in_box(alloc, and_first(alloc, from, rest));
+    minus(kept, boxed(alloc, without))
 }
 
 #[tactic(auto, using(set_algebra::proofs::PlanLemmas::plans_of_items))]
@@ -117,10 +143,31 @@ pub(crate) fn minus_or(alloc: Global, plan: &ConceptPlan) -> Result<ConceptPlan,
         && let Ok(parts) = or_of(without)
         && let Ok((first, rest)) = first_of(parts)
     {
-        let kept = ConceptPlan::Minus(boxed(alloc, from)?, boxed(alloc, first)?);
-        let kept = in_box(alloc, kept)?;
-        let others = in_box(alloc, ConceptPlan::Or(each(alloc, rest)?))?;
-        return Ok(ConceptPlan::Minus(kept, others));
+        return given(minus_each(alloc, from, first, rest));
     }
     Err(RuleFault::NotApplicable)
+}
+
+// The `Minus` of a `Minus` and an `Or`.
+#[tactic(auto, using(set_algebra::proofs::PlanLemmas::plans_of_items))]
+fn minus_each(
+    alloc: Global,
+    from: &ConceptPlan,
+    first: &ConceptPlan,
+    rest: &[ConceptPlan],
+) -> Result<ConceptPlan, AllocError>
+    ensures { IfOk result (λ new. plan_of new ≡ minus_plan (minus_plan (plan_of from.now) (plan_of first.now)) (or_plan (plans_of rest.now))) }
+{
+    let kept = minus(boxed(alloc, from), boxed(alloc, first));
+    minus(
+        in_box(alloc, kept),
+        in_box(alloc, or_of_copies(alloc, rest)),
+    )
+}
+
+#[tactic(auto, using(set_algebra::proofs::PlanLemmas::plans_of_items))]
+fn or_of_copies(alloc: Global, parts: &[ConceptPlan]) -> Result<ConceptPlan, AllocError>
+    ensures { IfOk result (λ new. plan_of new ≡ or_plan (plans_of parts.now)) }
+{
+    Ok(ConceptPlan::Or(each(alloc, parts)?))
 }

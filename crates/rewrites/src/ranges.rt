@@ -1,6 +1,7 @@
 //! Rules of counts: RangeSplit, RangeTurn and RangeAll.
 ghost use Rattle.std.specs.Prelude.{◌≡◌, option_map, IfOk};
-ghost use Rattle.set_algebra.specs.Plan.{plan_of, all_plan, empty_plan};
+ghost use Rattle.set_algebra.specs.Lowering.{both_plan};
+ghost use Rattle.set_algebra.specs.Plan.{plan_of, all_plan, empty_plan, minus_plan};
 ghost use Rattle.rewrites.specs.Counts.{settled};
 ghost use Rattle.rewrites.specs.inside.Counted.{count_of, with_count};
 ghost use Rattle.rewrites.specs.inside.Gives.{Gives};
@@ -9,7 +10,7 @@ ghost use Rattle.rewrites.specs.declared.rule.Rule.TheVariants.{RangeSplit, Rang
 
 use crate::counts::{asks_nothing, asks_too_much, complement, split};
 use crate::fault::RuleFault;
-use crate::made::{all_but, both, pairs, units};
+use crate::made::{both, given, in_box, minus, pairs, units};
 use constraint_tree::Cardinality;
 use set_algebra::ConceptPlan;
 use std::alloc::{AllocError, Global};
@@ -20,11 +21,23 @@ pub(crate) fn range_split(alloc: Global, plan: &ConceptPlan) -> Result<ConceptPl
     if let Some(count) = count_of(plan)
         && let Some((least, most)) = split(count)
     {
-        let one = with_count(alloc, plan, least)?;
-        let other = with_count(alloc, plan, most)?;
-        return Ok(both(alloc, one, other)?);
+        return given(with_counts(alloc, plan, least, most));
     }
     Err(RuleFault::NotApplicable)
+}
+
+// The `And` of `Pairs` or `Units` with one count and with another.
+fn with_counts(
+    alloc: Global,
+    plan: &ConceptPlan,
+    one: Cardinality,
+    other: Cardinality,
+) -> Result<ConceptPlan, AllocError>
+    ensures { IfOk result (λ new. plan_of new ≡ both_plan (with_count one (plan_of plan.now)) (with_count other (plan_of plan.now))) }
+{
+    let one = with_count(alloc, plan, one);
+    let other = with_count(alloc, plan, other);
+    both(alloc, one, other)
 }
 
 pub(crate) fn range_turn(alloc: Global, plan: &ConceptPlan) -> Result<ConceptPlan, RuleFault>
@@ -33,10 +46,22 @@ pub(crate) fn range_turn(alloc: Global, plan: &ConceptPlan) -> Result<ConceptPla
     if let Some(count) = count_of(plan)
         && let Some(above) = complement(count)
     {
-        let more = with_count(alloc, plan, above)?;
-        return Ok(all_but(alloc, more)?);
+        return given(all_but_with(alloc, plan, above));
     }
     Err(RuleFault::NotApplicable)
+}
+
+// All but `Pairs` or `Units` with another count.
+fn all_but_with(
+    alloc: Global,
+    plan: &ConceptPlan,
+    count: Cardinality,
+) -> Result<ConceptPlan, AllocError>
+    ensures { IfOk result (λ new. plan_of new ≡ minus_plan all_plan (with_count count (plan_of plan.now))) }
+{
+    let all = in_box(alloc, Ok(ConceptPlan::All));
+    let more = in_box(alloc, with_count(alloc, plan, count));
+    minus(all, more)
 }
 
 // The count of `Pairs` or `Units`.

@@ -1,8 +1,9 @@
 //! Lists of plans of groups, made of copies.
 ghost use Rattle.std.specs.Prelude.{◌≡◌, IfOk};
-ghost use Rattle.set_algebra.specs.Plan.{unit_plan_of, unit_plans_of, unit_plan_then, and_units};
+ghost use Rattle.set_algebra.specs.Plan.{PlansOfUnits, unit_plan_of, unit_plans_of, unit_plan_then, and_units};
 ghost use Rattle.rewrites.specs.PlanLists.{groups_joined, groups_each};
 
+use crate::made::more_units;
 use set_algebra::UnitPlan;
 use set_algebra::copy::each_unit;
 use std::alloc::{AllocError, Global};
@@ -16,10 +17,22 @@ pub(crate) fn joined(
 ) -> Result<Vec<UnitPlan>, AllocError>
     ensures { IfOk result (λ both. unit_plans_of both.items ≡ groups_joined (unit_plans_of parts.now) (unit_plans_of others.now)) }
 {
-    let mut both = each_unit(alloc, parts)?;
+    with_copies(alloc, each_unit(alloc, parts), others)
+}
+
+// A list with copies of others after it.
+#[tactic(auto, using(crate::proofs::ListLemmas::unit_plans_of_joined))]
+fn with_copies(
+    alloc: Global,
+    parts: Result<Vec<UnitPlan>, AllocError>,
+    others: &[UnitPlan],
+) -> Result<Vec<UnitPlan>, AllocError>
+    ensures { (plans : PlansOfUnits) → IfOk parts (λ made. unit_plans_of made.items ≡ plans) → IfOk result (λ both. unit_plans_of both.items ≡ groups_joined plans (unit_plans_of others.now)) }
+{
+    let mut parts = parts?;
     let mut others = each_unit(alloc, others)?;
-    both.append(&mut others)?;
-    Ok(both)
+    parts.append(&mut others)?;
+    Ok(parts)
 }
 
 // A list with one more at its front.
@@ -31,10 +44,8 @@ pub(crate) fn with_first(
 ) -> Result<Vec<UnitPlan>, AllocError>
     ensures { IfOk result (λ all. unit_plans_of all.items ≡ unit_plan_then (unit_plan_of first) (unit_plans_of rest.now)) }
 {
-    let mut all = vec![in alloc; first]?;
-    let mut others = each_unit(alloc, rest)?;
-    all.append(&mut others)?;
-    Ok(all)
+    let first = vec![in alloc; first]?;
+    with_copies(alloc, Ok(first), rest)
 }
 
 // The `And` of a plan and further ones.
@@ -60,8 +71,7 @@ pub(crate) fn each_with(
 {
     let mut made = Vec::new(alloc);
     for part in parts {
-        let new = and_first(alloc, part, rest)?;
-        made.push(new)?;
+        made = more_units(made, and_first(alloc, part, rest))?;
     }
     Ok(made)
 }

@@ -1,15 +1,16 @@
 //! Rules of pairs of groups: TypesOr, TestOr, RangeSplit, RangeTurn and RangeAll.
 ghost use Rattle.std.specs.Prelude.{◌≡◌, IfOk, option_map};
-ghost use Rattle.set_algebra.specs.Plan.{plan_of, plans_of, test_plan_of, unit_plan_of, unit_plans_of, pairs_units, every_unit, nothing_unit, within_plan};
+ghost use Rattle.set_algebra.specs.Plan.{plan_of, plans_of, test_plan_of, unit_plan_of, unit_plans_of, pairs_units, minus_units, every_unit, nothing_unit, within_plan};
 ghost use Rattle.rewrites.specs.Counts.{settled};
 ghost use Rattle.rewrites.specs.inside.Gives.{GivesGroup};
 ghost use Rattle.rewrites.specs.PlanLists.{groups_of_each};
-ghost use Rattle.rewrites.specs.Rules.{rewritten_group};
+ghost use Rattle.rewrites.specs.Rules.{rewritten_group, both_groups};
 ghost use Rattle.rewrites.specs.declared.rule.Rule.TheVariants.{TypesOr, TestOr, RangeSplit, RangeTurn, RangeAll};
 
+use crate::connective::{Connective, given_unit_parts};
 use crate::counts::{asks_nothing, asks_some, asks_too_much, complement, split};
 use crate::fault::RuleFault;
-use crate::made::{both_units, every_but, unit_pairs};
+use crate::made::{both_units, given_units, minus_units, more_units, unit_in_box, unit_pairs};
 use constraint_tree::Cardinality;
 use set_algebra::copy::boxed;
 use set_algebra::views::{or_of, unit_pairs_of, within_of};
@@ -24,7 +25,7 @@ pub(crate) fn types_or(alloc: Global, plan: &UnitPlan) -> Result<UnitPlan, RuleF
         && let Ok(parts) = or_of(types)
         && asks_some(count)
     {
-        return Ok(UnitPlan::Or(each_type(alloc, count, parts, test)?));
+        return given_unit_parts(Connective::Or, each_type(alloc, count, parts, test));
     }
     Err(RuleFault::NotApplicable)
 }
@@ -39,8 +40,7 @@ fn each_type(
 {
     let mut made = Vec::new(alloc);
     for part in parts {
-        let new = unit_pairs(alloc, count, part, test)?;
-        made.push(new)?;
+        made = more_units(made, unit_pairs(alloc, count, part, test))?;
     }
     Ok(made)
 }
@@ -54,7 +54,7 @@ pub(crate) fn test_or(alloc: Global, plan: &UnitPlan) -> Result<UnitPlan, RuleFa
         && let Ok(parts) = or_of(operand)
         && asks_some(count)
     {
-        return Ok(UnitPlan::Or(each_value(alloc, count, types, parts)?));
+        return given_unit_parts(Connective::Or, each_value(alloc, count, types, parts));
     }
     Err(RuleFault::NotApplicable)
 }
@@ -69,8 +69,7 @@ fn each_value(
 {
     let mut made = Vec::new(alloc);
     for part in parts {
-        let new = pairs_within(alloc, count, types, part)?;
-        made.push(new)?;
+        made = more_units(made, pairs_within(alloc, count, types, part))?;
     }
     Ok(made)
 }
@@ -96,11 +95,24 @@ pub(crate) fn range_split(alloc: Global, plan: &UnitPlan) -> Result<UnitPlan, Ru
     if let Ok((count, types, test)) = unit_pairs_of(plan)
         && let Some((least, most)) = split(count)
     {
-        let one = unit_pairs(alloc, least, types, test)?;
-        let other = unit_pairs(alloc, most, types, test)?;
-        return Ok(both_units(alloc, one, other)?);
+        return given_units(with_counts(alloc, least, most, types, test));
     }
     Err(RuleFault::NotApplicable)
+}
+
+// The `And` of `Pairs` with one count and with another.
+fn with_counts(
+    alloc: Global,
+    one: Cardinality,
+    other: Cardinality,
+    types: &ConceptPlan,
+    test: &ValueTest,
+) -> Result<UnitPlan, AllocError>
+    ensures { IfOk result (λ new. unit_plan_of new ≡ both_groups (pairs_units one (plan_of types.now) (test_plan_of test.now)) (pairs_units other (plan_of types.now) (test_plan_of test.now))) }
+{
+    let one = unit_pairs(alloc, one, types, test);
+    let other = unit_pairs(alloc, other, types, test);
+    both_units(alloc, one, other)
 }
 
 pub(crate) fn range_turn(alloc: Global, plan: &UnitPlan) -> Result<UnitPlan, RuleFault>
@@ -109,10 +121,23 @@ pub(crate) fn range_turn(alloc: Global, plan: &UnitPlan) -> Result<UnitPlan, Rul
     if let Ok((count, types, test)) = unit_pairs_of(plan)
         && let Some(above) = complement(count)
     {
-        let more = unit_pairs(alloc, above, types, test)?;
-        return Ok(every_but(alloc, more)?);
+        return given_units(every_but_with(alloc, above, types, test));
     }
     Err(RuleFault::NotApplicable)
+}
+
+// Every group but those of `Pairs`.
+fn every_but_with(
+    alloc: Global,
+    count: Cardinality,
+    types: &ConceptPlan,
+    test: &ValueTest,
+) -> Result<UnitPlan, AllocError>
+    ensures { IfOk result (λ new. unit_plan_of new ≡ minus_units every_unit (pairs_units count (plan_of types.now) (test_plan_of test.now))) }
+{
+    let every = unit_in_box(alloc, Ok(UnitPlan::Every));
+    let more = unit_in_box(alloc, unit_pairs(alloc, count, types, test));
+    minus_units(every, more)
 }
 
 pub(crate) fn range_all(plan: &UnitPlan) -> Result<UnitPlan, RuleFault>

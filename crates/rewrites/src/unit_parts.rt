@@ -1,18 +1,22 @@
 //! Rules of the parts of `And`, `Or` and `Minus` of groups: Turn, Join, Pair, Spread, Same, Only, MinusAnd and MinusOr.
-ghost use Rattle.set_algebra.specs.Plan.{unit_plan_of};
+ghost use Rattle.std.specs.Prelude.{◌≡◌, IfOk};
+ghost use Rattle.set_algebra.specs.Plan.{unit_plan_of, unit_plans_of, unit_plan_then, and_units, or_units, minus_units};
+ghost use Rattle.rewrites.specs.inside.Connected.{connected_groups};
 ghost use Rattle.rewrites.specs.inside.Gives.{GivesGroup};
 ghost use Rattle.rewrites.specs.Rules.{rewritten_group};
 ghost use Rattle.rewrites.specs.declared.rule.Rule.TheVariants.{Turn, Join, Pair, Spread, Same, Only, MinusAnd, MinusOr};
 
-use crate::connective::{connected_units, unit_parts_of, unit_parts_under};
+use crate::connective::{
+    Connective, connected_units, given_unit_parts, unit_parts_of, unit_parts_under,
+};
 use crate::fault::RuleFault;
-use crate::made::unit_in_box;
+use crate::made::{given_units, minus_units, unit_in_box};
 use crate::unit_lists::{and_first, each_with, joined, with_first};
 use crate::unit_shortening::begins_twice;
 use set_algebra::UnitPlan;
 use set_algebra::copy::{boxed_unit, each_unit};
 use set_algebra::views::{first_unit_of, only_unit_of, unit_and_of, unit_minus_of, unit_or_of};
-use std::alloc::Global;
+use std::alloc::{AllocError, Global};
 
 #[tactic(auto, using(crate::proofs::PartLemmas::group_turning))]
 pub(crate) fn turn(alloc: Global, plan: &UnitPlan) -> Result<UnitPlan, RuleFault>
@@ -22,11 +26,12 @@ pub(crate) fn turn(alloc: Global, plan: &UnitPlan) -> Result<UnitPlan, RuleFault
         && parts.len() >= 2
     {
         let (first, rest) = parts.split_at(1);
-        return Ok(connected_units(connective, joined(alloc, rest, first)?));
+        return given_unit_parts(connective, joined(alloc, rest, first));
     }
     Err(RuleFault::NotApplicable)
 }
 
+#[tactic(auto, using(crate::proofs::PartLemmas::groups_joined_up))]
 pub(crate) fn join(alloc: Global, plan: &UnitPlan) -> Result<UnitPlan, RuleFault>
     ensures { GivesGroup (rewritten_group Join (unit_plan_of plan.now)) result }
 {
@@ -34,7 +39,7 @@ pub(crate) fn join(alloc: Global, plan: &UnitPlan) -> Result<UnitPlan, RuleFault
         && let Ok((first, rest)) = first_unit_of(parts)
         && let Ok(parts) = unit_parts_under(connective, first)
     {
-        return Ok(connected_units(connective, joined(alloc, parts, rest)?));
+        return given_unit_parts(connective, joined(alloc, parts, rest));
     }
     Err(RuleFault::NotApplicable)
 }
@@ -47,10 +52,22 @@ pub(crate) fn pair(alloc: Global, plan: &UnitPlan) -> Result<UnitPlan, RuleFault
         && parts.len() >= 3
     {
         let (two, rest) = parts.split_at(2);
-        let pair = connected_units(connective, each_unit(alloc, two)?);
-        return Ok(connected_units(connective, with_first(alloc, pair, rest)?));
+        return given_unit_parts(connective, paired(alloc, connective, two, rest));
     }
     Err(RuleFault::NotApplicable)
+}
+
+// A list that begins with the plan of some parts.
+fn paired(
+    alloc: Global,
+    connective: Connective,
+    two: &[UnitPlan],
+    rest: &[UnitPlan],
+) -> Result<Vec<UnitPlan>, AllocError>
+    ensures { IfOk result (λ all. unit_plans_of all.items ≡ unit_plan_then (connected_groups connective (unit_plans_of two.now)) (unit_plans_of rest.now)) }
+{
+    let pair = connected_units(connective, each_unit(alloc, two)?);
+    with_first(alloc, pair, rest)
 }
 
 #[tactic(auto, using(set_algebra::proofs::PlanLemmas::plans_of_items))]
@@ -61,7 +78,7 @@ pub(crate) fn spread(alloc: Global, plan: &UnitPlan) -> Result<UnitPlan, RuleFau
         && let Ok((first, rest)) = first_unit_of(parts)
         && let Ok(parts) = unit_or_of(first)
     {
-        return Ok(UnitPlan::Or(each_with(alloc, parts, rest)?));
+        return given_unit_parts(Connective::Or, each_with(alloc, parts, rest));
     }
     Err(RuleFault::NotApplicable)
 }
@@ -79,7 +96,7 @@ pub(crate) fn same(alloc: Global, plan: &UnitPlan) -> Result<UnitPlan, RuleFault
         && begins_twice(parts)
     {
         let (_first, rest) = parts.split_at(1);
-        return Ok(connected_units(connective, each_unit(alloc, rest)?));
+        return given_unit_parts(connective, each_unit(alloc, rest));
     }
     Err(RuleFault::NotApplicable)
 }
@@ -90,7 +107,7 @@ pub(crate) fn only(alloc: Global, plan: &UnitPlan) -> Result<UnitPlan, RuleFault
     if let Ok((_connective, parts)) = unit_parts_of(plan)
         && let Ok(only) = only_unit_of(parts)
     {
-        return Ok(only.copy(alloc)?);
+        return given_units(only.copy(alloc));
     }
     Err(RuleFault::NotApplicable)
 }
@@ -103,10 +120,21 @@ pub(crate) fn minus_and(alloc: Global, plan: &UnitPlan) -> Result<UnitPlan, Rule
         && let Ok((first, rest)) = first_unit_of(parts)
         && let Ok((from, without)) = unit_minus_of(first)
     {
-        let kept = unit_in_box(alloc, and_first(alloc, from, rest)?)?;
-        return Ok(UnitPlan::Minus(kept, boxed_unit(alloc, without)?));
+        return given_units(minus_from_and(alloc, from, rest, without));
     }
     Err(RuleFault::NotApplicable)
+}
+
+fn minus_from_and(
+    alloc: Global,
+    from: &UnitPlan,
+    rest: &[UnitPlan],
+    without: &UnitPlan,
+) -> Result<UnitPlan, AllocError>
+    ensures { IfOk result (λ new. unit_plan_of new ≡ minus_units (and_units (unit_plan_then (unit_plan_of from.now) (unit_plans_of rest.now))) (unit_plan_of without.now)) }
+{
+    let kept = unit_in_box(alloc, and_first(alloc, from, rest));
+    minus_units(kept, boxed_unit(alloc, without))
 }
 
 #[tactic(auto, using(set_algebra::proofs::PlanLemmas::plans_of_items))]
@@ -117,10 +145,31 @@ pub(crate) fn minus_or(alloc: Global, plan: &UnitPlan) -> Result<UnitPlan, RuleF
         && let Ok(parts) = unit_or_of(without)
         && let Ok((first, rest)) = first_unit_of(parts)
     {
-        let kept = UnitPlan::Minus(boxed_unit(alloc, from)?, boxed_unit(alloc, first)?);
-        let kept = unit_in_box(alloc, kept)?;
-        let others = unit_in_box(alloc, UnitPlan::Or(each_unit(alloc, rest)?))?;
-        return Ok(UnitPlan::Minus(kept, others));
+        return given_units(minus_each(alloc, from, first, rest));
     }
     Err(RuleFault::NotApplicable)
+}
+
+// The `Minus` of a `Minus` and an `Or`.
+#[tactic(auto, using(set_algebra::proofs::PlanLemmas::plans_of_items))]
+fn minus_each(
+    alloc: Global,
+    from: &UnitPlan,
+    first: &UnitPlan,
+    rest: &[UnitPlan],
+) -> Result<UnitPlan, AllocError>
+    ensures { IfOk result (λ new. unit_plan_of new ≡ minus_units (minus_units (unit_plan_of from.now) (unit_plan_of first.now)) (or_units (unit_plans_of rest.now))) }
+{
+    let kept = minus_units(boxed_unit(alloc, from), boxed_unit(alloc, first));
+    minus_units(
+        unit_in_box(alloc, kept),
+        unit_in_box(alloc, or_of_copies(alloc, rest)),
+    )
+}
+
+#[tactic(auto, using(set_algebra::proofs::PlanLemmas::plans_of_items))]
+fn or_of_copies(alloc: Global, parts: &[UnitPlan]) -> Result<UnitPlan, AllocError>
+    ensures { IfOk result (λ new. unit_plan_of new ≡ or_units (unit_plans_of parts.now)) }
+{
+    Ok(UnitPlan::Or(each_unit(alloc, parts)?))
 }

@@ -6,10 +6,11 @@ ghost use Rattle.rewrites.specs.PlanLists.{plans_each};
 ghost use Rattle.rewrites.specs.Rules.{rewritten, goes_through, walk_of_walk};
 ghost use Rattle.rewrites.specs.declared.rule.Rule.TheVariants.{WalkOr, WalkTwice};
 
+use crate::connective::{Connective, given_parts};
 use crate::fault::RuleFault;
+use crate::made::{given, members, more, walk};
 use constraint_tree::Operator;
 use set_algebra::ConceptPlan;
-use set_algebra::copy::boxed;
 use set_algebra::views::{or_of, walk_of};
 use std::alloc::{AllocError, Global};
 
@@ -22,13 +23,13 @@ pub(crate) fn walk_or(alloc: Global, plan: &ConceptPlan) -> Result<ConceptPlan, 
             if let Ok(parts) = or_of(operand)
                 && goes_through(*operator)
             {
-                return Ok(ConceptPlan::Or(each_walk(alloc, *operator, parts)?));
+                return given_parts(Connective::Or, each_walk(alloc, *operator, parts));
             }
             Err(RuleFault::NotApplicable)
         }
         ConceptPlan::Members(operand) => {
             if let Ok(parts) = or_of(operand) {
-                return Ok(ConceptPlan::Or(each_members(alloc, parts)?));
+                return given_parts(Connective::Or, each_members(alloc, parts));
             }
             Err(RuleFault::NotApplicable)
         }
@@ -55,8 +56,7 @@ fn each_walk(
 {
     let mut made = Vec::new(alloc);
     for part in parts {
-        let new = ConceptPlan::Walk(operator, boxed(alloc, part)?);
-        made.push(new)?;
+        made = more(made, walk(alloc, operator, part))?;
     }
     Ok(made)
 }
@@ -66,8 +66,7 @@ fn each_members(alloc: Global, parts: &[ConceptPlan]) -> Result<Vec<ConceptPlan>
 {
     let mut made = Vec::new(alloc);
     for part in parts {
-        let new = ConceptPlan::Members(boxed(alloc, part)?);
-        made.push(new)?;
+        made = more(made, members(alloc, part))?;
     }
     Ok(made)
 }
@@ -75,11 +74,11 @@ fn each_members(alloc: Global, parts: &[ConceptPlan]) -> Result<Vec<ConceptPlan>
 pub(crate) fn walk_twice(alloc: Global, plan: &ConceptPlan) -> Result<ConceptPlan, RuleFault>
     ensures { Gives (rewritten WalkTwice (plan_of plan.now)) result }
 {
-    if let Ok((outer, walk)) = walk_of(plan)
-        && let Ok((inner, operand)) = walk_of(walk)
+    if let Ok((outer, inside)) = walk_of(plan)
+        && let Ok((inner, operand)) = walk_of(inside)
         && let Some(operator) = walk_of_walk(outer, inner)
     {
-        return Ok(ConceptPlan::Walk(operator, boxed(alloc, operand)?));
+        return given(walk(alloc, operator, operand));
     }
     Err(RuleFault::NotApplicable)
 }

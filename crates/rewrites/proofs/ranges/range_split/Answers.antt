@@ -1,10 +1,13 @@
-use Rattle.std.proofs.Common.{sym, ◌∙◌}
-use Rattle.set_algebra.specs.Plan.{plan_of}
+use Rattle.std.proofs.Common.{Option, subst, sym, ◌∙◌}
+use Rattle.set_algebra.specs.Plan.{Plan, plan_of}
+use Rattle.rewrites.specs.inside.Gives.{Gives}
 use Rattle.rewrites.proofs.RangeLemmas.{range_split_made}
 use Rattle.rewrites.proofs.ranges.range_split.Goals as goal
 
 pub returns : goal.returns
 returns c =
-    range_split_made (plan_of c.args.plan.now) (plan_of c.in_ok-one.one) (plan_of c.in_ok-other.other) _ c.in-Some.count
-    c.in-Some-split.least c.in-Some-split.most (sym c.in-Some.is ∙ c.count_of.ensures)
-    (sym c.in-Some-split.is ∙ c.split.ensures) c.in_ok-one.ensures c.in_ok-other.ensures c.in_ok-both.ensures
+    subst (λ (made : Option Plan). Gives made c.given.result)
+    (sym
+    (range_split_made (plan_of c.args.plan.now) c.in-Some.count c.in-Some-split.least c.in-Some-split.most
+    (sym c.in-Some.is ∙ c.count_of.ensures) (sym c.in-Some-split.is ∙ c.split.ensures)))
+    (c.given.ensures _ c.with_counts.ensures)

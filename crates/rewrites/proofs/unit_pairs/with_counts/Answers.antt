@@ -1,0 +1,4 @@
+use Rattle.rewrites.proofs.unit_pairs.with_counts.Goals as goal
+
+pub returns : goal.returns
+returns c = c.both_units.ensures _ _ c.unit_pairs-one.ensures c.unit_pairs-other.ensures
