@@ -1,7 +1,7 @@
 //! The text of a tree.
 ghost use Rattle.std.specs.Prelude.{◌≡◌, ◌+◌, ◌/◌, ◌%◌, ◌<◌, ◌≤◌, ◌^◌, ◌++◌, [], OnErr, OnOk, decimal, if◌then◌else◌};
-ghost use Rattle.constraint_tree.specs.Text.{attribute_text, cardinality_text, closing, compare_text, constraint_text, fraction_digits, fraction_text, is_focus, is_item, is_member_or_focus, is_part, is_sub, joined_items, joined_parts, joined_text, listed_text, number_text, opening, operator_text, range_text, refinement_text, reverse_text, set_text, test_text, unsigned_text};
-ghost use Rattle.constraint_tree.specs.Tree.{tree_of, trees_of, refinement_tree_of, refinement_trees_of, set_tree_of, set_trees_of, attribute_tree_of, test_tree_of};
+ghost use Rattle.constraint_tree.specs.Text.{attribute_text, cardinality_text, closing, compare_text, constraint_text, fraction_digits, fraction_text, is_focus, is_item, is_member_or_focus, is_part, is_sub, joined_items, joined_parts, joined_text, listed_text, most_text, number_text, opening, operator_text, placed_text, range_text, refinement_text, reverse_text, set_text, test_text, unsigned_text};
+ghost use Rattle.constraint_tree.specs.Tree.{group_refinement, tree_of, trees_of, refinement_tree_of, refinement_trees_of, set_tree_of, set_trees_of, attribute_tree_of, test_tree_of};
 
 use crate::operator::{Cardinality, Compare, Operator};
 use crate::tree::{Attribute, AttributeSet, Constraint, Refinement, Test};
@@ -35,43 +35,47 @@ impl Constraint {
             Constraint::Any => output.extend_from_slice(b"*"),
             Constraint::Walk(operator, operand) => {
                 output.extend_from_slice(operator_sign(*operator))?;
-                let stands = operand.stands_behind_operator();
-                open(stands, output)?;
-                operand.write(output)?;
-                close(stands, output)
+                operand.write_placed(operand.stands_behind_operator(), output)
             }
             Constraint::MemberOf(operand) => {
                 output.extend_from_slice(b"^")?;
-                let stands = operand.stands_behind_caret();
-                open(stands, output)?;
-                operand.write(output)?;
-                close(stands, output)
+                operand.write_placed(operand.stands_behind_caret(), output)
             }
             Constraint::And(parts) => write_operands(false, b",", parts, output),
             Constraint::Or(parts) => write_operands(false, b" OR ", parts, output),
             Constraint::Minus(first, second) => {
-                open(first.stands_as_operand(), output)?;
-                first.write(output)?;
-                close(first.stands_as_operand(), output)?;
+                first.write_operand(output)?;
                 output.extend_from_slice(b" MINUS ")?;
-                open(second.stands_as_operand(), output)?;
-                second.write(output)?;
-                close(second.stands_as_operand(), output)
+                second.write_operand(output)
             }
             Constraint::Dotted(start, names) => {
-                open(start.stands_as_operand(), output)?;
-                start.write(output)?;
-                close(start.stands_as_operand(), output)?;
+                start.write_operand(output)?;
                 write_operands(true, b".", names, output)
             }
             Constraint::Refined(focus, refinement) => {
-                open(focus.stands_as_operand(), output)?;
-                focus.write(output)?;
-                close(focus.stands_as_operand(), output)?;
+                focus.write_operand(output)?;
                 output.extend_from_slice(b":")?;
                 refinement.write(output)
             }
         }
+    }
+
+    // The constraint as an operand.
+    #[cycle(print)]
+    fn write_operand(&self, output: &mut Vec<u8>) -> Result<(), AllocError>
+        ensures { let tree = tree_of self.now in OnOk result (output.new.items ≡ output.old.items ++ placed_text (is_sub tree) (constraint_text tree)) }
+    {
+        self.write_placed(self.stands_as_operand(), output)
+    }
+
+    // The constraint with brackets around it, unless it stands without.
+    #[cycle(print)]
+    fn write_placed(&self, stands: bool, output: &mut Vec<u8>) -> Result<(), AllocError>
+        ensures { OnOk result (output.new.items ≡ output.old.items ++ placed_text stands (constraint_text (tree_of self.now))) }
+    {
+        open(stands, output)?;
+        self.write(output)?;
+        close(stands, output)
     }
 
     fn stands_as_operand(&self) -> bool
@@ -115,12 +119,7 @@ impl Refinement {
     {
         match self {
             Refinement::One(attribute) => attribute.write(output),
-            Refinement::Group(count, set) => {
-                write_count(*count, output)?;
-                output.extend_from_slice(b"{")?;
-                set.write(output)?;
-                output.extend_from_slice(b"}")
-            }
+            Refinement::Group(count, set) => write_group(*count, set, output),
             Refinement::And(parts) => write_items(b",", parts, output),
             Refinement::Or(parts) => write_items(b" OR ", parts, output),
         }
@@ -166,9 +165,7 @@ impl Attribute {
     {
         write_count(self.count, output)?;
         write_reverse(self.reverse, output)?;
-        open(self.name.stands_as_operand(), output)?;
-        self.name.write(output)?;
-        close(self.name.stands_as_operand(), output)?;
+        self.name.write_operand(output)?;
         self.test.write(output)
     }
 }
@@ -181,15 +178,11 @@ impl Test {
         match self {
             Test::Within(operand) => {
                 output.extend_from_slice(b"=")?;
-                open(operand.stands_as_operand(), output)?;
-                operand.write(output)?;
-                close(operand.stands_as_operand(), output)
+                operand.write_operand(output)
             }
             Test::Outside(operand) => {
                 output.extend_from_slice(b"!=")?;
-                open(operand.stands_as_operand(), output)?;
-                operand.write(output)?;
-                close(operand.stands_as_operand(), output)
+                operand.write_operand(output)
             }
             Test::Number(compare, decimal) => {
                 output.extend_from_slice(compare_sign(*compare))?;
@@ -197,6 +190,21 @@ impl Test {
             }
         }
     }
+}
+
+// A set of attributes in braces, behind its cardinality.
+#[cycle(print)]
+fn write_group(
+    count: Cardinality,
+    set: &AttributeSet,
+    output: &mut Vec<u8>,
+) -> Result<(), AllocError>
+    ensures { OnOk result (output.new.items ≡ output.old.items ++ refinement_text (group_refinement count (set_tree_of set.now))) }
+{
+    write_count(count, output)?;
+    output.extend_from_slice(b"{")?;
+    set.write(output)?;
+    output.extend_from_slice(b"}")
 }
 
 // Operands with a text between them, and where something stands before them, before the first as well.
@@ -212,9 +220,7 @@ fn write_operands(
     let mut has_front = behind;
     for part in parts {
         separate(has_front, between, output)?;
-        open(part.stands_as_operand(), output)?;
-        part.write(output)?;
-        close(part.stands_as_operand(), output)?;
+        part.write_operand(output)?;
         has_front = true;
     }
     Ok(())
@@ -310,11 +316,17 @@ fn write_range(least: u64, most: Option<u64>, output: &mut Vec<u8>) -> Result<()
     output.extend_from_slice(b"[")?;
     write_number(least, output)?;
     output.extend_from_slice(b"..")?;
-    match most {
-        None => output.extend_from_slice(b"*")?,
-        Some(number) => write_number(number, output)?,
-    }
+    write_most(most, output)?;
     output.extend_from_slice(b"]")
+}
+
+fn write_most(most: Option<u64>, output: &mut Vec<u8>) -> Result<(), AllocError>
+    ensures { OnOk result (output.new.items ≡ output.old.items ++ most_text most) }
+{
+    match most {
+        None => output.extend_from_slice(b"*"),
+        Some(number) => write_number(number, output),
+    }
 }
 
 fn write_number(number: u64, output: &mut Vec<u8>) -> Result<(), AllocError>

@@ -4,14 +4,14 @@ use Rattle.std.proofs.lemmas.List.{append-nil, length-map, map_push}
 use Rattle.ecl_lexer.specs.declared.fault.QueryFault.{QueryFault}
 use Rattle.ecl_lexer.specs.declared.fault.QueryFault.TheVariants.{Syntax, Memory}
 use Rattle.constraint_tree.specs.Grammar.{Symbol, symbol_of}
-use Rattle.constraint_tree.specs.Tree.{Tree, minus_tree, refined_tree, member_tree, RefinementTree, and_refinement, group_refinement, one_refinement, or_refinement, refinements_from, AttributeSetTree, and_set, one_set, or_set, sets_from, AttributeTree, within_test}
+use Rattle.constraint_tree.specs.Tree.{Tree, member_tree, RefinementTree, and_refinement, group_refinement, one_refinement, or_refinement, refinements_from, AttributeSetTree, and_set, one_set, or_set, sets_from, AttributeTree, within_test}
 use Rattle.constraint_tree.specs.declared.operator.Cardinality.{Cardinality}
 use Rattle.constraint_tree.specs.declared.operator.Compare.{Compare}
 use Rattle.constraint_tree.specs.declared.operator.Compare.TheVariants as compare
 use Rattle.ecl_lexer.specs.Tokens.{spelled}
 use Rattle.ecl_lexer.specs.declared.token.Token.{Token}
 use Rattle.ecl_parser.specs.inside.Gives.{Fails, symbols, symbols_from}
-use Rattle.ecl_parser.specs.inside.Reading.{◌>>=◌, Found, Readers, all_behind, behind, bracketed_at, constraint_in, constraint_behind, count_at, digits_at, focus_in, item_behind, item_in, many, member_in, number_at, pair_in, part_in, readers, refinement_behind, refinement_in, set_behind, set_in, stands, sub_in, test_in, with_front}
+use Rattle.ecl_parser.specs.inside.Reading.{◌>>=◌, Found, Readers, all_behind, behind, bracketed_at, constraint_in, count_at, digits_at, focus_in, item_behind, item_in, many, member_in, number_at, pair_in, part_in, readers, refinement_behind, refinement_in, set_behind, set_in, stands, sub_in, test_in, with_front}
 use Rattle.ecl_parser.specs.declared.tokens.Mark.{Mark}
 use Rattle.ecl_parser.specs.declared.tokens.Mark.TheVariants as marks
 
@@ -170,11 +170,6 @@ module _ (inner : Readers) where
   unfolding part_in
   part_read count pair tokens after rest none counted read = rw (none, counted, read) refl
 
-  pub item_read : (count : Cardinality) (tokens after : List Symbol) → bracketed_at tokens ≡ None
-      → count_at tokens ≡ Some (count, after) → item_in inner tokens ≡ item_behind inner count after
-  unfolding item_in
-  item_read count tokens after none counted = rw (none, counted) refl
-
   pub pair_read : (count : Cardinality) (pair : AttributeTree) (tokens rest : List Symbol)
       → behind marks.BraceOpen tokens ≡ None
       → behind marks.Reverse tokens ≡ None → pair_in inner count false tokens ≡ Some (pair, rest)
@@ -231,27 +226,3 @@ module _ (inner : Readers) where
         → set_in inner tokens ≡ Some (or_set (sets_from trees), rest)
     unfolding set_in set_behind
     some_parts_read trees rest no_and is_or others = rw (read, no_and, is_or, others) refl
-
-  -- a Sub, and what is behind it
-  module _ (first : Tree) (tokens after : List Symbol) (read : sub_in inner tokens ≡ Some (first, after)) where
-    pub alone_read : stands marks.And after ≡ false → stands marks.Or after ≡ false → stands marks.Dot after ≡ false
-        → behind marks.Colon after ≡ None → behind marks.Minus after ≡ None
-        → constraint_in inner tokens ≡ Some (first, after)
-    unfolding constraint_in constraint_behind
-    alone_read no_and no_or no_dot no_colon no_minus = rw (read, no_and, no_or, no_dot, no_colon, no_minus) refl
-
-    pub refined_read : (what : RefinementTree) (behind_colon rest : List Symbol) → stands marks.And after ≡ false
-        → stands marks.Or after ≡ false → stands marks.Dot after ≡ false → behind marks.Colon after ≡ Some behind_colon
-        → refinement_in inner behind_colon ≡ Some (what, rest)
-        → constraint_in inner tokens ≡ Some (refined_tree first what, rest)
-    unfolding constraint_in constraint_behind
-    refined_read what behind_colon rest no_and no_or no_dot colon found =
-        rw (read, no_and, no_or, no_dot, colon, found) refl
-
-    pub minus_read : (second : Tree) (behind_minus rest : List Symbol) → stands marks.And after ≡ false
-        → stands marks.Or after ≡ false → stands marks.Dot after ≡ false → behind marks.Colon after ≡ None
-        → behind marks.Minus after ≡ Some behind_minus → sub_in inner behind_minus ≡ Some (second, rest)
-        → constraint_in inner tokens ≡ Some (minus_tree first second, rest)
-    unfolding constraint_in constraint_behind
-    minus_read second behind_minus rest no_and no_or no_dot no_colon minus found =
-        rw (read, no_and, no_or, no_dot, no_colon, minus, found) refl

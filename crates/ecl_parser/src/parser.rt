@@ -4,7 +4,7 @@
 ghost use Rattle.std.specs.Prelude.{◌≡◌, ◌∷◌, [], IfOk, map};
 ghost use Rattle.constraint_tree.specs.Tree.{attribute_tree_of, refinement_tree_of, set_tree_of, test_tree_of, tree_of};
 ghost use Rattle.ecl_parser.specs.inside.Gives.{Gives, symbols_from};
-ghost use Rattle.ecl_parser.specs.inside.Reading.{all_behind, constraint_in, focus_in, item_behind, item_in, member_in, pair_in, part_in, readers, refinement_in, set_in, sub_in, test_in, value_test, with_front};
+ghost use Rattle.ecl_parser.specs.inside.Reading.{all_behind, constraint_behind, constraint_in, dotted_behind, focus_in, item_behind, item_in, member_in, minus_behind, pair_in, part_in, readers, refined_behind, refinement_in, set_in, sub_in, test_in, value_test, with_front};
 
 use crate::counts::count;
 use crate::tokens::{
@@ -18,7 +18,7 @@ use std::alloc::{AllocError, Global};
 
 /// Constraint: a Sub, alone or joined with others, refined, or dotted.
 #[cycle(parser)]
-#[tactic(auto, using(constraint_tree::proofs::TreeLemmas::trees_of_items), unfolding(crate::specs::inside::Reading::constraint_in, crate::specs::inside::Reading::constraint_behind))]
+#[tactic(auto, unfolding(crate::specs::inside::Reading::constraint_in))]
 pub fn constraint(
     alloc: Global,
     tokens: &[Token<'_>],
@@ -28,34 +28,106 @@ pub fn constraint(
     ensures { Gives (λ found. (tree_of found, symbols_from tokens.now at.new)) result (constraint_in (readers depth) (symbols_from tokens.now at.old)) }
 {
     let first = sub(alloc, tokens, at, depth)?;
+    constraint_behind(alloc, first, tokens, at, depth)
+}
+
+// What a Sub is joined with, refined by, or dotted with, or the Sub alone.
+#[cycle(parser)]
+#[tactic(auto, unfolding(crate::specs::inside::Reading::constraint_behind))]
+fn constraint_behind(
+    alloc: Global,
+    first: Constraint,
+    tokens: &[Token<'_>],
+    at: &mut usize,
+    depth: u8,
+) -> Result<Constraint, QueryFault>
+    ensures { Gives (λ found. (tree_of found, symbols_from tokens.now at.new)) result (constraint_behind (readers depth) (tree_of first) (symbols_from tokens.now at.old)) }
+{
     if is_ahead(Mark::And, tokens, *at) {
-        let parts = single(alloc, first)?;
-        let parts = subs(alloc, parts, Mark::And, tokens, at, depth)?;
+        let parts = joined(alloc, first, Mark::And, tokens, at, depth)?;
         return Ok(Constraint::And(parts));
     }
     if is_ahead(Mark::Or, tokens, *at) {
-        let parts = single(alloc, first)?;
-        let parts = subs(alloc, parts, Mark::Or, tokens, at, depth)?;
+        let parts = joined(alloc, first, Mark::Or, tokens, at, depth)?;
         return Ok(Constraint::Or(parts));
     }
     if is_ahead(Mark::Dot, tokens, *at) {
-        let start = Box::new(alloc, first)?;
-        let names = subs(alloc, Vec::new(alloc), Mark::Dot, tokens, at, depth)?;
-        return Ok(Constraint::Dotted(start, names));
+        return dotted(alloc, first, tokens, at, depth);
     }
     if take(Mark::Colon, tokens, at) {
-        let what = refinement(alloc, tokens, at, depth)?;
-        let focus = Box::new(alloc, first)?;
-        let what = Box::new(alloc, what)?;
-        return Ok(Constraint::Refined(focus, what));
+        return refined(alloc, first, tokens, at, depth);
     }
     if take(Mark::Minus, tokens, at) {
-        let second = sub(alloc, tokens, at, depth)?;
-        let first = Box::new(alloc, first)?;
-        let second = Box::new(alloc, second)?;
-        return Ok(Constraint::Minus(first, second));
+        return subtracted(alloc, first, tokens, at, depth);
     }
     Ok(first)
+}
+
+// A Sub, and those that are joined with it.
+#[cycle(parser)]
+fn joined(
+    alloc: Global,
+    first: Constraint,
+    joint: Mark,
+    tokens: &[Token<'_>],
+    at: &mut usize,
+    depth: u8,
+) -> Result<Vec<Constraint>, QueryFault>
+    ensures { Gives (λ found. (map tree_of found.items, symbols_from tokens.now at.new)) result
+        (with_front (tree_of first ∷ []) (all_behind (sub_in (readers depth)) joint (symbols_from tokens.now at.old))) }
+{
+    let parts = single(alloc, first)?;
+    subs(alloc, parts, joint, tokens, at, depth)
+}
+
+// A Sub with the names behind it.
+#[cycle(parser)]
+fn dotted(
+    alloc: Global,
+    start: Constraint,
+    tokens: &[Token<'_>],
+    at: &mut usize,
+    depth: u8,
+) -> Result<Constraint, QueryFault>
+    ensures { Gives (λ found. (tree_of found, symbols_from tokens.now at.new)) result (dotted_behind (readers depth) (tree_of start) (symbols_from tokens.now at.old)) }
+{
+    let start = Box::new(alloc, start)?;
+    let names = subs(alloc, Vec::new(alloc), Mark::Dot, tokens, at, depth)?;
+    Ok(Constraint::Dotted(start, names))
+}
+
+// A Sub with the refinement behind it.
+#[cycle(parser)]
+fn refined(
+    alloc: Global,
+    focus: Constraint,
+    tokens: &[Token<'_>],
+    at: &mut usize,
+    depth: u8,
+) -> Result<Constraint, QueryFault>
+    ensures { Gives (λ found. (tree_of found, symbols_from tokens.now at.new)) result (refined_behind (readers depth) (tree_of focus) (symbols_from tokens.now at.old)) }
+{
+    let what = refinement(alloc, tokens, at, depth)?;
+    let focus = Box::new(alloc, focus)?;
+    let what = Box::new(alloc, what)?;
+    Ok(Constraint::Refined(focus, what))
+}
+
+// A Sub without the Sub behind it.
+#[cycle(parser)]
+fn subtracted(
+    alloc: Global,
+    first: Constraint,
+    tokens: &[Token<'_>],
+    at: &mut usize,
+    depth: u8,
+) -> Result<Constraint, QueryFault>
+    ensures { Gives (λ found. (tree_of found, symbols_from tokens.now at.new)) result (minus_behind (readers depth) (tree_of first) (symbols_from tokens.now at.old)) }
+{
+    let second = sub(alloc, tokens, at, depth)?;
+    let first = Box::new(alloc, first)?;
+    let second = Box::new(alloc, second)?;
+    Ok(Constraint::Minus(first, second))
 }
 
 // Subs, each behind a token, added to those that stand before them.
@@ -101,10 +173,7 @@ fn sub(
             let operand = Box::new(alloc, operand)?;
             Ok(Constraint::Walk(operator, operand))
         }
-        None => {
-            let found = member(alloc, tokens, at, depth)?;
-            Ok(found)
-        }
+        None => member(alloc, tokens, at, depth),
     }
 }
 
@@ -124,8 +193,7 @@ fn member(
         let sets = Box::new(alloc, sets)?;
         return Ok(Constraint::MemberOf(sets));
     }
-    let found = focus(alloc, tokens, at, depth)?;
-    Ok(found)
+    focus(alloc, tokens, at, depth)
 }
 
 // Focus: a concept, `*`, or a constraint in brackets.
@@ -229,8 +297,7 @@ fn item(
         return Ok(found);
     }
     let cardinality = count(tokens, at)?;
-    let found = counted_item(alloc, cardinality, tokens, at, depth)?;
-    Ok(found)
+    counted_item(alloc, cardinality, tokens, at, depth)
 }
 
 // An attribute, or a group of attributes in braces.

@@ -6,4 +6,5 @@ pub mod PairLemmas
 pub mod TabBits
 pub mod Texts
 pub mod VersionLemmas
+pub mod RowLemmas
 pub mod RowTextLemmas

@@ -2,3 +2,4 @@
 pub mod Formats
 pub mod RecentInside
 pub mod Tabs
+pub mod SharedColumns

@@ -5,10 +5,11 @@ ghost use Rattle.rf2_rows.specs.Rows.{IsReadingLent, column_fault, concrete_of, 
 ghost use Rattle.rf2_rows.specs.Values.{value_of};
 
 use crate::fault::{RowCause, RowFault};
-use crate::fields::{fault, flag, group, identifier, text, time};
+use crate::fields::{fault, identifier, text};
 use crate::kind::FileKind;
 use crate::recent_concepts::RecentConcepts;
 use crate::row::ConcreteRow;
+use crate::shared::{read_front, read_relationship_end};
 use crate::value::Value;
 use numerals::decimal;
 use sctid::Part;
@@ -21,47 +22,28 @@ pub fn read_concrete<'a>(
     ensures { let texts = texts_of fields.now in
         IsReadingLent concrete_text (fields_fault FileKind.Concrete texts) (concrete_of texts) result }
 {
-    let [
-        id,
-        effective_time,
-        active,
-        module_id,
-        source_id,
-        value,
-        relationship_group,
-        type_id,
-        characteristic_type_id,
-        modifier_id,
-    ] = fields
-    else {
+    if fields.len() != 10 {
         return Err(fault(RowCause::Fields, 0));
-    };
-    let id = identifier(id, Part::Relationship, 1)?;
-    let effective_time = time(effective_time, 2)?;
-    let active = flag(active, 3)?;
-    let module_id = recent.module_id.read(module_id, 4)?;
-    let source_id = identifier(source_id, Part::Concept, 5)?;
-    let value = match concrete_value(value, 6) {
+    }
+    let id = identifier(fields[0], Part::Relationship, 1)?;
+    let front = read_front(&mut recent.module_id, fields)?;
+    let source_id = identifier(fields[4], Part::Concept, 5)?;
+    let value = match concrete_value(fields[5], 6) {
         Ok(value) => value,
         Err(fault) => return Err(fault),
     };
-    let relationship_group = group(relationship_group, 7)?;
-    let type_id = identifier(type_id, Part::Concept, 8)?;
-    let characteristic_type_id = recent
-        .characteristic_type_id
-        .read(characteristic_type_id, 9)?;
-    let modifier_id = recent.modifier_id.read(modifier_id, 10)?;
+    let end = read_relationship_end(recent, fields)?;
     Ok(ConcreteRow {
         id,
-        effective_time,
-        active,
-        module_id,
+        effective_time: front.effective_time,
+        active: front.active,
+        module_id: front.module_id,
         source_id,
         value,
-        relationship_group,
-        type_id,
-        characteristic_type_id,
-        modifier_id,
+        relationship_group: end.relationship_group,
+        type_id: end.type_id,
+        characteristic_type_id: end.characteristic_type_id,
+        modifier_id: end.modifier_id,
     })
 }
 

@@ -12,6 +12,7 @@ mod read;
 mod recent;
 mod recent_concepts;
 mod row;
+mod shared;
 mod tabs;
 mod value;
 mod versions;

@@ -1,16 +1,18 @@
 //! Reading a line as a row.
-ghost use Rattle.std.specs.Prelude.{◌≡◌, None, Some, IfOk, IfErr};
+ghost use Rattle.std.specs.Prelude.{◌≡◌, None, Some, IfOk, IfErr, length};
 ghost use Rattle.text_parts.specs.Parts.{texts_of};
 ghost use Rattle.rf2_rows.specs.Rows.{IsReading, IsReadingLent, fields_fault, row_fault, concept_of, description_of, description_text, relationship_of, member_of, IsRow};
+ghost use Rattle.rf2_rows.specs.inside.SharedColumns.{description_end_fault, description_from};
 
 use crate::concrete::read_concrete;
 use crate::fault::{RowCause, RowFault};
-use crate::fields::{component, fault, flag, group, hyphenated, identifier, text, time};
+use crate::fields::{component, fault, hyphenated, identifier, text};
 use crate::kind::FileKind;
 use crate::recent_concepts::RecentConcepts;
 use crate::row::{ConceptRow, DescriptionRow, MemberRow, RelationshipRow, Row};
+use crate::shared::{Front, read_front, read_relationship_end};
 use crate::tabs::{Fields, push_fields};
-use sctid::Part;
+use sctid::{Part, SctId};
 
 /// Reads a line, without its end, as a row of a kind. A fault is the first: the number of fields,
 /// then the columns from left to right. The texts of a row are lent from the line. Takes no memory.
@@ -81,19 +83,17 @@ fn read_concept(recent: &mut RecentConcepts, fields: &[&[u8]]) -> Result<Concept
     ensures { let texts = texts_of fields.now in
         IsReading (fields_fault FileKind.Concept texts) (concept_of texts) result }
 {
-    let [id, effective_time, active, module_id, definition_status_id] = fields else {
+    if fields.len() != 5 {
         return Err(fault(RowCause::Fields, 0));
-    };
-    let id = identifier(id, Part::Concept, 1)?;
-    let effective_time = time(effective_time, 2)?;
-    let active = flag(active, 3)?;
-    let module_id = recent.module_id.read(module_id, 4)?;
-    let definition_status_id = recent.definition_status_id.read(definition_status_id, 5)?;
+    }
+    let id = identifier(fields[0], Part::Concept, 1)?;
+    let front = read_front(&mut recent.module_id, fields)?;
+    let definition_status_id = recent.definition_status_id.read(fields[4], 5)?;
     Ok(ConceptRow {
         id,
-        effective_time,
-        active,
-        module_id,
+        effective_time: front.effective_time,
+        active: front.active,
+        module_id: front.module_id,
         definition_status_id,
     })
 }
@@ -106,34 +106,35 @@ fn read_description<'a>(
     ensures { let texts = texts_of fields.now in
         IsReadingLent description_text (fields_fault FileKind.Description texts) (description_of texts) result }
 {
-    let [
-        id,
-        effective_time,
-        active,
-        module_id,
-        concept_id,
-        language_code,
-        type_id,
-        term,
-        case_significance_id,
-    ] = fields
-    else {
+    if fields.len() != 9 {
         return Err(fault(RowCause::Fields, 0));
-    };
-    let id = identifier(id, Part::Description, 1)?;
-    let effective_time = time(effective_time, 2)?;
-    let active = flag(active, 3)?;
-    let module_id = recent.module_id.read(module_id, 4)?;
-    let concept_id = identifier(concept_id, Part::Concept, 5)?;
-    let language_code = text(language_code, 6)?;
-    let type_id = recent.description_type_id.read(type_id, 7)?;
-    let term = text(term, 8)?;
-    let case_significance_id = recent.case_significance_id.read(case_significance_id, 9)?;
+    }
+    let id = identifier(fields[0], Part::Description, 1)?;
+    let front = read_front(&mut recent.module_id, fields)?;
+    read_description_end(recent, id, front, fields)
+}
+
+// The row of the Description file whose first columns are read.
+fn read_description_end<'a>(
+    recent: &mut RecentConcepts,
+    id: SctId,
+    front: Front,
+    fields: &[&'a [u8]],
+) -> Result<DescriptionRow<'a>, RowFault>
+    requires { length fields.now ≡ 9 }
+    ensures { let texts = texts_of fields.now in
+        IsReadingLent description_text (description_end_fault texts) (description_from id front texts) result }
+{
+    let concept_id = identifier(fields[4], Part::Concept, 5)?;
+    let language_code = text(fields[5], 6)?;
+    let type_id = recent.description_type_id.read(fields[6], 7)?;
+    let term = text(fields[7], 8)?;
+    let case_significance_id = recent.case_significance_id.read(fields[8], 9)?;
     Ok(DescriptionRow {
         id,
-        effective_time,
-        active,
-        module_id,
+        effective_time: front.effective_time,
+        active: front.active,
+        module_id: front.module_id,
         concept_id,
         language_code,
         type_id,
@@ -150,44 +151,25 @@ fn read_relationship(
     ensures { let texts = texts_of fields.now in
         IsReading (fields_fault FileKind.Relationship texts) (relationship_of texts) result }
 {
-    let [
-        id,
-        effective_time,
-        active,
-        module_id,
-        source_id,
-        destination_id,
-        relationship_group,
-        type_id,
-        characteristic_type_id,
-        modifier_id,
-    ] = fields
-    else {
+    if fields.len() != 10 {
         return Err(fault(RowCause::Fields, 0));
-    };
-    let id = identifier(id, Part::Relationship, 1)?;
-    let effective_time = time(effective_time, 2)?;
-    let active = flag(active, 3)?;
-    let module_id = recent.module_id.read(module_id, 4)?;
-    let source_id = identifier(source_id, Part::Concept, 5)?;
-    let destination_id = identifier(destination_id, Part::Concept, 6)?;
-    let relationship_group = group(relationship_group, 7)?;
-    let type_id = identifier(type_id, Part::Concept, 8)?;
-    let characteristic_type_id = recent
-        .characteristic_type_id
-        .read(characteristic_type_id, 9)?;
-    let modifier_id = recent.modifier_id.read(modifier_id, 10)?;
+    }
+    let id = identifier(fields[0], Part::Relationship, 1)?;
+    let front = read_front(&mut recent.module_id, fields)?;
+    let source_id = identifier(fields[4], Part::Concept, 5)?;
+    let destination_id = identifier(fields[5], Part::Concept, 6)?;
+    let end = read_relationship_end(recent, fields)?;
     Ok(RelationshipRow {
         id,
-        effective_time,
-        active,
-        module_id,
+        effective_time: front.effective_time,
+        active: front.active,
+        module_id: front.module_id,
         source_id,
         destination_id,
-        relationship_group,
-        type_id,
-        characteristic_type_id,
-        modifier_id,
+        relationship_group: end.relationship_group,
+        type_id: end.type_id,
+        characteristic_type_id: end.characteristic_type_id,
+        modifier_id: end.modifier_id,
     })
 }
 
@@ -196,28 +178,18 @@ fn read_member(recent: &mut RecentConcepts, fields: &[&[u8]]) -> Result<MemberRo
     ensures { let texts = texts_of fields.now in
         IsReading (fields_fault FileKind.Member texts) (member_of texts) result }
 {
-    let [
-        id,
-        effective_time,
-        active,
-        module_id,
-        refset_id,
-        referenced_component_id,
-    ] = fields
-    else {
+    if fields.len() != 6 {
         return Err(fault(RowCause::Fields, 0));
-    };
-    let id = hyphenated(id, 1)?;
-    let effective_time = time(effective_time, 2)?;
-    let active = flag(active, 3)?;
-    let module_id = recent.module_id.read(module_id, 4)?;
-    let refset_id = identifier(refset_id, Part::Concept, 5)?;
-    let referenced_component_id = component(referenced_component_id, 6)?;
+    }
+    let id = hyphenated(fields[0], 1)?;
+    let front = read_front(&mut recent.module_id, fields)?;
+    let refset_id = identifier(fields[4], Part::Concept, 5)?;
+    let referenced_component_id = component(fields[5], 6)?;
     Ok(MemberRow {
         id,
-        effective_time,
-        active,
-        module_id,
+        effective_time: front.effective_time,
+        active: front.active,
+        module_id: front.module_id,
         refset_id,
         referenced_component_id,
     })

@@ -1,7 +1,8 @@
 use Rattle.std.proofs.Common.{ap, ◌∙◌, arith}
 use Rattle.std.proofs.lemmas.List.{append_assoc, append-nil, drop_all, drop_more}
-use Rattle.constraint_tree.specs.Tree.{tree_of}
-use Rattle.constraint_tree.proofs.TreeLemmas.{tree_of-Dotted}
+use Rattle.constraint_tree.specs.Tree.{refinement_tree_of, set_tree_of, tree_of}
+use Rattle.constraint_tree.proofs.TreeLemmas.{refinement_tree_of-And, refinement_tree_of-Or, set_tree_of-And}
+use Rattle.constraint_tree.proofs.TreeLemmas.{set_tree_of-Or, tree_of-And, tree_of-Dotted, tree_of-Or}
 use Rattle.constraint_tree.proofs.+print.Goals as goal
 
 pub print::write_items-loop-part-preserved : goal.print::write_items-loop-part-preserved
@@ -22,38 +23,76 @@ print::write_parts-loop-part-preserved t c = grind (arith, append_assoc, drop_mo
 pub print::write_parts-returns : goal.print::write_parts-returns
 print::write_parts-returns t c = grind (arith, append-nil, drop_all)
 
-pub tree::Constraint::write-returns-in_ok-close-in-Dotted :
-    goal.tree::Constraint::write-returns-in_ok-close-in-Dotted
-tree::Constraint::write-returns-in_ok-close-in-Dotted t c =
+-- the variants with a `Vec` have the trees of its items
+pub tree::Constraint::write-returns-in-And : goal.tree::Constraint::write-returns-in-And
+tree::Constraint::write-returns-in-And t c =
+    let whole = ap tree_of c.in-And.is ∙ tree_of-And c.in-And.parts in
+    grind (arith, whole)
+
+pub tree::Constraint::write-returns-in-Or : goal.tree::Constraint::write-returns-in-Or
+tree::Constraint::write-returns-in-Or t c =
+    let whole = ap tree_of c.in-Or.is ∙ tree_of-Or c.in-Or.parts in
+    grind (arith, whole)
+
+pub tree::Constraint::write-returns-in_ok-write_operand-in-Dotted :
+    goal.tree::Constraint::write-returns-in_ok-write_operand-in-Dotted
+tree::Constraint::write-returns-in_ok-write_operand-in-Dotted t c =
     let whole = ap tree_of c.in-Dotted.is ∙ tree_of-Dotted c.in-Dotted.start c.in-Dotted.names in
     grind (arith, append_assoc)
+
+pub tree::Refinement::write-returns-in-And : goal.tree::Refinement::write-returns-in-And
+tree::Refinement::write-returns-in-And t c =
+    let whole = ap refinement_tree_of c.in-And.is ∙ refinement_tree_of-And c.in-And.parts in
+    grind (arith, whole)
+
+pub tree::Refinement::write-returns-in-Or : goal.tree::Refinement::write-returns-in-Or
+tree::Refinement::write-returns-in-Or t c =
+    let whole = ap refinement_tree_of c.in-Or.is ∙ refinement_tree_of-Or c.in-Or.parts in
+    grind (arith, whole)
+
+pub tree::AttributeSet::write-returns-in-And : goal.tree::AttributeSet::write-returns-in-And
+tree::AttributeSet::write-returns-in-And t c =
+    let whole = ap set_tree_of c.in-And.is ∙ set_tree_of-And c.in-And.parts in
+    grind (arith, whole)
+
+pub tree::AttributeSet::write-returns-in-Or : goal.tree::AttributeSet::write-returns-in-Or
+tree::AttributeSet::write-returns-in-Or t c =
+    let whole = ap set_tree_of c.in-Or.is ∙ set_tree_of-Or c.in-Or.parts in
+    grind (arith, whole)
 
 -- what was written is the texts of the parts, one behind another
 pub tree::Attribute::write-returns : goal.tree::Attribute::write-returns
 tree::Attribute::write-returns t c = grind (arith, append_assoc)
 
-pub tree::Constraint::write-returns-in_ok-write-in-Walk : goal.tree::Constraint::write-returns-in_ok-write-in-Walk
-tree::Constraint::write-returns-in_ok-write-in-Walk t c = grind (arith, append_assoc)
+pub tree::Constraint::write_placed-returns : goal.tree::Constraint::write_placed-returns
+tree::Constraint::write_placed-returns t c = grind (arith, append_assoc)
 
-pub tree::Constraint::write-returns-in_ok-write-in-MemberOf :
-    goal.tree::Constraint::write-returns-in_ok-write-in-MemberOf
-tree::Constraint::write-returns-in_ok-write-in-MemberOf t c = grind (arith, append_assoc)
+pub tree::Constraint::write-returns-in_ok-extend_from_slice-in-Walk :
+    goal.tree::Constraint::write-returns-in_ok-extend_from_slice-in-Walk
+tree::Constraint::write-returns-in_ok-extend_from_slice-in-Walk t c = grind (arith, append_assoc)
 
-pub tree::Constraint::write-returns-in_ok-write-in-Minus-2 : goal.tree::Constraint::write-returns-in_ok-write-in-Minus-2
-tree::Constraint::write-returns-in_ok-write-in-Minus-2 t c = grind (arith, append_assoc)
+pub tree::Constraint::write-returns-in_ok-extend_from_slice-in-MemberOf :
+    goal.tree::Constraint::write-returns-in_ok-extend_from_slice-in-MemberOf
+tree::Constraint::write-returns-in_ok-extend_from_slice-in-MemberOf t c = grind (arith, append_assoc)
+
+pub tree::Constraint::write-returns-in_ok-extend_from_slice-in-Minus :
+    goal.tree::Constraint::write-returns-in_ok-extend_from_slice-in-Minus
+tree::Constraint::write-returns-in_ok-extend_from_slice-in-Minus t c = grind (arith, append_assoc)
 
 pub tree::Constraint::write-returns-in_ok-extend_from_slice-in-Refined :
     goal.tree::Constraint::write-returns-in_ok-extend_from_slice-in-Refined
 tree::Constraint::write-returns-in_ok-extend_from_slice-in-Refined t c = grind (arith, append_assoc)
 
-pub tree::Refinement::write-returns-in_ok-write-in-Group : goal.tree::Refinement::write-returns-in_ok-write-in-Group
-tree::Refinement::write-returns-in_ok-write-in-Group t c = grind (arith, append_assoc)
+pub print::write_group-returns : goal.print::write_group-returns
+print::write_group-returns t c = grind (arith, append_assoc)
 
-pub tree::Test::write-returns-in_ok-write-in-Within : goal.tree::Test::write-returns-in_ok-write-in-Within
-tree::Test::write-returns-in_ok-write-in-Within t c = grind (arith, append_assoc)
+pub tree::Test::write-returns-in_ok-extend_from_slice-in-Within :
+    goal.tree::Test::write-returns-in_ok-extend_from_slice-in-Within
+tree::Test::write-returns-in_ok-extend_from_slice-in-Within t c = grind (arith, append_assoc)
 
-pub tree::Test::write-returns-in_ok-write-in-Outside : goal.tree::Test::write-returns-in_ok-write-in-Outside
-tree::Test::write-returns-in_ok-write-in-Outside t c = grind (arith, append_assoc)
+pub tree::Test::write-returns-in_ok-extend_from_slice-in-Outside :
+    goal.tree::Test::write-returns-in_ok-extend_from_slice-in-Outside
+tree::Test::write-returns-in_ok-extend_from_slice-in-Outside t c = grind (arith, append_assoc)
 
 pub tree::Test::write-returns-in_ok-extend_from_slice-in-Number :
     goal.tree::Test::write-returns-in_ok-extend_from_slice-in-Number

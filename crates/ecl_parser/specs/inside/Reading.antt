@@ -254,7 +254,17 @@ refinement_behind inner first tokens =
 unfoldable pub refinement_in : Readers → List Symbol → Found RefinementTree
 refinement_in inner tokens = item_in inner tokens >>= refinement_behind inner
 
--- Constraint
+-- Constraint: a Sub with the names behind it, with the refinement behind it, and without the Sub behind it
+abbrev pub dotted_behind : Readers → Tree → List Symbol → Found Tree
+dotted_behind inner first tokens =
+    with_front [] (all_behind (sub_in inner) marks.Dot tokens) >>= λ names left. Some (dotted_tree first (trees_from names), left)
+
+abbrev pub refined_behind : Readers → Tree → List Symbol → Found Tree
+refined_behind inner first tokens = refinement_in inner tokens >>= λ refinement left. Some (refined_tree first refinement, left)
+
+abbrev pub minus_behind : Readers → Tree → List Symbol → Found Tree
+minus_behind inner first tokens = sub_in inner tokens >>= λ second left. Some (minus_tree first second, left)
+
 unfoldable pub constraint_behind : Readers → Tree → List Symbol → Found Tree
 constraint_behind inner first tokens =
     if stands marks.And tokens
@@ -262,11 +272,10 @@ constraint_behind inner first tokens =
     else if stands marks.Or tokens
     then (with_front (first ∷ []) (all_behind (sub_in inner) marks.Or tokens) >>= λ parts left. Some (or_tree (trees_from parts), left))
     else if stands marks.Dot tokens
-    then (with_front [] (all_behind (sub_in inner) marks.Dot tokens) >>= λ names left. Some (dotted_tree first (trees_from names), left))
+    then dotted_behind inner first tokens
     else otherwise (behind marks.Colon tokens)
-    (otherwise (behind marks.Minus tokens) (Some (first, tokens))
-    (λ rest. sub_in inner rest >>= λ second left. Some (minus_tree first second, left)))
-    (λ rest. refinement_in inner rest >>= λ refinement left. Some (refined_tree first refinement, left))
+    (otherwise (behind marks.Minus tokens) (Some (first, tokens)) (minus_behind inner first))
+    (refined_behind inner first)
 
 unfoldable pub constraint_in : Readers → List Symbol → Found Tree
 constraint_in inner tokens = sub_in inner tokens >>= constraint_behind inner

@@ -1,12 +1,14 @@
 use Rattle.constraint_tree.proofs.TreeLemmas.{refinement_tree_of-And, refinement_tree_of-Or, set_tree_of-And, set_tree_of-Or}
+use Rattle.constraint_tree.proofs.TreeLemmas.{tree_of-And, tree_of-Dotted, tree_of-Or}
 use Rattle.std.proofs.Common.{rules, length, map, Some, ap, refl, sym, ◌∙◌, arith}
-use Rattle.constraint_tree.specs.Tree.{member_tree, minus_tree, refined_tree, refinement_tree_of, set_tree_of, tree_of, within_test}
+use Rattle.constraint_tree.specs.Tree.{dotted_tree, member_tree, minus_tree, refined_tree, refinement_tree_of, set_tree_of, tree_of, trees_of, within_test}
 use Rattle.ecl_parser.specs.inside.Gives.{symbols_from}
-use Rattle.ecl_parser.specs.inside.Reading.{item_in, member_in, pair_in, part_in, readers, refinement_behind, refinement_in, set_behind, set_in, sub_in}
-use Rattle.ecl_parser.proofs.ReadLemmas.{all_items_read, all_parts_read, alone_read, focus_in_brackets, focus_not_closed, group_in_braces}
-use Rattle.ecl_parser.proofs.ReadLemmas.{group_not_closed, group_too_deep, item_in_brackets, item_not_closed, item_read, many_done, many_end}
-use Rattle.ecl_parser.proofs.ReadLemmas.{many_fails, member_read, minus_read, no_turn, pair_read, part_in_brackets, part_not_closed, part_read}
-use Rattle.ecl_parser.proofs.ReadLemmas.{part_too_deep, refined_read, reverse_read, some_items_read, some_parts_read, turn_read, within_read}
+use Rattle.ecl_parser.specs.inside.Reading.{constraint_behind, constraint_in, item_in, member_in, pair_in, part_in, readers}
+use Rattle.ecl_parser.specs.inside.Reading.{refinement_behind, refinement_in, set_behind, set_in, sub_in}
+use Rattle.ecl_parser.proofs.ReadLemmas.{all_items_read, all_parts_read, focus_in_brackets, focus_not_closed, group_in_braces}
+use Rattle.ecl_parser.proofs.ReadLemmas.{group_not_closed, group_too_deep, item_in_brackets, item_not_closed, many_done, many_end}
+use Rattle.ecl_parser.proofs.ReadLemmas.{many_fails, member_read, no_turn, pair_read, part_in_brackets, part_not_closed, part_read}
+use Rattle.ecl_parser.proofs.ReadLemmas.{part_too_deep, reverse_read, some_items_read, some_parts_read, turn_read, within_read}
 use Rattle.ecl_parser.proofs.parser.+parser.Goals.{subs-else-loop-turn-test, subs-then-loop-turn-test+then-not-take, items-else-loop-turn-test}
 use Rattle.ecl_parser.proofs.parser.+parser.Goals.{items-then-loop-turn-test+then-not-take, parts-else-loop-turn-test}
 use Rattle.ecl_parser.proofs.parser.+parser.Goals.{parts-then-loop-turn-test+then-not-take}
@@ -78,13 +80,6 @@ counted_item-returns t c =
     pair_read (readers c.args.depth) c.args.cardinality _ _ _ (c.take.ensures.left c.if-take.false)
     (rw same at (c.take-2.ensures.left c.if-take-2.false)) (rw same_still at c.in_ok-found-3.ensures)
 
-pub item-returns : goal.item-returns
-item-returns t c =
-    let same = c.take_bracket.ensures.same c.if-take_bracket.false in
-    item_read (readers c.args.depth) _ _ _ (c.take_bracket.ensures.left c.if-take_bracket.false)
-    (rw same at c.in_ok-cardinality.ensures)
-    ∙ c.in_ok-found-2.ensures
-
 pub part-returns : goal.part-returns
 part-returns t c =
     let same = c.take_bracket.ensures.same c.if-take_bracket.false in
@@ -117,18 +112,6 @@ pub sub-returns-in_ok-operand-in-Some-2 : goal.sub-returns-in_ok-operand-in-Some
 unfolding sub_in
 sub-returns-in_ok-operand-in-Some-2 t c =
     rw (c.in-Some.ensures.taken, c.in_ok-operand-in-Some.ensures, c.in_ok-operand-in-Some-2.ensures.ok) refl
-
-pub sub-returns-in_ok-found-in-None : goal.sub-returns-in_ok-found-in-None
-unfolding sub_in
-sub-returns-in_ok-found-in-None t c =
-    let same = c.take_operator.ensures.same c.in-None.is in
-    rw (c.take_operator.ensures.left c.in-None.is) (rw same at c.in_ok-found-in-None.ensures)
-
-pub member-returns : goal.member-returns
-unfolding member_in
-member-returns t c =
-    let same = c.take.ensures.same c.if-take.false in
-    rw (c.take.ensures.left c.if-take.false) (rw same at c.in_ok-found.ensures)
 
 pub set-returns : goal.set-returns
 unfolding set_in set_behind
@@ -180,40 +163,101 @@ refinement-returns-then-is_ahead-2 t c =
     ∙ ap (λ tree. Some (tree, symbols_from c.args.tokens.now c.items-then-is_ahead-2.new.at))
     (sym (refinement_tree_of-Or c.in_ok-parts-4.parts))
 
-pub constraint-returns-then-take : goal.constraint-returns-then-take
-constraint-returns-then-take t c =
-    refined_read (readers c.args.depth) (tree_of c.in_ok-first.first) _ (symbols_from c.args.tokens.now c.sub.new.at)
-    c.in_ok-first.ensures _ _ _
-    (sym c.is_ahead.ensures.kind ∙ c.if-is_ahead.false) (sym c.is_ahead-2.ensures.kind ∙ search rules)
-    (sym c.is_ahead-3.ensures.kind ∙ search rules) (c.take.ensures.taken c.if-take.true) c.in_ok-what.ensures
-    ∙ (λ i. Some (
+pub sub-returns-in-None : goal.sub-returns-in-None
+unfolding sub_in
+sub-returns-in-None t c =
+    let same = c.take_operator.ensures.same c.in-None.is in
+    rw (c.take_operator.ensures.left c.in-None.is) (rw same at c.member-in-None.ensures)
+
+pub member-returns : goal.member-returns
+unfolding member_in
+member-returns t c =
+    let same = c.take.ensures.same c.if-take.false in
+    rw (c.take.ensures.left c.if-take.false) (rw same at c.focus-2.ensures)
+
+pub item-returns : goal.item-returns
+unfolding item_in
+item-returns t c =
+    let same = c.take_bracket.ensures.same c.if-take_bracket.false in
+    rw (c.take_bracket.ensures.left c.if-take_bracket.false, rw same at c.in_ok-cardinality.ensures) c.counted_item.ensures
+
+pub constraint-returns : goal.constraint-returns
+unfolding constraint_in
+constraint-returns t c = rw c.in_ok-first.ensures c.constraint_behind.ensures
+
+pub constraint_behind-returns-then-is_ahead : goal.constraint_behind-returns-then-is_ahead
+unfolding constraint_behind
+constraint_behind-returns-then-is_ahead t c =
+    rw (sym c.is_ahead.ensures.kind ∙ c.if-is_ahead.true, c.in_ok-parts.ensures)
+    (ap (λ tree. Some (tree, symbols_from c.args.tokens.now c.joined.new.at)) (sym (tree_of-And c.in_ok-parts.parts)))
+
+pub constraint_behind-returns-then-is_ahead-2 : goal.constraint_behind-returns-then-is_ahead-2
+unfolding constraint_behind
+constraint_behind-returns-then-is_ahead-2 t c =
+    let no_and = sym c.is_ahead.ensures.kind ∙ c.if-is_ahead.false in
+    rw (no_and, sym c.is_ahead-2.ensures.kind ∙ c.if-is_ahead-2.true, c.in_ok-parts-2.ensures)
+    (ap (λ tree. Some (tree, symbols_from c.args.tokens.now c.joined-then-is_ahead-2.new.at)) (sym (tree_of-Or c.in_ok-parts-2.parts)))
+
+pub constraint_behind-returns-then-is_ahead-3 : goal.constraint_behind-returns-then-is_ahead-3
+unfolding constraint_behind
+constraint_behind-returns-then-is_ahead-3 t c =
+    let no_and = sym c.is_ahead.ensures.kind ∙ c.if-is_ahead.false in
+    let no_or = sym c.is_ahead-2.ensures.kind ∙ c.if-is_ahead-2.false in
+    rw (no_and, no_or, sym c.is_ahead-3.ensures.kind ∙ c.if-is_ahead-3.true) c.dotted.ensures
+
+pub constraint_behind-returns-then-take : goal.constraint_behind-returns-then-take
+unfolding constraint_behind
+constraint_behind-returns-then-take t c =
+    let no_and = sym c.is_ahead.ensures.kind ∙ c.if-is_ahead.false in
+    let no_or = sym c.is_ahead-2.ensures.kind ∙ c.if-is_ahead-2.false in
+    let no_dot = sym c.is_ahead-3.ensures.kind ∙ c.if-is_ahead-3.false in
+    rw (no_and, no_or, no_dot, c.take.ensures.taken c.if-take.true) c.refined.ensures
+
+pub constraint_behind-returns-then-take-2 : goal.constraint_behind-returns-then-take-2
+unfolding constraint_behind
+constraint_behind-returns-then-take-2 t c =
+    let no_and = sym c.is_ahead.ensures.kind ∙ c.if-is_ahead.false in
+    let no_or = sym c.is_ahead-2.ensures.kind ∙ c.if-is_ahead-2.false in
+    let no_dot = sym c.is_ahead-3.ensures.kind ∙ c.if-is_ahead-3.false in
+    let same = c.take.ensures.same c.if-take.false in
+    rw (no_and, no_or, no_dot, c.take.ensures.left c.if-take.false, rw same at (c.take-2.ensures.taken c.if-take-2.true))
+    c.subtracted.ensures
+
+pub constraint_behind-returns : goal.constraint_behind-returns
+unfolding constraint_behind
+constraint_behind-returns t c =
+    let no_and = sym c.is_ahead.ensures.kind ∙ c.if-is_ahead.false in
+    let no_or = sym c.is_ahead-2.ensures.kind ∙ c.if-is_ahead-2.false in
+    let no_dot = sym c.is_ahead-3.ensures.kind ∙ c.if-is_ahead-3.false in
+    let same = c.take.ensures.same c.if-take.false in
+    let same_still = c.take-2.ensures.same c.if-take-2.false ∙ same in
+    rw (no_and, no_or, no_dot, c.take.ensures.left c.if-take.false, rw same at (c.take-2.ensures.left c.if-take-2.false))
+    (ap (λ at. Some (tree_of c.args.first, symbols_from c.args.tokens.now at)) (sym same_still))
+
+pub joined-returns : goal.joined-returns
+joined-returns t c = rw c.in_ok-parts.ensures at c.subs.ensures
+
+pub refined-returns : goal.refined-returns
+refined-returns t c =
+    rw c.in_ok-what.ensures (λ i. Some (
       refined_tree (tree_of (sym c.in_ok-focus.ensures.ok i)) (refinement_tree_of (sym c.in_ok-what-2.ensures.ok i)),
       symbols_from c.args.tokens.now c.refinement.new.at,
     ))
 
-pub constraint-returns-then-take-2 : goal.constraint-returns-then-take-2
-constraint-returns-then-take-2 t c =
-    let same = c.take.ensures.same c.if-take.false in
-    minus_read (readers c.args.depth) (tree_of c.in_ok-first.first) _ (symbols_from c.args.tokens.now c.sub.new.at)
-    c.in_ok-first.ensures _ _ _
-    (sym c.is_ahead.ensures.kind ∙ c.if-is_ahead.false) (sym c.is_ahead-2.ensures.kind ∙ search rules)
-    (sym c.is_ahead-3.ensures.kind ∙ search rules) (c.take.ensures.left c.if-take.false)
-    (rw same at (c.take-2.ensures.taken c.if-take-2.true)) c.in_ok-second.ensures
-    ∙ (λ i. Some (
-      minus_tree (tree_of (sym c.in_ok-first-2.ensures.ok i)) (tree_of (sym c.in_ok-second-2.ensures.ok i)),
-      symbols_from c.args.tokens.now c.sub-then-take-2.new.at,
+pub subtracted-returns : goal.subtracted-returns
+subtracted-returns t c =
+    rw c.in_ok-second.ensures (λ i. Some (
+      minus_tree (tree_of (sym c.in_ok-first.ensures.ok i)) (tree_of (sym c.in_ok-second-2.ensures.ok i)),
+      symbols_from c.args.tokens.now c.sub.new.at,
     ))
 
-pub constraint-returns : goal.constraint-returns
-constraint-returns t c =
-    let same = c.take.ensures.same c.if-take.false in
-    let same_still = c.take-2.ensures.same c.if-take-2.false ∙ same in
-    alone_read (readers c.args.depth) (tree_of c.in_ok-first.first) _ (symbols_from c.args.tokens.now c.sub.new.at)
-    c.in_ok-first.ensures
-    (sym c.is_ahead.ensures.kind ∙ c.if-is_ahead.false) (sym c.is_ahead-2.ensures.kind ∙ search rules)
-    (sym c.is_ahead-3.ensures.kind ∙ search rules) (c.take.ensures.left c.if-take.false)
-    (rw same at (c.take-2.ensures.left c.if-take-2.false))
-    ∙ ap (λ at. Some (tree_of c.in_ok-first.first, symbols_from c.args.tokens.now at)) (sym same_still)
+pub dotted-returns : goal.dotted-returns
+dotted-returns t c =
+    rw (rw c.new-2.ensures.items at c.in_ok-names.ensures)
+    (ap (λ start. Some (dotted_tree (tree_of start) (trees_of c.in_ok-names.names.items), symbols_from c.args.tokens.now c.subs.new.at))
+    (sym c.in_ok-start.ensures.ok)
+    ∙ ap (λ tree. Some (tree, symbols_from c.args.tokens.now c.subs.new.at))
+    (sym (tree_of-Dotted c.in_ok-start.start c.in_ok-names.names)))
 
 pub subs-loop-turn-init : goal.subs-loop-turn-init
 subs-loop-turn-init t c =

@@ -6,46 +6,61 @@ use Rattle.ecl_parser.specs.inside.Reading.{all_behind, item_in, many, part_in, 
 use Rattle.ecl_parser.proofs.parser.+parser.Given as goal
 
 abbrev pub decreases-constraint : goal.decreases-constraint
-decreases-constraint l = 16 * l.depth + 15
+decreases-constraint l = 24 * l.depth + 18
+
+abbrev pub decreases-constraint_behind : goal.decreases-constraint_behind
+decreases-constraint_behind l = 24 * l.depth + 17
+
+abbrev pub decreases-joined : goal.decreases-joined
+decreases-joined l = 24 * l.depth + 16
+
+abbrev pub decreases-dotted : goal.decreases-dotted
+decreases-dotted l = 24 * l.depth + 16
+
+abbrev pub decreases-refined : goal.decreases-refined
+decreases-refined l = 24 * l.depth + 16
+
+abbrev pub decreases-subtracted : goal.decreases-subtracted
+decreases-subtracted l = 24 * l.depth + 16
 
 abbrev pub decreases-refinement : goal.decreases-refinement
-decreases-refinement l = 16 * l.depth + 14
+decreases-refinement l = 24 * l.depth + 14
 
 abbrev pub decreases-set : goal.decreases-set
-decreases-set l = 16 * l.depth + 14
+decreases-set l = 24 * l.depth + 14
 
 abbrev pub decreases-items : goal.decreases-items
-decreases-items l = 16 * l.depth + 12
+decreases-items l = 24 * l.depth + 12
 
 abbrev pub decreases-item : goal.decreases-item
-decreases-item l = 16 * l.depth + 11
+decreases-item l = 24 * l.depth + 11
 
 abbrev pub decreases-counted_item : goal.decreases-counted_item
-decreases-counted_item l = 16 * l.depth + 10
+decreases-counted_item l = 24 * l.depth + 10
 
 abbrev pub decreases-parts : goal.decreases-parts
-decreases-parts l = 16 * l.depth + 9
+decreases-parts l = 24 * l.depth + 9
 
 abbrev pub decreases-part : goal.decreases-part
-decreases-part l = 16 * l.depth + 8
+decreases-part l = 24 * l.depth + 8
 
 abbrev pub decreases-pair : goal.decreases-pair
-decreases-pair l = 16 * l.depth + 7
+decreases-pair l = 24 * l.depth + 7
 
 abbrev pub decreases-test : goal.decreases-test
-decreases-test l = 16 * l.depth + 6
+decreases-test l = 24 * l.depth + 6
 
 abbrev pub decreases-subs : goal.decreases-subs
-decreases-subs l = 16 * l.depth + 5
+decreases-subs l = 24 * l.depth + 5
 
 abbrev pub decreases-sub : goal.decreases-sub
-decreases-sub l = 16 * l.depth + 4
+decreases-sub l = 24 * l.depth + 4
 
 abbrev pub decreases-member : goal.decreases-member
-decreases-member l = 16 * l.depth + 3
+decreases-member l = 24 * l.depth + 3
 
 abbrev pub decreases-focus : goal.decreases-focus
-decreases-focus l = 16 * l.depth + 2
+decreases-focus l = 24 * l.depth + 2
 
 -- what is read so far, and what the turns that are left read
 abbrev pub invariant-subs-loop-turn : goal.invariant-subs-loop-turn

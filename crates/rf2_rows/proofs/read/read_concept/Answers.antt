@@ -1,27 +1,17 @@
 -- At each exit the columns before have no fault and this one has; at the end none has.
 use Rattle.std.proofs.Common.{arith}
-use Rattle.std.proofs.Math.ListN.{length-map}
-use Rattle.std.proofs.lemmas.Bool.Decides.{nat_tests}
 use Rattle.rf2_rows.proofs.Columns.{five_texts}
+use Rattle.rf2_rows.proofs.RowLemmas.{concept_fault}
 use Rattle.rf2_rows.proofs.read.read_concept.Goals as goal
 
-pub returns-in_default : goal.returns-in_default
-returns-in_default c = grind (arith, nat_tests, length-map)
-
 pub returns-in_err-id : goal.returns-in_err-id
-returns-in_err-id c = grind (arith, five_texts)
+returns-in_err-id c = grind (arith, concept_fault c.args.fields.now c.if-fields-ne5.false)
 
-pub returns-in_err-effective_time : goal.returns-in_err-effective_time
-returns-in_err-effective_time c = grind (arith, five_texts)
-
-pub returns-in_err-active : goal.returns-in_err-active
-returns-in_err-active c = grind (arith, five_texts)
-
-pub returns-in_err-module_id : goal.returns-in_err-module_id
-returns-in_err-module_id c = grind (arith, five_texts)
+pub returns-in_err-front : goal.returns-in_err-front
+returns-in_err-front c = grind (arith, concept_fault c.args.fields.now c.if-fields-ne5.false)
 
 pub returns-in_err-definition_status_id : goal.returns-in_err-definition_status_id
-returns-in_err-definition_status_id c = grind (arith, five_texts)
+returns-in_err-definition_status_id c = grind (arith, concept_fault c.args.fields.now c.if-fields-ne5.false)
 
 pub returns : goal.returns
-returns c = grind (arith, five_texts)
+returns c = grind (arith, concept_fault c.args.fields.now c.if-fields-ne5.false, five_texts c.args.fields.now c.if-fields-ne5.false)

@@ -1,0 +1,6 @@
+use Rattle.std.proofs.Common.{arith}
+use Rattle.std.proofs.lemmas.List.{append_assoc}
+use Rattle.constraint_tree.proofs.print.write_range.Goals as goal
+
+pub returns : goal.returns
+returns c = grind (arith, append_assoc)

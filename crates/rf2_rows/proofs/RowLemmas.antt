@@ -1,0 +1,116 @@
+-- The first fault of a line's fields, and the row that they stand for, by the texts at the places of the fields.
+use Rattle.std.proofs.Common.{◌≡◌, ℕ, ◌-◌, List, length, Option, None, Some, refl, ap, ◌∙◌}
+use Rattle.std.specs.Option.{option_or}
+use Rattle.std.specs.Borrow.{Bor}
+use Rattle.sctid.specs.declared.Part.TheVariants.{Concept, Description, Relationship}
+use Rattle.text_parts.specs.Parts.{texts_of}
+use Rattle.rf2_rows.specs.Columns.{Format, active_format, cause_of, component_format, group_format, id_format}
+use Rattle.rf2_rows.specs.Columns.{text_format, time_format, uuid_format, value_format}
+use Rattle.rf2_rows.specs.Rows.{column_fault, fields_fault}
+use Rattle.rf2_rows.specs.inside.SharedColumns.{description_end_fault, end_fault, front_fault}
+use Rattle.rf2_rows.specs.declared.fault.RowFault.{RowFault}
+use Rattle.rf2_rows.specs.declared.kind.FileKind.TheVariants.{Concept as ConceptFile, Description as DescriptionFile, Relationship as RelationshipFile}
+use Rattle.rf2_rows.specs.declared.kind.FileKind.TheVariants.{Concrete as ConcreteFile, Member as MemberFile}
+use Rattle.rf2_rows.proofs.Columns.{five_texts, nine_texts, six_texts, ten_texts, text_at}
+
+-- the first of some faults is that of a part of them, or else that of the rest
+three_first : (one two three rest : Option RowFault)
+    → option_or one (option_or two (option_or three rest)) ≡ option_or (option_or one (option_or two three)) rest
+three_first (Some fault) two three rest = refl
+three_first None (Some fault) three rest = refl
+three_first None None three rest = refl
+
+four_last : (one two three four : Option RowFault)
+    → option_or one (option_or two (option_or three (option_or four None))) ≡ option_or one (option_or two (option_or three four))
+four_last (Some fault) two three four = refl
+four_last None (Some fault) three four = refl
+four_last None None (Some fault) four = refl
+four_last None None None (Some fault) = refl
+four_last None None None None = refl
+
+module _ (fields : List (Bor (List ℕ))) where
+  -- the fault of the column of a number, in which the text has a format
+  abbrev pub fault_at : ℕ → Format → Option RowFault
+  fault_at number format = column_fault number (cause_of format (text_at fields (number - 1)))
+
+  -- the columns behind the identifier stand together
+  fronted : (one rest : Option RowFault)
+      → option_or one (option_or (fault_at 2 time_format) (option_or (fault_at 3 active_format) (option_or (fault_at 4 (id_format Concept)) rest)))
+      ≡ option_or one (option_or (option_or (fault_at 2 time_format) (option_or (fault_at 3 active_format) (fault_at 4 (id_format Concept)))) rest)
+  fronted one rest = ap (option_or one) (three_first (fault_at 2 time_format) (fault_at 3 active_format) (fault_at 4 (id_format Concept)) rest)
+
+  pub concept_fault : length fields ≡ 5
+      → fields_fault ConceptFile (texts_of fields)
+      ≡ option_or (fault_at 1 (id_format Concept)) (option_or (front_fault (texts_of fields)) (option_or (fault_at 5 (id_format Concept)) None))
+  concept_fault same = rw (five_texts fields same) (fronted (fault_at 1 (id_format Concept)) (option_or (fault_at 5 (id_format Concept)) None))
+
+  -- so do those behind the module of a description
+  abbrev description_end : Option RowFault → Option RowFault
+  description_end last =
+      option_or (fault_at 5 (id_format Concept)) (option_or (fault_at 6 text_format) (option_or (fault_at 7 (id_format Concept))
+      (option_or (fault_at 8 text_format) last)))
+
+  description_ended : (last : Option RowFault) → option_or last None ≡ last
+  description_ended None = refl
+  description_ended (Some fault) = refl
+
+  pub description_fault : length fields ≡ 9
+      → fields_fault DescriptionFile (texts_of fields)
+      ≡ option_or (fault_at 1 (id_format Description)) (option_or (front_fault (texts_of fields)) (description_end_fault (texts_of fields)))
+  description_fault same =
+      rw (nine_texts fields same)
+      (fronted (fault_at 1 (id_format Description)) (description_end (option_or (fault_at 9 (id_format Concept)) None))
+      ∙ ap (λ last. option_or (fault_at 1 (id_format Description)) (option_or
+      (option_or (fault_at 2 time_format) (option_or (fault_at 3 active_format) (fault_at 4 (id_format Concept))))
+      (description_end last))) (description_ended (fault_at 9 (id_format Concept))))
+
+  abbrev pub member_end : Option RowFault
+  member_end = option_or (fault_at 5 (id_format Concept)) (option_or (fault_at 6 component_format) None)
+
+  pub member_fault : length fields ≡ 6
+      → fields_fault MemberFile (texts_of fields)
+      ≡ option_or (fault_at 1 uuid_format) (option_or (front_fault (texts_of fields)) member_end)
+  member_fault same = rw (six_texts fields same) (fronted (fault_at 1 uuid_format) member_end)
+
+  -- a relationship's value is a concept, or another value
+  abbrev pub relationship_faults : Format → Option RowFault
+  relationship_faults value =
+      option_or (fault_at 1 (id_format Relationship)) (option_or (front_fault (texts_of fields))
+      (option_or (fault_at 5 (id_format Concept)) (option_or (fault_at 6 value) (end_fault (texts_of fields)))))
+
+  -- and so do those behind it
+  ended : (one front source value : Option RowFault)
+      → option_or one (option_or front (option_or source (option_or value
+      (option_or (fault_at 7 group_format) (option_or (fault_at 8 (id_format Concept))
+      (option_or (fault_at 9 (id_format Concept)) (option_or (fault_at 10 (id_format Concept)) None)))))))
+      ≡ option_or one (option_or front (option_or source (option_or value
+      (option_or (fault_at 7 group_format) (option_or (fault_at 8 (id_format Concept))
+      (option_or (fault_at 9 (id_format Concept)) (fault_at 10 (id_format Concept))))))))
+  ended one front source value =
+      ap (λ end. option_or one (option_or front (option_or source (option_or value end))))
+      (four_last (fault_at 7 group_format) (fault_at 8 (id_format Concept)) (fault_at 9 (id_format Concept)) (fault_at 10 (id_format Concept)))
+
+  abbrev front_at : Option RowFault
+  front_at = option_or (fault_at 2 time_format) (option_or (fault_at 3 active_format) (fault_at 4 (id_format Concept)))
+
+  abbrev end_at : Option RowFault
+  end_at =
+      option_or (fault_at 7 group_format) (option_or (fault_at 8 (id_format Concept))
+      (option_or (fault_at 9 (id_format Concept)) (option_or (fault_at 10 (id_format Concept)) None)))
+
+  in_relationship : (value : Format)
+      → option_or (fault_at 1 (id_format Relationship)) (option_or (fault_at 2 time_format) (option_or (fault_at 3 active_format)
+      (option_or (fault_at 4 (id_format Concept)) (option_or (fault_at 5 (id_format Concept)) (option_or (fault_at 6 value) end_at)))))
+      ≡ option_or (fault_at 1 (id_format Relationship)) (option_or front_at
+      (option_or (fault_at 5 (id_format Concept)) (option_or (fault_at 6 value)
+      (option_or (fault_at 7 group_format) (option_or (fault_at 8 (id_format Concept))
+      (option_or (fault_at 9 (id_format Concept)) (fault_at 10 (id_format Concept))))))))
+  in_relationship value =
+      fronted (fault_at 1 (id_format Relationship)) (option_or (fault_at 5 (id_format Concept)) (option_or (fault_at 6 value) end_at))
+      ∙ ended (fault_at 1 (id_format Relationship)) front_at (fault_at 5 (id_format Concept)) (fault_at 6 value)
+
+  pub relationship_fault : length fields ≡ 10 → fields_fault RelationshipFile (texts_of fields) ≡ relationship_faults (id_format Concept)
+  relationship_fault same = rw (ten_texts fields same) (in_relationship (id_format Concept))
+
+  pub concrete_fault : length fields ≡ 10 → fields_fault ConcreteFile (texts_of fields) ≡ relationship_faults value_format
+  concrete_fault same = rw (ten_texts fields same) (in_relationship value_format)

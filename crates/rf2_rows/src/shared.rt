@@ -1,0 +1,63 @@
+//! Reading the columns that rows of several kinds have in common.
+ghost use Rattle.std.specs.Prelude.{◌≡◌, ◌≤◌, length};
+ghost use Rattle.text_parts.specs.Parts.{texts_of};
+ghost use Rattle.rf2_rows.specs.Rows.{IsReading};
+ghost use Rattle.rf2_rows.specs.inside.SharedColumns.{end_fault, end_of, front_fault, front_of};
+
+use crate::fault::RowFault;
+use crate::fields::{flag, group, identifier, time};
+use crate::recent::Recent;
+use crate::recent_concepts::RecentConcepts;
+use sctid::{Part, SctId};
+
+/// The columns behind the identifier, which rows of every kind have.
+#[derive(Clone, Copy)]
+pub struct Front {
+    pub effective_time: Option<u32>,
+    pub active: bool,
+    pub module_id: SctId,
+}
+
+/// Reads the columns behind the identifier, which are the second to the fourth.
+pub fn read_front(recent: &mut Recent, fields: &[&[u8]]) -> Result<Front, RowFault>
+    requires { 4 ≤ length fields.now }
+    ensures { let texts = texts_of fields.now in IsReading (front_fault texts) (front_of texts) result }
+{
+    let effective_time = time(fields[1], 2)?;
+    let active = flag(fields[2], 3)?;
+    let module_id = recent.read(fields[3], 4)?;
+    Ok(Front {
+        effective_time,
+        active,
+        module_id,
+    })
+}
+
+/// The columns behind the value, which relationships of both files have.
+#[derive(Clone, Copy)]
+pub struct RelationshipEnd {
+    pub relationship_group: u32,
+    pub type_id: SctId,
+    pub characteristic_type_id: SctId,
+    pub modifier_id: SctId,
+}
+
+/// Reads the columns behind the value, which are the seventh to the tenth.
+pub fn read_relationship_end(
+    recent: &mut RecentConcepts,
+    fields: &[&[u8]],
+) -> Result<RelationshipEnd, RowFault>
+    requires { length fields.now ≡ 10 }
+    ensures { let texts = texts_of fields.now in IsReading (end_fault texts) (end_of texts) result }
+{
+    let relationship_group = group(fields[6], 7)?;
+    let type_id = identifier(fields[7], Part::Concept, 8)?;
+    let characteristic_type_id = recent.characteristic_type_id.read(fields[8], 9)?;
+    let modifier_id = recent.modifier_id.read(fields[9], 10)?;
+    Ok(RelationshipEnd {
+        relationship_group,
+        type_id,
+        characteristic_type_id,
+        modifier_id,
+    })
+}
