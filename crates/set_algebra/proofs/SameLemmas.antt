@@ -1,10 +1,10 @@
 -- Lists of equal plans, and what is equal of two variants with a `Vec`.
-use Rattle.std.proofs.Common.{ℕ, zero, suc, ◌≡◌, ◌↔◌, ◌+◌, ◌<◌, Bool, List, [], ◌∷◌, length, get_or, take, Vec, Box, IsTrue, refl, sym, ap, ◌∙◌, arith}
+use Rattle.std.proofs.Common.{ℕ, zero, suc, ◌≡◌, ◌↔◌, ◌+◌, ◌<◌, ◌≤◌, Bool, List, [], ◌∷◌, length, get_or, take, take_all, Vec, Box, IsTrue, refl, sym, ap, ◌∙◌, arith}
 use Rattle.std.specs.declared.alloc.Global.{Global}
 use Rattle.set_algebra.specs.declared.plan.ConceptPlan.{ConceptPlan}
 use Rattle.set_algebra.specs.declared.plan.ConceptPlan.TheVariants as concept_plan
 use Rattle.set_algebra.specs.declared.plan.UnitPlan.{UnitPlan}
-use Rattle.set_algebra.specs.Plan.{Plan, Plans, values_plan, plan_of, plans_of, PlansOfUnits, unit_plan_of, unit_plans_of}
+use Rattle.set_algebra.specs.Plan.{Plans, values_plan, plan_of, plans_of, PlansOfUnits, unit_plan_of, unit_plans_of}
 use Rattle.set_algebra.proofs.ListLemmas.{plans_push, groups_push, plans_so_far, groups_so_far}
 use Rattle.set_algebra.proofs.PlanLemmas.{plan_of-Values}
 
@@ -62,22 +62,26 @@ same_unit_more parts others i part other within long is other_is so_far one =
     ∙ ap (groups_push (unit_plans_of (take i others))) one
     ∙ sym (groups_so_far others i other (omega arith) other_is)
 
--- values from equal starts are the same plan exactly where their names are
-values_same : (from from_other : Plan) (names others : Plans) (result : Bool) → from ≡ from_other
-    → (IsTrue result ↔ (names ≡ others)) → IsTrue result ↔ (values_plan from names ≡ values_plan from_other others)
-values_same from from_other names others result starts along = (
-  λ holds. ap (λ (plan : Plan). values_plan plan names) starts ∙ ap (values_plan from_other) (along.0 holds),
-  λ same. let names_are : names ≡ others = cc in along.1 names_are,
-)
+-- the same so far, to the end: the lists are the same
+pub same_all : (parts others : List ConceptPlan) (i : ℕ) → length parts ≤ i → length parts ≡ length others
+    → plans_of (take i parts) ≡ plans_of (take i others) → plans_of parts ≡ plans_of others
+same_all parts others i past long so_far =
+    sym (ap plans_of (take_all i parts past)) ∙ so_far ∙ ap plans_of (take_all i others (omega arith))
 
+pub same_unit_all : (parts others : List UnitPlan) (i : ℕ) → length parts ≤ i → length parts ≡ length others
+    → unit_plans_of (take i parts) ≡ unit_plans_of (take i others) → unit_plans_of parts ≡ unit_plans_of others
+same_unit_all parts others i past long so_far =
+    sym (ap unit_plans_of (take_all i parts past)) ∙ so_far ∙ ap unit_plans_of (take_all i others (omega arith))
+
+-- plans of values are the same exactly where those by the items of their lists are
 pub values_are_same : (one one_other : ConceptPlan) (start start_other : Box ConceptPlan Global)
     (names others : Vec ConceptPlan Global) (from from_other : ConceptPlan) (along along_other : List ConceptPlan)
     (result : Bool) → one ≡ concept_plan.Values start names → one_other ≡ concept_plan.Values start_other others
     → from ≡ start.value → from_other ≡ start_other.value → along ≡ names.items → along_other ≡ others.items
-    → plan_of from ≡ plan_of from_other → (IsTrue result ↔ (plans_of along ≡ plans_of along_other))
+    → (IsTrue result ↔ (values_plan (plan_of from) (plans_of along) ≡ values_plan (plan_of from_other) (plans_of along_other)))
     → IsTrue result ↔ (plan_of one ≡ plan_of one_other)
 values_are_same one one_other start start_other names others from from_other along along_other result one_is other_is
-    from_is from_other_is along_is along_other_is starts agree =
+    from_is from_other_is along_is along_other_is same =
     let this : plan_of one ≡ values_plan (plan_of from) (plans_of along) =
     ap plan_of one_is ∙ plan_of-Values start names
     ∙ ap (λ (plan : ConceptPlan). values_plan (plan_of plan) (plans_of names.items)) (sym from_is)
@@ -86,5 +90,4 @@ values_are_same one one_other start start_other names others from from_other alo
     ap plan_of other_is ∙ plan_of-Values start_other others
     ∙ ap (λ (plan : ConceptPlan). values_plan (plan_of plan) (plans_of others.items)) (sym from_other_is)
     ∙ ap (λ (plans : List ConceptPlan). values_plan (plan_of from_other) (plans_of plans)) (sym along_other_is) in
-    let same = values_same (plan_of from) (plan_of from_other) (plans_of along) (plans_of along_other) result starts agree in
     (λ holds. this ∙ same.0 holds ∙ sym that, λ equal. same.1 (sym this ∙ equal ∙ that))

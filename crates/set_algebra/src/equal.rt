@@ -3,10 +3,12 @@ ghost use Rattle.std.specs.Prelude.{◌≡◌, ◌↔◌, IsTrue};
 ghost use Rattle.std.specs.Ordering.{on};
 ghost use Rattle.std.specs.Cmp.{on_equiv, partial_equiv_from_equiv, decided};
 ghost use Rattle.set_algebra.specs.Equal.{same_plan, same_group, same_test};
-ghost use Rattle.set_algebra.specs.Plan.{plan_of, plans_of, unit_plan_of, unit_plans_of, test_plan_of};
+ghost use Rattle.set_algebra.specs.Plan.{plan_of, plans_of, unit_plan_of, unit_plans_of, test_plan_of, walk_plan, minus_plan, values_plan, units_plan, minus_units, pairs_units, number_plan};
 ghost use Rattle.set_algebra.specs.EqualLaws.{decides_plan, decides_group, decides_test};
 
 use crate::plan::{ConceptPlan, UnitPlan, ValueTest};
+use constraint_tree::{Cardinality, Compare, Operator};
+use numerals::Decimal;
 
 impl PartialEq for ConceptPlan {
     ghost eq = { on plan_of same_plan };
@@ -56,16 +58,16 @@ fn same(one: &ConceptPlan, other: &ConceptPlan) -> bool
         (ConceptPlan::Empty, ConceptPlan::Empty) | (ConceptPlan::All, ConceptPlan::All) => true,
         (ConceptPlan::One(number), ConceptPlan::One(other)) => number == other,
         (ConceptPlan::Walk(operator, operand), ConceptPlan::Walk(other_operator, other)) => {
-            operator == other_operator && same(operand, other)
+            same_walk(operator, operand, other_operator, other)
         }
         (ConceptPlan::Members(operand), ConceptPlan::Members(other)) => same(operand, other),
         (ConceptPlan::And(parts), ConceptPlan::And(others)) => same_each(parts, others),
         (ConceptPlan::Or(parts), ConceptPlan::Or(others)) => same_each(parts, others),
         (ConceptPlan::Minus(first, second), ConceptPlan::Minus(other_first, other_second)) => {
-            same(first, other_first) && same(second, other_second)
+            same_minus(first, second, other_first, other_second)
         }
         (ConceptPlan::Values(start, names), ConceptPlan::Values(other, others)) => {
-            same(start, other) && same_each(names, others)
+            same_values(start, names, other, others)
         }
         (
             ConceptPlan::Pairs {
@@ -80,21 +82,81 @@ fn same(one: &ConceptPlan, other: &ConceptPlan) -> bool
                 types: others,
                 test: other,
             },
-        ) => {
-            back == other_back
-                && count == other_count
-                && same(types, others)
-                && same_value_test(test, other)
-        }
+        ) => *back == *other_back && same_pairs(count, types, test, other_count, others, other),
         (
             ConceptPlan::Units { count, units },
             ConceptPlan::Units {
                 count: other_count,
                 units: others,
             },
-        ) => count == other_count && same_unit(units, others),
+        ) => same_units(count, units, other_count, others),
         _ => false,
     }
+}
+
+// The arms that compare several parts are functions of their own, so that each match only chooses.
+#[cycle(equal)]
+fn same_walk(
+    operator: &Operator,
+    operand: &ConceptPlan,
+    other_operator: &Operator,
+    other: &ConceptPlan,
+) -> bool
+    ensures { IsTrue result ↔ (walk_plan operator.now (plan_of operand.now) ≡ walk_plan other_operator.now (plan_of other.now)) }
+{
+    *operator == *other_operator && same(operand, other)
+}
+
+#[cycle(equal)]
+fn same_minus(
+    first: &ConceptPlan,
+    second: &ConceptPlan,
+    other_first: &ConceptPlan,
+    other_second: &ConceptPlan,
+) -> bool
+    ensures { IsTrue result ↔ (minus_plan (plan_of first.now) (plan_of second.now) ≡ minus_plan (plan_of other_first.now) (plan_of other_second.now)) }
+{
+    same(first, other_first) && same(second, other_second)
+}
+
+#[cycle(equal)]
+fn same_values(
+    start: &ConceptPlan,
+    names: &[ConceptPlan],
+    other: &ConceptPlan,
+    others: &[ConceptPlan],
+) -> bool
+    ensures { IsTrue result ↔ (values_plan (plan_of start.now) (plans_of names.now) ≡ values_plan (plan_of other.now) (plans_of others.now)) }
+{
+    same(start, other) && same_each(names, others)
+}
+
+// Of pairs of groups, and of pairs of concepts once both are known to be read the same way: both have these parts, and
+// the contract names them by the plan that has no others.
+#[cycle(equal)]
+fn same_pairs(
+    count: &Cardinality,
+    types: &ConceptPlan,
+    test: &ValueTest,
+    other_count: &Cardinality,
+    others: &ConceptPlan,
+    other: &ValueTest,
+) -> bool
+    ensures { IsTrue result ↔ (pairs_units count.now (plan_of types.now) (test_plan_of test.now) ≡ pairs_units other_count.now (plan_of others.now) (test_plan_of other.now)) }
+{
+    *count == *other_count && same(types, others) && same_value_test(test, other)
+}
+
+#[cycle(equal)]
+fn same_units(
+    count: &Cardinality,
+    units: &UnitPlan,
+    other_count: &Cardinality,
+    others: &UnitPlan,
+) -> bool
+    ensures { IsTrue result ↔ (units_plan count.now (unit_plan_of units.now) ≡ units_plan other_count.now (unit_plan_of others.now)) }
+{
+    *count == *other_count && same_unit(units, others)
 }
 
 #[cycle(equal)]
@@ -107,7 +169,7 @@ fn same_unit(one: &UnitPlan, other: &UnitPlan) -> bool
         (UnitPlan::And(parts), UnitPlan::And(others)) => same_each_unit(parts, others),
         (UnitPlan::Or(parts), UnitPlan::Or(others)) => same_each_unit(parts, others),
         (UnitPlan::Minus(first, second), UnitPlan::Minus(other_first, other_second)) => {
-            same_unit(first, other_first) && same_unit(second, other_second)
+            same_unit_minus(first, second, other_first, other_second)
         }
         (
             UnitPlan::Pairs { count, types, test },
@@ -116,9 +178,21 @@ fn same_unit(one: &UnitPlan, other: &UnitPlan) -> bool
                 types: others,
                 test: other,
             },
-        ) => count == other_count && same(types, others) && same_value_test(test, other),
+        ) => same_pairs(count, types, test, other_count, others, other),
         _ => false,
     }
+}
+
+#[cycle(equal)]
+fn same_unit_minus(
+    first: &UnitPlan,
+    second: &UnitPlan,
+    other_first: &UnitPlan,
+    other_second: &UnitPlan,
+) -> bool
+    ensures { IsTrue result ↔ (minus_units (unit_plan_of first.now) (unit_plan_of second.now) ≡ minus_units (unit_plan_of other_first.now) (unit_plan_of other_second.now)) }
+{
+    same_unit(first, other_first) && same_unit(second, other_second)
 }
 
 #[cycle(equal)]
@@ -129,10 +203,21 @@ fn same_value_test(one: &ValueTest, other: &ValueTest) -> bool
         (ValueTest::Within(operand), ValueTest::Within(other))
         | (ValueTest::Outside(operand), ValueTest::Outside(other)) => same(operand, other),
         (ValueTest::Number(compare, number), ValueTest::Number(other_compare, other)) => {
-            compare == other_compare && number == other
+            same_number(compare, number, other_compare, other)
         }
         _ => false,
     }
+}
+
+fn same_number(
+    compare: &Compare,
+    number: &Decimal,
+    other_compare: &Compare,
+    other: &Decimal,
+) -> bool
+    ensures { IsTrue result ↔ (number_plan compare.now number.now.0 ≡ number_plan other_compare.now other.now.0) }
+{
+    *compare == *other_compare && *number == *other
 }
 
 #[cycle(equal)]

@@ -1,4 +1,8 @@
-use Rattle.std.proofs.Common.{◌≡◌, take}
+use Rattle.std.proofs.Common.{◌≡◌, ◌+◌, ◌*◌, max, take}
+use denote.Param.Weighed.{most}
+use Rattle.set_algebra.proofs.plan.ConceptPlan.TheLaws as concept_plan
+use Rattle.set_algebra.proofs.plan.UnitPlan.TheLaws as unit_plan
+use Rattle.set_algebra.proofs.plan.ValueTest.TheLaws as value_test
 use Rattle.set_algebra.specs.Plan.{plans_of, unit_plans_of}
 use Rattle.set_algebra.proofs.equal.+equal.Given as goal
 
@@ -7,3 +11,38 @@ invariant-same_each-loop-i l = plans_of (take l.i l.parts) ≡ plans_of (take l.
 
 abbrev pub invariant-same_each_unit-loop-i : goal.invariant-same_each_unit-loop-i
 invariant-same_each_unit-loop-i l = unit_plans_of (take l.i l.parts) ≡ unit_plans_of (take l.i l.others)
+
+-- the functions go down the first plan; what is called for its parts comes after its caller
+abbrev pub decreases-same : goal.decreases-same
+decreases-same l = 4 * goal.size-same l
+
+abbrev pub decreases-same_unit : goal.decreases-same_unit
+decreases-same_unit l = 4 * goal.size-same_unit l
+
+abbrev pub decreases-same_value_test : goal.decreases-same_value_test
+decreases-same_value_test l = 4 * goal.size-same_value_test l
+
+abbrev pub decreases-same_each : goal.decreases-same_each
+decreases-same_each l = 4 * goal.size-same_each l + 1
+
+abbrev pub decreases-same_each_unit : goal.decreases-same_each_unit
+decreases-same_each_unit l = 4 * goal.size-same_each_unit l + 1
+
+abbrev pub decreases-same_walk : goal.decreases-same_walk
+decreases-same_walk l = 4 * goal.size-same_walk l + 2
+
+abbrev pub decreases-same_units : goal.decreases-same_units
+decreases-same_units l = 4 * goal.size-same_units l + 2
+
+-- two sub-plans are as deep as the deeper of them
+abbrev pub decreases-same_minus : goal.decreases-same_minus
+decreases-same_minus l = 4 * max (concept_plan.the_size l.first.now) (concept_plan.the_size l.second.now) + 2
+
+abbrev pub decreases-same_values : goal.decreases-same_values
+decreases-same_values l = 4 * max (concept_plan.the_size l.start.now) (most concept_plan.the_size l.names.now) + 2
+
+abbrev pub decreases-same_pairs : goal.decreases-same_pairs
+decreases-same_pairs l = 4 * max (concept_plan.the_size l.types.now) (value_test.the_size l.test.now) + 2
+
+abbrev pub decreases-same_unit_minus : goal.decreases-same_unit_minus
+decreases-same_unit_minus l = 4 * max (unit_plan.the_size l.first.now) (unit_plan.the_size l.second.now) + 2
