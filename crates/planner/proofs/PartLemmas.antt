@@ -7,7 +7,7 @@ use Rattle.set_algebra.specs.declared.plan.ConceptPlan.TheVariants as concept_pl
 use Rattle.set_algebra.specs.declared.plan.UnitPlan.{UnitPlan}
 use Rattle.set_algebra.specs.declared.plan.UnitPlan.TheVariants as unit_plan
 use Rattle.set_algebra.specs.declared.plan.ValueTest.{ValueTest}
-use Rattle.set_algebra.specs.Plan.{and_plan, and_units, minus_plan, minus_units, or_plan, or_units, pairs_plan, pairs_units, plan_of, plans_of}
+use Rattle.set_algebra.specs.Plan.{and_plan, and_units, minus_plan, minus_units, or_plan, or_units, pairs_plan, plan_of, plans_of}
 use Rattle.set_algebra.specs.Plan.{test_plan_of, unit_plan_of, unit_plans_of, units_plan, values_plan}
 use Rattle.set_algebra.proofs.PlanLemmas.{plan_of-And, plan_of-Or, plan_of-Values, unit_plan_of-And, unit_plan_of-Or}
 use Rattle.set_algebra.specs.declared.choice.Choice.{Choice}
@@ -57,11 +57,6 @@ pub pairs_are : (boxed : Box ConceptPlan Global) {plan types : ConceptPlan} {bac
     → plan_of plan ≡ pairs_plan back count (plan_of types) (test_plan_of test)
 pairs_are boxed {back = back} {count = count} {test = test} is types_is =
     ap plan_of is ∙ ap (λ (types : ConceptPlan). pairs_plan back count (plan_of types) (test_plan_of test)) (sym types_is)
-
-pub pairs_units_are : (boxed : Box ConceptPlan Global) {plan : UnitPlan} {types : ConceptPlan} {count : Cardinality} {test : ValueTest}
-    → plan ≡ unit_plan.Pairs count boxed test → types ≡ boxed.value → unit_plan_of plan ≡ pairs_units count (plan_of types) (test_plan_of test)
-pairs_units_are boxed {count = count} {test = test} is types_is =
-    ap unit_plan_of is ∙ ap (λ (types : ConceptPlan). pairs_units count (plan_of types) (test_plan_of test)) (sym types_is)
 
 pub units_are : (boxed : Box UnitPlan Global) {plan : ConceptPlan} {units : UnitPlan} {count : Cardinality} → plan ≡ concept_plan.Units count boxed
     → units ≡ boxed.value → plan_of plan ≡ units_plan count (unit_plan_of units)
