@@ -11,7 +11,8 @@ use Rattle.constraint_tree.specs.declared.operator.Cardinality.{Cardinality}
 use Rattle.ancestor_index.specs.HierarchyLists.{Hierarchy, hierarchy_of}
 use Rattle.set_algebra.specs.declared.plan.ConceptPlan.{ConceptPlan}
 use Rattle.set_algebra.specs.Meaning.{all_mean, unit_means, has_groups, has_pairs, leads, means, pairs_of, some_means, value_passes}
-use Rattle.set_algebra.specs.Plan.{PlanOfUnits, Plan, Plans, TestPlan, all_plan, and_plan, members_plan, no_plans, one_plan, or_plan, outside_plan, pairs_plan, plan_of, plan_then, plans_of, units_plan, values_plan, walk_plan, within_plan}
+use Rattle.set_algebra.specs.Plan.{PlanOfUnits, Plan, Plans, TestPlan, all_plan, and_plan, members_plan, no_plans, one_plan, or_plan}
+use Rattle.set_algebra.specs.Plan.{outside_plan, pairs_plan, plan_of, plan_then, plans_of, units_plan, values_plan, walk_plan, within_plan}
 use Rattle.set_algebra.proofs.MeaningLemmas.{in_force_if_meant}
 use Rattle.walks.specs.Components.{components_of}
 use Rattle.pair_sets.specs.Numbers.{numbers_in}

@@ -1,5 +1,6 @@
 -- What plans mean, of candidates alone, from what they mean.
-use Rattle.std.proofs.Common.{ℕ, zero, suc, ◌≡◌, ◌<◌, ◌≤◌, ◌∙◌, ◌∷◌, [], Bool, true, false, not, ◌&&◌, List, Option, None, Some, length, get_or, take, refl, sym, ap, subst, arith, inl, inr, ◌+◌}
+use Rattle.std.proofs.Common.{ℕ, zero, suc, ◌≡◌, ◌<◌, ◌≤◌, ◌∙◌, ◌∷◌, [], Bool, true, false, not, ◌&&◌, List}
+use Rattle.std.proofs.Common.{Option, None, Some, length, get_or, take, refl, sym, ap, subst, arith, inl, inr, ◌+◌}
 use Rattle.std.specs.Prelude.{IfOk, Result, filter, slice_get}
 use Rattle.std.proofs.lemmas.Result.{IfOk-weaker}
 use Rattle.std.specs.List.{list_all, list_any, range_with_len}

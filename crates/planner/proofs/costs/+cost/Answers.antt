@@ -9,7 +9,8 @@ use Rattle.planner.specs.Nodes.{group_sum, plans_sum, test_sum}
 use Rattle.planner.specs.Sizes.{group_size, group_sizes, least_of, size, sizes, test_size, total, values_size}
 use Rattle.planner.proofs.ListLemmas.{capped_least, capped_product, capped_three, capped_two}
 use Rattle.planner.proofs.LoopLemmas.{rest_end, rest_turn, sizes_end, sizes_turn, sum_end, sum_turn}
-use Rattle.planner.proofs.PartLemmas.{and_are, and_units_are, behind_both, behind_leaf, group_count-parts, minus_are, minus_units_are, or_are, or_units_are, plan_count-parts, values_are}
+use Rattle.planner.proofs.PartLemmas.{and_are, and_units_are, behind_both, behind_leaf, group_count-parts, minus_are}
+use Rattle.planner.proofs.PartLemmas.{minus_units_are, or_are, or_units_are, plan_count-parts, values_are}
 use Rattle.planner.proofs.costs.+cost.Goals as goal
 
 pub parts_cost-loop-place-preserved : goal.parts_cost-loop-place-preserved

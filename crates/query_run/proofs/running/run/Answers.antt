@@ -1,4 +1,5 @@
-use Rattle.std.proofs.Common.{false, ◌≡◌, ◌≢◌, ◌⊎◌, ℕ, ◌+◌, ◌-◌, ◌^◌, ◌++◌, [], List, take, Result, IfOk, subst, append-nil, length-append, Option, inl, inr, min, arith, rules}
+use Rattle.std.proofs.Common.{false, ◌≡◌, ◌≢◌, ◌⊎◌, ℕ, ◌+◌, ◌-◌, ◌^◌, ◌++◌, [], List, take}
+use Rattle.std.proofs.Common.{Result, IfOk, subst, append-nil, length-append, Option, inl, inr, min, arith, rules}
 use Rattle.std.specs.Io.KnownBytes.{Consumes}
 use Rattle.std.proofs.KnownBytes.{Consumes-trans, Consumes-kept, Consumes-nil}
 use Rattle.std.proofs.lemmas.Bool.{cases_lt}

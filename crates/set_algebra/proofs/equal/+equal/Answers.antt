@@ -2,7 +2,8 @@ use Rattle.std.proofs.Common.{refl, sym, ◌∙◌, arith, rules}
 use Rattle.std.proofs.lemmas.Bool.{false≢true}
 use Rattle.set_algebra.specs.declared.plan.ConceptPlan.TheFolds.{the_lemmas}
 use Rattle.set_algebra.proofs.PlanLemmas.{plans_of_items}
-use Rattle.set_algebra.proofs.SameLemmas.{same_lengths, same_unit_lengths, same_at, same_unit_at, same_more, same_unit_more, same_all, same_unit_all, values_are_same}
+use Rattle.set_algebra.proofs.SameLemmas.{same_lengths, same_unit_lengths, same_at, same_unit_at, same_more}
+use Rattle.set_algebra.proofs.SameLemmas.{same_unit_more, same_all, same_unit_all, values_are_same}
 use Rattle.set_algebra.proofs.equal.+equal.Goals as goal
 
 pub same_each-returns-then-parts-others : goal.same_each-returns-then-parts-others
