@@ -33,7 +33,7 @@ pub fn read_front(recent: &mut Recent, fields: &[&[u8]]) -> Result<Front, RowFau
     })
 }
 
-/// The columns behind the value, which relationships of both files have.
+/// The columns behind the destination or the value, which the rows of both relationship files have.
 #[derive(Clone, Copy)]
 pub struct RelationshipEnd {
     pub relationship_group: u32,
@@ -42,7 +42,7 @@ pub struct RelationshipEnd {
     pub modifier_id: SctId,
 }
 
-/// Reads the columns behind the value, which are the seventh to the tenth.
+/// Reads the columns behind the destination or the value, which are the seventh to the tenth.
 pub fn read_relationship_end(
     recent: &mut RecentConcepts,
     fields: &[&[u8]],

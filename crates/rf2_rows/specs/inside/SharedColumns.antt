@@ -24,7 +24,7 @@ front_of texts = record {
   module_id = number_of (slice_index_or texts 3 []);
 }
 
--- the columns behind the value of a relationship
+-- the columns behind the destination or the value of a relationship
 abbrev pub end_fault : List (List ℕ) → Option RowFault
 end_fault texts =
     option_or (column_fault 7 (cause_of group_format (slice_index_or texts 6 [])))
