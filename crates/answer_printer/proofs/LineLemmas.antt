@@ -6,7 +6,7 @@ use Rattle.set_algebra.specs.declared.plan.UnitPlan.{UnitPlan}
 use Rattle.set_algebra.specs.Plan.{Plan, PlanOfUnits, all_plan, and_plan, and_units, empty_plan, every_unit, members_plan, minus_plan, minus_units, nothing_unit, one_plan, or_plan, or_units, pairs_plan, pairs_units, plan_of, plans_of, unit_plan_of, unit_plans_of, units_plan, values_plan, walk_plan}
 use Rattle.set_algebra.specs.declared.choice.Choice.{Choice}
 use Rattle.std.proofs.lemmas.List.{drop-drop}
-use Rattle.planner.proofs.LoopLemmas.{Joined, Sort, joined_end, joined_turn, of_concepts, of_groups}
+use Rattle.plan_bounds.proofs.LoopLemmas.{Joined, Sort, joined_end, joined_turn, of_concepts, of_groups}
 use Rattle.answer_printer.specs.inside.PlanLines.{before_bound, below, below_group, first_bound, with_bounds}
 use Rattle.answer_printer.specs.PlanText.{bound_line, group_outline, group_words, groups_outline, node_words, outline, plans_outline}
 

@@ -6,9 +6,9 @@ use Rattle.std.proofs.lemmas.List.Concat.{flat_map-append}
 use Rattle.set_algebra.specs.Plan.{Plan, empty_plan, all_plan, one_plan, walk_plan, members_plan, and_plan, or_plan, minus_plan, values_plan, pairs_plan, units_plan, Plans, no_plans, plan_then, PlanOfUnits, nothing_unit, every_unit, and_units, or_units, minus_units, pairs_units, PlansOfUnits, no_unit_plans, unit_plan_then, TestPlan, within_plan, outside_plan, number_plan}
 use Rattle.postings.specs.Indexed.{Indexed}
 use Rattle.set_algebra.specs.declared.choice.Choice.{Choice}
-use Rattle.planner.specs.Bounds.{capped, group_own_bound, own_bound, own_bounds, own_list}
-use Rattle.planner.specs.Leaves.{group_leaves, leaves, test_choices, type_choices}
-use Rattle.planner.specs.Nodes.{group_list, groups_list, node_list, plans_list, test_list}
+use Rattle.plan_bounds.specs.Bounds.{capped, group_own_bound, own_bound, own_bounds, own_list}
+use Rattle.plan_bounds.specs.Leaves.{group_leaves, leaves, test_choices, type_choices}
+use Rattle.plan_bounds.specs.Nodes.{group_list, groups_list, node_list, plans_list, test_list}
 use Rattle.answer_printer.specs.inside.PlanLines.{before_bound, with_bounds}
 use Rattle.answer_printer.specs.PlanText.{bound_line, group_outline, group_words, groups_outline, node_line, node_words, outline, plan_lines, plans_outline, test_outline}
 use Rattle.answer_printer.proofs.LineLemmas.{with_bounds-append}

@@ -11,8 +11,8 @@ use Rattle.set_algebra.specs.Plan.{Plan, empty_plan, all_plan, one_plan, walk_pl
 use Rattle.postings.specs.Indexed.{Indexed}
 use Rattle.set_algebra.specs.declared.choice.Choice.{Choice}
 use Rattle.set_algebra.specs.declared.choice.Choice.TheVariants.{ByValue, ByType, Scan}
-use Rattle.planner.specs.Bounds.{bound, capped, group_own_bound, own_bound}
-use Rattle.planner.specs.Leaves.{first_choice, group_leaves, leaves, test_choices, type_choices}
+use Rattle.plan_bounds.specs.Bounds.{bound, capped, group_own_bound, own_bound}
+use Rattle.plan_bounds.specs.Leaves.{first_choice, group_leaves, leaves, test_choices, type_choices}
 use Rattle.answer_printer.specs.AnswerText.{number_line}
 
 -- ---- what a node is

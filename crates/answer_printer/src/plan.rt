@@ -1,7 +1,7 @@
 //! The text of a plan: how it is executed, and how many items each node of it visits at most.
 ghost use Rattle.std.specs.Prelude.{◌≡◌, ◌++◌, ◌∷◌, IfOk, OnErr, OnOk, codes, drop, length};
 ghost use Rattle.set_algebra.specs.Plan.{unit_plan_of, unit_plans_of, plan_of, plans_of, test_plan_of};
-ghost use Rattle.planner.specs.Leaves.{group_leaves, groups_leaves, leaves, plans_leaves, test_leaves};
+ghost use Rattle.plan_bounds.specs.Leaves.{group_leaves, groups_leaves, leaves, plans_leaves, test_leaves};
 ghost use Rattle.answer_printer.specs.AnswerText.{number_line};
 ghost use Rattle.answer_printer.specs.inside.PlanLines.{before_bound, below, below_group, first_bound, with_bounds};
 ghost use Rattle.answer_printer.specs.PlanText.{bound_line, group_outline, group_words, groups_outline, node_words, outline, plan_text, plans_outline, test_outline};

@@ -6,9 +6,9 @@ use Rattle.postings.specs.Indexed.{Indexed}
 use Rattle.set_algebra.specs.Plan.{Plan, TestPlan}
 use Rattle.set_algebra.specs.declared.choice.Choice.{Choice}
 use Rattle.set_algebra.specs.declared.choice.Choice.TheVariants.{ByValue, ByType, Scan}
-use Rattle.planner.specs.Alternatives.{leaf_bound}
-use Rattle.planner.specs.Bounds.{members_bound, walk_bound}
-use Rattle.planner.specs.Counts.{leaf_of}
+use Rattle.plan_bounds.specs.Alternatives.{leaf_bound}
+use Rattle.plan_bounds.specs.Bounds.{members_bound, walk_bound}
+use Rattle.plan_bounds.specs.Counts.{leaf_of}
 
 pub walk_more : (indexed : Indexed) (operator : Operator) (one : Option ℕ) (few many : ℕ) → few ≤ many
     → walk_bound indexed operator one few ≤ walk_bound indexed operator one many

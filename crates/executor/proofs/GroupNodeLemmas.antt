@@ -10,9 +10,8 @@ use Rattle.postings.specs.Groups.{ConceptGroup, all_groups}
 use Rattle.set_algebra.specs.declared.plan.UnitPlan.{UnitPlan}
 use Rattle.set_algebra.specs.Meaning.{all_units_mean, unit_means, has_pairs, means, some_unit_means, value_passes}
 use Rattle.set_algebra.specs.Plan.{PlanOfUnits, Plan, TestPlan, and_units, every_unit, unit_plan_of, unit_plans_of, or_units, pairs_units}
-use Rattle.pair_sets.specs.Groups.{groups_where, some_group_in}
-use Rattle.pair_sets.specs.Numbers.{numbers_in}
-use Rattle.pair_sets.specs.Tested.{is_one_of}
+use Rattle.candidates.specs.Groups.{groups_where, some_group_in}
+use Rattle.candidates.specs.Numbers.{is_one_of, numbers_in}
 use Rattle.pair_sets.proofs.LeafLemmas.{none_within}
 use Rattle.executor.proofs.NodeLemmas.{one_meant}
 

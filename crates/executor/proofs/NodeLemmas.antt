@@ -15,11 +15,10 @@ use Rattle.set_algebra.specs.Plan.{PlanOfUnits, Plan, Plans, TestPlan, all_plan,
 use Rattle.set_algebra.specs.Plan.{outside_plan, pairs_plan, plan_of, plan_then, plans_of, units_plan, values_plan, walk_plan, within_plan}
 use Rattle.set_algebra.proofs.MeaningLemmas.{in_force_if_meant}
 use Rattle.walks.specs.Components.{components_of}
-use Rattle.pair_sets.specs.Numbers.{numbers_in}
+use Rattle.candidates.specs.Numbers.{is_one_of, numbers_in}
 use Rattle.walks.specs.Led.{led_to}
-use Rattle.pair_sets.specs.Tested.{is_one_of}
 use Rattle.walks.proofs.MemberLemmas.{components_in, one_of_set}
-use Rattle.pair_sets.proofs.Normal.{each_in_force, in_force_kept, numbers_in-agree}
+use Rattle.candidates.proofs.Normal.{each_in_force, in_force_kept, numbers_in-agree}
 use Rattle.walks.proofs.StepLemmas.{led_is}
 
 meant : (release : Release) (plan other : Plan) → plan ≡ other → numbers_in release (means release other) ≡ numbers_in release (means release plan)

@@ -14,13 +14,13 @@ use Rattle.set_algebra.specs.declared.plan.UnitPlan.TheVariants as unit_plan
 use Rattle.set_algebra.specs.declared.plan.ValueTest.{ValueTest}
 use Rattle.set_algebra.specs.declared.plan.ValueTest.TheVariants as value_test
 use Rattle.set_algebra.specs.Plan.{Plan, PlanOfUnits, TestPlan, members_plan, outside_plan, plan_of, plans_of, test_plan_of, unit_plans_of, walk_plan, within_plan}
-use Rattle.planner.specs.Bounds.{own_number}
-use Rattle.planner.specs.Floors.{floor_number}
-use Rattle.planner.specs.Leaves.{leaves, test_choices, type_choices}
-use Rattle.planner.specs.Nodes.{group_sum, groups_sum, node_sum, plans_sum, test_sum}
-use Rattle.planner.specs.Sizes.{size, test_size}
+use Rattle.plan_bounds.specs.Bounds.{own_number}
+use Rattle.plan_bounds.specs.Floors.{floor_number}
+use Rattle.plan_bounds.specs.Leaves.{leaves, test_choices, type_choices}
+use Rattle.plan_bounds.specs.Nodes.{group_sum, groups_sum, node_sum, plans_sum, test_sum}
+use Rattle.plan_bounds.specs.Sizes.{size, test_size}
 use Rattle.executor.specs.inside.Kinds.{is_minus, is_minus_of_units, is_pairs, is_pairs_of_units}
-use Rattle.planner.proofs.LoopLemmas.{Sort, Sum}
+use Rattle.plan_bounds.proofs.LoopLemmas.{Sort, Sum}
 
 -- ---- which node a plan is, for nodes of one part
 pub walk_is : (operator : Operator) (operand : Box ConceptPlan Global) {plan from : ConceptPlan}

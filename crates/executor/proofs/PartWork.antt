@@ -21,16 +21,16 @@ use Rattle.set_algebra.specs.declared.plan.UnitPlan.{UnitPlan}
 use Rattle.set_algebra.specs.Meaning.{unit_means, means}
 use Rattle.set_algebra.specs.Plan.{PlanOfUnits, Plan, unit_plan_of, unit_plans_of, or_units, or_plan, plan_of, plans_of}
 use Rattle.set_algebra.specs.declared.choice.Choice.{Choice}
-use Rattle.planner.specs.Bounds.{own_number}
-use Rattle.planner.specs.Nodes.{group_sum, groups_sum, node_sum, plans_sum}
-use Rattle.planner.specs.Sizes.{group_size, group_sizes, size, sizes, total}
-use Rattle.planner.proofs.FewLemmas.{count_le, length-places}
-use Rattle.planner.proofs.FoundLemmas.{many-all, many-values}
-use Rattle.planner.proofs.LoopLemmas.{Sum, of_concepts, of_groups}
-use Rattle.planner.proofs.SizeLemmas.{group_numbers-le, numbers-le}
-use Rattle.pair_sets.specs.Groups.{groups_where, some_group_in}
-use Rattle.pair_sets.specs.Numbers.{numbers_in}
-use Rattle.pair_sets.specs.Within.{groups_within, numbers_within}
+use Rattle.plan_bounds.specs.Bounds.{own_number}
+use Rattle.plan_bounds.specs.Nodes.{group_sum, groups_sum, node_sum, plans_sum}
+use Rattle.plan_bounds.specs.Sizes.{group_size, group_sizes, size, sizes, total}
+use Rattle.plan_bounds.proofs.FewLemmas.{count_le, length-places}
+use Rattle.plan_bounds.proofs.FoundLemmas.{many-all, many-values}
+use Rattle.plan_bounds.proofs.LoopLemmas.{Sum, of_concepts, of_groups}
+use Rattle.plan_bounds.proofs.SizeLemmas.{group_numbers-le, numbers-le}
+use Rattle.candidates.specs.Groups.{groups_where, some_group_in}
+use Rattle.candidates.specs.Numbers.{numbers_in}
+use Rattle.candidates.specs.Within.{groups_within, numbers_within}
 use Rattle.executor.proofs.GroupNodeLemmas as groups
 use Rattle.executor.proofs.NodeLemmas.{or_node}
 use Rattle.executor.proofs.WithinNodes.{groups_same, within_same}

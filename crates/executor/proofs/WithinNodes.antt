@@ -20,16 +20,16 @@ use Rattle.set_algebra.specs.declared.plan.ConceptPlan.{ConceptPlan}
 use Rattle.set_algebra.specs.declared.plan.UnitPlan.{UnitPlan}
 use Rattle.set_algebra.specs.Meaning.{unit_means, means}
 use Rattle.set_algebra.specs.Plan.{PlanOfUnits, Plan, unit_plan_of, minus_units, minus_plan, nothing_unit, empty_plan, plan_of, walk_plan}
-use Rattle.pair_sets.specs.Groups.{groups_where, some_group_in}
-use Rattle.pair_sets.specs.Numbers.{numbers_in}
+use Rattle.candidates.specs.Groups.{groups_where, some_group_in}
+use Rattle.candidates.specs.Numbers.{numbers_in}
 use Rattle.walks.specs.Asked.{AreEnough, asked_lists}
 use Rattle.walks.specs.Led.{led_to}
 use Rattle.executor.specs.inside.Lead.{leads_off, leads_off_groups}
-use Rattle.pair_sets.specs.Within.{groups_within, numbers_within}
+use Rattle.candidates.specs.Within.{groups_within, numbers_within}
 use Rattle.walks.proofs.AskedLemmas.{led_from_part}
 use Rattle.executor.proofs.NodeLemmas.{walk_node}
 use Rattle.pair_sets.proofs.LeafLemmas as leaf
-use Rattle.pair_sets.proofs.WithinLemmas.{all_again, all_done, kept_groups, minus_within, restricted_to, some_of_none}
+use Rattle.candidates.proofs.WithinLemmas.{all_again, all_done, kept_groups, minus_within, restricted_to, some_of_none}
 
 -- what all of a list pass, one of them passes
 pub passed_by : {X : Type 0} (test : X → Bool) (xs : List X) (k : ℕ) (x : X) → list_all test xs ≡ true → slice_get xs k ≡ Some x → test x ≡ true

@@ -7,11 +7,11 @@ use Rattle.std.proofs.lemmas.Option.{slice_get_cases, slice_get_read}
 use Rattle.postings.specs.Indexed.{Indexed}
 use Rattle.set_algebra.specs.Plan.{Plan, Plans, values_plan}
 use Rattle.set_algebra.specs.declared.choice.Choice.{Choice}
-use Rattle.planner.specs.Bounds.{own_number, values_bound}
-use Rattle.planner.specs.Leaves.{leaves, plan_count}
-use Rattle.planner.specs.Nodes.{node_sum, plans_sum}
-use Rattle.planner.specs.Sizes.{size}
-use Rattle.planner.proofs.LoopLemmas.{Sort, Sum}
+use Rattle.plan_bounds.specs.Bounds.{own_number, values_bound}
+use Rattle.plan_bounds.specs.Leaves.{leaves, plan_count}
+use Rattle.plan_bounds.specs.Nodes.{node_sum, plans_sum}
+use Rattle.plan_bounds.specs.Sizes.{size}
+use Rattle.plan_bounds.proofs.LoopLemmas.{Sort, Sum}
 use Rattle.executor.specs.inside.Lead.{of_lead}
 use Rattle.number_lists.proofs.ListLemmas.{next_place}
 

@@ -4,16 +4,16 @@ ghost use Rattle.std.specs.Prelude.{◌≡◌, ◌≤◌, ◌<◌, ◌+◌, ◌-
 ghost use Rattle.constraint_tree.specs.declared.operator.Cardinality.{Cardinality as cardinality};
 ghost use Rattle.postings.specs.Groups.{groups_in};
 ghost use Rattle.set_algebra.specs.Plan.{unit_plan_of, members_plan, pairs_units, pairs_plan, plan_of, test_plan_of, units_plan, walk_plan};
-ghost use Rattle.planner.specs.Alternatives.{leaf_bound, passed_over};
-ghost use Rattle.planner.specs.Bounds.{capped, group_own_bound, members_bound, own_bound, walk_bound};
-ghost use Rattle.planner.specs.Counts.{leaf_of, one_of};
-ghost use Rattle.planner.specs.Floors.{group_own_floor, own_floor};
-ghost use Rattle.planner.specs.Leaves.{first_choice, test_choices, type_choices};
-ghost use Rattle.planner.specs.Sizes.{group_size, size, test_size};
+ghost use Rattle.plan_bounds.specs.Alternatives.{leaf_bound, passed_over};
+ghost use Rattle.plan_bounds.specs.Bounds.{capped, group_own_bound, members_bound, own_bound, walk_bound};
+ghost use Rattle.plan_bounds.specs.Counts.{leaf_of, one_of};
+ghost use Rattle.plan_bounds.specs.Floors.{group_own_floor, own_floor};
+ghost use Rattle.plan_bounds.specs.Leaves.{first_choice, test_choices, type_choices};
+ghost use Rattle.plan_bounds.specs.Sizes.{group_size, size, test_size};
 
+use candidates::Visits;
 use constraint_tree::{Cardinality, Operator};
-use pair_sets::Visits;
-use planner::{
+use plan_bounds::{
     Choice, NodeLimits, first_choice, leaf_limits, members_limits, units_limits, walk_limits,
 };
 use postings::Indexes;

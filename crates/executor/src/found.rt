@@ -4,19 +4,20 @@ ghost use Rattle.std.specs.Prelude.{◌≡◌, ◌≤◌, ◌+◌, ◌-◌, ◌^
 ghost use Rattle.postings.specs.Groups.{all_groups};
 ghost use Rattle.postings.specs.Indexed.{IsIndexOf};
 ghost use Rattle.set_algebra.specs.Plan.{unit_plan_of, members_plan, plan_of, units_plan, walk_plan};
-ghost use Rattle.planner.specs.Bounds.{own_bound};
-ghost use Rattle.planner.specs.Floors.{own_floor};
-ghost use Rattle.planner.specs.Sizes.{group_size, size as size_of};
+ghost use Rattle.plan_bounds.specs.Bounds.{own_bound};
+ghost use Rattle.plan_bounds.specs.Floors.{own_floor};
+ghost use Rattle.plan_bounds.specs.Sizes.{group_size, size as size_of};
 ghost use Rattle.walks.specs.Components.{components_of};
 ghost use Rattle.walks.specs.Led.{led_to};
 ghost use Rattle.executor.specs.inside.WithUnits.{with_units};
-ghost use Rattle.pair_sets.specs.Within.{AreBelow, may_be};
+ghost use Rattle.candidates.specs.Within.{AreBelow, may_be};
 
 use crate::counting::{count_members, count_units, count_walk};
+use candidates::{Candidates, RowTally, Visits, restricted};
 use constraint_tree::{Cardinality, Operator};
 use idset::ConceptSet;
-use pair_sets::{Candidates, RowTally, Visits, restricted, with_groups};
-use planner::Choice;
+use pair_sets::with_groups;
+use plan_bounds::Choice;
 use postings::Indexes;
 use set_algebra::{ConceptPlan, UnitPlan};
 use snapshot::Snapshot;

@@ -5,11 +5,11 @@ ghost use Rattle.idset.specs.Sets.{all_items};
 ghost use Rattle.constraint_tree.specs.Walks.{has_concept};
 ghost use Rattle.postings.specs.Groups.{all_groups};
 ghost use Rattle.postings.specs.Indexed.{IsIndexOf};
-ghost use Rattle.pair_sets.specs.Numbers.{numbers_in};
-ghost use Rattle.pair_sets.specs.Within.{AreBelow, may_be};
+ghost use Rattle.candidates.specs.Numbers.{numbers_in};
+ghost use Rattle.candidates.specs.Within.{AreBelow, may_be};
 
+use candidates::{Candidates, restricted};
 use idset::ConceptSet;
-use pair_sets::{Candidates, restricted};
 use postings::Indexes;
 use snapshot::Snapshot;
 use std::alloc::{AllocError, Global};

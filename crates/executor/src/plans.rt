@@ -5,14 +5,14 @@ ghost use Rattle.postings.specs.Indexed.{IsIndexOf};
 ghost use Rattle.set_algebra.specs.Meaning.{unit_means, has_groups, means, value_passes};
 ghost use Rattle.set_algebra.specs.Plan.{unit_plan_of, members_plan, plan_of, test_plan_of, units_plan};
 ghost use Rattle.executor.specs.inside.Kinds.{is_minus, is_pairs};
-ghost use Rattle.planner.specs.Bounds.{bound as bound_of, own_number};
-ghost use Rattle.planner.specs.Floors.{floor as floor_of, floor_number};
-ghost use Rattle.planner.specs.Leaves.{leaves};
-ghost use Rattle.planner.specs.Nodes.{node_sum, test_sum};
-ghost use Rattle.planner.specs.Sizes.{size as size_of, sizes, test_size};
-ghost use Rattle.pair_sets.specs.Numbers.{numbers_in};
+ghost use Rattle.plan_bounds.specs.Bounds.{bound as bound_of, own_number};
+ghost use Rattle.plan_bounds.specs.Floors.{floor as floor_of, floor_number};
+ghost use Rattle.plan_bounds.specs.Leaves.{leaves};
+ghost use Rattle.plan_bounds.specs.Nodes.{node_sum, test_sum};
+ghost use Rattle.plan_bounds.specs.Sizes.{size as size_of, sizes, test_size};
+ghost use Rattle.candidates.specs.Numbers.{numbers_in};
 ghost use Rattle.pair_sets.specs.Tested.{IsTestBelow, found_for, passes_of};
-ghost use Rattle.pair_sets.specs.Within.{AreBelow, may_be, numbers_within};
+ghost use Rattle.candidates.specs.Within.{AreBelow, may_be, numbers_within};
 
 use crate::counting::concept_leaf_limits;
 use crate::dotted_plans::led_from;
@@ -23,13 +23,11 @@ use crate::nodes::{every_candidate, no_concept, one_candidate};
 use crate::second_part::second_part;
 use crate::unit_plans::execute_groups;
 use crate::walk_plans::walk_from;
+use candidates::{Candidates, RowTally, Visits, none_left};
 use constraint_tree::Cardinality;
 use idset::ConceptSet;
-use pair_sets::{
-    Candidates, RowTally, Tested, Visits, count_of_test, groups_of, none_left, with_pairs_within,
-    without,
-};
-use planner::{Choice, PhysicalPlan, after_first, first_choice, plan_floor, unit_size};
+use pair_sets::{Tested, count_of_test, groups_of, with_pairs_within, without};
+use plan_bounds::{Choice, PhysicalPlan, after_first, first_choice, plan_floor, unit_size};
 use postings::Indexes;
 use set_algebra::{ConceptPlan, UnitPlan, ValueTest};
 use snapshot::Snapshot;

@@ -4,14 +4,14 @@ ghost use Rattle.std.specs.Prelude.{◌≡◌, ◌≤◌, ◌+◌, IfOk, drop, l
 ghost use Rattle.postings.specs.Groups.{all_groups};
 ghost use Rattle.postings.specs.Indexed.{IsIndexOf};
 ghost use Rattle.set_algebra.specs.Plan.{minus_plan, minus_units, plan_of, unit_plan_of};
-ghost use Rattle.planner.specs.Bounds.{group_own_bound, own_bound};
-ghost use Rattle.planner.specs.Leaves.{group_leaves, leaves};
-ghost use Rattle.planner.specs.Sizes.{group_size, size as size_of};
+ghost use Rattle.plan_bounds.specs.Bounds.{group_own_bound, own_bound};
+ghost use Rattle.plan_bounds.specs.Leaves.{group_leaves, leaves};
+ghost use Rattle.plan_bounds.specs.Sizes.{group_size, size as size_of};
 
 use crate::counting::minus_reads;
+use candidates::{Candidates, Extent, Visits, extent_to_take, group_extent_to_take};
 use idset::ConceptSet;
-use pair_sets::{Candidates, Extent, Visits, extent_to_take, group_extent_to_take};
-use planner::{Choice, plan_floor, plan_size, unit_floor, unit_size};
+use plan_bounds::{Choice, plan_floor, plan_size, unit_floor, unit_size};
 use postings::Indexes;
 use set_algebra::{ConceptPlan, UnitPlan};
 use snapshot::Snapshot;

@@ -6,26 +6,24 @@ ghost use Rattle.postings.specs.Indexed.{IsIndexOf};
 ghost use Rattle.set_algebra.specs.Meaning.{unit_means};
 ghost use Rattle.set_algebra.specs.Plan.{unit_plan_of, unit_plans_of};
 ghost use Rattle.executor.specs.inside.Kinds.{is_minus_of_units, is_pairs_of_units};
-ghost use Rattle.planner.specs.Bounds.{own_number};
-ghost use Rattle.planner.specs.Floors.{floor_number};
-ghost use Rattle.planner.specs.Leaves.{group_count, groups_leaves};
-ghost use Rattle.planner.specs.Nodes.{group_sum, groups_sum};
-ghost use Rattle.planner.specs.Sizes.{group_size, group_sizes, total};
+ghost use Rattle.plan_bounds.specs.Bounds.{own_number};
+ghost use Rattle.plan_bounds.specs.Floors.{floor_number};
+ghost use Rattle.plan_bounds.specs.Leaves.{group_count, groups_leaves};
+ghost use Rattle.plan_bounds.specs.Nodes.{group_sum, groups_sum};
+ghost use Rattle.plan_bounds.specs.Sizes.{group_size, group_sizes, total};
 ghost use Rattle.executor.specs.inside.Lead.{leads_off_groups, of_lead};
-ghost use Rattle.pair_sets.specs.Within.{AreBelow, groups_within, may_be};
+ghost use Rattle.candidates.specs.Within.{AreBelow, groups_within, may_be};
 
 use crate::counting::group_leaf_limits;
 use crate::guesses::{group_lead_of, rows_of_types, unit_rows_without};
 use crate::nodes::{either, every_candidate_group, no_group};
 use crate::plans::{execute_within, tested_of};
 use crate::second_part::second_unit_part;
+use candidates::{Candidates, RowTally, Visits, group_extent_of, none_left};
 use constraint_tree::Cardinality;
 use idset::ConceptSet;
-use pair_sets::{
-    Candidates, RowTally, Tested, Visits, count_of_test, group_extent_of, groups_with_pairs_within,
-    none_left, without,
-};
-use planner::{Choice, after_first, first_choice, plan_floor, unit_floor};
+use pair_sets::{Tested, count_of_test, groups_with_pairs_within, without};
+use plan_bounds::{Choice, after_first, first_choice, plan_floor, unit_floor};
 use postings::Indexes;
 use set_algebra::{ConceptPlan, UnitPlan, ValueTest};
 use snapshot::Snapshot;

@@ -3,19 +3,19 @@ ghost use Rattle.std.specs.Prelude.{◌≡◌, ◌≤◌, ◌<◌, ◌+◌, ◌*
 ghost use Rattle.postings.specs.Indexed.{IsIndexOf};
 ghost use Rattle.set_algebra.specs.Meaning.{leads, means};
 ghost use Rattle.set_algebra.specs.Plan.{plan_of, walk_plan};
-ghost use Rattle.planner.specs.Bounds.{own_number};
-ghost use Rattle.planner.specs.Floors.{floor_number};
-ghost use Rattle.planner.specs.Nodes.{node_sum};
+ghost use Rattle.plan_bounds.specs.Bounds.{own_number};
+ghost use Rattle.plan_bounds.specs.Floors.{floor_number};
+ghost use Rattle.plan_bounds.specs.Nodes.{node_sum};
 ghost use Rattle.walks.specs.Asked.{AreEnough, asked_lists};
-ghost use Rattle.pair_sets.specs.Within.{AreBelow, may_be, numbers_within};
+ghost use Rattle.candidates.specs.Within.{AreBelow, may_be, numbers_within};
 
 use crate::found::walk_found;
 use crate::guesses::rows_without;
 use crate::plans::execute_within;
+use candidates::{Candidates, RowTally, Visits, extent_of};
 use constraint_tree::Operator;
 use idset::ConceptSet;
-use pair_sets::{Candidates, RowTally, Visits, extent_of};
-use planner::Choice;
+use plan_bounds::Choice;
 use postings::Indexes;
 use set_algebra::ConceptPlan;
 use snapshot::Snapshot;

@@ -21,13 +21,15 @@ use Rattle.std.proofs.lemmas.List.Elements.{All-nil}
 use Rattle.std.proofs.Math.Bool.{and-false}
 use Rattle.set_algebra.specs.Meaning.{has_pairs, pairs_of}
 use Rattle.pair_sets.specs.inside.Among.{at_entry, pair_counts, pairs_among, pairs_of_concept, rows_of_unit}
-use Rattle.pair_sets.specs.Groups.{some_group_in}
+use Rattle.candidates.specs.Groups.{some_group_in}
 use Rattle.pair_sets.specs.inside.Hits.{TellsTypes, has_pair_in, has_source_in, is_in_some, value_of}
-use Rattle.pair_sets.specs.Within.{groups_within, numbers_within}
+use Rattle.candidates.specs.Within.{groups_within, numbers_within}
+use Rattle.candidates.proofs.WithinLemmas.{has_kept}
 use Rattle.postings.specs.RowColumns.{AreRowCells}
 use Rattle.postings.specs.declared.index.RowCells.{RowCells}
 use Rattle.pair_sets.proofs.HitLemmas.{count-cons}
-use Rattle.pair_sets.proofs.LeafLemmas.{count_kept, group_counted, groups_are, none_within, sources_counted, values_counted}
+use Rattle.candidates.proofs.GroupLemmas.{groups_are}
+use Rattle.pair_sets.proofs.LeafLemmas.{count_kept, group_counted, none_within, sources_counted, values_counted}
 
 -- what is tested of a row says whether it counts
 module _ (indexed : Indexed) (grouped : Bool) (one : ℕ → Bool) (passes : Value → Bool) (told : ℕ → Bool)
@@ -90,27 +92,6 @@ places_counted rows p test =
   where
     zero_sum : (k : ℕ) → 0 + k ≡ k
     zero_sum k = omega arith
-
--- of what a filter keeps
-pub has_kept : (p : ℕ → Bool) (xs : List ℕ) (n : ℕ) → has (filter p xs) n ≡ (has xs n && p n)
-has_kept p [] n = refl
-has_kept p (x ∷ xs) n = elim (cases_eq x n) [
-  | inl same ↦ by_same (has_kept p xs n) same (p x) refl
-  | inr apart ↦ by_other (has_kept p xs n) (ne_eqb x n apart) (p x)
-]
-  where
-    by_same : has (filter p xs) n ≡ (has xs n && p n) → x ≡ n → (b : Bool) → p x ≡ b
-        → has (cond b (x ∷ filter p xs) (filter p xs)) n ≡ (((x == n) || has xs n) && p n)
-    by_same rest same true keeps = (λ i. eq-eqb x n same i || has (filter p xs) n)
-        ∙ sym (λ i. (eq-eqb x n same i || has xs n) && (ap p (sym same) ∙ keeps) i)
-    by_same rest same false leaves =
-        rest ∙ (λ i. has xs n && (ap p (sym same) ∙ leaves) i) ∙ and-false (has xs n)
-        ∙ sym ((λ i. (eq-eqb x n same i || has xs n) && (ap p (sym same) ∙ leaves) i))
-
-    by_other : has (filter p xs) n ≡ (has xs n && p n) → (x == n) ≡ false → (b : Bool)
-        → has (cond b (x ∷ filter p xs) (filter p xs)) n ≡ (((x == n) || has xs n) && p n)
-    by_other rest apart true = (λ i. apart i || rest i) ∙ sym (λ i. (apart i || has xs n) && p n)
-    by_other rest apart false = rest ∙ sym (λ i. (apart i || has xs n) && p n)
 
 -- the candidates that are kept by the rows of each are those with so many pairs
 module _ (indexed : Indexed) (release : Release) (is : IsIndexOf indexed release) (rising : IsStrictlyIncreasing release.concepts)

@@ -17,10 +17,10 @@ use Rattle.number_lists.proofs.ListLemmas.{both_ways}
 use Rattle.postings.specs.Entries.{Entry, entries_of}
 use Rattle.postings.specs.Indexed.{Indexed, types_of}
 use Rattle.pair_sets.specs.inside.Hits.{AreHits, entries_with_sources, entries_with_types, entries_with_values}
-use Rattle.pair_sets.specs.Tested.{is_one_of}
+use Rattle.candidates.specs.Numbers.{is_one_of}
 use Rattle.pair_sets.proofs.HitLemmas.{count-append}
 use Rattle.pair_sets.proofs.LeafLemmas.{count_either, count_kept, count_none, types_counted}
-use Rattle.pair_sets.proofs.Normal.{same_by_number}
+use Rattle.candidates.proofs.Normal.{same_by_number}
 
 -- ---- tests
 always : (a : Bool) → a ≡ (a && true)

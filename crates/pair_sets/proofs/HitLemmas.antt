@@ -24,7 +24,7 @@ use Rattle.pair_sets.specs.inside.Hits.{AreHits, TellsTypes, value_of, counts_fo
 use Rattle.pair_sets.specs.inside.Hits.{AreOwners, owner_count, counts_for_owner, has_source_in, is_in_some, picked}
 use Rattle.pair_sets.specs.declared.hits.Owner.{Owner}
 use Rattle.pair_sets.specs.declared.hits.Owner.TheVariants as owners
-use Rattle.pair_sets.proofs.Normal.{same_by_number}
+use Rattle.candidates.proofs.Normal.{same_by_number}
 use Rattle.number_lists.proofs.MemberLemmas.{times-append}
 use Rattle.pair_sets.proofs.TimesLemmas.{times-cons}
 

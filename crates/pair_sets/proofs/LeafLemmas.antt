@@ -27,12 +27,13 @@ use Rattle.number_lists.proofs.IncreasingLemmas.{earlier_below}
 use Rattle.postings.specs.Entries.{Entry, entries_of}
 use Rattle.postings.specs.Groups.{ConceptGroup, all_groups, groups_in, is_in_group, pairs_of_group, rows_alone}
 use Rattle.postings.specs.Indexed.{Indexed, IsIndexOf, types_of}
-use Rattle.postings.proofs.CountLemmas.{all_groups_again, back_count, first_entries, first_entries_of_group}
+use Rattle.postings.proofs.CountLemmas.{back_count, first_entries, first_entries_of_group}
 use Rattle.postings.proofs.EntryLemmas.{rows_of_entries}
 use Rattle.pair_sets.specs.inside.Hits.{counts_for_concept, counts_for_group, counts_for_source, counts_for_value, entries_with_types}
 use Rattle.pair_sets.specs.inside.Hits.{has_pair_in, has_source_in, is_in_some}
-use Rattle.pair_sets.specs.Groups.{groups_where, some_group_in}
-use Rattle.pair_sets.specs.Numbers.{numbers_in}
+use Rattle.candidates.proofs.GroupLemmas.{groups_are}
+use Rattle.candidates.specs.Groups.{groups_where, some_group_in}
+use Rattle.candidates.specs.Numbers.{numbers_in}
 use Rattle.number_lists.proofs.ListLemmas.{both_ways}
 use Rattle.pair_sets.proofs.HitLemmas.{count-append, count-cons}
 
@@ -254,12 +255,6 @@ module _ (indexed : Indexed) (release : Release) (is : IsIndexOf indexed release
       ∙ ap (λ m. numbers_where m (λ n. has_pairs count one passes (pairs_of release back (get_or release.concepts n 0)))) counted
 
 -- ---- of a group
--- the groups of the indexes are those of the release
-pub groups_are : (indexed : Indexed) (release : Release) → IsIndexOf indexed release → IsStrictlyIncreasing release.concepts
-    → groups_in indexed ≡ all_groups release
-groups_are indexed release is rising =
-    (λ i. all_groups (rows_alone (is.concepts i) (is.rows i))) ∙ all_groups_again release rising
-
 -- at a place within a list there is an item
 pub none_within : {X : Type 0} (xs : List X) (k : ℕ) → k < length xs → slice_get xs k ≡ None → ⊥
 none_within [] k within at = absurd (omega (arith, within))

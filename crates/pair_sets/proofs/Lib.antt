@@ -4,11 +4,9 @@ pub mod ChoiceLemmas
 pub mod HitLemmas
 pub mod LeafLemmas
 pub mod ListLemmas
-pub mod Normal
 pub mod OwnedLemmas
 pub mod PassingLemmas
 pub mod TimesLemmas
 pub mod TypeLemmas
 pub mod UnitLemmas
 pub mod ValueStepLemmas
-pub mod WithinLemmas

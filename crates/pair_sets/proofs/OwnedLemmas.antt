@@ -19,9 +19,10 @@ use Rattle.number_lists.proofs.WhereLemmas.{has-numbers_where}
 use Rattle.postings.specs.Groups.{ConceptGroup, GroupKey, all_groups, groups_among, groups_before, groups_in, keys_of, rows_alone}
 use Rattle.postings.specs.Indexed.{Indexed, IsIndexOf}
 use Rattle.postings.proofs.KeyLemmas.{group_with, groups_at}
-use Rattle.pair_sets.specs.Groups.{concept_in}
+use Rattle.candidates.specs.Groups.{concept_in}
 use Rattle.pair_sets.specs.Owned.{HaveGroupsOf}
-use Rattle.pair_sets.proofs.LeafLemmas.{concepts_apart, groups_are}
+use Rattle.candidates.proofs.GroupLemmas.{groups_are}
+use Rattle.pair_sets.proofs.LeafLemmas.{concepts_apart}
 
 -- ---- ranges
 pub has_range : (start n g : ℕ) → start ≤ g → g < start + n → has (range_with_len start n) g ≡ true

@@ -19,9 +19,10 @@ use Rattle.snapshot.specs.Numbering.{concept_number}
 use Rattle.postings.specs.Indexed.{Indexed, value_at, values_among, values_of}
 use Rattle.postings.proofs.ValueLemmas.{concept_at, decimal_at, value_behind}
 use Rattle.pair_sets.specs.inside.Hits.{value_of}
-use Rattle.pair_sets.specs.Tested.{is_one_of, meets}
+use Rattle.candidates.specs.Numbers.{is_one_of}
+use Rattle.pair_sets.specs.Tested.{meets}
 use Rattle.number_lists.proofs.ListLemmas.{any_agree}
-use Rattle.pair_sets.proofs.Normal.{concept_number-None, same_by_number}
+use Rattle.candidates.proofs.Normal.{concept_number-None, same_by_number}
 
 -- ---- a concept by its number
 -- a concept is one of some where its number is

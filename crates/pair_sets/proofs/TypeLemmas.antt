@@ -14,9 +14,9 @@ use Rattle.rf2_rows.specs.Release.{Attribute}
 use Rattle.number_lists.specs.Members.{has}
 use Rattle.postings.specs.Indexed.{Indexed, concept_of_type, types_of}
 use Rattle.pair_sets.specs.inside.Hits.{TellsTypes, is_one_at, is_type_in}
-use Rattle.pair_sets.specs.Tested.{is_one_of}
+use Rattle.candidates.specs.Numbers.{is_one_of}
 use Rattle.pair_sets.proofs.LeafLemmas.{types_apart}
-use Rattle.pair_sets.proofs.Normal.{concept_number-None, concept_number-Some}
+use Rattle.candidates.proofs.Normal.{concept_number-None, concept_number-Some}
 use Rattle.pair_sets.proofs.PassingLemmas.{none_by_number, one_by_number}
 use Rattle.pair_sets.proofs.TimesLemmas.{item_more}
 

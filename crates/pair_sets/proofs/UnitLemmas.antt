@@ -21,16 +21,16 @@ use Rattle.postings.specs.Groups.{ConceptGroup, all_groups, groups_among, keys_o
 use Rattle.postings.proofs.CountLemmas.{groups_count}
 use Rattle.postings.proofs.KeyLemmas.{group_with, groups_at}
 use Rattle.number_lists.specs.Members.{times, has}
-use Rattle.pair_sets.specs.Groups.{concept_in, groups_where, some_group_in}
-use Rattle.pair_sets.specs.Numbers.{numbers_in}
+use Rattle.candidates.specs.Groups.{concept_in, groups_where, some_group_in}
+use Rattle.candidates.specs.Numbers.{numbers_in}
 use Rattle.pair_sets.specs.Owned.{HaveGroupsOf, groups_owned}
-use Rattle.pair_sets.specs.Within.{groups_within, numbers_within}
-use Rattle.pair_sets.proofs.WithinLemmas.{restricted_to}
+use Rattle.candidates.specs.Within.{groups_within, numbers_within}
+use Rattle.candidates.proofs.WithinLemmas.{restricted_to}
 use Rattle.std.specs.Prelude.{filter}
 use Rattle.std.proofs.lemmas.Bool.{eqb-true}
 use Rattle.pair_sets.proofs.HitLemmas.{count-append, count-cons}
 use Rattle.pair_sets.proofs.LeafLemmas.{concepts_apart, count_agree, count_kept, count_map, none_within}
-use Rattle.pair_sets.proofs.Normal.{same_by_number}
+use Rattle.candidates.proofs.Normal.{same_by_number}
 
 module _ (release : Release) (test : ConceptGroup → Bool) (concept : ℕ) where
   -- whether a group is of the concept and passes

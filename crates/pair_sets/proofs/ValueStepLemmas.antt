@@ -11,10 +11,10 @@ use Rattle.constraint_tree.specs.Denotation.{is_value}
 use Rattle.constraint_tree.specs.Passing.{is_within}
 use Rattle.number_lists.proofs.ListLemmas.{passing_item, some_item_passes, both_ways}
 use Rattle.set_algebra.specs.Meaning.{has_pairs}
-use Rattle.pair_sets.specs.Numbers.{numbers_in}
+use Rattle.candidates.specs.Numbers.{numbers_in}
 use Rattle.pair_sets.proofs.HitLemmas.{count-cons}
 use Rattle.number_lists.proofs.BlockLemmas.{any-filter, any-map}
-use Rattle.pair_sets.proofs.Normal.{in_force_kept, numbers_in-agree}
+use Rattle.candidates.proofs.Normal.{in_force_kept, numbers_in-agree}
 
 -- an item passes where at least one does
 count_any : {X : Type 0} (test : X → Bool) (xs : List X) → nat_le 1 (count_by test xs) ≡ list_any test xs

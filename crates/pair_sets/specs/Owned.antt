@@ -3,7 +3,7 @@ use Rattle.std.specs.Prelude.{ℕ, ◌≡◌, ◌<◌, ◌==◌, true, List, cou
 use Rattle.rf2_rows.specs.Release.{Release}
 use Rattle.number_lists.specs.Members.{has}
 use Rattle.postings.specs.Groups.{all_groups}
-use Rattle.pair_sets.specs.Groups.{concept_in}
+use Rattle.candidates.specs.Groups.{concept_in}
 
 -- some groups have among them all groups of some concepts
 abbrev pub HaveGroupsOf : Release → List ℕ → List ℕ → Type 0

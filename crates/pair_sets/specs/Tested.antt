@@ -1,18 +1,14 @@
 -- Types and values as a leaf tests them, by the numbers of concepts and of values.
-use Rattle.std.specs.Prelude.{ℕ, ◌≡◌, ◌==◌, Bool, List, length, slice_index}
-use Rattle.std.specs.List.{list_any}
+use Rattle.std.specs.Prelude.{ℕ, ◌≡◌, Bool, List, length}
 use Rattle.std.specs.declared.cmp.Ordering.{Ordering}
 use Rattle.std.specs.Ordering.{is_eq, is_ge, is_gt, is_le, is_lt, is_ne}
 use Rattle.rf2_rows.specs.Release.{Value}
 use Rattle.constraint_tree.specs.declared.operator.Compare.{Compare}
 use Rattle.constraint_tree.specs.declared.operator.Compare.TheVariants.{Equal, NotEqual, Less, LessOrEqual, Greater, GreaterOrEqual}
+use Rattle.candidates.specs.Numbers.{is_one_of}
 use Rattle.constraint_tree.specs.Passing.{is_number_that, is_outside, is_within}
 use Rattle.pair_sets.specs.declared.tested.Tested.{Tested}
 use Rattle.pair_sets.specs.declared.tested.Tested.TheVariants as tests
-
--- whether a concept is one of some, by their numbers
-abbrev pub is_one_of : List ℕ → List ℕ → ℕ → Bool
-is_one_of concepts numbers id = list_any (λ number. slice_index concepts number == id) numbers
 
 -- whether a value passes a test
 abbrev pub passes_of : {S : Type 0} → (S → List ℕ) → List ℕ → Tested S → Value → Bool

@@ -7,7 +7,8 @@ ghost use Rattle.postings.specs.Groups.{groups_in};
 ghost use Rattle.postings.specs.Indexed.{types_of};
 ghost use Rattle.pair_sets.specs.inside.Among.{pairs_among as pairs_among_of, pairs_of_concept as pairs_of_concept_of, rows_of_unit};
 ghost use Rattle.pair_sets.specs.inside.Hits.{has_source_in, is_type_in, value_of};
-ghost use Rattle.pair_sets.specs.Tested.{IsTestBelow, is_one_of, passes_of};
+ghost use Rattle.candidates.specs.Numbers.{is_one_of};
+ghost use Rattle.pair_sets.specs.Tested.{IsTestBelow, passes_of};
 
 use crate::passing::passes;
 use crate::tested::Tested;

@@ -4,15 +4,15 @@
 ghost use Rattle.std.specs.Prelude.{ℕ, ◌≡◌, ◌-◌, ◌<◌, ◌^◌, All, Bool, IfOk, IfSome, length, min, sum_by};
 ghost use Rattle.postings.specs.Stats.{type_row_count};
 ghost use Rattle.postings.specs.Indexed.{IsIndexOf, types_of};
-ghost use Rattle.pair_sets.specs.Tested.{IsTestBelow, is_one_of, passes_of};
-ghost use Rattle.pair_sets.specs.inside.Ways.{AreAllThatPass, IsValuesWay, IsWayFor, row_count_of};
+ghost use Rattle.candidates.specs.Numbers.{is_one_of};
+ghost use Rattle.pair_sets.specs.Tested.{IsTestBelow, passes_of};
+ghost use Rattle.candidates.specs.RowCounts.{row_count_of};
+ghost use Rattle.pair_sets.specs.inside.Ways.{AreAllThatPass, IsValuesWay, IsWayFor};
 
-use crate::candidates::Extent;
 use crate::tested::{Tested, count_of_test};
 use crate::types::{types_in, types_to_read};
-use crate::ways::{
-    LeafReads, PassingValues, Way, are_read_before, items_among, look_ups, values_are_read_before,
-};
+use crate::ways::{LeafReads, PassingValues, Way, items_among, values_are_read_before};
+use candidates::{Extent, are_read_before, look_ups, rows_of_value};
 use idset::ConceptSet;
 use postings::Indexes;
 use set_algebra::Choice;
@@ -295,16 +295,4 @@ fn rows_of_values(indexes: &Indexes, back: bool, concepts: &[u32]) -> u64
         rows = rows.saturating_add(rows_of_value(indexes, back, *concept));
     }
     rows
-}
-
-/// How many rows have a concept as their value, or, read backwards, as their source.
-pub fn rows_of_value(indexes: &Indexes, back: bool, concept: u32) -> u64
-    requires { concept < length indexes.now.concepts }
-    ensures { result ≡ row_count_of indexes.now back concept }
-{
-    if back {
-        indexes.rows_of(concept).len() as u64
-    } else {
-        indexes.by_value(concept).len() as u64
-    }
 }

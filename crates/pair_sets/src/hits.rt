@@ -13,7 +13,8 @@ ghost use Rattle.pair_sets.specs.inside.Hits.{AreHits, has_pair_in, is_type_in, 
 ghost use Rattle.pair_sets.specs.inside.Hits.{AreOwners, owner_count, counts_for_owner};
 ghost use Rattle.pair_sets.specs.inside.Hits.{counts_for_concept, counts_for_group, counts_for_value};
 ghost use Rattle.pair_sets.specs.inside.Hits.{entries_with_sources, entries_with_types, entries_with_values};
-ghost use Rattle.pair_sets.specs.Tested.{IsTestBelow, is_one_of, passes_of};
+ghost use Rattle.candidates.specs.Numbers.{is_one_of};
+ghost use Rattle.pair_sets.specs.Tested.{IsTestBelow, passes_of};
 
 use crate::choice::rows_of_types;
 use crate::passing::passes;

@@ -5,20 +5,19 @@ ghost use Rattle.number_lists.specs.Rising.{IsRisingBelow};
 ghost use Rattle.postings.specs.Groups.{all_groups};
 ghost use Rattle.postings.specs.Indexed.{IsIndexOf, types_of};
 ghost use Rattle.set_algebra.specs.Meaning.{has_pairs, pairs_of};
-ghost use Rattle.pair_sets.specs.Numbers.{numbers_in};
-ghost use Rattle.pair_sets.specs.Tested.{IsTestBelow, is_one_of, passes_of};
+ghost use Rattle.candidates.specs.Numbers.{is_one_of, numbers_in};
+ghost use Rattle.pair_sets.specs.Tested.{IsTestBelow, passes_of};
 ghost use Rattle.pair_sets.specs.inside.Ways.{HasTypes, IsWayBelow, passes_by};
-ghost use Rattle.pair_sets.specs.Within.{AreBelow, groups_within, may_be, numbers_within};
+ghost use Rattle.candidates.specs.Within.{AreBelow, groups_within, may_be, numbers_within};
 
 use crate::by_rows::{
     groups_with_pairs_among, groups_with_pairs_by_type, groups_with_pairs_by_value,
     with_pairs_among, with_pairs_by_type, with_pairs_by_value,
 };
-use crate::candidates::{Candidates, extent_for, restricted};
 use crate::choice::{ValuesWay, leaf_way, values_way};
 use crate::tested::Tested;
-use crate::visits::Visits;
 use crate::ways::{LeafReads, Way};
+use candidates::{Candidates, Visits, extent_for, restricted};
 use constraint_tree::Cardinality;
 use idset::ConceptSet;
 use postings::Indexes;

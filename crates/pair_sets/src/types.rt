@@ -3,7 +3,7 @@ ghost use Rattle.std.specs.Prelude.{ℕ, ◌≡◌, ◌<◌, ◌^◌, All, Bool,
 ghost use Rattle.idset.specs.Words.{is_set};
 ghost use Rattle.postings.specs.Indexed.{IsIndexOf, types_of};
 ghost use Rattle.pair_sets.specs.inside.Hits.{ArePlacesOf, is_type_in};
-ghost use Rattle.pair_sets.specs.Tested.{is_one_of};
+ghost use Rattle.candidates.specs.Numbers.{is_one_of};
 
 use idset::{ConceptSet, is_marked, marks_of};
 use postings::Indexes;

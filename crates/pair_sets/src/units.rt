@@ -2,7 +2,7 @@
 ghost use Rattle.std.specs.Prelude.{ℕ, ◌≡◌, ◌≤◌, ◌<◌, ◌+◌, ◌-◌, ◌++◌, true, All, IfOk, OnOk, length, map, slice_get, slice_index};
 ghost use Rattle.postings.specs.Groups.{all_groups, groups_before, groups_in};
 ghost use Rattle.postings.specs.Indexed.{IsIndexOf};
-ghost use Rattle.pair_sets.specs.Groups.{concept_in};
+ghost use Rattle.candidates.specs.Groups.{concept_in};
 ghost use Rattle.pair_sets.specs.Owned.{HaveGroupsOf, groups_owned};
 ghost use Rattle.constraint_tree.specs.Passing.{lies_in};
 ghost use Rattle.number_lists.specs.Members.{has};

@@ -2,8 +2,8 @@
 //!
 //! A choice names the rows that are read: those of the values that pass, those of the types, or all. Where the candidates, or
 //! a few values, have fewer, their rows are read in place of these. Each way finds the same, so a bad one costs time alone.
-use crate::candidates::Extent;
 use crate::tested::Tested;
+use candidates::{Extent, look_ups};
 use set_algebra::Choice;
 
 /// Which rows a leaf reads, and what says which values pass.
@@ -69,19 +69,6 @@ pub fn values_are_read_before(back: bool, values: u64, rows: u64, others: u64) -
     } else {
         items < others
     }
-}
-
-/// Whether there are candidates whose rows are looked up sooner than so many rows are read that stand side by side.
-pub fn are_read_before(candidates: Option<Extent>, rows: u64) -> bool {
-    match candidates {
-        Some(extent) => look_ups(extent.items_and_rows()) < rows,
-        None => false,
-    }
-}
-
-/// About how many rows that stand side by side are read while so many rows are looked up by their numbers.
-pub fn look_ups(rows: u64) -> u64 {
-    rows.saturating_mul(8)
 }
 
 /// How many items are read of candidates, each with its rows.

@@ -6,13 +6,13 @@ use Rattle.set_algebra.specs.Plan.{Plan, empty_plan, all_plan, one_plan, walk_pl
 use Rattle.postings.specs.Groups.{groups_in}
 use Rattle.postings.specs.Indexed.{Indexed}
 use Rattle.set_algebra.specs.declared.choice.Choice.{Choice}
-use Rattle.planner.specs.declared.leaf.Leaf.{Leaf}
-use Rattle.planner.specs.Alternatives.{choice_of}
+use Rattle.plan_bounds.specs.declared.leaf.Leaf.{Leaf}
+use Rattle.plan_bounds.specs.Alternatives.{choice_of}
 use Rattle.planner.specs.Asked.{asked_or, each_asked_or, group_within, groups_within, plans_within, test_within, within_tests}
 use Rattle.planner.specs.Chosen.{chosen, group_chosen, groups_chosen, plans_chosen, test_chosen}
-use Rattle.planner.specs.Counts.{is_within, leaf_of}
-use Rattle.planner.specs.Leaves.{first_choice, first_of, group_leaves, groups_leaves, leaves, plans_leaves, test_choices, test_leaves, type_choices}
-use Rattle.planner.specs.Sizes.{size, test_size}
+use Rattle.plan_bounds.specs.Counts.{is_within, leaf_of}
+use Rattle.plan_bounds.specs.Leaves.{first_choice, first_of, group_leaves, groups_leaves, leaves, plans_leaves, test_choices, test_leaves, type_choices}
+use Rattle.plan_bounds.specs.Sizes.{size, test_size}
 
 -- ---- as many tests as leaves
 mutual

@@ -6,13 +6,13 @@ use Rattle.set_algebra.specs.declared.plan.UnitPlan.{UnitPlan}
 use Rattle.set_algebra.specs.Plan.{unit_plan_of, unit_plans_of, plan_of, plans_of}
 use Rattle.postings.specs.Indexed.{Indexed}
 use Rattle.set_algebra.specs.declared.choice.Choice.{Choice}
-use Rattle.planner.specs.declared.tally.Tally.{Tally}
+use Rattle.plan_bounds.specs.declared.tally.Tally.{Tally}
 use Rattle.planner.specs.Chosen.{chosen, group_chosen, groups_chosen, plans_chosen}
-use Rattle.planner.specs.Leads.{lead_list}
-use Rattle.planner.specs.inside.Tallies.{IsTallyOf, tally_of, tally_on, tally_with}
+use Rattle.plan_bounds.specs.Leads.{lead_list}
+use Rattle.plan_bounds.specs.Tallies.{IsTallyOf, tally_of, tally_on, tally_with}
 use Rattle.planner.proofs.FrontLemmas.{drop_chosen, group_drop_chosen, group_leads_chosen, group_size_chosen, leads_chosen, size_chosen}
-use Rattle.planner.proofs.LoopLemmas.{Lists, Numbers, RestLeft, Sort, concept_list, concept_sizes, joined_end, joined_turn, of_concepts, of_groups, parts_left, rest_end, rest_turn, unit_list, unit_sizes}
-use Rattle.planner.proofs.TallyLemmas.{is_tally_of}
+use Rattle.plan_bounds.proofs.LoopLemmas.{Lists, Numbers, RestLeft, Sort, concept_list, concept_sizes, joined_end, joined_turn, of_concepts, of_groups, parts_left, rest_end, rest_turn, unit_list, unit_sizes}
+use Rattle.plan_bounds.proofs.TallyLemmas.{is_tally_of}
 
 -- what a part is given, and some parts together; and that a part in front of others reads what it was given
 pub record Given (Part : Type 0) (sort : Sort Part) (sizes : Numbers Part sort) (leads : Lists Part sort) : Type 0 where

@@ -6,13 +6,13 @@ use Rattle.set_algebra.specs.Plan.{Plan, empty_plan, all_plan, one_plan, walk_pl
 use Rattle.postings.specs.Groups.{groups_in}
 use Rattle.postings.specs.Indexed.{Indexed}
 use Rattle.set_algebra.specs.declared.choice.Choice.{Choice}
-use Rattle.planner.specs.Alternatives.{found_by, leaf_size}
+use Rattle.plan_bounds.specs.Alternatives.{found_by, leaf_size}
 use Rattle.planner.specs.Chosen.{chosen, group_chosen, groups_chosen, plans_chosen, test_chosen}
-use Rattle.planner.specs.Counts.{leaf_of, one_of}
-use Rattle.planner.specs.Leads.{group_own_lead, lead_list, lead_of, own_lead}
-use Rattle.planner.specs.Leaves.{first_choice, group_leaves, groups_leaves, leaves, plan_count, plans_leaves, test_choices, test_leaves, type_choices}
-use Rattle.planner.specs.Nodes.{NodeList, group_list, groups_list, node_list, plans_list, test_list}
-use Rattle.planner.specs.Sizes.{group_size, group_sizes, least_of, size, sizes, test_size, total, values_size, walk_size}
+use Rattle.plan_bounds.specs.Counts.{leaf_of, one_of}
+use Rattle.plan_bounds.specs.Leads.{group_own_lead, lead_list, lead_of, own_lead}
+use Rattle.plan_bounds.specs.Leaves.{first_choice, group_leaves, groups_leaves, leaves, plan_count, plans_leaves, test_choices, test_leaves, type_choices}
+use Rattle.plan_bounds.specs.Nodes.{NodeList, group_list, groups_list, node_list, plans_list, test_list}
+use Rattle.plan_bounds.specs.Sizes.{group_size, group_sizes, least_of, size, sizes, test_size, total, values_size, walk_size}
 
 -- ---- fronts of choices that are long enough
 -- the choices of the types of a leaf, and of its test, from a front

@@ -7,16 +7,16 @@ use Rattle.set_algebra.specs.Plan.{Plan, TestPlan}
 use Rattle.set_algebra.specs.declared.choice.Choice.{Choice}
 use Rattle.set_algebra.specs.declared.choice.Choice.TheVariants.{Scan}
 use Rattle.postings.specs.Indexed.{Indexed}
-use Rattle.planner.specs.Alternatives.{choice_of, leaf_size}
+use Rattle.plan_bounds.specs.Alternatives.{choice_of, leaf_size}
 use Rattle.planner.specs.Chosen.{chosen, test_chosen}
-use Rattle.planner.specs.Counts.{leaf_of}
-use Rattle.planner.specs.Leads.{lead_list, leads}
-use Rattle.planner.specs.Leaves.{first_of, leaves}
-use Rattle.planner.specs.Nodes.{test_list}
-use Rattle.planner.specs.Sizes.{size, test_size}
-use Rattle.planner.specs.declared.leaf.Leaf.{Leaf}
+use Rattle.plan_bounds.specs.Counts.{leaf_of}
+use Rattle.plan_bounds.specs.Leads.{lead_list, leads}
+use Rattle.plan_bounds.specs.Leaves.{first_of, leaves}
+use Rattle.plan_bounds.specs.Nodes.{test_list}
+use Rattle.plan_bounds.specs.Sizes.{size, test_size}
+use Rattle.plan_bounds.specs.declared.leaf.Leaf.{Leaf}
 use Rattle.planner.proofs.FrontLemmas.{drop_chosen, leads_chosen, size_chosen}
-use Rattle.planner.proofs.ListLemmas.{put_seam_two, two_behind}
+use Rattle.plan_bounds.proofs.ListLemmas.{put_seam_two, two_behind}
 
 module _ (indexed : Indexed) (asked others : List Choice) (types : Plan) (test : TestPlan)
     {types_asked types_others test_asked test_others : List Choice}

@@ -4,9 +4,9 @@ use Rattle.std.specs.Prelude.{IsTrue, nat_le}
 use Rattle.std.proofs.lemmas.Bool.{and_parts, cases_Bool, leb-false, leb-true}
 use Rattle.set_algebra.specs.declared.choice.Choice.{Choice}
 use Rattle.set_algebra.specs.declared.choice.Choice.TheVariants.{ByValue, ByType, Scan}
-use Rattle.planner.specs.declared.leaf.Leaf.{Leaf}
-use Rattle.planner.specs.Alternatives.{IsLeast, choice_of, leaf_bound, least_choice, offers, or_least, rank}
-use Rattle.planner.specs.Offered.{IsOffered}
+use Rattle.plan_bounds.specs.declared.leaf.Leaf.{Leaf}
+use Rattle.plan_bounds.specs.Alternatives.{IsLeast, choice_of, leaf_bound, least_choice, offers, or_least, rank}
+use Rattle.plan_bounds.specs.Offered.{IsOffered}
 
 -- one of two tests fails
 one_fails : (a b : Bool) → (a && b) ≡ false → (a ≡ false) ⊎ (b ≡ false)

@@ -1,7 +1,7 @@
 -- Nodes whose sub-plans are listed.
 use Rattle.std.proofs.Common.{ℕ, ◌≡◌, ◌++◌, ◌∷◌, List, sym, ap}
 use Rattle.set_algebra.specs.declared.choice.Choice.{Choice}
-use Rattle.planner.specs.declared.counts.NodeCost.{NodeCost}
+use Rattle.plan_bounds.specs.declared.counts.NodeCost.{NodeCost}
 use Rattle.planner.specs.inside.ListedNodes.{IsListed}
 
 -- by its own number, and by what its sub-plans add

@@ -5,13 +5,13 @@ use Rattle.constraint_tree.specs.declared.operator.Cardinality.{Cardinality}
 use Rattle.set_algebra.specs.Plan.{Plan, empty_plan, all_plan, one_plan, walk_plan, members_plan, and_plan, or_plan, minus_plan, values_plan, pairs_plan, units_plan, Plans, no_plans, plan_then, PlanOfUnits, nothing_unit, every_unit, and_units, or_units, minus_units, pairs_units, PlansOfUnits, no_unit_plans, unit_plan_then, TestPlan, within_plan, outside_plan, number_plan}
 use Rattle.postings.specs.Indexed.{Indexed}
 use Rattle.set_algebra.specs.declared.choice.Choice.{Choice}
-use Rattle.planner.specs.declared.leaf.Leaf.{Leaf}
-use Rattle.planner.specs.Alternatives.{IsLeast, choice_of}
+use Rattle.plan_bounds.specs.declared.leaf.Leaf.{Leaf}
+use Rattle.plan_bounds.specs.Alternatives.{IsLeast, choice_of}
 use Rattle.planner.specs.Chosen.{chosen, group_chosen, groups_chosen, least_choices, plans_chosen, test_chosen}
-use Rattle.planner.specs.Counts.{leaf_of}
-use Rattle.planner.specs.Leaves.{first_of, group_leaves, leaves, test_choices, type_choices}
-use Rattle.planner.specs.Offered.{AreLeast, AreOffered, EachLeaf, GroupEach, GroupsEach, IsLeastAt, IsOfferedAt, LeafFact, PlansEach, TestEach, all_concepts, every_group_in}
-use Rattle.planner.specs.Sizes.{size, test_size}
+use Rattle.plan_bounds.specs.Counts.{leaf_of}
+use Rattle.plan_bounds.specs.Leaves.{first_of, group_leaves, leaves, test_choices, type_choices}
+use Rattle.plan_bounds.specs.Offered.{AreLeast, AreOffered, EachLeaf, GroupEach, GroupsEach, IsLeastAt, IsOfferedAt, LeafFact, PlansEach, TestEach, all_concepts, every_group_in}
+use Rattle.plan_bounds.specs.Sizes.{size, test_size}
 use Rattle.planner.proofs.FrontLemmas.{drop_chosen, group_drop_chosen, length-test_chosen, size_chosen, test_size_front}
 use Rattle.planner.proofs.LeastLemmas.{choice_offered, least_is_least}
 

@@ -1,9 +1,6 @@
 -- Sets of lemmas that functions name.
 use Rattle.set_algebra.proofs.PlanLemmas.{plans_of_items}
 
--- for the functions that add up sizes and bounds
-pub ruleset costing = (plans_of_items)
-
 -- for those that list bounds
 pub ruleset listing = (plans_of_items)
 

@@ -3,10 +3,10 @@ use Rattle.std.specs.Prelude.{Bool, if◌then◌else◌, List, [], ◌∷◌, �
 use Rattle.set_algebra.specs.Plan.{Plan, empty_plan, all_plan, one_plan, walk_plan, members_plan, and_plan, or_plan, minus_plan, values_plan, pairs_plan, units_plan, Plans, no_plans, plan_then, PlanOfUnits, nothing_unit, every_unit, and_units, or_units, minus_units, pairs_units, PlansOfUnits, no_unit_plans, unit_plan_then, TestPlan, within_plan, outside_plan, number_plan}
 use Rattle.postings.specs.Indexed.{Indexed}
 use Rattle.set_algebra.specs.declared.choice.Choice.{Choice}
-use Rattle.planner.specs.Alternatives.{offers}
+use Rattle.plan_bounds.specs.Alternatives.{offers}
 use Rattle.planner.specs.Chosen.{least_choices}
-use Rattle.planner.specs.Counts.{is_within}
-use Rattle.planner.specs.Leaves.{first_choice, first_of}
+use Rattle.plan_bounds.specs.Counts.{is_within}
+use Rattle.plan_bounds.specs.Leaves.{first_choice, first_of}
 
 -- of each leaf whether its test says within which set a value is
 abbrev mutual

@@ -4,10 +4,10 @@ use Rattle.set_algebra.specs.Plan.{Plan, empty_plan, all_plan, one_plan, walk_pl
 use Rattle.postings.specs.Groups.{groups_in}
 use Rattle.postings.specs.Indexed.{Indexed}
 use Rattle.set_algebra.specs.declared.choice.Choice.{Choice}
-use Rattle.planner.specs.Alternatives.{choice_of}
-use Rattle.planner.specs.Counts.{leaf_of}
-use Rattle.planner.specs.Leaves.{first_of, group_leaves, leaves, test_choices, type_choices}
-use Rattle.planner.specs.Sizes.{size, test_size}
+use Rattle.plan_bounds.specs.Alternatives.{choice_of}
+use Rattle.plan_bounds.specs.Counts.{leaf_of}
+use Rattle.plan_bounds.specs.Leaves.{first_of, group_leaves, leaves, test_choices, type_choices}
+use Rattle.plan_bounds.specs.Sizes.{size, test_size}
 
 -- by two lists, the choices asked for and others in their place; a leaf of which neither has one takes the least, which rests on
 -- what its sub-plans have taken

@@ -1,15 +1,4 @@
-pub mod Alternatives
 pub mod Asked
-pub mod Bounds
 pub mod Chosen
-pub mod Counts
-pub mod Floors
-pub mod Found
 pub mod inside
-pub mod Leads
-pub mod Leaves
-pub mod Nodes
-pub mod Offered
-pub mod Physical
-pub mod Sizes
 pub mod WorkedBounds

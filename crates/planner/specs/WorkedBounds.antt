@@ -13,10 +13,10 @@ use Rattle.postings.specs.Indexed.{Indexed, members_of}
 use Rattle.postings.specs.Stats.{stats_in}
 use Rattle.set_algebra.specs.declared.choice.Choice.{Choice}
 use Rattle.set_algebra.specs.declared.choice.Choice.TheVariants.{ByValue, ByType}
-use Rattle.planner.specs.Bounds.{bound, own_bounds}
+use Rattle.plan_bounds.specs.Bounds.{bound, own_bounds}
 use Rattle.planner.specs.Chosen.{least_choices}
-use Rattle.planner.specs.Floors.{floor}
-use Rattle.planner.specs.Leads.{leads}
+use Rattle.plan_bounds.specs.Floors.{floor}
+use Rattle.plan_bounds.specs.Leads.{leads}
 
 -- the indexes of the sample release, as far as bounds rest on them
 abbrev pub indexed_sample : Indexed

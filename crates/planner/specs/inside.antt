@@ -1,5 +1,3 @@
 -- Definitions that private functions alone need: no contract of a public call names one.
 pub mod ListedNodes
-pub mod PhysicalInside
 pub mod SettledNodes
-pub mod Tallies

@@ -2,20 +2,18 @@
 ghost use Rattle.std.specs.Prelude.{◌≡◌, ◌<◌, ◌++◌, ◌∷◌, [], IfOk, OnOk, drop, length};
 ghost use Rattle.std.specs.List.{slice_set};
 ghost use Rattle.set_algebra.specs.Plan.{and_plan, and_units, members_plan, minus_plan, minus_units, or_plan, or_units, plan_of, plans_of, test_plan_of, unit_plan_of, unit_plans_of, units_plan, values_plan, walk_plan};
-ghost use Rattle.planner.specs.Bounds.{own_bounds, own_list};
-ghost use Rattle.planner.specs.Leaves.{group_leaves, groups_leaves, leaves, plans_leaves, test_leaves};
-ghost use Rattle.planner.specs.Nodes.{group_list, groups_list, node_list, plans_list, test_list};
-ghost use Rattle.planner.specs.Sizes.{group_size, group_sizes, size as size_of, sizes, test_size};
+ghost use Rattle.plan_bounds.specs.Bounds.{own_bounds, own_list};
+ghost use Rattle.plan_bounds.specs.Leaves.{group_leaves, groups_leaves, leaves, plans_leaves, test_leaves};
+ghost use Rattle.plan_bounds.specs.Nodes.{group_list, groups_list, node_list, plans_list, test_list};
+ghost use Rattle.plan_bounds.specs.Sizes.{group_size, group_sizes, size as size_of, sizes, test_size};
 ghost use Rattle.planner.specs.inside.ListedNodes.{IsGroupNode, IsLeafNode, IsNode};
-ghost use Rattle.planner.specs.inside.Tallies.{IsTallyOf};
+ghost use Rattle.plan_bounds.specs.Tallies.{IsTallyOf};
 
-use crate::choice::{after_first, first_choice};
-use crate::counts::{
-    NodeCost, concepts, groups, in_all, in_first, in_some, leaf, members, units as units_of,
-    values, walk,
-};
-use crate::tally::Tally;
 use constraint_tree::{Cardinality, Operator};
+use plan_bounds::{
+    NodeCost, Tally, after_first, concepts, first_choice, groups, in_all, in_first, in_some,
+    leaf_counts as leaf, members, units as units_of, values, walk,
+};
 use postings::Indexes;
 use set_algebra::{Choice, ConceptPlan, UnitPlan, ValueTest};
 use std::alloc::AllocError;

@@ -3,17 +3,18 @@ ghost use Rattle.std.specs.Prelude.{◌≡◌, ◌<◌, ◌++◌, ◌∷◌, [],
 ghost use Rattle.std.specs.List.{slice_set};
 ghost use Rattle.set_algebra.specs.Plan.{and_plan, and_units, members_plan, minus_plan, minus_units, or_plan, or_units, plan_of, plans_of, test_plan_of, unit_plan_of, unit_plans_of, units_plan, values_plan, walk_plan};
 ghost use Rattle.planner.specs.Chosen.{chosen, group_chosen, groups_chosen, plans_chosen, test_chosen};
-ghost use Rattle.planner.specs.Leads.{lead_list};
-ghost use Rattle.planner.specs.Leaves.{group_leaves, groups_leaves, leaves, plans_leaves, test_leaves};
-ghost use Rattle.planner.specs.Nodes.{group_list, groups_list, node_list, plans_list, test_list};
-ghost use Rattle.planner.specs.Sizes.{group_size, group_sizes, size as size_of, sizes, test_size};
+ghost use Rattle.plan_bounds.specs.Leads.{lead_list};
+ghost use Rattle.plan_bounds.specs.Leaves.{first_of, group_leaves, groups_leaves, leaves, plans_leaves, test_leaves};
+ghost use Rattle.plan_bounds.specs.Nodes.{group_list, groups_list, node_list, plans_list, test_list};
+ghost use Rattle.plan_bounds.specs.Sizes.{group_size, group_sizes, size as size_of, sizes, test_size};
 ghost use Rattle.planner.specs.inside.SettledNodes.{IsGroupSettled, IsLeafSettled, IsNodeSettled};
-ghost use Rattle.planner.specs.inside.Tallies.{IsTallyOf};
+ghost use Rattle.plan_bounds.specs.Tallies.{IsTallyOf};
 
-use crate::choice::{after_first, first};
-use crate::counts::{concepts, groups, leaf, members, units as units_of, values, walk};
-use crate::tally::Tally;
 use constraint_tree::{Cardinality, Operator};
+use plan_bounds::{
+    Tally, after_first, concepts, groups, leaf_counts as leaf, members, units as units_of, values,
+    walk,
+};
 use postings::Indexes;
 use set_algebra::{Choice, ConceptPlan, UnitPlan, ValueTest};
 use std::alloc::{AllocError, Global};
@@ -556,4 +557,14 @@ fn put_lead(choosing: &mut Choosing, at: usize, lead: u64)
     ensures choices { choosing.new.choices.items ≡ choosing.old.choices.items }
 {
     choosing.leads[at] = lead;
+}
+
+// The first of some choices, if there is one.
+fn first(choices: &[Choice]) -> Option<Choice>
+    ensures { result ≡ first_of choices.now }
+{
+    match choices.first() {
+        Some(choice) => Some(*choice),
+        None => None,
+    }
 }

@@ -9,7 +9,7 @@ use Rattle.rewrites.specs.Simplified.{simplified}
 use Rattle.snapshot.specs.Contents.{Contents}
 use Rattle.postings.specs.Indexed.{Indexed, IsIndexOf}
 use Rattle.planner.specs.Chosen.{least_choices}
-use Rattle.planner.specs.Offered.{AreLeast}
+use Rattle.plan_bounds.specs.Offered.{AreLeast}
 use Rattle.answer_printer.specs.PlanText.{plan_text}
 use Rattle.query_service.specs.Answer.{IsForLine}
 

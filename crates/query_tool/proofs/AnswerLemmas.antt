@@ -8,8 +8,8 @@ use Rattle.constraint_tree.specs.Denotation.{denotation, denotes}
 use Rattle.answer_printer.specs.AnswerText.{refusal_text}
 use Rattle.set_algebra.specs.Meaning.{means}
 use Rattle.set_algebra.specs.Plan.{Plan}
-use Rattle.pair_sets.specs.Numbers.{numbers_in}
-use Rattle.pair_sets.proofs.Normal.{concepts_of, numbers_in-agree}
+use Rattle.candidates.specs.Numbers.{numbers_in}
+use Rattle.candidates.proofs.Normal.{concepts_of, numbers_in-agree}
 use Rattle.query_service.specs.Answer.{constraint_answer, HasAnAnswer, HasOneAnswer}
 
 -- the concepts of a plan are those of a constraint that denotes what it means

@@ -9,7 +9,7 @@ ghost use Rattle.set_algebra.specs.Plan.{plan_of};
 ghost use Rattle.rewrites.specs.Steps.{all_applied};
 ghost use Rattle.planner.specs.Asked.{choices_with};
 ghost use Rattle.planner.specs.Chosen.{least_choices};
-ghost use Rattle.planner.specs.Offered.{AreLeast};
+ghost use Rattle.plan_bounds.specs.Offered.{AreLeast};
 ghost use Rattle.query_service.specs.Explanation.{executed_plan};
 
 use constraint_tree::Constraint;

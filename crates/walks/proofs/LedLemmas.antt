@@ -19,9 +19,8 @@ use Rattle.walks.specs.declared.family.Family.{Family}
 use Rattle.walks.specs.declared.family.Family.TheVariants as family
 use Rattle.walks.specs.declared.family.Reach.{Reach}
 use Rattle.walks.specs.declared.family.Reach.TheVariants.{Listed, ListedOrSelf, Apart}
-use Rattle.pair_sets.proofs.AmongLemmas.{has_kept}
+use Rattle.candidates.proofs.WithinLemmas.{has_kept, restricted_to}
 use Rattle.walks.proofs.JoinedLemmas.{listed_stands, over_near, stands, stands_listed}
-use Rattle.pair_sets.proofs.WithinLemmas.{restricted_to}
 
 -- one concept stands to another as the other stands back to it
 stands_back : (release : Release) (f : Family) (a b : ℕ) → stands release f a b ≡ stands release (back_of f) b a

@@ -20,11 +20,10 @@ use Rattle.ancestor_index.proofs.ClosureLemmas.{list_of-where}
 use Rattle.postings.specs.Indexed.{members_of}
 use Rattle.walks.specs.Components.{components_of}
 use Rattle.walks.specs.inside.Components.{is_in_one_of}
-use Rattle.pair_sets.proofs.WithinLemmas.{restricted_to}
-use Rattle.pair_sets.specs.Numbers.{numbers_in}
-use Rattle.pair_sets.specs.Tested.{is_one_of}
+use Rattle.candidates.proofs.WithinLemmas.{restricted_to}
+use Rattle.candidates.specs.Numbers.{is_one_of, numbers_in}
 use Rattle.std.proofs.lemmas.List.Folds.{list_any-append}
-use Rattle.pair_sets.proofs.Normal.{in_force_kept, numbers_in-agree}
+use Rattle.candidates.proofs.Normal.{in_force_kept, numbers_in-agree}
 
 -- the numbers of a set, as a list, are below its bound
 pub numbers_below : {count bound : ℕ} {items numbers : List ℕ} → IsRisingBelow bound items → bound ≡ count → numbers ≡ items

@@ -18,9 +18,9 @@ use Rattle.number_lists.specs.KeyedLists.{list_of}
 use Rattle.ancestor_index.specs.HierarchyLists.{hierarchy_of, lists_where}
 use Rattle.number_lists.proofs.MemberLemmas.{contains_had, had_contained}
 use Rattle.ancestor_index.proofs.ClosureLemmas.{list_of-where}
-use Rattle.pair_sets.specs.Numbers.{numbers_in}
+use Rattle.candidates.specs.Numbers.{numbers_in}
 use Rattle.walks.specs.Led.{apart, joined, led_to}
-use Rattle.pair_sets.proofs.Normal.{either_in}
+use Rattle.candidates.proofs.Normal.{either_in}
 
 module _ (release : Release) (set : ℕ → Bool) (items : List ℕ) (is : items ≡ numbers_in release set) where
   abbrev count : ℕ

@@ -7,8 +7,8 @@ ghost use Rattle.walks.specs.inside.Joined.{back_of, is_whole as is_whole_of, ne
 ghost use Rattle.walks.specs.inside.Steps.{HasWords, IsStepFor, asked_of, lists_of};
 
 use ancestor_index::AncestorIndex;
+use candidates::ListExtent;
 use constraint_tree::Operator;
-use pair_sets::ListExtent;
 
 /// A family of lists, one for each concept.
 #[derive(Clone, Copy)]

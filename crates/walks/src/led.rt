@@ -7,15 +7,15 @@ ghost use Rattle.number_lists.specs.Members.{has};
 ghost use Rattle.walks.specs.Asked.{AreEnough, asked_lists};
 ghost use Rattle.walks.specs.Led.{apart as apart_of, IsOf, IsOver, joined, led_to};
 ghost use Rattle.walks.specs.inside.Steps.{lists_of, stepped};
-ghost use Rattle.pair_sets.specs.Within.{AreBelow, may_be};
+ghost use Rattle.candidates.specs.Within.{AreBelow, may_be};
 
 use crate::family::{Family, Reach, Step};
 use crate::walk_ways::WalkWay;
 use crate::walks::{meets, walk};
 use ancestor_index::AncestorIndex;
+use candidates::{Candidates, RowTally, restricted};
 use constraint_tree::Operator;
 use idset::ConceptSet;
-use pair_sets::{Candidates, RowTally, restricted};
 use snapshot::Snapshot;
 use std::alloc::{AllocError, Global};
 

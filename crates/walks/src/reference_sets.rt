@@ -6,10 +6,10 @@ ghost use Rattle.number_lists.specs.Members.{has};
 ghost use Rattle.postings.specs.Indexed.{IsIndexOf};
 ghost use Rattle.walks.specs.Components.{components_of};
 ghost use Rattle.walks.specs.inside.Components.{is_in_one_of};
-ghost use Rattle.pair_sets.specs.Within.{AreBelow, may_be};
+ghost use Rattle.candidates.specs.Within.{AreBelow, may_be};
 
+use candidates::{Candidates, restricted};
 use idset::{ConceptSet, has_number};
-use pair_sets::{Candidates, restricted};
 use postings::Indexes;
 use snapshot::Snapshot;
 use std::alloc::{AllocError, Global};

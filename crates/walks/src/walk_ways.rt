@@ -5,8 +5,8 @@ ghost use Rattle.walks.specs.Led.{IsOver};
 use crate::family::{Family, Step};
 use crate::walks::{items_of_lists, most_items};
 use ancestor_index::AncestorIndex;
+use candidates::Candidates;
 use constraint_tree::Operator;
-use pair_sets::Candidates;
 
 // The lists of more concepts than these are not added up one by one: all lists stand for them.
 const MANY: usize = 4096;

@@ -11,8 +11,8 @@ ghost use Rattle.walks.specs.inside.Steps.{lists_of, stepped};
 use crate::family::{Family, Reach, Step};
 use crate::reached::reached;
 use ancestor_index::AncestorIndex;
+use candidates::RowTally;
 use idset::{ConceptSet, WordSet};
-use pair_sets::RowTally;
 use snapshot::Snapshot;
 use std::alloc::{AllocError, Global};
 

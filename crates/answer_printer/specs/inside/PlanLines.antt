@@ -2,7 +2,7 @@
 use Rattle.std.specs.Prelude.{ℕ, ◌++◌, List, [], ◌∷◌, drop}
 use Rattle.set_algebra.specs.declared.choice.Choice.{Choice}
 use Rattle.set_algebra.specs.Plan.{Plan, empty_plan, all_plan, one_plan, walk_plan, members_plan, and_plan, or_plan, minus_plan, values_plan, pairs_plan, units_plan, PlanOfUnits, nothing_unit, every_unit, and_units, or_units, minus_units, pairs_units}
-use Rattle.planner.specs.Leaves.{group_leaves, leaves, test_choices, type_choices}
+use Rattle.plan_bounds.specs.Leaves.{group_leaves, leaves, test_choices, type_choices}
 use Rattle.answer_printer.specs.PlanText.{NodeText, bound_line, group_outline, group_words, groups_outline, node_words, outline, plans_outline, test_outline}
 
 -- what stands before the bound of a node

@@ -6,38 +6,36 @@ use Rattle.std.proofs.lemmas.Option.{slice_get_read}
 use Rattle.set_algebra.specs.declared.plan.ConceptPlan.{ConceptPlan}
 use Rattle.set_algebra.specs.declared.plan.UnitPlan.{UnitPlan}
 use Rattle.set_algebra.specs.Meaning.{unit_means, has_groups, has_pairs, leads, means, pairs_of, value_passes}
-use Rattle.pair_sets.specs.Tested.{is_one_of}
-use Rattle.pair_sets.specs.declared.candidates.Candidates.{Candidates}
+use Rattle.candidates.specs.Numbers.{is_one_of, numbers_in}
+use Rattle.candidates.specs.declared.candidates.Candidates.{Candidates}
 use Rattle.pair_sets.proofs.UnitLemmas.{units_found, units_within as units_of_candidates}
 use Rattle.set_algebra.specs.Plan.{PlanOfUnits, Plan, TestPlan, unit_plan_of, unit_plans_of, members_plan, minus_units, minus_plan, pairs_units, pairs_plan, plan_of, plans_of, test_plan_of, values_plan, walk_plan}
 use Rattle.set_algebra.proofs.PlanLemmas.{plan_of-Values}
 use Rattle.number_lists.specs.Members.{has}
 use Rattle.number_lists.specs.Rising.{numbers_where}
 use Rattle.postings.specs.Groups.{all_groups}
-use Rattle.pair_sets.specs.Groups.{groups_where, some_group_in}
-use Rattle.pair_sets.specs.Numbers.{numbers_in}
+use Rattle.candidates.specs.Groups.{groups_where, some_group_in}
 use Rattle.constraint_tree.specs.Walks.{has_concept}
 use Rattle.walks.specs.Components.{components_of}
 use Rattle.executor.specs.inside.WithUnits.{with_units}
 use Rattle.executor.specs.inside.Lead.{leads_off, leads_off_groups}
-use Rattle.pair_sets.specs.Within.{groups_within, may_be, numbers_within}
+use Rattle.candidates.specs.Within.{groups_within, may_be, numbers_within}
 use Rattle.rf2_rows.specs.Pairs.{Pair}
 use Rattle.set_algebra.specs.declared.choice.Choice.{Choice}
-use Rattle.planner.specs.Bounds.{group_own_bound, own_bound, own_number, values_bound}
-use Rattle.planner.specs.Floors.{floor_number, group_own_floor, own_floor}
-use Rattle.planner.specs.Leaves.{leaves}
-use Rattle.planner.specs.Nodes.{groups_sum, node_sum, plans_sum}
-use Rattle.planner.specs.Sizes.{group_sizes, size, sizes, test_size, total}
-use Rattle.planner.proofs.FloorLemmas.{floor-le-bound, group_floor-le-bound}
-use Rattle.planner.proofs.LoopLemmas.{concept_sum, of_concepts, of_groups, unit_sum}
-use Rattle.planner.proofs.PartLemmas.{and_are, and_units_are, group_count-parts, or_are, or_units_are, plan_count-parts, units_are, values_are}
+use Rattle.plan_bounds.specs.Bounds.{group_own_bound, own_bound, own_number, values_bound}
+use Rattle.plan_bounds.specs.Floors.{floor_number, group_own_floor, own_floor}
+use Rattle.plan_bounds.specs.Leaves.{leaves}
+use Rattle.plan_bounds.specs.Nodes.{groups_sum, node_sum, plans_sum}
+use Rattle.plan_bounds.specs.Sizes.{group_sizes, size, sizes, test_size, total}
+use Rattle.plan_bounds.proofs.FloorLemmas.{floor-le-bound, group_floor-le-bound}
+use Rattle.plan_bounds.proofs.LoopLemmas.{concept_sum, of_concepts, of_groups, unit_sum}
+use Rattle.plan_bounds.proofs.PartLemmas.{and_are, and_units_are, group_count-parts, or_are, or_units_are, plan_count-parts, units_are, values_are}
 use Rattle.executor.proofs.GroupNodeLemmas as groups
 use Rattle.pair_sets.proofs.LeafLemmas.{sources_known}
 use Rattle.executor.proofs.NodeLemmas.{all_node, and_node, members_node, name_step, one_node, or_node, outside_passes, pairs_node, units_node, values_node, within_passes}
 use Rattle.executor.proofs.NodeWork.{call_floor, group_call_floor, group_floor, group_within, leaf_floor, leaf_reads, members_are, no_floor, no_floor_of_groups, no_minus, no_minus_of_units, no_pairs, no_pairs_of_units, node_floor, node_within, test_floor, test_found, test_outside, test_reads, test_within, two_floor, two_read, types_found, walk_is}
 use Rattle.executor.proofs.PartWork.{concepts_found, concepts_read, few_found, few_groups, few_joined, few_joined_groups, few_values, groups_found, groups_read}
-use Rattle.pair_sets.proofs.WithinLemmas.{all_of_none, all_within, none_within, some_of_none, some_within}
-use Rattle.pair_sets.proofs.WithinLemmas.{kept_groups, kept_set}
+use Rattle.candidates.proofs.WithinLemmas.{all_of_none, all_within, kept_groups, kept_set, none_within, some_of_none, some_within}
 use Rattle.number_lists.proofs.WhereLemmas.{numbers_where-all}
 use Rattle.executor.proofs.WithinNodes.{any_done, empty_within, found_as, found_for, groups_led_again, groups_led_all, groups_same, kept_node, led_again, led_all, meant_within, minus_groups, minus_node, nothing_within, walk_of_part, within_same}
 use Rattle.executor.proofs.WorkLemmas.{all_end, all_most, all_next, all_pass, all_start, all_turn, along_le, along_more, first_within, counted_beside, counted_first, counted_twice, counted_without, joined_reads, lead_inside, lead_is, led_reads, no_parts, some_end, some_next, some_start, some_turn, times_less, times_more}

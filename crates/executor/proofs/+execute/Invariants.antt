@@ -7,15 +7,15 @@ use Rattle.set_algebra.specs.Meaning.{unit_means, leads, means}
 use Rattle.set_algebra.specs.declared.plan.ConceptPlan.{ConceptPlan}
 use Rattle.set_algebra.specs.declared.plan.UnitPlan.{UnitPlan}
 use Rattle.set_algebra.specs.Plan.{Plan, unit_plan_of, unit_plans_of, plan_of, plans_of}
-use Rattle.planner.specs.Bounds.{own_number, values_bound}
-use Rattle.planner.specs.Floors.{floor_number}
-use Rattle.planner.specs.Sizes.{group_sizes, sizes, total}
-use Rattle.planner.proofs.LoopLemmas.{concept_sum, of_concepts, of_groups, unit_sum}
-use Rattle.pair_sets.specs.Groups.{some_group_in}
-use Rattle.pair_sets.specs.Numbers.{numbers_in}
+use Rattle.plan_bounds.specs.Bounds.{own_number, values_bound}
+use Rattle.plan_bounds.specs.Floors.{floor_number}
+use Rattle.plan_bounds.specs.Sizes.{group_sizes, sizes, total}
+use Rattle.plan_bounds.proofs.LoopLemmas.{concept_sum, of_concepts, of_groups, unit_sum}
+use Rattle.candidates.specs.Groups.{some_group_in}
+use Rattle.candidates.specs.Numbers.{numbers_in}
 use Rattle.executor.specs.inside.Lead.{leads_off, leads_off_groups}
 use Rattle.executor.specs.inside.Named.{HasNamed}
-use Rattle.pair_sets.specs.Within.{may_be}
+use Rattle.candidates.specs.Within.{may_be}
 use Rattle.executor.proofs.PartWork.{concepts_read, groups_read}
 use Rattle.executor.proofs.WorkLemmas.{AllSoFar, SomeSoFar}
 use Rattle.executor.proofs.+execute.Given as goal

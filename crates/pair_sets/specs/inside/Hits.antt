@@ -9,7 +9,7 @@ use Rattle.postings.specs.Columns.{AreGroups, AreSources, Flagged}
 use Rattle.postings.specs.Entries.{Entry, entries_where, entries_with_type, entries_with_value}
 use Rattle.postings.specs.Groups.{ConceptGroup, groups_in, is_in_group}
 use Rattle.postings.specs.Indexed.{Indexed, types_of, value_at, values_of}
-use Rattle.pair_sets.specs.Tested.{is_one_of}
+use Rattle.candidates.specs.Numbers.{is_one_of}
 use Rattle.pair_sets.specs.declared.hits.Owner.{Owner}
 use Rattle.pair_sets.specs.declared.hits.Owner.TheVariants as owners
 

@@ -4,7 +4,8 @@ use Rattle.rf2_rows.specs.Release.{Value}
 use Rattle.constraint_tree.specs.Passing.{is_within}
 use Rattle.number_lists.specs.Rising.{IsRisingBelow}
 use Rattle.postings.specs.Indexed.{Indexed, rows_by_source, rows_by_value, types_of}
-use Rattle.pair_sets.specs.Tested.{IsTestBelow, is_one_of, passes_of}
+use Rattle.candidates.specs.Numbers.{is_one_of}
+use Rattle.pair_sets.specs.Tested.{IsTestBelow, passes_of}
 use Rattle.pair_sets.specs.declared.tested.Tested.{Tested}
 use Rattle.pair_sets.specs.declared.choice.ValuesWay.{ValuesWay}
 use Rattle.pair_sets.specs.declared.choice.ValuesWay.TheVariants as along
@@ -48,7 +49,3 @@ pub record IsWayFor {S : Type 0} (items_of : S → List ℕ) (bound_of : S → �
 abbrev pub IsValuesWay : List ℕ → List ℕ → (ℕ → Bool) → ValuesWay → Type 0
 IsValuesWay types sources one (along.BySource own) = own.items ≡ sources
 IsValuesWay types sources one (along.ByType ids) = ids.items ≡ filter one types
-
--- how many rows have a concept as their value, or, read backwards, as their source
-abbrev pub row_count_of : Indexed → Bool → ℕ → ℕ
-row_count_of indexed back number = length (if back then rows_by_source indexed number else rows_by_value indexed number)

@@ -4,12 +4,12 @@ use Rattle.constraint_tree.specs.declared.operator.Cardinality.{Cardinality}
 use Rattle.set_algebra.specs.Plan.{Plan, PlanOfUnits, TestPlan}
 use Rattle.set_algebra.specs.declared.choice.Choice.{Choice}
 use Rattle.postings.specs.Indexed.{Indexed}
-use Rattle.planner.specs.declared.counts.NodeCost.{NodeCost}
-use Rattle.planner.specs.Alternatives.{leaf_size}
-use Rattle.planner.specs.Bounds.{capped, leaf_bound_at, own_bounds, own_list}
-use Rattle.planner.specs.Leaves.{first_choice, group_leaves, leaves, test_choices, test_leaves, type_choices}
-use Rattle.planner.specs.Nodes.{group_list, test_list}
-use Rattle.planner.specs.Sizes.{group_size, leaf_at, size}
+use Rattle.plan_bounds.specs.declared.counts.NodeCost.{NodeCost}
+use Rattle.plan_bounds.specs.Alternatives.{leaf_size}
+use Rattle.plan_bounds.specs.Bounds.{capped, leaf_bound_at, own_bounds, own_list}
+use Rattle.plan_bounds.specs.Leaves.{first_choice, group_leaves, leaves, test_choices, test_leaves, type_choices}
+use Rattle.plan_bounds.specs.Nodes.{group_list, test_list}
+use Rattle.plan_bounds.specs.Sizes.{group_size, leaf_at, size}
 
 -- its own cost, and that all of its bounds but its own are added, and which choices are behind it
 pub record IsListed (all : List ℕ) (found : ℕ) (left : List Choice) (before after : List ℕ) (own : NodeCost)

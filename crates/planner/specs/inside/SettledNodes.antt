@@ -6,13 +6,13 @@ use Rattle.set_algebra.specs.declared.choice.Choice.{Choice}
 use Rattle.postings.specs.Indexed.{Indexed}
 use Rattle.planner.specs.declared.choosing.Choosing.{Choosing}
 use Rattle.planner.specs.declared.choosing.Settled.{Settled}
-use Rattle.planner.specs.Alternatives.{choice_of, leaf_size}
+use Rattle.plan_bounds.specs.Alternatives.{choice_of, leaf_size}
 use Rattle.planner.specs.Chosen.{chosen, group_chosen, test_chosen}
-use Rattle.planner.specs.Counts.{leaf_of}
-use Rattle.planner.specs.Leads.{lead_list, leads}
-use Rattle.planner.specs.Leaves.{first_choice, first_of, group_leaves, leaves, test_choices, test_leaves, type_choices}
-use Rattle.planner.specs.Nodes.{group_list, test_list}
-use Rattle.planner.specs.Sizes.{group_size, leaf_at, size, test_size}
+use Rattle.plan_bounds.specs.Counts.{leaf_of}
+use Rattle.plan_bounds.specs.Leads.{lead_list, leads}
+use Rattle.plan_bounds.specs.Leaves.{first_choice, first_of, group_leaves, leaves, test_choices, test_leaves, type_choices}
+use Rattle.plan_bounds.specs.Nodes.{group_list, test_list}
+use Rattle.plan_bounds.specs.Sizes.{group_size, leaf_at, size, test_size}
 
 -- which choices and places are added, how much is found, and of how many leaves the choices are taken
 pub record IsSettled (taken : List Choice) (places : List ℕ) (most count : ℕ) (asked_for in_place : List Choice)

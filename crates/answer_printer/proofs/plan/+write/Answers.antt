@@ -3,12 +3,12 @@ use Rattle.set_algebra.specs.declared.plan.ConceptPlan.{ConceptPlan}
 use Rattle.set_algebra.specs.declared.plan.UnitPlan.{UnitPlan}
 use Rattle.set_algebra.specs.Plan.{and_plan, and_units, members_plan, minus_plan, minus_units, or_plan, or_units, pairs_plan, pairs_units, plan_of, plans_of, test_plan_of, unit_plan_of, unit_plans_of, units_plan, walk_plan}
 use Rattle.set_algebra.proofs.PlanLemmas.{plan_of-And, plan_of-Or, unit_plan_of-And, unit_plan_of-Or}
-use Rattle.planner.specs.Leaves.{group_leaves, leaves, plans_leaves, test_leaves}
+use Rattle.plan_bounds.specs.Leaves.{group_leaves, leaves, plans_leaves, test_leaves}
 use Rattle.std.proofs.lemmas.List.{drop-drop}
 use Rattle.std.proofs.lemmas.Result.{IfOk-weaker, on_ok_weaker}
-use Rattle.planner.proofs.ListLemmas.{drop_leaf}
-use Rattle.planner.proofs.LoopLemmas.{rest_end, rest_turn}
-use Rattle.planner.proofs.PartLemmas.{values_are}
+use Rattle.plan_bounds.proofs.ListLemmas.{drop_leaf}
+use Rattle.plan_bounds.proofs.LoopLemmas.{rest_end, rest_turn}
+use Rattle.plan_bounds.proofs.PartLemmas.{values_are}
 use Rattle.answer_printer.specs.inside.PlanLines.{before_bound, below, below_group}
 use Rattle.answer_printer.specs.PlanText.{group_outline, group_words, node_words, outline, plans_outline, test_outline}
 use Rattle.answer_printer.proofs.LineLemmas.{behind_written, both_written, group_outline_is, lines_end, lines_turn, outline_is}

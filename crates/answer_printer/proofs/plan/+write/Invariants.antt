@@ -1,7 +1,7 @@
 -- What is left of the parts, with what was written, is what all of them are.
 use Rattle.set_algebra.specs.declared.plan.ConceptPlan.{ConceptPlan}
 use Rattle.set_algebra.specs.declared.plan.UnitPlan.{UnitPlan}
-use Rattle.planner.proofs.LoopLemmas.{RestLeft, of_concepts, of_groups}
+use Rattle.plan_bounds.proofs.LoopLemmas.{RestLeft, of_concepts, of_groups}
 use Rattle.answer_printer.proofs.LineLemmas.{LinesLeft, concept_outlines, unit_outlines}
 use Rattle.answer_printer.proofs.plan.+write.Given as goal
 

@@ -1,6 +1,6 @@
 use Rattle.std.proofs.Common.{List, ℕ, [], ◌≡◌, ◌∙◌, ◌++◌, ap, codes}
 use Rattle.set_algebra.specs.Plan.{plan_of}
-use Rattle.planner.specs.Bounds.{bound, capped}
+use Rattle.plan_bounds.specs.Bounds.{bound, capped}
 use Rattle.answer_printer.specs.AnswerText.{number_line}
 use Rattle.answer_printer.specs.inside.PlanLines.{before_bound, with_bounds}
 use Rattle.answer_printer.specs.PlanText.{outline}

@@ -1,7 +1,7 @@
 use Rattle.std.proofs.Common.{arith}
 use Rattle.set_algebra.specs.Plan.{plan_of}
-use Rattle.planner.specs.Counts.{one_of}
-use Rattle.planner.specs.Sizes.{size}
+use Rattle.plan_bounds.specs.Counts.{one_of}
+use Rattle.plan_bounds.specs.Sizes.{size}
 use Rattle.executor.proofs.CountingLemmas.{members_more}
 use Rattle.executor.proofs.counting.count_members.Goals as goal
 

@@ -1,7 +1,7 @@
 use Rattle.std.proofs.Common.{arith}
 use Rattle.set_algebra.specs.Plan.{plan_of}
-use Rattle.planner.specs.Counts.{one_of}
-use Rattle.planner.specs.Sizes.{size}
+use Rattle.plan_bounds.specs.Counts.{one_of}
+use Rattle.plan_bounds.specs.Sizes.{size}
 use Rattle.executor.proofs.CountingLemmas.{walk_more}
 use Rattle.executor.proofs.counting.count_walk.Goals as goal
 

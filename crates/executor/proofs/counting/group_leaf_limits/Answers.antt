@@ -2,12 +2,12 @@ use Rattle.std.proofs.Common.{ℕ, ◌∙◌, false, length, ap, arith}
 use Rattle.postings.specs.Groups.{groups_in}
 use Rattle.set_algebra.specs.Plan.{plan_of, test_plan_of}
 use Rattle.set_algebra.specs.declared.choice.Choice.{Choice}
-use Rattle.planner.specs.Alternatives.{leaf_bound}
-use Rattle.planner.specs.Bounds.{capped}
-use Rattle.planner.specs.Counts.{leaf_of}
-use Rattle.planner.specs.Floors.{leaf_floor}
-use Rattle.planner.specs.Leaves.{test_choices, type_choices}
-use Rattle.planner.specs.Sizes.{size, test_size}
+use Rattle.plan_bounds.specs.Alternatives.{leaf_bound}
+use Rattle.plan_bounds.specs.Bounds.{capped}
+use Rattle.plan_bounds.specs.Counts.{leaf_of}
+use Rattle.plan_bounds.specs.Floors.{leaf_floor}
+use Rattle.plan_bounds.specs.Leaves.{test_choices, type_choices}
+use Rattle.plan_bounds.specs.Sizes.{size, test_size}
 use Rattle.executor.proofs.CountingLemmas.{leaf_more}
 use Rattle.executor.proofs.counting.group_leaf_limits.Goals as goal
 

@@ -1,7 +1,7 @@
 use Rattle.std.proofs.Common.{ℕ, List, ◌∙◌, length, sym, ap}
 use Rattle.std.specs.Prelude.{filter}
 use Rattle.walks.specs.Components.{components_of}
-use Rattle.pair_sets.specs.Within.{may_be}
+use Rattle.candidates.specs.Within.{may_be}
 use Rattle.walks.proofs.MemberLemmas.{numbers_below}
 use Rattle.executor.proofs.found.members_found.Goals as goal
 

@@ -2,8 +2,8 @@ use Rattle.std.proofs.Common.{ℕ, List, ◌∙◌, sym, ap}
 use Rattle.std.specs.Prelude.{filter}
 use Rattle.ancestor_index.specs.HierarchyLists.{Hierarchy}
 use Rattle.walks.specs.Led.{led_to}
-use Rattle.pair_sets.specs.Within.{may_be}
-use Rattle.pair_sets.specs.declared.candidates.Candidates.{Candidates}
+use Rattle.candidates.specs.Within.{may_be}
+use Rattle.candidates.specs.declared.candidates.Candidates.{Candidates}
 use Rattle.executor.proofs.found.walk_found.Goals as goal
 
 -- where the candidates are asked one by one

@@ -2,7 +2,7 @@ use Rattle.std.proofs.Common.{ℕ, Bool, ◌∙◌, ap}
 use Rattle.std.specs.Prelude.{filter}
 use Rattle.ancestor_index.specs.HierarchyLists.{Hierarchy}
 use Rattle.walks.specs.Led.{led_to}
-use Rattle.pair_sets.specs.Within.{may_be}
+use Rattle.candidates.specs.Within.{may_be}
 use Rattle.walks.proofs.AskedLemmas.{led_from_all}
 use Rattle.executor.proofs.found.walk_from_all.Goals as goal
 

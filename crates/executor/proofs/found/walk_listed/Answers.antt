@@ -2,7 +2,7 @@ use Rattle.std.proofs.Common.{◌∙◌, sym, ap}
 use Rattle.std.specs.Prelude.{filter}
 use Rattle.ancestor_index.specs.HierarchyLists.{Hierarchy}
 use Rattle.walks.specs.Led.{led_to}
-use Rattle.pair_sets.specs.Within.{may_be}
+use Rattle.candidates.specs.Within.{may_be}
 use Rattle.walks.proofs.MemberLemmas.{numbers_below}
 use Rattle.executor.proofs.found.walk_listed.Goals as goal
 

@@ -1,5 +1,5 @@
 use Rattle.std.proofs.Common.{arith}
-use Rattle.planner.proofs.LoopLemmas.{of_concepts}
+use Rattle.plan_bounds.proofs.LoopLemmas.{of_concepts}
 use Rattle.executor.proofs.WorkLemmas.{choices_more}
 use Rattle.executor.proofs.joined_plans.choices_at.Goals as goal
 

@@ -1,5 +1,5 @@
 use Rattle.std.proofs.Common.{◌≡◌}
-use Rattle.planner.proofs.LoopLemmas.{of_concepts}
+use Rattle.plan_bounds.proofs.LoopLemmas.{of_concepts}
 use Rattle.executor.proofs.WorkLemmas.{choices_before}
 use Rattle.executor.proofs.joined_plans.choices_at.Given as goal
 

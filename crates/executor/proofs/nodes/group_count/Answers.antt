@@ -1,6 +1,6 @@
 use Rattle.std.proofs.Common.{List, ◌∙◌, length, ap}
 use Rattle.postings.specs.Groups.{ConceptGroup}
-use Rattle.pair_sets.proofs.LeafLemmas.{groups_are}
+use Rattle.candidates.proofs.GroupLemmas.{groups_are}
 use Rattle.executor.proofs.nodes.group_count.Goals as goal
 
 pub returns : goal.returns

@@ -1,6 +1,6 @@
 use Rattle.std.proofs.Common.{◌∙◌, None, Some, sym}
 use Rattle.std.proofs.lemmas.Result.{IfOk-weaker}
-use Rattle.pair_sets.proofs.Normal.{one_in}
+use Rattle.candidates.proofs.Normal.{one_in}
 use Rattle.executor.proofs.nodes.one_concept.Goals as goal
 
 pub returns-in-Some-clause-items : goal.returns-in-Some-clause-items

@@ -1,6 +1,6 @@
 use Rattle.std.proofs.Common.{◌≡◌, sym, arith}
 use Rattle.set_algebra.specs.Plan.{plan_of}
-use Rattle.planner.specs.Bounds.{bound}
+use Rattle.plan_bounds.specs.Bounds.{bound}
 use Rattle.executor.proofs.plans.execute.Goals as goal
 
 pub returns-in_err-found-clause-within : goal.returns-in_err-found-clause-within

@@ -1,5 +1,5 @@
 use Rattle.std.proofs.Common.{◌≡◌}
-use Rattle.planner.proofs.LoopLemmas.{of_groups}
+use Rattle.plan_bounds.proofs.LoopLemmas.{of_groups}
 use Rattle.executor.proofs.WorkLemmas.{choices_before}
 use Rattle.executor.proofs.unit_plans.unit_choices_at.Given as goal
 

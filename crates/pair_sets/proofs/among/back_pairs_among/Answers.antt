@@ -7,7 +7,8 @@ use Rattle.postings.specs.Columns.{AreSources, AreTypes, Flagged}
 use Rattle.postings.specs.Entries.{Entry}
 use Rattle.postings.specs.Indexed.{types_of}
 use Rattle.pair_sets.specs.inside.Hits.{has_source_in, is_type_in, value_of}
-use Rattle.pair_sets.specs.Tested.{is_one_of, passes_of}
+use Rattle.candidates.specs.Numbers.{is_one_of}
+use Rattle.pair_sets.specs.Tested.{passes_of}
 use Rattle.pair_sets.proofs.HitLemmas.{a_mark, an_entry, back_told, sources_long}
 use Rattle.pair_sets.proofs.TypeLemmas.{type_tells}
 use Rattle.pair_sets.proofs.among.back_pairs_among.Goals as goal

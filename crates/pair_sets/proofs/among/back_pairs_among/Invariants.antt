@@ -4,7 +4,8 @@ use Rattle.postings.specs.Columns.{AreSources, AreTypes}
 use Rattle.postings.specs.Entries.{Entry}
 use Rattle.postings.specs.Indexed.{types_of}
 use Rattle.pair_sets.specs.inside.Hits.{has_source_in}
-use Rattle.pair_sets.specs.Tested.{is_one_of, passes_of}
+use Rattle.candidates.specs.Numbers.{is_one_of}
+use Rattle.pair_sets.specs.Tested.{passes_of}
 use Rattle.pair_sets.proofs.among.back_pairs_among.Given as goal
 
 -- those of the rows so far

@@ -7,7 +7,8 @@ use Rattle.rf2_rows.specs.Release.{Value}
 use Rattle.constraint_tree.specs.Passing.{lies_in}
 use Rattle.pair_sets.specs.inside.Among.{pairs_of_concept}
 use Rattle.pair_sets.proofs.TimesLemmas.{one_below}
-use Rattle.pair_sets.specs.Tested.{is_one_of, passes_of}
+use Rattle.candidates.specs.Numbers.{is_one_of}
+use Rattle.pair_sets.specs.Tested.{passes_of}
 use Rattle.pair_sets.proofs.among.concepts_among.Goals as goal
 use Rattle.pair_sets.proofs.among.concepts_among.Goals.{then-lies_in+in_ok-push, else-lies_in}
 

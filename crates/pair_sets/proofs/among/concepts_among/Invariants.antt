@@ -2,7 +2,8 @@ use Rattle.std.proofs.Common.{◌≡◌, ◌<◌, All, length, take}
 use Rattle.std.specs.Prelude.{filter}
 use Rattle.constraint_tree.specs.Passing.{lies_in}
 use Rattle.pair_sets.specs.inside.Among.{pairs_of_concept}
-use Rattle.pair_sets.specs.Tested.{is_one_of, passes_of}
+use Rattle.candidates.specs.Numbers.{is_one_of}
+use Rattle.pair_sets.specs.Tested.{passes_of}
 use Rattle.pair_sets.proofs.among.concepts_among.Given as goal
 
 abbrev pub invariant-loop-concept : goal.invariant-loop-concept

@@ -9,7 +9,8 @@ use Rattle.postings.specs.Groups.{groups_in}
 use Rattle.pair_sets.specs.inside.Among.{pairs_among, rows_of_unit}
 use Rattle.pair_sets.proofs.AmongLemmas.{unit_below, unit_told}
 use Rattle.pair_sets.proofs.TimesLemmas.{one_below}
-use Rattle.pair_sets.specs.Tested.{is_one_of, passes_of}
+use Rattle.candidates.specs.Numbers.{is_one_of}
+use Rattle.pair_sets.specs.Tested.{passes_of}
 use Rattle.pair_sets.proofs.among.groups_among.Goals as goal
 use Rattle.pair_sets.proofs.among.groups_among.Goals.{then-lies_in+in_ok-push, else-lies_in}
 

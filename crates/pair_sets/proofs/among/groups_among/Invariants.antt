@@ -3,7 +3,8 @@ use Rattle.std.specs.Prelude.{filter, slice_get}
 use Rattle.constraint_tree.specs.Passing.{lies_in}
 use Rattle.postings.specs.Groups.{groups_in}
 use Rattle.pair_sets.specs.inside.Among.{pairs_among, rows_of_unit}
-use Rattle.pair_sets.specs.Tested.{is_one_of, passes_of}
+use Rattle.candidates.specs.Numbers.{is_one_of}
+use Rattle.pair_sets.specs.Tested.{passes_of}
 use Rattle.pair_sets.proofs.among.groups_among.Given as goal
 
 abbrev pub invariant-loop-group : goal.invariant-loop-group

@@ -6,7 +6,8 @@ use Rattle.rf2_rows.specs.Release.{Value}
 use Rattle.postings.specs.Entries.{entries_of}
 use Rattle.pair_sets.specs.inside.Among.{at_entry, pair_counts, pairs_among}
 use Rattle.pair_sets.specs.inside.Hits.{is_type_in}
-use Rattle.pair_sets.specs.Tested.{is_one_of, passes_of}
+use Rattle.candidates.specs.Numbers.{is_one_of}
+use Rattle.pair_sets.specs.Tested.{passes_of}
 use Rattle.pair_sets.proofs.AmongLemmas.{row_counts}
 use Rattle.pair_sets.proofs.TypeLemmas.{type_tells}
 use Rattle.pair_sets.proofs.among.pairs_among.Goals as goal

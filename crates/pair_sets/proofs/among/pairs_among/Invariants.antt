@@ -1,6 +1,7 @@
 use Rattle.std.proofs.Common.{◌≡◌, ◌≤◌, take}
 use Rattle.pair_sets.specs.inside.Among.{pairs_among}
-use Rattle.pair_sets.specs.Tested.{is_one_of, passes_of}
+use Rattle.candidates.specs.Numbers.{is_one_of}
+use Rattle.pair_sets.specs.Tested.{passes_of}
 use Rattle.pair_sets.proofs.among.pairs_among.Given as goal
 
 -- those of the rows so far

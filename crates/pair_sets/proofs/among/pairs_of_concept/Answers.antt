@@ -4,7 +4,8 @@ use Rattle.rf2_rows.specs.Release.{Attribute, Value}
 use Rattle.postings.specs.Entries.{entries_with_value}
 use Rattle.postings.proofs.PlaceLemmas.{places_where-within}
 use Rattle.pair_sets.specs.inside.Among.{pairs_among, pairs_of_concept}
-use Rattle.pair_sets.specs.Tested.{is_one_of, passes_of}
+use Rattle.candidates.specs.Numbers.{is_one_of}
+use Rattle.pair_sets.specs.Tested.{passes_of}
 use Rattle.pair_sets.proofs.HitLemmas.{sources_long, types_long}
 use Rattle.pair_sets.proofs.among.pairs_of_concept.Goals as goal
 

@@ -3,10 +3,11 @@ use Rattle.std.proofs.lemmas.Result.{IfOk-weaker}
 use Rattle.number_lists.specs.Members.{has}
 use Rattle.postings.specs.Groups.{ConceptGroup, groups_in}
 use Rattle.rf2_rows.specs.Release.{Value}
-use Rattle.pair_sets.specs.Tested.{is_one_of, passes_of}
-use Rattle.pair_sets.specs.Within.{AreBelow, may_be}
+use Rattle.candidates.specs.Numbers.{is_one_of}
+use Rattle.pair_sets.specs.Tested.{passes_of}
+use Rattle.candidates.specs.Within.{AreBelow, may_be}
 use Rattle.pair_sets.proofs.AmongLemmas.{groups_among_within}
-use Rattle.pair_sets.proofs.LeafLemmas.{groups_are}
+use Rattle.candidates.proofs.GroupLemmas.{groups_are}
 use Rattle.pair_sets.proofs.by_rows.groups_with_pairs_among.Goals as goal
 
 pub numbers_asked-requires : goal.numbers_asked-requires

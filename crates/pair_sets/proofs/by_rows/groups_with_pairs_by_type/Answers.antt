@@ -4,7 +4,8 @@ use Rattle.postings.specs.Groups.{ConceptGroup}
 use Rattle.number_lists.specs.Members.{times}
 use Rattle.rf2_rows.specs.Release.{Value}
 use Rattle.pair_sets.specs.Tested.{passes_of}
-use Rattle.pair_sets.proofs.LeafLemmas.{groups_are, groups_found}
+use Rattle.candidates.proofs.GroupLemmas.{groups_are}
+use Rattle.pair_sets.proofs.LeafLemmas.{groups_found}
 use Rattle.pair_sets.proofs.by_rows.groups_with_pairs_by_type.Goals as goal
 
 pub returns-clause-items : goal.returns-clause-items

@@ -3,8 +3,9 @@ use Rattle.std.proofs.lemmas.Result.{IfOk-weaker}
 use Rattle.constraint_tree.specs.Passing.{is_within}
 use Rattle.postings.specs.Groups.{ConceptGroup}
 use Rattle.number_lists.specs.Members.{times}
-use Rattle.pair_sets.specs.Tested.{is_one_of}
-use Rattle.pair_sets.proofs.LeafLemmas.{groups_are, groups_found}
+use Rattle.candidates.specs.Numbers.{is_one_of}
+use Rattle.candidates.proofs.GroupLemmas.{groups_are}
+use Rattle.pair_sets.proofs.LeafLemmas.{groups_found}
 use Rattle.pair_sets.proofs.by_rows.groups_with_pairs_by_value.Goals as goal
 
 pub returns-clause-items : goal.returns-clause-items

@@ -2,8 +2,8 @@ use Rattle.std.proofs.Common.{ℕ, List, ◌≡◌, ◌<◌, ◌∙◌, All, tru
 use Rattle.number_lists.specs.Members.{has}
 use Rattle.number_lists.proofs.WhereLemmas.{has-numbers_where, numbers_where-all}
 use Rattle.number_lists.proofs.RisingLemmas.{range_rising, all_below}
-use Rattle.pair_sets.specs.declared.candidates.Candidates.{Candidates}
-use Rattle.pair_sets.specs.Within.{AreBelow, may_be}
+use Rattle.candidates.specs.declared.candidates.Candidates.{Candidates}
+use Rattle.candidates.specs.Within.{AreBelow, may_be}
 use Rattle.pair_sets.proofs.by_rows.numbers_asked.Goals as goal
 
 pub returns-in_ok-numbers-in-All-clause-within : goal.returns-in_ok-numbers-in-All-clause-within

@@ -2,8 +2,9 @@ use Rattle.std.proofs.Common.{ℕ, Bool, List, ◌≡◌, ◌<◌, ◌∙◌, Al
 use Rattle.std.proofs.lemmas.Result.{IfOk-weaker}
 use Rattle.number_lists.specs.Members.{has}
 use Rattle.rf2_rows.specs.Release.{Value}
-use Rattle.pair_sets.specs.Tested.{is_one_of, passes_of}
-use Rattle.pair_sets.specs.Within.{may_be}
+use Rattle.candidates.specs.Numbers.{is_one_of}
+use Rattle.pair_sets.specs.Tested.{passes_of}
+use Rattle.candidates.specs.Within.{may_be}
 use Rattle.pair_sets.proofs.AmongLemmas.{among_within}
 use Rattle.pair_sets.proofs.LeafLemmas.{sources_known}
 use Rattle.pair_sets.proofs.by_rows.with_pairs_among.Goals as goal

@@ -2,7 +2,7 @@ use Rattle.std.proofs.Common.{ℕ, Bool, List, ◌∙◌, length, ap, arith}
 use Rattle.std.proofs.lemmas.Result.{IfOk-weaker}
 use Rattle.constraint_tree.specs.Passing.{is_within}
 use Rattle.number_lists.specs.Members.{times}
-use Rattle.pair_sets.specs.Tested.{is_one_of}
+use Rattle.candidates.specs.Numbers.{is_one_of}
 use Rattle.pair_sets.proofs.LeafLemmas.{concepts_found, sources_known}
 use Rattle.pair_sets.proofs.by_rows.with_pairs_by_value.Goals as goal
 

@@ -1,5 +1,5 @@
 use Rattle.std.proofs.lemmas.Result.{IfOk-weaker}
-use Rattle.pair_sets.specs.Tested.{is_one_of}
+use Rattle.candidates.specs.Numbers.{is_one_of}
 use Rattle.pair_sets.proofs.choice.leaf_way.Goals as goal
 
 -- no types are read in these ways, so they are for any

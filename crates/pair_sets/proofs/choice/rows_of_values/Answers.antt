@@ -1,6 +1,6 @@
 use Rattle.std.proofs.Common.{ℕ, ◌+◌, ◌-◌, ◌^◌, ◌∙◌, ap}
 use Rattle.std.specs.Prelude.{min}
-use Rattle.pair_sets.specs.inside.Ways.{row_count_of}
+use Rattle.candidates.specs.RowCounts.{row_count_of}
 use Rattle.pair_sets.proofs.ListLemmas.{cut_more}
 use Rattle.pair_sets.proofs.choice.rows_of_values.Goals as goal
 

@@ -1,6 +1,6 @@
 use Rattle.std.proofs.Common.{◌≡◌, ◌-◌, ◌^◌, take}
 use Rattle.std.specs.Prelude.{min, sum_by}
-use Rattle.pair_sets.specs.inside.Ways.{row_count_of}
+use Rattle.candidates.specs.RowCounts.{row_count_of}
 use Rattle.pair_sets.proofs.choice.rows_of_values.Given as goal
 
 -- those of the concepts so far

@@ -4,7 +4,7 @@ use Rattle.std.proofs.lemmas.Result.{IfOk-weaker}
 use Rattle.postings.specs.Entries.{Entry}
 use Rattle.postings.specs.Groups.{groups_in}
 use Rattle.pair_sets.specs.inside.Hits.{is_in_some}
-use Rattle.pair_sets.specs.Tested.{is_one_of}
+use Rattle.candidates.specs.Numbers.{is_one_of}
 use Rattle.pair_sets.proofs.ChoiceLemmas.{of_values}
 use Rattle.number_lists.proofs.RisingLemmas.{all_below}
 use Rattle.pair_sets.proofs.hits.group_hits_by_value.Goals as goal

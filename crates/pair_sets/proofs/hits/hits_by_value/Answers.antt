@@ -5,7 +5,7 @@ use Rattle.rf2_rows.specs.Release.{concept_value}
 use Rattle.constraint_tree.specs.Passing.{is_within}
 use Rattle.postings.specs.Entries.{Entry, entries_of}
 use Rattle.pair_sets.specs.inside.Hits.{AreHits, counts_for_concept}
-use Rattle.pair_sets.specs.Tested.{is_one_of}
+use Rattle.candidates.specs.Numbers.{is_one_of}
 use Rattle.pair_sets.proofs.ChoiceLemmas.{of_sources, of_values}
 use Rattle.number_lists.proofs.RisingLemmas.{all_below}
 use Rattle.pair_sets.proofs.hits.hits_by_value.Goals as goal

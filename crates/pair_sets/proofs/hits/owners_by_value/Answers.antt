@@ -3,7 +3,7 @@ use Rattle.std.specs.Prelude.{slice_index}
 use Rattle.std.proofs.lemmas.List.{take_all}
 use Rattle.postings.specs.Entries.{entries_with_value}
 use Rattle.pair_sets.specs.inside.Hits.{AreHits, is_type_in, counts_for_owner, entries_with_values, owner_count}
-use Rattle.pair_sets.specs.Tested.{is_one_of}
+use Rattle.candidates.specs.Numbers.{is_one_of}
 use Rattle.pair_sets.proofs.HitLemmas.{marks_below, pushed_below, hits_pushed, no_hits, owned_hits, owners_below, owners_long}
 use Rattle.pair_sets.proofs.HitLemmas.{types_long, types_told}
 use Rattle.pair_sets.proofs.TypeLemmas.{type_tells}

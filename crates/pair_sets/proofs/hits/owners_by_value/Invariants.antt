@@ -1,6 +1,6 @@
 use Rattle.std.proofs.Common.{◌<◌, All, take}
 use Rattle.pair_sets.specs.inside.Hits.{AreHits, counts_for_owner, entries_with_values, owner_count}
-use Rattle.pair_sets.specs.Tested.{is_one_of}
+use Rattle.candidates.specs.Numbers.{is_one_of}
 use Rattle.pair_sets.proofs.hits.owners_by_value.Given as goal
 
 -- the numbers so far are those of the values so far

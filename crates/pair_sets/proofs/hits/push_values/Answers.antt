@@ -5,7 +5,7 @@ use Rattle.std.proofs.lemmas.List.{take_all}
 use Rattle.std.proofs.lemmas.List.Elements.{All-append}
 use Rattle.number_lists.specs.Members.{times}
 use Rattle.pair_sets.specs.inside.Hits.{is_type_in}
-use Rattle.pair_sets.specs.Tested.{is_one_of}
+use Rattle.candidates.specs.Numbers.{is_one_of}
 use Rattle.pair_sets.proofs.BackLemmas.{cells_tell, counts_at, none_pushed, pushed_more}
 use Rattle.pair_sets.proofs.TimesLemmas.{one_below}
 use Rattle.pair_sets.proofs.TypeLemmas.{type_tells}

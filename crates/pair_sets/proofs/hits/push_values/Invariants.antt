@@ -4,7 +4,7 @@ use Rattle.postings.specs.Entries.{entries_of}
 use Rattle.pair_sets.specs.inside.Among.{at_entry}
 use Rattle.number_lists.specs.Members.{times}
 use Rattle.pair_sets.specs.inside.Hits.{counts_for_value}
-use Rattle.pair_sets.specs.Tested.{is_one_of}
+use Rattle.candidates.specs.Numbers.{is_one_of}
 use Rattle.pair_sets.proofs.hits.push_values.Given as goal
 
 -- the numbers pushed so far are those of the rows so far

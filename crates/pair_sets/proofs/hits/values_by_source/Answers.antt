@@ -8,7 +8,7 @@ use Rattle.pair_sets.specs.inside.Among.{at_entry}
 use Rattle.number_lists.specs.Members.{times}
 use Rattle.pair_sets.specs.inside.Hits.{AreHits, counts_for_value, entries_with_sources}
 use Rattle.pair_sets.proofs.BackLemmas.{source_counted}
-use Rattle.pair_sets.specs.Tested.{is_one_of}
+use Rattle.candidates.specs.Numbers.{is_one_of}
 use Rattle.pair_sets.proofs.HitLemmas.{hits_counted, no_hits}
 use Rattle.pair_sets.proofs.hits.values_by_source.Goals as goal
 

@@ -1,6 +1,6 @@
 use Rattle.std.proofs.Common.{◌<◌, All, length, take}
 use Rattle.pair_sets.specs.inside.Hits.{AreHits, counts_for_value, entries_with_sources}
-use Rattle.pair_sets.specs.Tested.{is_one_of}
+use Rattle.candidates.specs.Numbers.{is_one_of}
 use Rattle.pair_sets.proofs.hits.values_by_source.Given as goal
 
 -- the numbers so far are those of the sources so far

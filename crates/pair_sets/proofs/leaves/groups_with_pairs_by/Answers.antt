@@ -2,13 +2,14 @@ use Rattle.std.proofs.Common.{ℕ, Bool, List, ◌≡◌, ◌∙◌, sym, ap, su
 use Rattle.std.specs.Prelude.{filter}
 use Rattle.constraint_tree.specs.Passing.{is_within}
 use Rattle.set_algebra.specs.Meaning.{has_pairs}
-use Rattle.pair_sets.specs.Groups.{groups_where}
-use Rattle.pair_sets.specs.Tested.{is_one_of, passes_of}
+use Rattle.candidates.specs.Groups.{groups_where}
+use Rattle.candidates.specs.Numbers.{is_one_of}
+use Rattle.pair_sets.specs.Tested.{passes_of}
 use Rattle.postings.specs.Indexed.{types_of}
 use Rattle.pair_sets.specs.inside.Ways.{HasTypes, passes_by}
-use Rattle.pair_sets.specs.Within.{groups_within, may_be}
+use Rattle.candidates.specs.Within.{groups_within, may_be}
 use Rattle.pair_sets.specs.declared.ways.Way.{Way}
-use Rattle.pair_sets.proofs.WithinLemmas.{kept_groups}
+use Rattle.candidates.proofs.WithinLemmas.{kept_groups}
 use Rattle.pair_sets.proofs.leaves.groups_with_pairs_by.Goals as goal
 
 pub returns-in_ok-found-in-ByCandidates-clause-items : goal.returns-in_ok-found-in-ByCandidates-clause-items

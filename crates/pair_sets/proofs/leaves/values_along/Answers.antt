@@ -3,8 +3,7 @@ use Rattle.std.specs.Prelude.{filter}
 use Rattle.constraint_tree.specs.Denotation.{is_value}
 use Rattle.postings.specs.Indexed.{types_of}
 use Rattle.pair_sets.specs.declared.choice.ValuesWay.{ValuesWay}
-use Rattle.pair_sets.specs.Numbers.{numbers_in}
-use Rattle.pair_sets.specs.Tested.{is_one_of}
+use Rattle.candidates.specs.Numbers.{is_one_of, numbers_in}
 use Rattle.pair_sets.specs.inside.Ways.{IsValuesWay}
 use Rattle.pair_sets.proofs.leaves.values_along.Goals as goal
 

@@ -1,6 +1,6 @@
 use Rattle.std.proofs.Common.{◌∙◌}
 use Rattle.std.proofs.lemmas.Result.{IfOk-weaker}
-use Rattle.pair_sets.specs.Tested.{is_one_of}
+use Rattle.candidates.specs.Numbers.{is_one_of}
 use Rattle.pair_sets.proofs.ValueStepLemmas.{some_pair_is_value}
 use Rattle.pair_sets.proofs.leaves.values_by_type.Goals as goal
 

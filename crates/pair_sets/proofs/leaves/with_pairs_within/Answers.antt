@@ -1,7 +1,7 @@
 use Rattle.std.proofs.Common.{ℕ, Bool, ◌∙◌}
 use Rattle.set_algebra.specs.Meaning.{has_pairs, pairs_of}
-use Rattle.pair_sets.specs.Tested.{is_one_of}
-use Rattle.pair_sets.specs.Within.{may_be, numbers_within}
+use Rattle.candidates.specs.Numbers.{is_one_of}
+use Rattle.candidates.specs.Within.{may_be, numbers_within}
 use Rattle.pair_sets.proofs.leaves.with_pairs_within.Goals as goal
 
 -- the values that pass in the way that is taken are those that pass the test

@@ -1,8 +1,8 @@
 use Rattle.std.proofs.Common.{ℕ, ◌<◌, ◌∙◌, sym, ap, subst}
 use Rattle.std.specs.Prelude.{All}
-use Rattle.pair_sets.specs.Tested.{is_one_of}
+use Rattle.candidates.specs.Numbers.{is_one_of}
 use Rattle.number_lists.proofs.RisingLemmas.{all_below}
-use Rattle.pair_sets.proofs.Normal.{concept_number-Some}
+use Rattle.candidates.proofs.Normal.{concept_number-Some}
 use Rattle.pair_sets.proofs.PassingLemmas.{none_by_number, one_by_number}
 use Rattle.pair_sets.proofs.types.is_in.Goals as goal
 

@@ -6,7 +6,7 @@ use Rattle.number_lists.specs.Rising.{numbers_where}
 use Rattle.number_lists.proofs.WhereLemmas.{has-numbers_where}
 use Rattle.number_lists.proofs.RisingLemmas.{numbers_where-rising, all_below}
 use Rattle.postings.proofs.IndexLemmas.{few_types}
-use Rattle.pair_sets.specs.Tested.{is_one_of}
+use Rattle.candidates.specs.Numbers.{is_one_of}
 use Rattle.pair_sets.proofs.ChoiceLemmas.{place_more}
 use Rattle.pair_sets.proofs.types.places_of_types.Goals as goal
 use Rattle.pair_sets.proofs.types.places_of_types.Goals.{then-is_in+in_ok-push, else-is_in}

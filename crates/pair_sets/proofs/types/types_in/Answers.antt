@@ -4,7 +4,7 @@ use Rattle.number_lists.specs.Members.{has}
 use Rattle.idset.specs.Words.{is_set}
 use Rattle.postings.proofs.IndexLemmas.{few_types}
 use Rattle.postings.specs.Indexed.{types_of}
-use Rattle.pair_sets.specs.Tested.{is_one_of}
+use Rattle.candidates.specs.Numbers.{is_one_of}
 use Rattle.pair_sets.proofs.types.types_in.Goals as goal
 
 -- rows have few types

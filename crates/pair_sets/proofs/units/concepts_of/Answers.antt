@@ -2,7 +2,7 @@ use Rattle.std.proofs.Common.{ℕ, ◌<◌, ◌∙◌, ◌∷◌, ◌++◌, [], 
 use Rattle.std.proofs.lemmas.List.{map-append, take_all, take_more}
 use Rattle.std.proofs.lemmas.List.Elements.{All-append}
 use Rattle.postings.specs.Groups.{groups_in}
-use Rattle.pair_sets.specs.Groups.{concept_in}
+use Rattle.candidates.specs.Groups.{concept_in}
 use Rattle.pair_sets.proofs.TimesLemmas.{one_below}
 use Rattle.pair_sets.proofs.UnitLemmas.{concept_told}
 use Rattle.pair_sets.proofs.units.concepts_of.Goals as goal

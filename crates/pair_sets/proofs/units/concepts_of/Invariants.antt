@@ -1,6 +1,6 @@
 use Rattle.std.proofs.Common.{◌≡◌, ◌<◌, All, length, map, slice_get, slice_index, take}
 use Rattle.postings.specs.Groups.{groups_in}
-use Rattle.pair_sets.specs.Groups.{concept_in}
+use Rattle.candidates.specs.Groups.{concept_in}
 use Rattle.pair_sets.proofs.units.concepts_of.Given as goal
 
 abbrev pub invariant-loop-group : goal.invariant-loop-group

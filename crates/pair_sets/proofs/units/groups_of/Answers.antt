@@ -4,7 +4,7 @@ use Rattle.number_lists.specs.Members.{has}
 use Rattle.number_lists.specs.Rising.{numbers_where}
 use Rattle.postings.specs.Groups.{ConceptGroup, groups_in}
 use Rattle.number_lists.proofs.RisingLemmas.{all_below}
-use Rattle.pair_sets.proofs.LeafLemmas.{groups_are}
+use Rattle.candidates.proofs.GroupLemmas.{groups_are}
 use Rattle.pair_sets.proofs.OwnedLemmas.{owned}
 use Rattle.pair_sets.proofs.units.groups_of.Goals as goal
 

@@ -1,9 +1,9 @@
 use Rattle.std.proofs.Common.{ℕ, List, ◌<◌, ◌∙◌, All, get_or, length, map, slice_get, sym, ap, subst}
 use Rattle.std.proofs.lemmas.Result.{IfOk-weaker}
 use Rattle.postings.specs.Groups.{ConceptGroup, groups_in}
-use Rattle.pair_sets.specs.Groups.{concept_in}
+use Rattle.candidates.specs.Groups.{concept_in}
 use Rattle.number_lists.proofs.RisingLemmas.{all_below}
-use Rattle.pair_sets.proofs.LeafLemmas.{groups_are}
+use Rattle.candidates.proofs.GroupLemmas.{groups_are}
 use Rattle.pair_sets.proofs.UnitLemmas.{owners_found}
 use Rattle.pair_sets.proofs.units.with_groups.Goals as goal
 

@@ -1,17 +1,17 @@
 use Rattle.std.proofs.Common.{◌≡◌, ◌+◌, ◌*◌, ◌++◌, ◌∙◌, IfOk, List, drop, refl, subst, sym, ap}
 use Rattle.set_algebra.specs.declared.choice.Choice.{Choice}
 use Rattle.set_algebra.specs.Plan.{plan_of, plans_of, test_plan_of, unit_plan_of, unit_plans_of}
-use Rattle.planner.specs.Alternatives.{leaf_bound, leaf_size}
-use Rattle.planner.specs.Bounds.{capped, own_bounds, own_list, values_bound}
-use Rattle.planner.specs.Counts.{leaf_of}
-use Rattle.planner.specs.Leaves.{group_count, leaves, plan_count}
-use Rattle.planner.specs.Nodes.{group_list, plans_list, test_list}
-use Rattle.planner.specs.Sizes.{group_size, group_sizes, size, sizes, test_size, total, values_size}
-use Rattle.planner.proofs.ListLemmas.{at_within, capped_least, capped_product, closed_list, two_behind}
+use Rattle.plan_bounds.specs.Alternatives.{leaf_bound, leaf_size}
+use Rattle.plan_bounds.specs.Bounds.{capped, own_bounds, own_list, values_bound}
+use Rattle.plan_bounds.specs.Counts.{leaf_of}
+use Rattle.plan_bounds.specs.Leaves.{group_count, leaves, plan_count}
+use Rattle.plan_bounds.specs.Nodes.{group_list, plans_list, test_list}
+use Rattle.plan_bounds.specs.Sizes.{group_size, group_sizes, size, sizes, test_size, total, values_size}
+use Rattle.plan_bounds.proofs.ListLemmas.{at_within, capped_least, capped_product, closed_list, two_behind}
 use Rattle.planner.specs.inside.ListedNodes.{IsNode}
 use Rattle.planner.proofs.ListedLemmas.{listed}
-use Rattle.planner.proofs.LoopLemmas.{list_end, list_turn, rest_end, rest_turn, sizes_end, sizes_turn}
-use Rattle.planner.proofs.PartLemmas.{behind_both, behind_leaf, group_count-parts, plan_count-parts, values_are}
+use Rattle.plan_bounds.proofs.LoopLemmas.{list_end, list_turn, rest_end, rest_turn, sizes_end, sizes_turn}
+use Rattle.plan_bounds.proofs.PartLemmas.{behind_both, behind_leaf, group_count-parts, plan_count-parts, values_are}
 use Rattle.planner.proofs.bound_list.+list.Goals as goal
 
 pub list_parts-loop-place-preserved : goal.list_parts-loop-place-preserved

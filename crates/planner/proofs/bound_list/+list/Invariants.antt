@@ -6,8 +6,8 @@ use denote.Param.Weighed.{most}
 use Rattle.set_algebra.proofs.plan.ConceptPlan.TheLaws as concept_plan
 use Rattle.set_algebra.proofs.plan.UnitPlan.TheLaws as unit_plan
 use Rattle.set_algebra.proofs.plan.ValueTest.TheLaws as value_test
-use Rattle.planner.specs.Bounds.{own_list}
-use Rattle.planner.proofs.LoopLemmas.{ListLeft, RestLeft, SizesLeft, concept_list, concept_sizes, of_concepts, of_groups, unit_list, unit_sizes}
+use Rattle.plan_bounds.specs.Bounds.{own_list}
+use Rattle.plan_bounds.proofs.LoopLemmas.{ListLeft, RestLeft, SizesLeft, concept_list, concept_sizes, of_concepts, of_groups, unit_list, unit_sizes}
 use Rattle.planner.proofs.bound_list.+list.Given as goal
 
 abbrev pub invariant-list_parts-loop-place : goal.invariant-list_parts-loop-place

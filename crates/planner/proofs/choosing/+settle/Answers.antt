@@ -1,19 +1,19 @@
 use Rattle.std.proofs.Common.{ℕ, ◌++◌, ◌∙◌, append_assoc, IfOk, List, drop, refl, subst, sym, ap}
 use Rattle.set_algebra.specs.declared.choice.Choice.{Choice}
 use Rattle.set_algebra.specs.Plan.{plan_of, plans_of, test_plan_of, unit_plan_of, unit_plans_of}
-use Rattle.planner.specs.Alternatives.{choice_of}
-use Rattle.planner.specs.Counts.{leaf_of}
+use Rattle.plan_bounds.specs.Alternatives.{choice_of}
+use Rattle.plan_bounds.specs.Counts.{leaf_of}
 use Rattle.planner.specs.Chosen.{chosen, group_chosen, groups_chosen, plans_chosen}
-use Rattle.planner.specs.Leads.{lead_list, leads}
-use Rattle.planner.specs.Leaves.{group_leaves, leaves, plan_count}
-use Rattle.planner.specs.Nodes.{group_list, plans_list}
-use Rattle.planner.specs.Sizes.{group_sizes, least_of, sizes, total, values_size}
+use Rattle.plan_bounds.specs.Leads.{lead_list, leads}
+use Rattle.plan_bounds.specs.Leaves.{group_leaves, leaves, plan_count}
+use Rattle.plan_bounds.specs.Nodes.{group_list, plans_list}
+use Rattle.plan_bounds.specs.Sizes.{group_sizes, least_of, sizes, total, values_size}
 use Rattle.planner.specs.inside.SettledNodes.{IsNodeSettled}
 use Rattle.planner.proofs.ChoosingLemmas.{chosen_end, chosen_turn}
 use Rattle.planner.proofs.FrontLemmas.{drop_chosen, group_drop_chosen, group_leads_chosen, group_size_chosen, leads_chosen, size_chosen}
 use Rattle.planner.proofs.LeafLemmas.{leaf_choices, leaf_leads, leaf_sized}
-use Rattle.planner.proofs.ListLemmas.{at_within, at_within_two, capped_least, closed_list}
-use Rattle.planner.proofs.PartLemmas.{behind_both, behind_leaf, plan_count-parts, values_are}
+use Rattle.plan_bounds.proofs.ListLemmas.{at_within, at_within_two, capped_least, closed_list}
+use Rattle.plan_bounds.proofs.PartLemmas.{behind_both, behind_leaf, plan_count-parts, values_are}
 use Rattle.planner.proofs.choosing.+settle.Goals as goal
 
 pub settle_parts-loop-place-preserved : goal.settle_parts-loop-place-preserved

@@ -6,9 +6,9 @@ use Rattle.set_algebra.proofs.plan.UnitPlan.TheLaws as unit_plan
 use Rattle.set_algebra.proofs.plan.ValueTest.TheLaws as value_test
 use Rattle.set_algebra.specs.declared.plan.ConceptPlan.{ConceptPlan}
 use Rattle.set_algebra.specs.declared.plan.UnitPlan.{UnitPlan}
-use Rattle.planner.specs.Leads.{lead_list}
+use Rattle.plan_bounds.specs.Leads.{lead_list}
 use Rattle.planner.proofs.ChoosingLemmas.{ChosenLeft, given_concepts, given_groups}
-use Rattle.planner.proofs.LoopLemmas.{concept_list, concept_sizes, of_concepts, of_groups, unit_list, unit_sizes}
+use Rattle.plan_bounds.proofs.LoopLemmas.{concept_list, concept_sizes, of_concepts, of_groups, unit_list, unit_sizes}
 use Rattle.planner.proofs.choosing.+settle.Given as goal
 
 abbrev pub invariant-settle_parts-loop-place : goal.invariant-settle_parts-loop-place

@@ -1,7 +1,7 @@
 use Rattle.planner.proofs.physical.choose_with.Goals as goal
 
-pub invariant_of-result : goal.invariant_of-result
-invariant_of-result c =
+pub new-requires : goal.new-requires
+new-requires c =
     let chosen = c.in_ok-chosen.ensures in
     record {
       count = chosen.count;

@@ -1,8 +1,8 @@
 use Rattle.std.proofs.Common.{◌∙◌, [], List, length, ap, subst, sym, arith}
 use Rattle.set_algebra.specs.Plan.{plan_of}
 use Rattle.set_algebra.specs.declared.choice.Choice.{Choice}
-use Rattle.planner.specs.Leads.{leads}
-use Rattle.planner.specs.Offered.{AreOffered}
+use Rattle.plan_bounds.specs.Leads.{leads}
+use Rattle.plan_bounds.specs.Offered.{AreOffered}
 use Rattle.planner.specs.Chosen.{chosen, least_choices}
 use Rattle.planner.proofs.AskedLemmas.{chosen-asked}
 use Rattle.planner.proofs.FrontLemmas.{length-chosen}

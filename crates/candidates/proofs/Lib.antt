@@ -1,0 +1,4 @@
+pub mod GroupLemmas
+pub mod ListLemmas
+pub mod Normal
+pub mod WithinLemmas

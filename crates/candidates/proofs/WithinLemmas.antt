@@ -1,0 +1,180 @@
+-- Sets of which only candidates are asked for.
+use Rattle.std.proofs.Common.{ℕ, ◌≡◌, ◌<◌, ◌+◌, ◌∙◌, ◌∷◌, [], Bool, true, false, not, ◌&&◌, ◌||◌, ◌==◌, cond, List, length, get_or, take, refl, sym, ap, inl, inr}
+use Rattle.std.specs.Prelude.{filter, slice_get}
+use Rattle.std.specs.List.{list_all, list_any}
+use Rattle.std.proofs.lemmas.Bool.{cases_eq, eq-eqb, ne_eqb}
+use Rattle.std.proofs.Math.Bool.{and-false}
+use Rattle.rf2_rows.specs.Pairs.{Pair}
+use Rattle.rf2_rows.specs.Release.{Release}
+use Rattle.idset.specs.Sets.{all_items, other_items}
+use Rattle.number_lists.specs.Members.{has}
+use Rattle.number_lists.specs.Rising.{numbers_where}
+use Rattle.idset.proofs.Normal.{all_items-numbers_where, other_items-numbers_where}
+use Rattle.number_lists.proofs.WhereLemmas.{filter-numbers_where, has-numbers_where, numbers_where-agree, numbers_where-none}
+use Rattle.postings.specs.Groups.{all_groups}
+use Rattle.candidates.specs.Groups.{groups_where, some_group_in}
+use Rattle.candidates.specs.Numbers.{numbers_in}
+use Rattle.candidates.specs.Within.{groups_within, numbers_within}
+use Rattle.candidates.proofs.ListLemmas.{all_take, any_take}
+use Rattle.number_lists.proofs.ListLemmas.{next_place}
+
+-- both, the other way round
+and_swap : (a b : Bool) → (a && b) ≡ (b && a)
+and_swap true true = refl
+and_swap true false = refl
+and_swap false true = refl
+and_swap false false = refl
+
+-- three, put together the other way
+together : (a b c : Bool) → ((a && b) && c) ≡ (a && (b && c))
+together true b c = refl
+together false b c = refl
+
+-- of what a filter keeps
+pub has_kept : (p : ℕ → Bool) (xs : List ℕ) (n : ℕ) → has (filter p xs) n ≡ (has xs n && p n)
+has_kept p [] n = refl
+has_kept p (x ∷ xs) n = elim (cases_eq x n) [
+  | inl same ↦ by_same (has_kept p xs n) same (p x) refl
+  | inr apart ↦ by_other (has_kept p xs n) (ne_eqb x n apart) (p x)
+]
+  where
+    by_same : has (filter p xs) n ≡ (has xs n && p n) → x ≡ n → (b : Bool) → p x ≡ b
+        → has (cond b (x ∷ filter p xs) (filter p xs)) n ≡ (((x == n) || has xs n) && p n)
+    by_same rest same true keeps = (λ i. eq-eqb x n same i || has (filter p xs) n)
+        ∙ sym (λ i. (eq-eqb x n same i || has xs n) && (ap p (sym same) ∙ keeps) i)
+    by_same rest same false leaves =
+        rest ∙ (λ i. has xs n && (ap p (sym same) ∙ leaves) i) ∙ and-false (has xs n)
+        ∙ sym ((λ i. (eq-eqb x n same i || has xs n) && (ap p (sym same) ∙ leaves) i))
+
+    by_other : has (filter p xs) n ≡ (has xs n && p n) → (x == n) ≡ false → (b : Bool)
+        → has (cond b (x ∷ filter p xs) (filter p xs)) n ≡ (((x == n) || has xs n) && p n)
+    by_other rest apart true = (λ i. apart i || rest i) ∙ sym (λ i. (apart i || has xs n) && p n)
+    by_other rest apart false = rest ∙ sym (λ i. (apart i || has xs n) && p n)
+
+-- what a set has, of the candidates
+pub restricted_to : (bound : ℕ) (may set : ℕ → Bool) (found left : List ℕ) → found ≡ numbers_where bound set → left ≡ filter may found
+    → left ≡ numbers_where bound (λ n. may n && set n)
+restricted_to bound may set found left found_is left_is =
+    left_is ∙ ap (filter may) found_is ∙ filter-numbers_where bound set may
+    ∙ (λ i. numbers_where bound (λ n. and_swap (set n) (may n) i))
+
+-- where there is no candidate
+pub none_within : (bound : ℕ) (may set : ℕ → Bool) (found : List ℕ) → ((n : ℕ) → may n ≡ false) → found ≡ []
+    → found ≡ numbers_where bound (λ n. may n && set n)
+none_within bound may set found none is =
+    is ∙ sym (numbers_where-none bound) ∙ (λ i. numbers_where bound (λ n. sym (none n) i && set n))
+
+-- what is left where a second set was asked for what the first has
+pub asked_of : (bound : ℕ) (start set : ℕ → Bool) (found next : List ℕ) → found ≡ numbers_where bound start
+    → next ≡ numbers_where bound (λ n. has found n && set n)
+    → next ≡ numbers_where bound (λ n. start n && set n)
+asked_of bound start set found next found_is next_is =
+    next_is
+    ∙ numbers_where-agree bound (λ n. has found n && set n) (λ n. start n && set n)
+    (λ n within. ap (λ (b : Bool). b && set n) (ap (λ (xs : List ℕ). has xs n) found_is ∙ has-numbers_where bound start n within))
+
+-- the first set without the second, of candidates
+pub minus_within : (bound : ℕ) (may one other : ℕ → Bool) (left right found : List ℕ)
+    → left ≡ numbers_where bound (λ n. may n && one n)
+    → right ≡ numbers_where bound (λ n. has left n && other n)
+    → found ≡ other_items left right
+    → found ≡ numbers_where bound (λ n. may n && (one n && not (other n)))
+minus_within bound may one other left right found left_is right_is found_is =
+    found_is
+    ∙ (λ i. other_items (left_is i) (asked_of bound (λ n. may n && one n) other left right left_is right_is i))
+    ∙ other_items-numbers_where bound (λ n. may n && one n) (λ n. (may n && one n) && other n)
+    ∙ (λ i. numbers_where bound (λ n. less (may n) (one n) (other n) i))
+  where
+    less : (a b c : Bool) → ((a && b) && not ((a && b) && c)) ≡ (a && (b && not c))
+    less true true c = refl
+    less true false c = refl
+    less false b c = refl
+
+module _ {X : Type 0} (bound : ℕ) (test : X → ℕ → Bool) (parts : List X) (k : ℕ) (d : X) (within : k < length parts) where
+  one_more : (start : ℕ → Bool) (n : ℕ) → ((start n && list_all (λ part. test part n) (take k parts)) && test (get_or parts k d) n)
+      ≡ (start n && list_all (λ part. test part n) (take (k + 1) parts))
+  one_more start n =
+      together (start n) (list_all (λ part. test part n) (take k parts)) (test (get_or parts k d) n)
+      ∙ ap (λ (b : Bool). start n && b) (sym (all_take (λ part. test part n) parts k d within))
+      ∙ ap (λ (m : ℕ). start n && list_all (λ part. test part n) (take m parts)) (sym (next_place k))
+
+  -- one part more, asked of what is left
+  pub all_within : (start : ℕ → Bool) (found next : List ℕ)
+      → found ≡ numbers_where bound (λ n. start n && list_all (λ part. test part n) (take k parts))
+      → next ≡ numbers_where bound (λ n. has found n && test (get_or parts k d) n)
+      → next ≡ numbers_where bound (λ n. start n && list_all (λ part. test part n) (take (k + 1) parts))
+  all_within start found next found_is next_is =
+      asked_of bound (λ n. start n && list_all (λ part. test part n) (take k parts)) (test (get_or parts k d)) found next found_is next_is
+      ∙ (λ i. numbers_where bound (λ n. one_more start n i))
+
+  -- a part that is passed over, since those that are left have it
+  pub all_again : (start : ℕ → Bool) (found : List ℕ)
+      → ((n : ℕ) → n < bound → start n ≡ true → test (get_or parts k d) n ≡ true)
+      → found ≡ numbers_where bound (λ n. start n && list_all (λ part. test part n) (take k parts))
+      → found ≡ numbers_where bound (λ n. start n && list_all (λ part. test part n) (take (k + 1) parts))
+  all_again start found had found_is =
+      found_is
+      ∙ numbers_where-agree bound (λ n. start n && list_all (λ part. test part n) (take k parts))
+      (λ n. start n && list_all (λ part. test part n) (take (k + 1) parts))
+      (λ n inside. kept (start n) (list_all (λ part. test part n) (take k parts)) (test (get_or parts k d) n) (had n inside) ∙ one_more start n)
+    where
+      kept : (a b c : Bool) → (a ≡ true → c ≡ true) → (a && b) ≡ ((a && b) && c)
+      kept true true c had = sym (had refl)
+      kept true false c had = refl
+      kept false b c had = refl
+
+  -- one part more, asked of the same candidates
+  pub some_within : (may : ℕ → Bool) (count : ℕ) → count ≡ bound → (found next joined : List ℕ)
+      → found ≡ numbers_where bound (λ n. may n && list_any (λ part. test part n) (take k parts))
+      → next ≡ numbers_where bound (λ n. may n && test (get_or parts k d) n)
+      → joined ≡ all_items count found next
+      → joined ≡ numbers_where bound (λ n. may n && list_any (λ part. test part n) (take (k + 1) parts))
+  some_within may count counted found next joined found_is next_is joined_is =
+      joined_is
+      ∙ (λ i. all_items (counted i) (found_is i) (next_is i))
+      ∙ all_items-numbers_where bound (λ n. may n && list_any (λ part. test part n) (take k parts)) (λ n. may n && test (get_or parts k d) n)
+      ∙ (λ i. numbers_where bound (λ n. further n i))
+    where
+      apart : (a b c : Bool) → ((a && b) || (a && c)) ≡ (a && (b || c))
+      apart true b c = refl
+      apart false b c = refl
+
+      further : (n : ℕ) → ((may n && list_any (λ part. test part n) (take k parts)) || (may n && test (get_or parts k d) n))
+          ≡ (may n && list_any (λ part. test part n) (take (k + 1) parts))
+      further n =
+          apart (may n) (list_any (λ part. test part n) (take k parts)) (test (get_or parts k d) n)
+          ∙ ap (λ (b : Bool). may n && b) (sym (any_take (λ part. test part n) parts k d within))
+          ∙ ap (λ (m : ℕ). may n && list_any (λ part. test part n) (take m parts)) (sym (next_place k))
+
+-- of no parts
+pub some_of_none : (bound : ℕ) (may : ℕ → Bool) (found : List ℕ) → found ≡ [] → found ≡ numbers_where bound (λ n. may n && false)
+some_of_none bound may found is =
+    is ∙ sym (numbers_where-none bound) ∙ (λ i. numbers_where bound (λ n. sym (and-false (may n)) i))
+
+-- of no parts all that it started from
+pub all_of_none : (bound : ℕ) (start : ℕ → Bool) (found : List ℕ) → found ≡ numbers_where bound start
+    → found ≡ numbers_where bound (λ n. start n && true)
+all_of_none bound start found is = is ∙ (λ i. numbers_where bound (λ n. and_swap true (start n) i))
+
+-- those left of all parts, where the one that was executed first is one of them
+pub all_done : (bound : ℕ) (may lead all : ℕ → Bool) (found : List ℕ) → ((n : ℕ) → n < bound → all n ≡ true → lead n ≡ true)
+    → found ≡ numbers_where bound (λ n. (may n && lead n) && all n) → found ≡ numbers_where bound (λ n. may n && all n)
+all_done bound may lead all found had found_is =
+    found_is ∙ numbers_where-agree bound (λ n. (may n && lead n) && all n) (λ n. may n && all n) (λ n within. dropped (may n) (lead n) (all n) (had n within))
+  where
+    dropped : (a b c : Bool) → (c ≡ true → b ≡ true) → ((a && b) && c) ≡ (a && c)
+    dropped true true c had = refl
+    dropped true false true had = had refl
+    dropped true false false had = refl
+    dropped false b c had = refl
+
+-- ---- sets of concepts and of groups, of which the candidates are kept
+module _ (release : Release) (may : ℕ → Bool) where
+  pub kept_set : (set : ℕ → Bool) (some found : List ℕ) → some ≡ numbers_in release set → found ≡ filter may some → found ≡ numbers_within release may set
+  kept_set set some found some_is found_is = restricted_to (length release.concepts) may (λ n. set (get_or release.concepts n 0)) some found some_is found_is
+
+  pub kept_groups : (set : List Pair → Bool) (some found : List ℕ) → some ≡ groups_where release set → found ≡ filter may some
+      → found ≡ groups_within release may set
+  kept_groups set some found some_is found_is =
+      restricted_to (length (all_groups release)) may
+      (λ n. some_group_in release set (slice_get (all_groups release) n)) some found some_is found_is

@@ -1,0 +1,15 @@
+use Rattle.std.proofs.Common.{ℕ, List, ◌<◌, ◌∙◌, All, length, sym, ap, subst}
+use Rattle.postings.specs.Groups.{ConceptGroup, groups_in}
+use Rattle.number_lists.proofs.RisingLemmas.{all_below}
+use Rattle.candidates.proofs.GroupLemmas.{groups_are}
+use Rattle.candidates.proofs.candidates.group_extent_of.Goals as goal
+
+pub group_extent_among-requires : goal.group_extent_among-requires
+group_extent_among-requires g c =
+    let items = g.S.ConceptSet.items_of c.args.groups.now in
+    subst (All (λ group. group < length (groups_in c.args.indexes.now))) (sym (c.as_slice.ensures.value ∙ c.in_ok-own.ensures))
+    (subst (λ (bound : ℕ). All (λ group. group < bound) items)
+    (c.requires.bound
+    ∙ ap (λ (groups : List ConceptGroup). length groups)
+    (sym (groups_are c.args.indexes.now c.args.snapshot.now.release c.requires.index c.concept_count.ensures.rising)))
+    (all_below (g.S.ConceptSet.bound_of c.args.groups.now) items (g.met.S.ConceptSet.rising c.args.groups.now)))

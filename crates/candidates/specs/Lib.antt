@@ -1,0 +1,4 @@
+pub mod Groups
+pub mod Numbers
+pub mod RowCounts
+pub mod Within

@@ -1,0 +1,29 @@
+-- Sets of concepts and of groups, by their numbers, of which only some candidates are asked for.
+use Rattle.std.specs.Prelude.{ℕ, ◌≡◌, ◌&&◌, Bool, true, List, length, slice_get, slice_index}
+use Rattle.rf2_rows.specs.Pairs.{Pair}
+use Rattle.rf2_rows.specs.Release.{Release}
+use Rattle.number_lists.specs.Members.{has}
+use Rattle.number_lists.specs.Rising.{numbers_where}
+use Rattle.postings.specs.Groups.{all_groups}
+use Rattle.candidates.specs.Groups.{some_group_in}
+use Rattle.candidates.specs.declared.candidates.Candidates.{Candidates}
+use Rattle.candidates.specs.declared.candidates.Candidates.TheVariants as candidates
+
+-- whether a number is a candidate
+abbrev pub may_be : {S : Type 0} → (S → List ℕ) → Candidates S → ℕ → Bool
+may_be items_of candidates.All number = true
+may_be items_of (candidates.Within set extent) number = has (items_of set.now) number
+
+-- the candidates are among so many numbers
+abbrev pub AreBelow : {S : Type 0} → (S → ℕ) → ℕ → Candidates S → Type 0
+AreBelow bound_of count candidates.All = Unit {0}
+AreBelow bound_of count (candidates.Within set extent) = bound_of set.now ≡ count
+
+-- the numbers of the concepts that are in a set, of those that are candidates
+abbrev pub numbers_within : Release → (ℕ → Bool) → (ℕ → Bool) → List ℕ
+numbers_within release may set = numbers_where (length release.concepts) (λ number. may number && set (slice_index release.concepts number))
+
+-- the numbers of the groups that are in a set, of those that are candidates
+abbrev pub groups_within : Release → (ℕ → Bool) → (List Pair → Bool) → List ℕ
+groups_within release may set =
+    numbers_where (length (all_groups release)) (λ number. may number && some_group_in release set (slice_get (all_groups release) number))

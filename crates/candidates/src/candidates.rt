@@ -1,0 +1,344 @@
+//! Of which concepts or groups it is asked whether they are in a set.
+ghost use Rattle.std.specs.Prelude.{ℕ, ◌≡◌, ◌<◌, All, Bool, false, true, filter, IfOk, length};
+ghost use Rattle.postings.specs.Groups.{all_groups, groups_in};
+ghost use Rattle.postings.specs.Indexed.{IsIndexOf};
+ghost use Rattle.candidates.specs.Within.{AreBelow, may_be};
+
+use idset::ConceptSet;
+use postings::Indexes;
+use snapshot::Snapshot;
+use std::alloc::{AllocError, Global};
+
+// To ask a concept by its own list takes about as long as to go through so many concepts, and to ask so few takes no longer
+// than to copy one list.
+const QUESTION: u64 = 32;
+
+const FEW: u64 = 16;
+
+// The rows of more concepts than there are other rows to read, divided by this, are not counted: to read these is sooner done.
+const WIDE: u64 = 64;
+
+// The same of groups, of which no more than the rows is looked up.
+const WIDE_GROUPS: u64 = 16;
+
+// The lists of more candidates are not counted.
+const LISTED: usize = 256;
+
+/// The numbers of which it is asked whether they are in a set: those of concepts, or those of groups.
+#[derive(Drop)]
+pub enum Candidates<'a, S> {
+    /// All.
+    All,
+    /// Those in a set, and what there is of them.
+    Within(&'a S, Extent),
+}
+
+/// How much there is of some concepts or groups. It tells which way is the shorter, and no answer depends on it.
+#[derive(Clone, Copy, Debug)]
+pub struct Extent {
+    /// How many they are.
+    pub items: u64,
+    /// How many attribute rows they have, or more.
+    pub rows: u64,
+    /// How many attribute rows have one of them as their value, or more.
+    pub back_rows: u64,
+    /// How many groups they have, or more.
+    pub groups: u64,
+    /// How many items their lists in the hierarchy have, or more.
+    pub lists: ListExtent,
+}
+
+/// How many items the lists of some concepts have in the hierarchy, or more.
+#[derive(Clone, Copy, Debug)]
+pub struct ListExtent {
+    /// Their ancestors.
+    pub ancestors: u64,
+    /// Their descendants.
+    pub descendants: u64,
+    /// Their parents.
+    pub parents: u64,
+    /// Their children.
+    pub children: u64,
+}
+
+// What is said of lists that are not counted.
+const UNLISTED: ListExtent = ListExtent {
+    ancestors: u64::MAX,
+    descendants: u64::MAX,
+    parents: u64::MAX,
+    children: u64::MAX,
+};
+
+impl Extent {
+    /// The same of the groups that they have.
+    pub fn of_groups(self) -> Extent {
+        Extent {
+            items: self.groups,
+            rows: self.rows,
+            back_rows: u64::MAX,
+            groups: self.groups,
+            lists: UNLISTED,
+        }
+    }
+
+    /// The same, where those are their rows that have one of them as their value.
+    pub fn read_backwards(self) -> Extent {
+        Extent {
+            rows: self.back_rows,
+            ..self
+        }
+    }
+
+    /// How many items are read of them, each with its rows.
+    pub fn items_and_rows(self) -> u64 {
+        self.items.saturating_add(self.rows)
+    }
+
+    /// Whether they are asked one by one sooner than a list is copied, or so many concepts are gone through.
+    pub fn are_few_beside(self, concepts: u32) -> bool {
+        self.items <= FEW || self.items.saturating_mul(QUESTION) < u64::from(concepts)
+    }
+
+    /// Whether their groups are looked up sooner than so many groups are found without them, which may be no more than
+    /// others.
+    pub fn has_few_groups(self, groups: u64, most: u64) -> bool {
+        self.groups < groups && self.items_of_groups(u32::MAX) <= most
+    }
+
+    /// How many items are read to look up their groups, and of these so many that are found.
+    pub fn items_of_groups(self, found: u32) -> u64 {
+        let own = self.items.saturating_add(self.groups);
+        own.saturating_add(self.groups.min(found as u64))
+    }
+}
+
+/// Whether there is no candidate.
+pub fn none_left<S: ConceptSet>(candidates: &Candidates<'_, S>) -> bool
+    ensures { result ≡ true → (number : ℕ) → may_be S.items_of candidates.now number ≡ false }
+{
+    match candidates {
+        Candidates::All => false,
+        Candidates::Within(set, _) => set.count() == 0,
+    }
+}
+
+/// How much there is of the candidates, where not all are; read backwards, with the rows that have one of them as their value.
+pub fn extent_for<S>(candidates: &Candidates<'_, S>, back: bool) -> Option<Extent> {
+    match candidates {
+        Candidates::All => None,
+        Candidates::Within(_, extent) if back => Some(extent.read_backwards()),
+        Candidates::Within(_, extent) => Some(*extent),
+    }
+}
+
+/// The candidates among some numbers.
+pub fn restricted<S: ConceptSet>(
+    alloc: Global,
+    found: S,
+    candidates: &Candidates<'_, S>,
+) -> Result<S, AllocError>
+    requires bound { AreBelow S.bound_of (S.bound_of found) candidates.now }
+    ensures items { IfOk result (λ left. S.items_of left ≡ filter (may_be S.items_of candidates.now) (S.items_of found)) }
+    ensures bound { IfOk result (λ left. S.bound_of left ≡ S.bound_of found) }
+{
+    match candidates {
+        Candidates::All => Ok(found),
+        Candidates::Within(set, _) => {
+            let left = found.and(alloc, *set)?;
+            Ok(left)
+        }
+    }
+}
+
+/// How much there is of the concepts of a set, for what reads so many rows without it. It is looked up only where they are few beside
+/// these, or so few that their lists are counted.
+pub fn extent_of<S: ConceptSet>(
+    alloc: Global,
+    snapshot: &Snapshot,
+    indexes: &Indexes,
+    concepts: &S,
+    rows: u64,
+) -> Result<Extent, AllocError>
+    requires index { IsIndexOf indexes.now snapshot.now.release }
+    requires bound { S.bound_of concepts.now ≡ length snapshot.now.release.concepts }
+{
+    let count = concepts.count();
+    if are_many_beside(count, rows / WIDE) {
+        return Ok(uncounted(count));
+    }
+    let own = concepts.items(alloc)?;
+    Ok(extent_among(indexes, own.as_slice()))
+}
+
+// Whether so many candidates are more than those that are always looked up, and than so many.
+fn are_many_beside(candidates: u32, most: u64) -> bool {
+    candidates as usize > LISTED && u64::from(candidates) > most
+}
+
+/// The same of the groups of a set.
+pub fn group_extent_of<S: ConceptSet>(
+    alloc: Global,
+    snapshot: &Snapshot,
+    indexes: &Indexes,
+    groups: &S,
+    rows: u64,
+) -> Result<Extent, AllocError>
+    requires index { IsIndexOf indexes.now snapshot.now.release }
+    requires bound { S.bound_of groups.now ≡ length (all_groups snapshot.now.release) }
+{
+    let count = groups.count();
+    if are_many_beside(count, rows / WIDE_GROUPS) {
+        return Ok(uncounted(count));
+    }
+    // the concepts rise, so that each has its groups once
+    snapshot.concept_count();
+    let own = groups.items(alloc)?;
+    Ok(group_extent_among(indexes, own.as_slice()))
+}
+
+/// How much there is of a set of some candidates, from which something is to be taken. Its rows are counted where the set may be read
+/// thrice, by what both parts of MINUS find at most; else it has no more than the candidates.
+pub fn extent_to_take<S: ConceptSet>(
+    alloc: Global,
+    snapshot: &Snapshot,
+    indexes: &Indexes,
+    candidates: &Candidates<'_, S>,
+    concepts: &S,
+    sizes: (u64, u64),
+) -> Result<Extent, AllocError>
+    requires index { IsIndexOf indexes.now snapshot.now.release }
+    requires bound { S.bound_of concepts.now ≡ length snapshot.now.release.concepts }
+{
+    if may_be_read_thrice(concepts.count(), sizes) {
+        extent_of(
+            alloc,
+            snapshot,
+            indexes,
+            concepts,
+            u64::from(indexes.row_count()),
+        )
+    } else {
+        Ok(extent_left(candidates, concepts.count()))
+    }
+}
+
+/// The same of groups.
+pub fn group_extent_to_take<S: ConceptSet>(
+    alloc: Global,
+    snapshot: &Snapshot,
+    indexes: &Indexes,
+    candidates: &Candidates<'_, S>,
+    groups: &S,
+    sizes: (u64, u64),
+) -> Result<Extent, AllocError>
+    requires index { IsIndexOf indexes.now snapshot.now.release }
+    requires bound { S.bound_of groups.now ≡ length (all_groups snapshot.now.release) }
+{
+    if may_be_read_thrice(groups.count(), sizes) {
+        group_extent_of(
+            alloc,
+            snapshot,
+            indexes,
+            groups,
+            u64::from(indexes.row_count()),
+        )
+    } else {
+        Ok(extent_left(candidates, groups.count()))
+    }
+}
+
+// Whether so many items may be read three times.
+fn may_be_read_thrice(items: u32, sizes: (u64, u64)) -> bool {
+    items as u64 * 3 <= sizes.0.saturating_add(sizes.1)
+}
+
+// How much there is of so many of some candidates: of rows and groups no more than these have.
+fn extent_left<S>(candidates: &Candidates<'_, S>, items: u32) -> Extent {
+    match candidates {
+        Candidates::All => uncounted(items),
+        Candidates::Within(_, extent) => Extent {
+            items: items as u64,
+            ..*extent
+        },
+    }
+}
+
+// What is said of so many candidates whose rows are not counted.
+fn uncounted(items: u32) -> Extent {
+    Extent {
+        items: u64::from(items),
+        rows: u64::MAX,
+        back_rows: u64::MAX,
+        groups: u64::MAX,
+        lists: UNLISTED,
+    }
+}
+
+// How much there is of some concepts.
+fn extent_among(indexes: &Indexes, concepts: &[u32]) -> Extent
+    requires { All (λ concept. concept < length indexes.now.concepts) concepts.now }
+{
+    let mut rows = 0u64;
+    let mut back_rows = 0u64;
+    let mut groups = 0u64;
+    for concept in concepts {
+        let units = indexes.units_of(*concept);
+        rows = rows.saturating_add(indexes.rows_of(*concept).len() as u64);
+        back_rows = back_rows.saturating_add(indexes.by_value(*concept).len() as u64);
+        groups = groups.saturating_add(u64::from(units.end.saturating_sub(units.start)));
+    }
+    Extent {
+        items: concepts.len() as u64,
+        rows,
+        back_rows,
+        groups,
+        lists: lists_among(indexes, concepts),
+    }
+}
+
+// How many items the lists of some concepts have, if these are few.
+fn lists_among(indexes: &Indexes, concepts: &[u32]) -> ListExtent
+    requires { All (λ concept. concept < length indexes.now.concepts) concepts.now }
+{
+    if concepts.len() > LISTED {
+        return UNLISTED;
+    }
+    // each concept has its lists
+    indexes.stats();
+    let hierarchy = indexes.hierarchy();
+    let mut lists = ListExtent {
+        ancestors: 0,
+        descendants: 0,
+        parents: 0,
+        children: 0,
+    };
+    for concept in concepts {
+        let ancestors = hierarchy.ancestors(*concept).len() as u64;
+        lists.ancestors = lists.ancestors.saturating_add(ancestors);
+        let descendants = hierarchy.descendants(*concept).len() as u64;
+        lists.descendants = lists.descendants.saturating_add(descendants);
+        let parents = hierarchy.parents(*concept).len() as u64;
+        lists.parents = lists.parents.saturating_add(parents);
+        let children = hierarchy.children(*concept).len() as u64;
+        lists.children = lists.children.saturating_add(children);
+    }
+    lists
+}
+
+// How much there is of some groups.
+fn group_extent_among(indexes: &Indexes, groups: &[u32]) -> Extent
+    requires { All (λ group. group < length (groups_in indexes.now)) groups.now }
+{
+    let mut rows = 0u64;
+    for group in groups {
+        rows = rows.saturating_add(indexes.unit_rows(*group).len() as u64);
+    }
+    let items = groups.len() as u64;
+    Extent {
+        items,
+        rows,
+        back_rows: u64::MAX,
+        groups: items,
+        lists: UNLISTED,
+    }
+}

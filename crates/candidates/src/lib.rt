@@ -1,0 +1,18 @@
+//! The concepts and the groups of which it is asked whether they are in a set, how much there is of them, and the count of what
+//! is read.
+//!
+//! How much there is of them tells which way is the shorter; no answer depends on it.
+#![tactic(auto)]
+
+mod candidates;
+mod rows;
+mod tally;
+mod visits;
+
+pub use crate::candidates::{
+    Candidates, Extent, ListExtent, extent_for, extent_of, extent_to_take, group_extent_of,
+    group_extent_to_take, none_left, restricted,
+};
+pub use crate::rows::{are_read_before, look_ups, rows_of_value};
+pub use crate::tally::RowTally;
+pub use crate::visits::Visits;

@@ -1,0 +1,31 @@
+//! How many rows concepts have, and which rows are read sooner.
+ghost use Rattle.std.specs.Prelude.{◌≡◌, ◌<◌, length};
+ghost use Rattle.candidates.specs.RowCounts.{row_count_of};
+
+use crate::candidates::Extent;
+use postings::Indexes;
+
+/// How many rows have a concept as their value, or, read backwards, as their source.
+pub fn rows_of_value(indexes: &Indexes, back: bool, concept: u32) -> u64
+    requires { concept < length indexes.now.concepts }
+    ensures { result ≡ row_count_of indexes.now back concept }
+{
+    if back {
+        indexes.rows_of(concept).len() as u64
+    } else {
+        indexes.by_value(concept).len() as u64
+    }
+}
+
+/// Whether there are candidates whose rows are looked up sooner than so many rows are read that stand side by side.
+pub fn are_read_before(candidates: Option<Extent>, rows: u64) -> bool {
+    match candidates {
+        Some(extent) => look_ups(extent.items_and_rows()) < rows,
+        None => false,
+    }
+}
+
+/// About how many rows that stand side by side are read while so many rows are looked up by their numbers.
+pub fn look_ups(rows: u64) -> u64 {
+    rows.saturating_mul(8)
+}

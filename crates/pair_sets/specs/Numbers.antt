@@ -1,8 +1,0 @@
--- Sets of concepts of a release, by the numbers of the concepts: their places, from 0, in the rising list of those in force.
-use Rattle.std.specs.Prelude.{ℕ, Bool, List, length, slice_index}
-use Rattle.rf2_rows.specs.Release.{Release}
-use Rattle.number_lists.specs.Rising.{numbers_where}
-
--- the numbers of the concepts that are in a set, in rising order
-abbrev pub numbers_in : Release → (ℕ → Bool) → List ℕ
-numbers_in release set = numbers_where (length release.concepts) (λ number. set (slice_index release.concepts number))

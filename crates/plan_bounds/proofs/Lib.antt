@@ -1,0 +1,11 @@
+pub mod ConceptLemmas
+pub mod FewLemmas
+pub mod FloorLemmas
+pub mod FoundLemmas
+pub mod LeadLemmas
+pub mod ListLemmas
+pub mod LoopLemmas
+pub mod PartLemmas
+pub mod Rules
+pub mod SizeLemmas
+pub mod TallyLemmas

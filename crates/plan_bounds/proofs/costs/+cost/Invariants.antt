@@ -1,0 +1,47 @@
+-- What is left of the parts, with what was taken, is what all of them are.
+use denote.Param.Weighed.{most}
+use Rattle.std.proofs.Common.{◌+◌, ◌*◌, max}
+use Rattle.set_algebra.proofs.plan.ConceptPlan.TheLaws as concept_plan
+use Rattle.set_algebra.proofs.plan.ValueTest.TheLaws as value_test
+use Rattle.set_algebra.specs.declared.plan.ConceptPlan.{ConceptPlan}
+use Rattle.set_algebra.specs.declared.plan.UnitPlan.{UnitPlan}
+use Rattle.plan_bounds.specs.Bounds.{own_number}
+use Rattle.plan_bounds.proofs.LoopLemmas.{RestLeft, SizesLeft, SumLeft, concept_sizes, concept_sum, of_concepts, of_groups, unit_sizes, unit_sum}
+use Rattle.plan_bounds.proofs.costs.+cost.Given as goal
+
+abbrev pub invariant-parts_cost-loop-place : goal.invariant-parts_cost-loop-place
+invariant-parts_cost-loop-place l = record {
+  rest : RestLeft ConceptPlan of_concepts l.choices l.parts l.place l.rest;
+  sizes : SizesLeft ConceptPlan of_concepts (concept_sizes l.indexes) l.all l.choices l.parts l.place l.tally l.rest;
+  sum : SumLeft ConceptPlan of_concepts (concept_sum (own_number l.indexes)) l.choices l.parts l.place l.bound l.rest;
+}
+
+abbrev pub invariant-unit_parts_cost-loop-place : goal.invariant-unit_parts_cost-loop-place
+invariant-unit_parts_cost-loop-place l = record {
+  rest : RestLeft UnitPlan of_groups l.choices l.parts l.place l.rest;
+  sizes : SizesLeft UnitPlan of_groups (unit_sizes l.indexes) l.all l.choices l.parts l.place l.tally l.rest;
+  sum : SumLeft UnitPlan of_groups (unit_sum (own_number l.indexes)) l.choices l.parts l.place l.bound l.rest;
+}
+
+-- the functions go down a plan; what is called for the same plan comes after its caller
+abbrev pub decreases-cost : goal.decreases-cost
+decreases-cost l = 4 * goal.size-cost l
+
+abbrev pub decreases-unit_cost : goal.decreases-unit_cost
+decreases-unit_cost l = 4 * goal.size-unit_cost l
+
+abbrev pub decreases-test_cost : goal.decreases-test_cost
+decreases-test_cost l = 4 * goal.size-test_cost l + 1
+
+abbrev pub decreases-parts_cost : goal.decreases-parts_cost
+decreases-parts_cost l = 4 * goal.size-parts_cost l + 1
+
+abbrev pub decreases-unit_parts_cost : goal.decreases-unit_parts_cost
+decreases-unit_parts_cost l = 4 * goal.size-unit_parts_cost l + 1
+
+-- two sub-plans are as deep as the deeper of them
+abbrev pub decreases-values_cost : goal.decreases-values_cost
+decreases-values_cost l = 4 * max (concept_plan.the_size l.start.now) (most concept_plan.the_size l.names.now) + 2
+
+abbrev pub decreases-pairs_cost : goal.decreases-pairs_cost
+decreases-pairs_cost l = 4 * max (concept_plan.the_size l.types.now) (value_test.the_size l.test.now) + 2

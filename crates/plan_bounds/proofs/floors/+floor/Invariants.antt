@@ -1,0 +1,41 @@
+-- What is left of the parts, with what was added, is what all of them have.
+use Rattle.std.proofs.Common.{◌+◌, ◌*◌, max}
+use Rattle.set_algebra.proofs.plan.ConceptPlan.TheLaws as concept_plan
+use Rattle.set_algebra.proofs.plan.ValueTest.TheLaws as value_test
+use Rattle.set_algebra.specs.declared.plan.ConceptPlan.{ConceptPlan}
+use Rattle.set_algebra.specs.declared.plan.UnitPlan.{UnitPlan}
+use Rattle.plan_bounds.specs.Floors.{floor_number}
+use Rattle.plan_bounds.proofs.LoopLemmas.{RestLeft, SumLeft, concept_sum, of_concepts, of_groups, unit_sum}
+use Rattle.plan_bounds.proofs.floors.+floor.Given as goal
+
+abbrev pub invariant-parts_floor-loop-place : goal.invariant-parts_floor-loop-place
+invariant-parts_floor-loop-place l = record {
+  rest : RestLeft ConceptPlan of_concepts l.choices l.parts l.place l.rest;
+  sum : SumLeft ConceptPlan of_concepts (concept_sum (floor_number l.indexes)) l.choices l.parts l.place l.floor l.rest;
+}
+
+abbrev pub invariant-unit_parts_floor-loop-place : goal.invariant-unit_parts_floor-loop-place
+invariant-unit_parts_floor-loop-place l = record {
+  rest : RestLeft UnitPlan of_groups l.choices l.parts l.place l.rest;
+  sum : SumLeft UnitPlan of_groups (unit_sum (floor_number l.indexes)) l.choices l.parts l.place l.floor l.rest;
+}
+
+-- the functions go down a plan; what is called for the same plan comes after its caller
+abbrev pub decreases-plan_floor : goal.decreases-plan_floor
+decreases-plan_floor l = 4 * goal.size-plan_floor l
+
+abbrev pub decreases-unit_floor : goal.decreases-unit_floor
+decreases-unit_floor l = 4 * goal.size-unit_floor l
+
+abbrev pub decreases-test_floor : goal.decreases-test_floor
+decreases-test_floor l = 4 * goal.size-test_floor l + 1
+
+abbrev pub decreases-parts_floor : goal.decreases-parts_floor
+decreases-parts_floor l = 4 * goal.size-parts_floor l + 1
+
+abbrev pub decreases-unit_parts_floor : goal.decreases-unit_parts_floor
+decreases-unit_parts_floor l = 4 * goal.size-unit_parts_floor l + 1
+
+-- two sub-plans are as deep as the deeper of them
+abbrev pub decreases-pairs_floor : goal.decreases-pairs_floor
+decreases-pairs_floor l = 4 * max (concept_plan.the_size l.types.now) (value_test.the_size l.test.now) + 2

@@ -1,0 +1,5 @@
+use Rattle.plan_bounds.proofs.FloorLemmas.{floor-le-bound}
+use Rattle.plan_bounds.proofs.laws.floor_within_bound.Goals as goal
+
+pub returns : goal.returns
+returns c = floor-le-bound

@@ -1,0 +1,17 @@
+use Rattle.std.proofs.Common.{◌∙◌, ap, arith}
+use Rattle.set_algebra.specs.Plan.{plan_of, test_plan_of}
+use Rattle.plan_bounds.specs.Alternatives.{leaf_bound}
+use Rattle.plan_bounds.specs.Bounds.{capped}
+use Rattle.plan_bounds.specs.declared.leaf.Leaf.{Leaf}
+use Rattle.plan_bounds.proofs.FloorLemmas.{leaf-le}
+use Rattle.plan_bounds.proofs.limits.leaf_limits.Goals as goal
+
+pub returns-clause-ordered : goal.returns-clause-ordered
+returns-clause-ordered c =
+    omega (
+      arith,
+      c.leaf_floor.ensures,
+      c.cost.ensures.bound ∙ ap (λ (leaf : Leaf). capped (leaf_bound leaf c.args.choice)) c.leaf-leaf.ensures,
+      leaf-le c.args.indexes.now c.args.all c.args.back c.args.count (plan_of c.args.types.now) (test_plan_of c.args.test.now) c.args.sizes.0
+          c.args.sizes.1 c.args.choice,
+    )

@@ -1,0 +1,14 @@
+use Rattle.std.proofs.Common.{arith}
+use Rattle.set_algebra.specs.Plan.{plan_of}
+use Rattle.plan_bounds.specs.Counts.{one_of}
+use Rattle.plan_bounds.proofs.FloorLemmas.{walk-le}
+use Rattle.plan_bounds.proofs.limits.walk_limits.Goals as goal
+
+pub returns-clause-ordered : goal.returns-clause-ordered
+returns-clause-ordered c =
+    omega (
+      arith,
+      c.walk_floor.ensures,
+      c.walk.ensures.bound,
+      walk-le c.args.indexes.now c.args.operator (one_of (plan_of c.args.operand.now)) c.args.size,
+    )

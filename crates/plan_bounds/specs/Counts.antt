@@ -1,0 +1,139 @@
+-- What is counted of a release for a node of a plan: the lists of a concept, and the rows of a type or a value.
+use Rattle.std.specs.Prelude.{ℕ, ◌==◌, Bool, true, false, if◌then◌else◌, List, Option, None, Some, length}
+use Rattle.constraint_tree.specs.declared.operator.Cardinality.{Cardinality}
+use Rattle.constraint_tree.specs.declared.operator.Operator.{Operator}
+use Rattle.constraint_tree.specs.declared.operator.Operator.TheVariants.{Descendants, DescendantsOrSelf, Children, ChildrenOrSelf, Ancestors, AncestorsOrSelf, Parents, ParentsOrSelf, Top, Bottom}
+use Rattle.set_algebra.specs.Plan.{Plan, empty_plan, all_plan, one_plan, walk_plan, members_plan, and_plan, or_plan, minus_plan, values_plan, pairs_plan, units_plan, TestPlan, within_plan, outside_plan, number_plan}
+use Rattle.number_lists.specs.KeyedLists.{list_of}
+use Rattle.snapshot.specs.Numbering.{concept_number}
+use Rattle.ancestor_index.specs.HierarchyLists.{Hierarchy}
+use Rattle.postings.specs.Indexed.{Indexed, rows_by_source, rows_by_value}
+use Rattle.postings.specs.Stats.{stats_in, type_row_count}
+use Rattle.plan_bounds.specs.declared.leaf.Leaf.{Leaf}
+
+-- what is counted of a concept by its number, and 0 of one that is not in force
+abbrev pub counted : (ℕ → ℕ) → Option ℕ → ℕ
+counted count (Some number) = count number
+counted count None = 0
+
+abbrev pub of_concept : Indexed → (ℕ → ℕ) → ℕ → ℕ
+of_concept indexed count id = counted count (concept_number indexed.concepts id)
+
+-- the lists that an operator goes along
+abbrev pub lists_along : Hierarchy → Operator → List (List ℕ)
+lists_along hierarchy Descendants = hierarchy.descendants
+lists_along hierarchy DescendantsOrSelf = hierarchy.descendants
+lists_along hierarchy Children = hierarchy.children
+lists_along hierarchy ChildrenOrSelf = hierarchy.children
+lists_along hierarchy Ancestors = hierarchy.ancestors
+lists_along hierarchy AncestorsOrSelf = hierarchy.ancestors
+lists_along hierarchy Parents = hierarchy.parents
+lists_along hierarchy ParentsOrSelf = hierarchy.parents
+lists_along hierarchy Top = hierarchy.ancestors
+lists_along hierarchy Bottom = hierarchy.descendants
+
+-- how long the list of a concept is, and all of them together
+abbrev pub list_length : Indexed → Operator → ℕ → ℕ
+list_length indexed operator id =
+    of_concept indexed (λ number. length (list_of (lists_along indexed.hierarchy operator) number)) id
+
+abbrev pub lists_length : Indexed → Operator → ℕ
+lists_length indexed Descendants = (stats_in indexed).r
+lists_length indexed DescendantsOrSelf = (stats_in indexed).r
+lists_length indexed Children = (stats_in indexed).l
+lists_length indexed ChildrenOrSelf = (stats_in indexed).l
+lists_length indexed Ancestors = (stats_in indexed).r
+lists_length indexed AncestorsOrSelf = (stats_in indexed).r
+lists_length indexed Parents = (stats_in indexed).l
+lists_length indexed ParentsOrSelf = (stats_in indexed).l
+lists_length indexed Top = (stats_in indexed).r
+lists_length indexed Bottom = (stats_in indexed).r
+
+-- whether an operator leads to the concepts themselves too, and whether it leaves some of them and leads nowhere
+abbrev pub leads_to_self : Operator → Bool
+leads_to_self Descendants = false
+leads_to_self DescendantsOrSelf = true
+leads_to_self Children = false
+leads_to_self ChildrenOrSelf = true
+leads_to_self Ancestors = false
+leads_to_self AncestorsOrSelf = true
+leads_to_self Parents = false
+leads_to_self ParentsOrSelf = true
+leads_to_self Top = false
+leads_to_self Bottom = false
+
+abbrev pub is_extreme : Operator → Bool
+is_extreme Descendants = false
+is_extreme DescendantsOrSelf = false
+is_extreme Children = false
+is_extreme ChildrenOrSelf = false
+is_extreme Ancestors = false
+is_extreme AncestorsOrSelf = false
+is_extreme Parents = false
+is_extreme ParentsOrSelf = false
+is_extreme Top = true
+is_extreme Bottom = true
+
+-- how many components a reference set has
+abbrev pub member_count : Indexed → ℕ → ℕ
+member_count indexed id = of_concept indexed (λ number. length (list_of indexed.members number)) id
+
+-- how many rows have a value, or, read backwards, a source
+abbrev pub value_row_count : Indexed → Bool → ℕ → ℕ
+value_row_count indexed back id =
+    of_concept indexed (λ number. length (if back then rows_by_source indexed number else rows_by_value indexed number)) id
+
+-- the concept of a plan that is one
+abbrev pub one_of : Plan → Option ℕ
+one_of empty_plan = None
+one_of all_plan = None
+one_of (one_plan id) = Some id
+one_of (walk_plan operator operand) = None
+one_of (members_plan operand) = None
+one_of (and_plan parts) = None
+one_of (or_plan parts) = None
+one_of (minus_plan first second) = None
+one_of (values_plan start names) = None
+one_of (pairs_plan back count types test) = None
+one_of (units_plan count units) = None
+
+-- of all rows those that a set leaves, at most: of one concept its rows, of no concept none
+abbrev pub rows_left : (ℕ → ℕ) → ℕ → Plan → ℕ
+rows_left count all empty_plan = 0
+rows_left count all all_plan = all
+rows_left count all (one_plan id) = count id
+rows_left count all (walk_plan operator operand) = all
+rows_left count all (members_plan operand) = all
+rows_left count all (and_plan parts) = all
+rows_left count all (or_plan parts) = all
+rows_left count all (minus_plan first second) = all
+rows_left count all (values_plan start names) = all
+rows_left count all (pairs_plan back plan_count types test) = all
+rows_left count all (units_plan plan_count units) = all
+
+-- by the types of a leaf, and by the values that its test is within
+abbrev pub type_rows : Indexed → Plan → ℕ
+type_rows indexed types = rows_left (type_row_count indexed) (length indexed.rows) types
+
+abbrev pub value_rows : Indexed → Bool → TestPlan → ℕ
+value_rows indexed back (within_plan values) = rows_left (value_row_count indexed back) (length indexed.rows) values
+value_rows indexed back (outside_plan values) = length indexed.rows
+value_rows indexed back (number_plan compare number) = length indexed.rows
+
+abbrev pub is_within : TestPlan → Bool
+is_within (within_plan values) = true
+is_within (outside_plan values) = false
+is_within (number_plan compare number) = false
+
+-- a leaf, by how many concepts or groups there are, and by the sizes of its types and of the plan of its test
+abbrev pub leaf_of : Indexed → ℕ → Bool → Cardinality → Plan → TestPlan → ℕ → ℕ → Leaf
+leaf_of indexed all back count types test type_size value_size = record {
+  all = all;
+  none_pass = count.min == 0;
+  rows = length indexed.rows;
+  value_rows = value_rows indexed back test;
+  type_rows = type_rows indexed types;
+  value_size = value_size;
+  type_size = type_size;
+  is_within = is_within test;
+}

@@ -1,0 +1,25 @@
+-- How much a plan finds is no more than its size, whatever its choices.
+use Rattle.std.specs.Prelude.{◌≡◌, ◌≤◌, true, All, List, filter, length}
+use Rattle.std.specs.List.Sorted.{IsStrictlyIncreasing}
+use Rattle.rf2_rows.specs.Release.{Attribute, Release}
+use Rattle.number_lists.specs.Members.{has}
+use Rattle.set_algebra.specs.Meaning.{unit_means, meaning}
+use Rattle.set_algebra.specs.Plan.{PlanOfUnits, Plan}
+use Rattle.postings.specs.Groups.{ConceptGroup, all_groups, pairs_of_group}
+use Rattle.postings.specs.Indexed.{Indexed, IsIndexOf}
+use Rattle.set_algebra.specs.declared.choice.Choice.{Choice}
+use Rattle.plan_bounds.specs.Sizes.{group_size, size}
+
+-- the groups of a release that a plan of groups means
+abbrev pub groups_meant : Release → PlanOfUnits → List ConceptGroup
+groups_meant release plan = filter (λ group. unit_means release plan (pairs_of_group release group)) (all_groups release)
+
+-- of a release whose concepts rise, and the sources of whose attribute rows are concepts in force: by its indexes, no plan means more
+-- concepts than its size, and no plan of groups more groups
+abbrev pub FindsWithinSize : Type 0
+FindsWithinSize =
+    (release : Release) → IsStrictlyIncreasing release.concepts
+    → All (λ (row : Attribute). has release.concepts row.source ≡ true) release.attributes
+    → (indexed : Indexed) → IsIndexOf indexed release → (choices : List Choice)
+    → ((plan : Plan) → length (meaning release plan) ≤ size indexed choices plan)
+    × ((plan : PlanOfUnits) → length (groups_meant release plan) ≤ group_size indexed choices plan)

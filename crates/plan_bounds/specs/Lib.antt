@@ -1,0 +1,13 @@
+pub mod Alternatives
+pub mod Bounds
+pub mod Counts
+pub mod Floors
+pub mod Found
+pub mod inside
+pub mod Leads
+pub mod Leaves
+pub mod Nodes
+pub mod Offered
+pub mod Physical
+pub mod Sizes
+pub mod Tallies

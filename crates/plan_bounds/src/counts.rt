@@ -1,0 +1,381 @@
+//! What is counted of a release for a node of a plan.
+ghost use Rattle.std.specs.Prelude.{◌≡◌, ◌==◌, ◌<◌, ◌+◌, ◌*◌, if◌then◌else◌, min, ◌^◌, length};
+ghost use Rattle.number_lists.specs.KeyedLists.{list_of};
+ghost use Rattle.set_algebra.specs.Plan.{plan_of, test_plan_of};
+ghost use Rattle.postings.specs.Groups.{groups_in};
+ghost use Rattle.plan_bounds.specs.Alternatives.{found_by, passed_over};
+ghost use Rattle.plan_bounds.specs.Bounds.{capped, members_bound, values_bound, walk_bound};
+ghost use Rattle.plan_bounds.specs.Counts.{is_extreme as is_extreme_of, leads_to_self as leads_to_self_of, leaf_of, list_length as list_length_of, lists_along, lists_length as lists_length_of, member_count as member_count_of, one_of, type_rows as type_rows_of, rows_left, value_row_count as value_row_count_of, value_rows as value_rows_of};
+ghost use Rattle.postings.specs.Stats.{type_row_count as type_row_count_of};
+ghost use Rattle.plan_bounds.specs.Sizes.{members_size, values_size, walk_size};
+
+use crate::leaf::Leaf;
+use crate::tally::Tally;
+use ancestor_index::AncestorIndex;
+use constraint_tree::{Cardinality, Operator};
+use postings::Indexes;
+use set_algebra::{ConceptPlan, ValueTest};
+
+/// How much a node finds, and how many items it visits beside its sub-plans, at most.
+#[derive(Clone, Copy, Debug)]
+pub struct NodeCost {
+    /// In concepts or groups; exact.
+    pub size: u64,
+    /// The own bound, or `u64::MAX` where it is larger.
+    pub bound: u64,
+}
+
+/// How many concepts are in force.
+pub fn concepts(indexes: &Indexes) -> u64
+    ensures { result ≡ length indexes.now.concepts }
+{
+    indexes.concept_count() as u64
+}
+
+/// How many groups all concepts have.
+pub fn groups(indexes: &Indexes) -> u64
+    ensures { result ≡ length (groups_in indexes.now) }
+{
+    indexes.group_count() as u64
+}
+
+/// Of a walk from a set of so many concepts.
+pub fn walk(indexes: &Indexes, operator: Operator, operand: &ConceptPlan, size: u64) -> NodeCost
+    ensures size { result.size ≡ walk_size indexes.now operator (one_of (plan_of operand.now)) size }
+    ensures bound { result.bound ≡ capped (walk_bound indexes.now operator (one_of (plan_of operand.now)) size) }
+{
+    match one(operand) {
+        Some(id) => {
+            let length = list_length(indexes, operator, id);
+            NodeCost {
+                size: found_from_one(operator, length),
+                bound: length + 1,
+            }
+        }
+        None => NodeCost {
+            size: found_from(indexes, operator, size),
+            bound: size.saturating_add(lists_length(indexes, operator)),
+        },
+    }
+}
+
+// How many concepts an operator finds from one whose list is so long.
+fn found_from_one(operator: Operator, length: u64) -> u64
+    requires { length < 2 ^ 63 }
+    ensures { result ≡ (if is_extreme_of operator then 1 else length + (if leads_to_self_of operator then 1 else 0)) }
+{
+    if is_extreme(operator) {
+        1
+    } else if leads_to_self(operator) {
+        length + 1
+    } else {
+        length
+    }
+}
+
+// How many concepts an operator finds from so many.
+fn found_from(indexes: &Indexes, operator: Operator, size: u64) -> u64
+    ensures { result ≡ (if is_extreme_of operator then size else length indexes.now.concepts) }
+{
+    if is_extreme(operator) {
+        size
+    } else {
+        concepts(indexes)
+    }
+}
+
+/// Whether an operator leaves some of the concepts, and leads nowhere.
+pub fn is_extreme(operator: Operator) -> bool
+    ensures { result ≡ is_extreme_of operator }
+{
+    match operator {
+        Operator::Top | Operator::Bottom => true,
+        Operator::Descendants
+        | Operator::DescendantsOrSelf
+        | Operator::Children
+        | Operator::ChildrenOrSelf
+        | Operator::Ancestors
+        | Operator::AncestorsOrSelf
+        | Operator::Parents
+        | Operator::ParentsOrSelf => false,
+    }
+}
+
+// Whether an operator leads to the concepts themselves too.
+fn leads_to_self(operator: Operator) -> bool
+    ensures { result ≡ leads_to_self_of operator }
+{
+    match operator {
+        Operator::DescendantsOrSelf
+        | Operator::ChildrenOrSelf
+        | Operator::AncestorsOrSelf
+        | Operator::ParentsOrSelf => true,
+        Operator::Descendants
+        | Operator::Children
+        | Operator::Ancestors
+        | Operator::Parents
+        | Operator::Top
+        | Operator::Bottom => false,
+    }
+}
+
+/// How long the list of a concept is that an operator goes along.
+pub fn list_length(indexes: &Indexes, operator: Operator, id: u64) -> u64
+    ensures length { result ≡ list_length_of indexes.now operator id }
+    ensures small { result < 2 ^ 63 }
+{
+    // which says that each concept has its lists
+    indexes.stats();
+    match indexes.index_of(id) {
+        Some(number) => list(indexes.hierarchy(), operator, number).len() as u64,
+        None => 0,
+    }
+}
+
+// The list of a concept that an operator goes along.
+fn list(hierarchy: &AncestorIndex, operator: Operator, number: u32) -> &[u32]
+    requires { number < length (lists_along hierarchy.now operator) }
+    ensures { result.now ≡ list_of (lists_along hierarchy.now operator) number }
+{
+    match operator {
+        Operator::Descendants | Operator::DescendantsOrSelf | Operator::Bottom => {
+            hierarchy.descendants(number)
+        }
+        Operator::Children | Operator::ChildrenOrSelf => hierarchy.children(number),
+        Operator::Ancestors | Operator::AncestorsOrSelf | Operator::Top => {
+            hierarchy.ancestors(number)
+        }
+        Operator::Parents | Operator::ParentsOrSelf => hierarchy.parents(number),
+    }
+}
+
+// How long all lists together are that an operator goes along.
+fn lists_length(indexes: &Indexes, operator: Operator) -> u64
+    ensures { result ≡ lists_length_of indexes.now operator }
+{
+    match operator {
+        Operator::Descendants
+        | Operator::DescendantsOrSelf
+        | Operator::Ancestors
+        | Operator::AncestorsOrSelf
+        | Operator::Top
+        | Operator::Bottom => indexes.stats().r,
+        Operator::Children
+        | Operator::ChildrenOrSelf
+        | Operator::Parents
+        | Operator::ParentsOrSelf => indexes.stats().l,
+    }
+}
+
+/// Of the components of the reference sets in a set of so many concepts.
+pub fn members(indexes: &Indexes, operand: &ConceptPlan, size: u64) -> NodeCost
+    ensures size { result.size ≡ members_size indexes.now (one_of (plan_of operand.now)) }
+    ensures bound { result.bound ≡ capped (members_bound indexes.now (one_of (plan_of operand.now)) size) }
+{
+    match one(operand) {
+        Some(id) => {
+            let components = member_count(indexes, id);
+            NodeCost {
+                size: concepts(indexes).min(components),
+                bound: components + 1,
+            }
+        }
+        None => {
+            let components = indexes.stats().m;
+            NodeCost {
+                size: concepts(indexes).min(components),
+                bound: size.saturating_add(components),
+            }
+        }
+    }
+}
+
+/// How many components a reference set has.
+pub fn member_count(indexes: &Indexes, id: u64) -> u64
+    ensures count { result ≡ member_count_of indexes.now id }
+    ensures small { result < 2 ^ 63 }
+{
+    match indexes.index_of(id) {
+        Some(number) => indexes.members(number).len() as u64,
+        None => 0,
+    }
+}
+
+/// Of the values along so many types, from a set of so many concepts.
+pub fn values(indexes: &Indexes, types: u64, size: u64) -> NodeCost
+    ensures size { result.size ≡ values_size indexes.now types size }
+    ensures bound { result.bound ≡ capped (values_bound indexes.now types size) }
+{
+    if types == 0 {
+        return NodeCost { size, bound: 0 };
+    }
+    let rows = indexes.row_count() as u64;
+    let found = concepts(indexes).min(rows);
+    let later = (types - 1).saturating_mul(found + rows);
+    NodeCost {
+        size: found,
+        bound: size.saturating_add(rows).saturating_add(later),
+    }
+}
+
+/// Of the concepts so many of whose groups are among so many.
+pub fn units(count: Cardinality, all: u64, size: u64) -> NodeCost
+    ensures size { result.size ≡ found_by (count.min == 0) all size }
+    ensures bound { result.bound ≡ capped (size + passed_over (count.min == 0) all) }
+{
+    if count.min == 0 {
+        NodeCost {
+            size: all,
+            bound: size.saturating_add(all),
+        }
+    } else {
+        NodeCost {
+            size: all.min(size),
+            bound: size,
+        }
+    }
+}
+
+/// Of what all of some parts find: each is read, and what is left behind each.
+pub fn in_all(parts: &Tally) -> NodeCost
+    ensures size { result.size ≡ parts.now.least }
+    ensures bound { result.bound ≡ capped (parts.now.sum * 2) }
+{
+    NodeCost {
+        size: parts.least,
+        bound: parts.sum.saturating_mul(2),
+    }
+}
+
+/// Of what one of so many parts finds: what is left is read before each.
+pub fn in_some(all: u64, parts: &Tally, count: u64) -> NodeCost
+    ensures size { result.size ≡ min all parts.now.sum }
+    ensures bound { result.bound ≡ capped (parts.now.sum * count) }
+{
+    NodeCost {
+        size: all.min(parts.sum),
+        bound: parts.sum.saturating_mul(count),
+    }
+}
+
+/// Of what the first of two finds and the second does not.
+pub fn in_first(first: u64, second: u64) -> NodeCost
+    ensures size { result.size ≡ first }
+    ensures bound { result.bound ≡ capped (first + second) }
+{
+    NodeCost {
+        size: first,
+        bound: first.saturating_add(second),
+    }
+}
+
+/// A leaf, by how many concepts or groups there are, and by the sizes of its types and of the plan of its test.
+pub fn leaf(
+    indexes: &Indexes,
+    all: u64,
+    back: bool,
+    count: Cardinality,
+    types: &ConceptPlan,
+    test: &ValueTest,
+    sizes: (u64, u64),
+) -> Leaf
+    ensures { result ≡ leaf_of indexes.now all back count (plan_of types.now) (test_plan_of test.now) sizes.0 sizes.1 }
+{
+    let is_within = match test {
+        ValueTest::Within(_) => true,
+        ValueTest::Outside(_) | ValueTest::Number(_, _) => false,
+    };
+    Leaf {
+        all,
+        none_pass: count.min == 0,
+        rows: indexes.row_count() as u64,
+        value_rows: value_rows(indexes, back, test),
+        type_rows: type_rows(indexes, types),
+        value_size: sizes.1,
+        type_size: sizes.0,
+        is_within,
+    }
+}
+
+// How many rows a test leaves, at most.
+fn value_rows(indexes: &Indexes, back: bool, test: &ValueTest) -> u64
+    ensures { result ≡ value_rows_of indexes.now back (test_plan_of test.now) }
+{
+    match test {
+        ValueTest::Within(values) => rows_of_values(indexes, back, values),
+        ValueTest::Outside(_) | ValueTest::Number(_, _) => indexes.row_count() as u64,
+    }
+}
+
+// How many rows have values in a set, or, read backwards, sources, at most.
+fn rows_of_values(indexes: &Indexes, back: bool, values: &ConceptPlan) -> u64
+    ensures { result ≡ rows_left (value_row_count_of indexes.now back) (length indexes.now.rows) (plan_of values.now) }
+{
+    match values {
+        ConceptPlan::Empty => 0,
+        ConceptPlan::One(id) => value_row_count(indexes, back, *id),
+        ConceptPlan::All
+        | ConceptPlan::Walk(_, _)
+        | ConceptPlan::Members(_)
+        | ConceptPlan::And(_)
+        | ConceptPlan::Or(_)
+        | ConceptPlan::Minus(_, _)
+        | ConceptPlan::Values(_, _)
+        | ConceptPlan::Pairs { .. }
+        | ConceptPlan::Units { .. } => indexes.row_count() as u64,
+    }
+}
+
+/// How many rows have a value, or, read backwards, a source.
+pub fn value_row_count(indexes: &Indexes, back: bool, id: u64) -> u64
+    ensures { result ≡ value_row_count_of indexes.now back id }
+{
+    match indexes.index_of(id) {
+        Some(number) => {
+            if back {
+                indexes.rows_of(number).len() as u64
+            } else {
+                indexes.by_value(number).len() as u64
+            }
+        }
+        None => 0,
+    }
+}
+
+// How many rows have a type in a set, at most.
+fn type_rows(indexes: &Indexes, types: &ConceptPlan) -> u64
+    ensures { result ≡ type_rows_of indexes.now (plan_of types.now) }
+{
+    match types {
+        ConceptPlan::Empty => 0,
+        ConceptPlan::One(id) => indexes.by_type(*id).len() as u64,
+        ConceptPlan::All
+        | ConceptPlan::Walk(_, _)
+        | ConceptPlan::Members(_)
+        | ConceptPlan::And(_)
+        | ConceptPlan::Or(_)
+        | ConceptPlan::Minus(_, _)
+        | ConceptPlan::Values(_, _)
+        | ConceptPlan::Pairs { .. }
+        | ConceptPlan::Units { .. } => indexes.row_count() as u64,
+    }
+}
+
+/// The concept of a plan that is one.
+pub fn one(plan: &ConceptPlan) -> Option<u64>
+    ensures { result ≡ one_of (plan_of plan.now) }
+{
+    match plan {
+        ConceptPlan::One(id) => Some(*id),
+        ConceptPlan::Empty
+        | ConceptPlan::All
+        | ConceptPlan::Walk(_, _)
+        | ConceptPlan::Members(_)
+        | ConceptPlan::And(_)
+        | ConceptPlan::Or(_)
+        | ConceptPlan::Minus(_, _)
+        | ConceptPlan::Values(_, _)
+        | ConceptPlan::Pairs { .. }
+        | ConceptPlan::Units { .. } => None,
+    }
+}

@@ -1,0 +1,29 @@
+//! How much a plan finds at most, and how many items it visits, at least and at most, under its choices.
+//!
+//! Of each node of a plan, of its sum over all nodes, and of what is known of one node where its parts have been executed.
+#![tactic(auto)]
+
+mod choice;
+mod costs;
+mod counts;
+mod floors;
+mod laws;
+mod leaf;
+mod limits;
+mod physical;
+mod tally;
+
+pub use crate::choice::{after_first, first_choice};
+pub use crate::counts::{
+    NodeCost, concepts, groups, in_all, in_first, in_some, leaf as leaf_counts, members, units,
+    values, walk,
+};
+pub use crate::floors::{PlanFloor, plan_floor, unit_floor};
+pub use crate::laws::{finds_within_size, floor_within_bound, leads_are_least};
+pub use crate::leaf::Leaf;
+pub use crate::limits::{
+    leaf_limits, members_limits, plan_size, unit_size, units_limits, walk_limits,
+};
+pub use crate::physical::{PhysicalPlan, bound, floor};
+pub use crate::tally::Tally;
+pub use set_algebra::{Choice, NodeLimits};

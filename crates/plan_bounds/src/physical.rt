@@ -1,0 +1,101 @@
+//! A plan with its choices, and how much it visits.
+ghost use Rattle.std.specs.Prelude.{◌≡◌, length};
+ghost use Rattle.set_algebra.specs.Plan.{plan_of};
+ghost use Rattle.postings.specs.Indexed.{Indexed};
+ghost use Rattle.plan_bounds.specs.Bounds.{bound as bound_of, capped};
+ghost use Rattle.plan_bounds.specs.Floors.{floor as floor_of};
+ghost use Rattle.plan_bounds.specs.Leads.{leads as leads_of};
+ghost use Rattle.plan_bounds.specs.Leaves.{leaves};
+ghost use Rattle.plan_bounds.specs.Offered.{AreOffered};
+
+use crate::costs::cost;
+use crate::floors::plan_floor;
+use postings::Indexes;
+use set_algebra::{Choice, ConceptPlan};
+use std::marker::Model;
+
+/// A plan with a choice for each of its leaves: whether it is answered by the rows of its values, of its types, or by all rows. What
+/// a plan means does not depend on its choices.
+#[derive(Drop)]
+pub struct PhysicalPlan {
+    plan: ConceptPlan,
+    choices: Vec<Choice>,
+    // for each node that joins sets by AND, a node before its children, the place of the part of the least size
+    leads: Vec<u64>,
+}
+
+impl Model for PhysicalPlan {
+    ghost use Rattle.plan_bounds.specs.Physical.{Physical};
+
+    ghost Value = { Physical };
+
+    ghost use Rattle.set_algebra.specs.contracts.plan.ConceptPlan as concept_plan;
+    ghost use Rattle.std.specs.Coded.{codes};
+
+    ghost coded = { Prim.hlevel (codes, concept_plan.the_row.coded) };
+
+    ghost use Rattle.plan_bounds.specs.inside.PhysicalInside.{IsKept, physical_in};
+
+    ghost view = { physical_in };
+
+    ghost invariant = { IsKept };
+}
+
+impl PhysicalPlan {
+    /// A plan with choices that its leaves offer, and with the places of the parts that find least under these.
+    pub fn new(plan: ConceptPlan, choices: Vec<Choice>, leads: Vec<u64>) -> PhysicalPlan
+        requires count { length choices.items ≡ leaves (plan_of plan) }
+        requires offered { AreOffered choices.items (plan_of plan) }
+        requires led { (indexed : Indexed) × (leads.items ≡ leads_of indexed choices.items (plan_of plan)) }
+        ensures plan { result.plan ≡ plan }
+        ensures choices { result.choices ≡ choices.items }
+        ensures leads { result.leads ≡ leads.items }
+    {
+        PhysicalPlan {
+            plan,
+            choices,
+            leads,
+        }
+    }
+
+    /// The plan.
+    pub fn plan(&self) -> &ConceptPlan
+        ensures { result.now ≡ self.now.plan }
+    {
+        &self.plan
+    }
+
+    /// The choices of its leaves, which are the nodes that count pairs, of concepts or of groups: a node before its children, and
+    /// these in their order, the types of a leaf before its test. Each leaf has one that it offers.
+    pub fn choices(&self) -> &[Choice]
+        ensures choices { result.now ≡ self.now.choices }
+        ensures count { length self.now.choices ≡ leaves (plan_of self.now.plan) }
+        ensures offered { AreOffered self.now.choices (plan_of self.now.plan) }
+    {
+        self.choices.as_slice()
+    }
+
+    /// For each node that joins sets by AND, of concepts or of groups, a node before its children: the place of the part that finds
+    /// least, by its size at most. A plan is best executed from there.
+    pub fn leads(&self) -> &[u64]
+        ensures leads { result.now ≡ self.now.leads }
+        ensures led { (indexed : Indexed) × (self.now.leads ≡ leads_of indexed self.now.choices (plan_of self.now.plan)) }
+    {
+        self.leads.as_slice()
+    }
+}
+
+/// How many items a plan visits at most: the sum of the bounds of its nodes, or `u64::MAX` where it is larger. It takes no memory.
+pub fn bound(physical: &PhysicalPlan, indexes: &Indexes) -> u64
+    ensures { result ≡ capped (bound_of indexes.now physical.now.choices (plan_of physical.now.plan)) }
+{
+    cost(physical.plan(), physical.choices(), indexes).bound
+}
+
+/// How many items a plan visits at least, where none of its nodes is skipped: the sum of the floors of its nodes, or `u64::MAX` where it
+/// is larger. It takes no memory.
+pub fn floor(physical: &PhysicalPlan, indexes: &Indexes) -> u64
+    ensures { result ≡ capped (floor_of indexes.now physical.now.choices (plan_of physical.now.plan)) }
+{
+    plan_floor(physical.plan(), physical.choices(), indexes).floor
+}
