@@ -14,11 +14,11 @@ use Rattle.number_lists.specs.Members.{has}
 use Rattle.number_lists.specs.Rising.{listed_numbers, numbers_where}
 use Rattle.number_lists.proofs.WhereLemmas.{numbers_where-agree, there_where}
 use Rattle.number_lists.specs.KeyedLists.{AreItemsBelow, items_of, lists_by, list_of, turned, turned_from, with_key}
-use Rattle.snapshot.specs.Numbering.{row_of_numbers}
+use Rattle.held_release.specs.Numbering.{row_of_numbers}
 use Rattle.hierarchy.specs.ParentsFirst.{IsParentsFirst}
 use Rattle.number_lists.proofs.ListLemmas.{both_ways, same_maps}
 use Rattle.number_lists.proofs.KeyedLemmas.{items_of-append}
-use Rattle.snapshot.proofs.NumberingLemmas.{Reaches-map, numbers_again, row_by}
+use Rattle.held_release.proofs.NumberingLemmas.{Reaches-map, numbers_again, row_by}
 use Rattle.number_lists.proofs.BlockLemmas.{Contains-map}
 use Rattle.number_lists.proofs.PlaceLemmas.{place_of, place_of-get_or}
 use Rattle.number_lists.proofs.MemberLemmas.{any-has, contains_had, had_contained}

@@ -9,8 +9,8 @@ ghost use Rattle.ancestor_index.specs.Wide.{AreWordsOf, IsWide};
 use crate::closure::ancestor_lists;
 use crate::linked::linked_lists;
 use crate::wide::{WideLists, wide_lists};
+use held_release::Snapshot;
 use number_lists::KeyedLists;
-use snapshot::Snapshot;
 use std::alloc::{AllocError, Global};
 use std::marker::Model;
 

@@ -6,7 +6,7 @@ use Rattle.std.proofs.Math.Seq.{take-append_seam}
 use Rattle.std.proofs.lemmas.List.{at_drop_all, at_drop_more, length-map, length-take, take-append-le}
 use Rattle.number_lists.specs.Rising.{IsRisingBelow}
 use Rattle.idset.proofs.WordLemmas.{items_below}
-use Rattle.snapshot.specs.Line.{concept_line}
+use Rattle.held_release.specs.Line.{concept_line}
 use Rattle.answer_printer.specs.AnswerText.{answer_head, answer_text}
 use Rattle.answer_printer.specs.inside.Prefix.{IsPrefixOf}
 

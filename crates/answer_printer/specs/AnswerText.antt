@@ -4,7 +4,7 @@ use Rattle.std.specs.List.{flat_map}
 use Rattle.ecl_lexer.specs.Refusals.{feature_name}
 use Rattle.ecl_lexer.specs.declared.fault.QueryFault.{QueryFault}
 use Rattle.ecl_lexer.specs.declared.fault.QueryFault.TheVariants.{Long, Utf8, Token, Unsupported, Limit, Depth, Syntax, Memory}
-use Rattle.snapshot.specs.Line.{concept_line}
+use Rattle.held_release.specs.Line.{concept_line}
 
 -- a number on a line of its own
 abbrev pub number_line : ℕ → List ℕ

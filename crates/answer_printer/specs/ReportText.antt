@@ -1,6 +1,6 @@
 -- The text that tells what a loaded release has, in numbers.
 use Rattle.std.specs.Prelude.{ℕ, ◌++◌, List, codes}
-use Rattle.snapshot.specs.declared.report.Report.{Report}
+use Rattle.held_release.specs.declared.report.Report.{Report}
 use Rattle.answer_printer.specs.AnswerText.{number_line}
 
 -- a line for each number: the files that have a kind, the rows of the five lists, and the rows in none of them

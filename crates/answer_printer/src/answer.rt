@@ -2,14 +2,14 @@
 ghost use Rattle.std.specs.Prelude.{◌≡◌, ◌<◌, ◌++◌, All, false, IfErr, IfOk, is_err, length, map, OnErr, OnOk, slice_index};
 ghost use Rattle.std.specs.List.{flat_map};
 ghost use Rattle.streams.specs.Waiting.{LeavesAnswer, Puts, WritesFront, is_write};
-ghost use Rattle.snapshot.specs.Line.{concept_line};
-ghost use Rattle.snapshot.specs.Name.{name_of};
+ghost use Rattle.held_release.specs.Line.{concept_line};
+ghost use Rattle.held_release.specs.Name.{name_of};
 ghost use Rattle.answer_printer.specs.AnswerText.{answer_head, answer_text};
 ghost use Rattle.answer_printer.specs.inside.Prefix.{IsPrefixOf};
 
 use crate::numbers::append_number;
+use held_release::Snapshot;
 use idset::ConceptSet;
-use snapshot::Snapshot;
 use std::alloc::{AllocError, Global};
 use streams::{AnswerFault, AnswerOutput, IoFault, Piece};
 

@@ -6,8 +6,8 @@ ghost use Rattle.text_parts.specs.Parts.{texts_of};
 
 use crate::told_name::push_name;
 use rf2_rows::{RowCause, RowFault};
+use row_lists::LoadFault;
 use sctid::IdFault;
-use snapshot::LoadFault;
 use std::alloc::{AllocError, Global};
 
 /// Appends the line that tells why a release was refused: `REFUSED`, the kind of the fault, and then

@@ -4,7 +4,7 @@ ghost use Rattle.answer_printer.specs.AnswerText.{number_line};
 ghost use Rattle.answer_printer.specs.ReportText.{report_text};
 
 use crate::numbers::append_number;
-use snapshot::Report;
+use held_release::Report;
 use std::alloc::{AllocError, Global};
 
 /// Appends what a release has, in numbers, each on a line of its own behind a word: the files that have

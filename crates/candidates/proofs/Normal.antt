@@ -18,7 +18,7 @@ use Rattle.number_lists.specs.Rising.{IsRisingBelow}
 use Rattle.number_lists.proofs.RisingLemmas.{rises_from_on, rising_is_where}
 use Rattle.idset.proofs.Normal.{all_items-numbers_where}
 use Rattle.number_lists.proofs.WhereLemmas.{has-numbers_where_any, numbers_where-agree, numbers_where-all, numbers_where-none}
-use Rattle.snapshot.specs.Numbering.{concept_number}
+use Rattle.held_release.specs.Numbering.{concept_number}
 use Rattle.number_lists.proofs.PlaceLemmas.{place_of}
 use Rattle.number_lists.proofs.IncreasingLemmas.{earlier_below}
 use Rattle.number_lists.proofs.ListLemmas.{both_ways}

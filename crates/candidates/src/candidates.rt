@@ -6,7 +6,7 @@ ghost use Rattle.candidates.specs.Within.{AreBelow, may_be};
 
 use idset::ConceptSet;
 use postings::Indexes;
-use snapshot::Snapshot;
+use held_release::Snapshot;
 use std::alloc::{AllocError, Global};
 
 // To ask a concept by its own list takes about as long as to go through so many concepts, and to ask so few takes no longer

@@ -20,7 +20,7 @@ use pair_sets::values_along;
 use plan_bounds::{Choice, plan_floor};
 use postings::Indexes;
 use set_algebra::ConceptPlan;
-use snapshot::Snapshot;
+use held_release::Snapshot;
 use std::alloc::{AllocError, Global};
 
 /// The candidates among the concepts that a plan of dotted attributes means.

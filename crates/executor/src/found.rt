@@ -20,7 +20,7 @@ use pair_sets::with_groups;
 use plan_bounds::Choice;
 use postings::Indexes;
 use set_algebra::{ConceptPlan, UnitPlan};
-use snapshot::Snapshot;
+use held_release::Snapshot;
 use std::alloc::{AllocError, Global};
 use walks::{
     items_from_all, items_unlisted, keeps_apart, led_among, members_way, members_within, walk_way,

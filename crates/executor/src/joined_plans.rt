@@ -20,7 +20,7 @@ use idset::ConceptSet;
 use plan_bounds::{Choice, plan_floor};
 use postings::Indexes;
 use set_algebra::ConceptPlan;
-use snapshot::Snapshot;
+use held_release::Snapshot;
 use std::alloc::{AllocError, Global};
 
 /// The candidates among the concepts that all of some plans mean; of no plans each candidate. One part is executed

@@ -11,7 +11,7 @@ ghost use Rattle.candidates.specs.Within.{AreBelow, may_be};
 use candidates::{Candidates, restricted};
 use idset::ConceptSet;
 use postings::Indexes;
-use snapshot::Snapshot;
+use held_release::Snapshot;
 use std::alloc::{AllocError, Global};
 
 /// No concept.

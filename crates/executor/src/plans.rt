@@ -30,7 +30,7 @@ use pair_sets::{Tested, count_of_test, groups_of, with_pairs_within, without};
 use plan_bounds::{Choice, PhysicalPlan, after_first, first_choice, plan_floor, unit_size};
 use postings::Indexes;
 use set_algebra::{ConceptPlan, UnitPlan, ValueTest};
-use snapshot::Snapshot;
+use held_release::Snapshot;
 use std::alloc::{AllocError, Global};
 
 /// The concepts that a plan means over a release, as a set of their numbers whose bound is the number of concepts, whatever the

@@ -14,7 +14,7 @@ use idset::ConceptSet;
 use plan_bounds::{Choice, plan_floor, plan_size, unit_floor, unit_size};
 use postings::Indexes;
 use set_algebra::{ConceptPlan, UnitPlan};
-use snapshot::Snapshot;
+use held_release::Snapshot;
 use std::alloc::{AllocError, Global};
 
 /// With what the second part is executed.

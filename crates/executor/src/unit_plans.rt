@@ -26,7 +26,7 @@ use pair_sets::{Tested, count_of_test, groups_with_pairs_within, without};
 use plan_bounds::{Choice, after_first, first_choice, plan_floor, unit_floor};
 use postings::Indexes;
 use set_algebra::{ConceptPlan, UnitPlan, ValueTest};
-use snapshot::Snapshot;
+use held_release::Snapshot;
 use std::alloc::{AllocError, Global};
 
 /// The candidates among the groups that a plan means, as a set of their numbers whose bound is the number of groups; they are

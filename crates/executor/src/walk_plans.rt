@@ -18,7 +18,7 @@ use idset::ConceptSet;
 use plan_bounds::Choice;
 use postings::Indexes;
 use set_algebra::ConceptPlan;
-use snapshot::Snapshot;
+use held_release::Snapshot;
 use std::alloc::{AllocError, Global};
 use walks::{enough_for, items_enough};
 

@@ -20,7 +20,7 @@ use Rattle.number_lists.specs.Members.{has, times}
 use Rattle.number_lists.specs.Rising.{numbers_where}
 use Rattle.number_lists.proofs.WhereLemmas.{numbers_where-agree}
 use Rattle.set_algebra.specs.Meaning.{has_pairs, pairs_of}
-use Rattle.snapshot.specs.AttributesBySource.{attributes_by_source}
+use Rattle.held_release.specs.AttributesBySource.{attributes_by_source}
 use Rattle.number_lists.proofs.MemberLemmas.{had_contained, contains_had}
 use Rattle.number_lists.proofs.BlockLemmas.{Contains-map, filter-all}
 use Rattle.number_lists.proofs.IncreasingLemmas.{earlier_below}

@@ -15,7 +15,7 @@ use Rattle.constraint_tree.specs.declared.operator.Compare.{Compare}
 use Rattle.constraint_tree.specs.declared.operator.Compare.TheVariants as comparison
 use Rattle.constraint_tree.specs.Passing.{compares, is_number_that, is_outside, is_within}
 use Rattle.rf2_rows.specs.Release.{Value, concept_value, number_value, text_value}
-use Rattle.snapshot.specs.Numbering.{concept_number}
+use Rattle.held_release.specs.Numbering.{concept_number}
 use Rattle.postings.specs.Indexed.{Indexed, value_at, values_among, values_of}
 use Rattle.postings.proofs.ValueLemmas.{concept_at, decimal_at, value_behind}
 use Rattle.pair_sets.specs.inside.Hits.{value_of}

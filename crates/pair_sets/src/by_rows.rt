@@ -20,7 +20,7 @@ use candidates::Candidates;
 use constraint_tree::Cardinality;
 use idset::ConceptSet;
 use postings::Indexes;
-use snapshot::Snapshot;
+use held_release::Snapshot;
 use std::alloc::{AllocError, Global};
 
 /// By the rows of some concepts, which rise: the concepts so many of whose pairs have a type that is one of some and one of

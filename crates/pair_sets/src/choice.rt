@@ -16,7 +16,7 @@ use candidates::{Extent, are_read_before, look_ups, rows_of_value};
 use idset::ConceptSet;
 use postings::Indexes;
 use set_algebra::Choice;
-use snapshot::Snapshot;
+use held_release::Snapshot;
 use std::alloc::{AllocError, Global};
 
 // To look up a value takes about as long as to read so many rows that stand side by side.

@@ -22,7 +22,7 @@ use constraint_tree::Cardinality;
 use idset::ConceptSet;
 use postings::Indexes;
 use set_algebra::{Choice, NodeLimits};
-use snapshot::Snapshot;
+use held_release::Snapshot;
 use std::alloc::{AllocError, Global};
 
 /// The candidates so many of whose distinct pairs, their own or those read backwards, have a type in a set and a value

@@ -8,7 +8,7 @@ ghost use Rattle.candidates.specs.Numbers.{is_one_of};
 use idset::{ConceptSet, is_marked, marks_of};
 use postings::Indexes;
 use sctid::SctId;
-use snapshot::Snapshot;
+use held_release::Snapshot;
 use std::alloc::{AllocError, Global};
 
 /// The types of rows that are in a set.

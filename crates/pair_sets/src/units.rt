@@ -13,7 +13,7 @@ use crate::counts::as_often;
 use constraint_tree::Cardinality;
 use idset::ConceptSet;
 use postings::Indexes;
-use snapshot::Snapshot;
+use held_release::Snapshot;
 use std::alloc::{AllocError, Global};
 
 /// The concepts so many of whose groups are among some (Release File Specification, "Relationship file",

@@ -3,7 +3,7 @@ use Rattle.std.proofs.Common.{ℕ, ◌≡◌, ◌<◌, List, Some, length}
 use Rattle.std.proofs.lemmas.List.Quantifiers.{position-Some}
 use Rattle.constraint_tree.specs.declared.operator.Operator.{Operator}
 use Rattle.constraint_tree.specs.declared.operator.Operator.TheVariants.{Descendants, DescendantsOrSelf, Children, ChildrenOrSelf, Ancestors, AncestorsOrSelf, Parents, ParentsOrSelf, Top, Bottom}
-use Rattle.snapshot.specs.Numbering.{concept_number}
+use Rattle.held_release.specs.Numbering.{concept_number}
 use Rattle.ancestor_index.specs.HierarchyLists.{Hierarchy}
 use Rattle.postings.specs.Indexed.{HasListsFor}
 use Rattle.plan_bounds.specs.Counts.{lists_along}

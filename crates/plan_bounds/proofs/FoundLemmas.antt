@@ -25,9 +25,9 @@ use Rattle.number_lists.proofs.ListLemmas.{passing_item, some_item_passes, IsOnc
 use Rattle.constraint_tree.proofs.WalkLemmas.{tells_in_force}
 use Rattle.set_algebra.specs.Meaning.{unit_means, has_groups, means, value_passes}
 use Rattle.set_algebra.specs.Plan.{Plan, empty_plan, one_plan, walk_plan, members_plan, pairs_plan, pairs_units, TestPlan, within_plan}
-use Rattle.snapshot.specs.AttributesBySource.{attributes_by_source}
-use Rattle.snapshot.specs.Numbering.{concept_number}
-use Rattle.snapshot.proofs.NumberingLemmas.{concept_number-has}
+use Rattle.held_release.specs.AttributesBySource.{attributes_by_source}
+use Rattle.held_release.specs.Numbering.{concept_number}
+use Rattle.held_release.proofs.NumberingLemmas.{concept_number-has}
 use Rattle.number_lists.proofs.PlaceLemmas.{place_of}
 use Rattle.ancestor_index.specs.HierarchyLists.{Hierarchy, lists_where}
 use Rattle.ancestor_index.specs.HierarchyLists.{is_child as leads_to}

@@ -5,7 +5,7 @@ use Rattle.constraint_tree.specs.declared.operator.Operator.{Operator}
 use Rattle.constraint_tree.specs.declared.operator.Operator.TheVariants.{Descendants, DescendantsOrSelf, Children, ChildrenOrSelf, Ancestors, AncestorsOrSelf, Parents, ParentsOrSelf, Top, Bottom}
 use Rattle.set_algebra.specs.Plan.{Plan, empty_plan, all_plan, one_plan, walk_plan, members_plan, and_plan, or_plan, minus_plan, values_plan, pairs_plan, units_plan, TestPlan, within_plan, outside_plan, number_plan}
 use Rattle.number_lists.specs.KeyedLists.{list_of}
-use Rattle.snapshot.specs.Numbering.{concept_number}
+use Rattle.held_release.specs.Numbering.{concept_number}
 use Rattle.ancestor_index.specs.HierarchyLists.{Hierarchy}
 use Rattle.postings.specs.Indexed.{Indexed, rows_by_source, rows_by_value}
 use Rattle.postings.specs.Stats.{stats_in, type_row_count}

@@ -1,7 +1,7 @@
 -- How many items a plan visits at least, none of its nodes being skipped.
 use Rattle.std.specs.Prelude.{ℕ, Bool, false, List, Option, None, Some, if◌then◌else◌, length, ◌≤◌}
 use Rattle.set_algebra.specs.Plan.{Plan, empty_plan, all_plan, one_plan, walk_plan, members_plan, and_plan, or_plan, minus_plan, values_plan, pairs_plan, units_plan, PlanOfUnits, nothing_unit, every_unit, and_units, or_units, minus_units, pairs_units, TestPlan, within_plan, outside_plan, number_plan}
-use Rattle.snapshot.specs.Numbering.{concept_number}
+use Rattle.held_release.specs.Numbering.{concept_number}
 use Rattle.postings.specs.Indexed.{Indexed}
 use Rattle.postings.specs.Stats.{type_row_count}
 use Rattle.set_algebra.specs.declared.choice.Choice.{Choice}

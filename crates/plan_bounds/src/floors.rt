@@ -1,7 +1,7 @@
 //! The floor of a plan, node by node.
 ghost use Rattle.std.specs.Prelude.{◌≡◌, ◌+◌, drop, if◌then◌else◌, suc};
 ghost use Rattle.set_algebra.specs.Plan.{unit_plan_of, unit_plans_of, plan_of, plans_of, test_plan_of};
-ghost use Rattle.snapshot.specs.Numbering.{concept_number};
+ghost use Rattle.held_release.specs.Numbering.{concept_number};
 ghost use Rattle.plan_bounds.specs.Bounds.{capped};
 ghost use Rattle.plan_bounds.specs.Counts.{is_extreme as is_extreme_of, list_length as list_length_of, member_count as member_count_of, one_of};
 ghost use Rattle.plan_bounds.specs.Floors.{floor as floor_of, floor_number, if_in_force, leaf_floor as leaf_floor_of, of_one, within_floor};

@@ -7,7 +7,7 @@ use Rattle.constraint_tree.specs.WorkedQueries.{at_least, two}
 use Rattle.set_algebra.specs.Lowering.{both_plan}
 use Rattle.set_algebra.specs.Plan.{Plan, all_plan, and_units, units_from, number_plan, one_plan, pairs_plan, units_plan, within_plan}
 use Rattle.set_algebra.specs.WorkedPlans.{below_alpha_plan, u_group, x_group}
-use Rattle.snapshot.specs.AttributesBySource.{attributes_by_source}
+use Rattle.held_release.specs.AttributesBySource.{attributes_by_source}
 use Rattle.ancestor_index.specs.HierarchyLists.{hierarchy_of}
 use Rattle.postings.specs.Indexed.{Indexed, members_of}
 use Rattle.postings.specs.Stats.{stats_in}

@@ -5,7 +5,7 @@ use postings::Indexes;
 use release_files::NamedBytes;
 use sample_release::sample_files;
 use set_algebra::{ConceptPlan, lower};
-use snapshot::{Limits, LoadFault, Snapshot};
+use snapshot::{Limits, LoadFault, LoadSnapshot, Snapshot};
 use std::alloc::{AllocError, Global};
 use std::process::Abort;
 use std::test::Fail;

@@ -7,9 +7,9 @@ use Rattle.std.proofs.lemmas.Option.{slice_get-get_or}
 use Rattle.rf2_rows.specs.Release.{Attribute, Value}
 use Rattle.rf2_rows.specs.Rows.{value_lent}
 use Rattle.rf2_rows.specs.declared.value.Value.{Value as LentValue}
-use Rattle.snapshot.specs.AttributesBySource.{attribute_of, with_source}
+use Rattle.held_release.specs.AttributesBySource.{attribute_of, with_source}
 use Rattle.hierarchy.specs.Hierarchy.{IsWithin}
-use Rattle.snapshot.specs.Numbering.{row_of_numbers}
+use Rattle.held_release.specs.Numbering.{row_of_numbers}
 use Rattle.ancestor_index.specs.HierarchyLists.{is_child, lists_where}
 use Rattle.ancestor_index.proofs.BuildLemmas.{lists_where-agree, same_child}
 use Rattle.ancestor_index.proofs.ClosureLemmas.{length-where}

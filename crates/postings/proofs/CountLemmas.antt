@@ -25,7 +25,7 @@ use Rattle.number_lists.specs.Distinct.{distinct}
 use Rattle.rf2_rows.specs.Release.{Attribute, Release, Value, concept_value}
 use Rattle.number_lists.proofs.DistinctLemmas.{keeps_each_number_once}
 use Rattle.rf2_rows.proofs.PairLemmas.{keeps_each_pair_once, tells_same_pair, tells_same_value}
-use Rattle.snapshot.specs.AttributesBySource.{attributes_by_source}
+use Rattle.held_release.specs.AttributesBySource.{attributes_by_source}
 use Rattle.number_lists.specs.Members.{has}
 use Rattle.number_lists.specs.RisingOrder.{rising}
 use Rattle.number_lists.proofs.RisingOrderLemmas.{keeps_rising}

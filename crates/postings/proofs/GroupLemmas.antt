@@ -14,7 +14,7 @@ use Rattle.number_lists.specs.Rising.{IsRising}
 use Rattle.number_lists.specs.Members.{has}
 use Rattle.idset.specs.Sets.{place_of}
 use Rattle.idset.proofs.Places.{below_place, has-place, place_le}
-use Rattle.snapshot.proofs.FinishLemmas.{length-rising}
+use Rattle.held_release.proofs.FinishLemmas.{length-rising}
 use Rattle.postings.specs.inside.Coded.{code_eq, group_codes, ungrouped_pairs, numbers_of_groups, pair_code, place_in_source}
 use Rattle.postings.specs.declared.rows.CodedRow.{CodedRow}
 use Rattle.postings.proofs.DistinctLemmas.{filter-map_agree, length-distinct, position-distinct}

@@ -9,7 +9,7 @@ use Rattle.std.proofs.lemmas.List.{get_or_default, get_or-map, get_or-set_other,
 use Rattle.std.proofs.lemmas.List.FromFn.{get_or-map-range_with_len, length-map-range_with_len}
 use Rattle.std.proofs.lemmas.Option.{slice_get_within}
 use Rattle.rf2_rows.specs.Release.{Attribute, Release}
-use Rattle.snapshot.specs.AttributesBySource.{attributes_by_source}
+use Rattle.held_release.specs.AttributesBySource.{attributes_by_source}
 use Rattle.number_lists.proofs.ListLemmas.{same_maps}
 use Rattle.postings.specs.inside.Coded.{AreCoded, AreCodedRows, AreRowMarks, has_same_pair, of_source, row_coded, source_marks}
 use Rattle.postings.specs.inside.Cells.{AreRowLists}
@@ -23,7 +23,7 @@ use Rattle.postings.specs.declared.groups.RowMarks.{RowMarks}
 use Rattle.postings.specs.declared.row_indexes.RowIndexes.{RowIndexes}
 use Rattle.postings.specs.declared.rows.CodedRow.{CodedRow}
 use Rattle.postings.specs.declared.rows.CodedRows.{CodedRows}
-use Rattle.snapshot.specs.declared.attribute_types.Types.{Types}
+use Rattle.held_release.specs.declared.attribute_types.Types.{Types}
 use Rattle.postings.specs.declared.values.Values.{Values}
 use Rattle.number_lists.proofs.BlockLemmas.{blocks-same, items_by_place, map-flat_map}
 use Rattle.postings.proofs.CellLemmas.{long_cells}

@@ -7,7 +7,7 @@ use Rattle.std.proofs.lemmas.List.{length-map, take_all}
 use Rattle.rf2_rows.specs.Pairs.{value_eq}
 use Rattle.rf2_rows.specs.Release.{Attribute, Release, Value}
 use Rattle.number_lists.proofs.DistinctLemmas.{keeps_each_number_once}
-use Rattle.snapshot.specs.AttributesBySource.{attributes_by_source}
+use Rattle.held_release.specs.AttributesBySource.{attributes_by_source}
 use Rattle.number_lists.proofs.ListLemmas.{same_maps}
 use Rattle.postings.specs.inside.Coded.{AreCodedRows, AreRowMarks, IsBySource, IsCoded, all_group_marks, all_source_marks}
 use Rattle.postings.specs.inside.Coded.{row_coded}

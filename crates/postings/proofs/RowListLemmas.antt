@@ -8,7 +8,7 @@ use Rattle.std.proofs.lemmas.List.{length-map}
 use Rattle.std.proofs.lemmas.List.Elements.{All-map, All-weaker}
 use Rattle.std.proofs.lemmas.Simd.{map-map}
 use Rattle.rf2_rows.specs.Release.{Attribute, Release, Value}
-use Rattle.snapshot.specs.AttributesBySource.{attributes_by_source}
+use Rattle.held_release.specs.AttributesBySource.{attributes_by_source}
 use Rattle.number_lists.specs.KeyedLists.{list_of}
 use Rattle.postings.specs.inside.Coded.{AreCodedRows, AreRowMarks, IsCoded, row_coded}
 use Rattle.postings.specs.inside.Cells.{AreOfOneLength, AreRowLists, IsColumn, cells_of}

@@ -6,7 +6,7 @@ use Rattle.std.specs.List.{flat_map, range_with_len}
 use Rattle.std.proofs.lemmas.Bool.{cases_eq, eqb-true}
 use Rattle.std.proofs.lemmas.List.{get_or_append_left, get_or_push}
 use Rattle.std.proofs.lemmas.List.Elements.{filter_passes}
-use Rattle.snapshot.proofs.SortedLemmas.{flat_map-more}
+use Rattle.held_release.proofs.SortedLemmas.{flat_map-more}
 use Rattle.postings.specs.inside.Coded.{IsBySource, group_codes, groups_ahead, of_source}
 use Rattle.postings.specs.declared.rows.CodedRow.{CodedRow}
 use Rattle.postings.proofs.GroupLemmas.{length-group_codes-le}

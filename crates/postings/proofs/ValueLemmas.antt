@@ -17,8 +17,8 @@ use Rattle.std.proofs.lemmas.Option.{get_or_from_slice_get, slice_get-get_or, sl
 use Rattle.rf2_rows.specs.Pairs.{value_eq}
 use Rattle.rf2_rows.specs.Release.{Attribute, Value, concept_value, number_value, text_value}
 use Rattle.rf2_rows.proofs.PairLemmas.{tells_same_value}
-use Rattle.snapshot.specs.AttributesBySource.{value_by_identifier}
-use Rattle.snapshot.specs.ValuesInForce.{is_value_among}
+use Rattle.held_release.specs.AttributesBySource.{value_by_identifier}
+use Rattle.held_release.specs.ValuesInForce.{is_value_among}
 use Rattle.number_lists.proofs.MemberLemmas.{contains_had}
 use Rattle.number_lists.proofs.BlockLemmas.{Contains-map}
 use Rattle.number_lists.proofs.IncreasingLemmas.{earlier_below}

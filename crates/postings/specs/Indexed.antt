@@ -4,8 +4,8 @@ use Rattle.std.specs.Prelude.{ℕ, ℤ, ◌≡◌, ◌==◌, ◌++◌, List, [],
 use Rattle.number_lists.specs.Distinct.{distinct}
 use Rattle.rf2_rows.specs.Pairs.{value_eq}
 use Rattle.rf2_rows.specs.Release.{Attribute, Release, Value, concept_value, number_value, text_value}
-use Rattle.snapshot.specs.AttributesBySource.{attributes_by_source}
-use Rattle.snapshot.specs.Numbering.{concept_number}
+use Rattle.held_release.specs.AttributesBySource.{attributes_by_source}
+use Rattle.held_release.specs.Numbering.{concept_number}
 use Rattle.ancestor_index.specs.HierarchyLists.{Hierarchy, hierarchy_of, is_child, lists_where}
 use Rattle.postings.specs.Places.{places_where}
 use Rattle.postings.specs.RowValues.{AreTablesOf}

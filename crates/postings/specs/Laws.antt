@@ -4,7 +4,7 @@ use Rattle.std.specs.List.Sorted.{IsStrictlyIncreasing}
 use Rattle.rf2_rows.specs.Groups.{groups_of}
 use Rattle.rf2_rows.specs.Pairs.{Pair, in_pairs, out_pairs, pair_of, reverse_pair_of, value_eq}
 use Rattle.rf2_rows.specs.Release.{Attribute, Release, concept_value}
-use Rattle.snapshot.specs.AttributesBySource.{attributes_by_source}
+use Rattle.held_release.specs.AttributesBySource.{attributes_by_source}
 use Rattle.number_lists.specs.Members.{has}
 use Rattle.postings.specs.Entries.{Entry, entries_of}
 use Rattle.postings.specs.Groups.{ConceptGroup, all_groups, groups_among, is_in_group, pairs_of_group, rows_alone}

@@ -4,7 +4,7 @@ use Rattle.std.specs.List.{concat}
 use Rattle.rf2_rows.specs.Groups.{groups_of}
 use Rattle.rf2_rows.specs.Release.{Release}
 use Rattle.hierarchy.specs.Hierarchy.{reaches}
-use Rattle.snapshot.specs.AttributesBySource.{attributes_by_source}
+use Rattle.held_release.specs.AttributesBySource.{attributes_by_source}
 use Rattle.ancestor_index.specs.HierarchyLists.{is_child}
 use Rattle.postings.specs.Groups.{groups_in}
 use Rattle.postings.specs.Indexed.{Indexed, rows_by_type}

@@ -2,7 +2,7 @@
 ghost use Rattle.std.specs.Prelude.{ℕ, ◌≡◌, ◌+◌, ◌-◌, ◌≤◌, ◌<◌, ◌^◌, All, IfOk, Some, length, map, slice_get, slice_index, vec_len};
 ghost use Rattle.postings.specs.inside.Cells.{AreOfOneLength, AreRowLists};
 ghost use Rattle.std.specs.List.{concat};
-ghost use Rattle.snapshot.specs.AttributesBySource.{attributes_by_source};
+ghost use Rattle.held_release.specs.AttributesBySource.{attributes_by_source};
 ghost use Rattle.postings.specs.inside.Coded.{AreRowMarks, IsBySource};
 ghost use Rattle.postings.specs.Columns.{Flagged};
 ghost use Rattle.postings.specs.inside.KeptRows.{AreNumbersOf, HaveOneNumber, IsKept, mark_at, row_kept, rows_between};
@@ -15,8 +15,8 @@ use crate::groups::{RowMarks, row_marks};
 use crate::lists::{places_among, places_by_key};
 use crate::rows::{CodedRow, coded_rows};
 use crate::values::Values;
+use held_release::{Snapshot, Types};
 use number_lists::KeyedLists;
-use snapshot::{Snapshot, Types};
 use std::alloc::{AllocError, Global};
 
 /// The attribute rows of a release, and the rows of each source, type, value and group. A row is told by the place

@@ -1,12 +1,12 @@
 //! Attribute rows by numbers.
 ghost use Rattle.std.specs.Prelude.{◌≡◌, IfOk};
-ghost use Rattle.snapshot.specs.AttributesBySource.{attributes_by_source};
+ghost use Rattle.held_release.specs.AttributesBySource.{attributes_by_source};
 ghost use Rattle.postings.specs.inside.Coded.{AreCodedRows, pair_code};
 ghost use Rattle.postings.specs.inside.PairKeys.{IsShort, grouped_key, pair_key};
 
 use crate::values::{Values, row_values};
 use first_met::FirstMet;
-use snapshot::{Snapshot, Types, near_types};
+use held_release::{Snapshot, Types, near_types};
 use std::alloc::{AllocError, Global};
 
 /// An attribute row: the number of its source, the place of its type among all types, its group, and the number of its value.

@@ -1,10 +1,10 @@
 //! Texts, all in one vector.
 ghost use Rattle.std.specs.Prelude.{ℕ, ◌≡◌, ◌↔◌, ◌≤◌, ◌<◌, ◌+◌, ◌++◌, ◌∷◌, [], List, Contains, IfOk, Some, length, map, slice_get, slice_index_or};
 ghost use Rattle.std.specs.List.Sorted.{IsStrictlySortedBy};
-ghost use Rattle.snapshot.specs.AttributesBySource.{attributes_by_source};
+ghost use Rattle.held_release.specs.AttributesBySource.{attributes_by_source};
 ghost use Rattle.postings.specs.RowValues.{text_cmp, texts_of};
 
-use snapshot::{NumberedValue, Snapshot};
+use held_release::{NumberedValue, Snapshot};
 use std::alloc::{AllocError, Global};
 use std::marker::Model;
 

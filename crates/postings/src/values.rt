@@ -5,14 +5,14 @@ ghost use Rattle.std.specs.List.Sorted.{IsStrictlySortedBy};
 ghost use Rattle.std.specs.Ordering.{int_cmp};
 ghost use Rattle.rf2_rows.specs.Release.{Attribute, number_value, text_value};
 ghost use Rattle.rf2_rows.specs.Rows.{value_lent};
-ghost use Rattle.snapshot.specs.AttributesBySource.{IsNumberBelow, attributes_by_source, numbered_lent, value_by_identifier};
+ghost use Rattle.held_release.specs.AttributesBySource.{IsNumberBelow, attributes_by_source, numbered_lent, value_by_identifier};
 ghost use Rattle.postings.specs.Indexed.{value_at};
 ghost use Rattle.postings.specs.RowValues.{AreTables, AreTablesOf, decimals_at, decimals_of};
 ghost use Rattle.postings.specs.inside.ValueTables.{values_in};
 
 use crate::texts::{Texts, texts_among};
+use held_release::{NumberedValue, Snapshot};
 use rf2_rows::{Decimal, Value};
-use snapshot::{NumberedValue, Snapshot};
 use std::alloc::{AllocError, Global};
 
 /// The decimals and the other texts among the values of attribute rows, rising and each once. Together with the concepts

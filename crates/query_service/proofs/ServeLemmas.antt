@@ -4,13 +4,14 @@ use Rattle.std.specs.Prelude.{IfSome}
 use Rattle.std.proofs.lemmas.Bool.{true≢false}
 use Rattle.std.proofs.lemmas.List.{length-map}
 use Rattle.std.specs.Io.KnownBytes.{Appends}
-use Rattle.snapshot.specs.Contents.{Contents, IsFaultOf, load_of}
+use Rattle.held_release.specs.Contents.{Contents, IsFaultOf}
+use Rattle.snapshot.specs.Load.{load_of}
 use Rattle.release_files.specs.Source.{FileText}
 use Rattle.release_rows.specs.Limits.{standard_limits}
 use Rattle.release_rows.specs.Pieces.{AreInOrder, FailsToList, listed}
 use Rattle.release_rows.specs.DeviceFaults.{FailsBelow, is_device}
-use Rattle.release_rows.specs.declared.fault.LoadFault.{LoadFault}
-use Rattle.release_rows.specs.declared.fault.LoadFault.TheVariants as load
+use Rattle.row_lists.specs.declared.fault.LoadFault.{LoadFault}
+use Rattle.row_lists.specs.declared.fault.LoadFault.TheVariants as load
 use Rattle.release_rows.specs.declared.limits.Limits.{Limits}
 use Rattle.answer_printer.specs.ReportText.{report_text}
 use Rattle.query_run.specs.Fault.{CountsTurns, HaveFailed}

@@ -4,8 +4,8 @@ use Rattle.ecl_lexer.specs.declared.fault.QueryFault.{QueryFault}
 use Rattle.constraint_tree.specs.Denotation.{denotation}
 use Rattle.constraint_tree.specs.Refusal.{IsConstraint, IsRefusalOf}
 use Rattle.constraint_tree.specs.Tree.{Tree}
-use Rattle.snapshot.specs.Contents.{Contents}
-use Rattle.snapshot.specs.Name.{name_of}
+use Rattle.held_release.specs.Contents.{Contents}
+use Rattle.held_release.specs.Name.{name_of}
 use Rattle.answer_printer.specs.AnswerText.{answer_text, refusal_text}
 
 -- what answers a constraint: `OK` and the concepts that it denotes, with their names

@@ -6,7 +6,7 @@ use Rattle.set_algebra.specs.Lowering.{lowered}
 use Rattle.set_algebra.specs.Meaning.{means}
 use Rattle.set_algebra.specs.Plan.{Plan}
 use Rattle.rewrites.specs.Simplified.{simplified}
-use Rattle.snapshot.specs.Contents.{Contents}
+use Rattle.held_release.specs.Contents.{Contents}
 use Rattle.postings.specs.Indexed.{Indexed, IsIndexOf}
 use Rattle.planner.specs.Chosen.{least_choices}
 use Rattle.plan_bounds.specs.Offered.{AreLeast}

@@ -1,7 +1,7 @@
 -- What a report says of a loaded release.
 use Rattle.std.specs.Prelude.{length}
-use Rattle.snapshot.specs.Contents.{Contents}
-use Rattle.snapshot.specs.declared.report.Report.{Report}
+use Rattle.held_release.specs.Contents.{Contents}
+use Rattle.held_release.specs.declared.report.Report.{Report}
 
 -- the number of files, the lengths of the five lists, and the number of rows in none of them
 abbrev pub report_of : Contents → Report

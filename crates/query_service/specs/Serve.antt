@@ -1,13 +1,14 @@
 -- What a request ends with: a status, and what it says of what was read, written and told.
 use Rattle.std.specs.Prelude.{ℕ, ◌≡◌, ◌≢◌, ◌⊎◌, ◌<◌, false, true, List, [], codes, length, take, IfErr, IfSome, Option, Result, Ok, Err, ⊤}
 use Rattle.std.specs.Io.KnownBytes.{Appends, IsAtEnd}
-use Rattle.snapshot.specs.Contents.{Contents, load_of}
+use Rattle.held_release.specs.Contents.{Contents}
+use Rattle.snapshot.specs.Load.{load_of}
 use Rattle.release_files.specs.Source.{FileText}
 use Rattle.release_rows.specs.Limits.{standard_limits}
 use Rattle.release_rows.specs.Pieces.{AreInOrder, FailsToList, IsUnlisted, listed}
 use Rattle.release_rows.specs.DeviceFaults.{FailsBelow, RaisesOnlyAtDevice, is_device}
-use Rattle.release_rows.specs.declared.fault.LoadFault.{LoadFault}
-use Rattle.release_rows.specs.declared.fault.LoadFault.TheVariants as load
+use Rattle.row_lists.specs.declared.fault.LoadFault.{LoadFault}
+use Rattle.row_lists.specs.declared.fault.LoadFault.TheVariants as load
 use Rattle.answer_printer.specs.LoadRefusal.{load_refusal}
 use Rattle.answer_printer.specs.ReportText.{report_text}
 use Rattle.query_run.specs.Fault.{CountsTurns, EndsAt, HaveFailed}

@@ -2,7 +2,8 @@
 ghost use Rattle.std.specs.Prelude.{◌≡◌, ◌⊎◌, ℕ, false, IfErr, IfOk, IfSome, List, Ok, OnOk, map, string_bytes};
 ghost use Rattle.std.specs.Io.KnownBytes.{IsAtEnd};
 ghost use Rattle.release_files.specs.Source.{file_text};
-ghost use Rattle.snapshot.specs.Contents.{Contents, IsFaultOf, load_of};
+ghost use Rattle.held_release.specs.Contents.{Contents, IsFaultOf};
+ghost use Rattle.snapshot.specs.Load.{load_of};
 ghost use Rattle.release_rows.specs.Pieces.{AreInOrder, FailsAtFiles, IsUnlisted, listed};
 ghost use Rattle.release_rows.specs.DeviceFaults.{RaisesOnlyAtDevice, is_device};
 ghost use Rattle.query_run.specs.Fault.{CountsTurns, EndsAt, HaveFailed};

@@ -2,7 +2,7 @@
 ghost use Rattle.std.specs.Prelude.{◌≡◌, ◌⊎◌, false, Err, IfErr, IfOk, IfSome, Ok, OnOk, map, string_bytes};
 ghost use Rattle.std.specs.Io.KnownBytes.{IsAtEnd};
 ghost use Rattle.text_parts.specs.Parts.{texts_of};
-ghost use Rattle.snapshot.specs.Contents.{Contents, IsFaultOf};
+ghost use Rattle.held_release.specs.Contents.{Contents, IsFaultOf};
 ghost use Rattle.release_rows.specs.Pieces.{AreInOrder, FailsAtFiles, IsUnlisted};
 ghost use Rattle.release_rows.specs.DeviceFaults.{RaisesOnlyAtDevice};
 ghost use Rattle.sample_release.specs.SampleContents.{sample_contents};

@@ -5,7 +5,7 @@ use Rattle.constraint_tree.specs.Denotation.{denotes}
 use Rattle.constraint_tree.specs.Tree.{Tree}
 use Rattle.set_algebra.specs.Meaning.{means}
 use Rattle.set_algebra.specs.Plan.{Plan}
-use Rattle.snapshot.specs.Contents.{Contents}
+use Rattle.held_release.specs.Contents.{Contents}
 use Rattle.postings.specs.Indexed.{Indexed, IsIndexOf}
 use Rattle.set_algebra.specs.declared.choice.Choice.{Choice}
 use Rattle.planner.specs.Chosen.{least_choices}

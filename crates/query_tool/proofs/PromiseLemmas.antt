@@ -12,17 +12,18 @@ use Rattle.number_lists.specs.Members.{has}
 use Rattle.number_lists.proofs.MemberLemmas.{contains_had, had_contained}
 use Rattle.constraint_tree.specs.Denotation.{denotation, denotes}
 use Rattle.release_files.specs.Source.{FileText}
-use Rattle.snapshot.specs.Contents.{Contents, contents_of, load_of, loaded_from, unless_faulty}
+use Rattle.held_release.specs.Contents.{Contents}
+use Rattle.snapshot.specs.Load.{contents_of, load_of, loaded_from, unless_faulty}
 use Rattle.release_rows.specs.Files.{text_of_row, has_kind, is_concept_file, places_from, rows_of}
 use Rattle.release_rows.specs.Faults.{first_fault}
 use Rattle.rf2_rows.specs.declared.row.ConceptRow.{ConceptRow}
 use Rattle.release_rows.specs.Chosen.{chosen}
-use Rattle.release_rows.specs.InForce.{concept_rows}
+use Rattle.row_lists.specs.InForce.{concept_rows}
 use Rattle.number_lists.specs.RisingOrder.{KeepsRising}
 use Rattle.release_rows.specs.Limits.{limits_in_force, standard_limits}
 use Rattle.release_rows.specs.Pieces.{listed}
-use Rattle.release_rows.specs.declared.fault.LoadFault.{LoadFault}
-use Rattle.release_rows.specs.declared.fault.LoadFault.TheVariants.{NoConceptFile}
+use Rattle.row_lists.specs.declared.fault.LoadFault.{LoadFault}
+use Rattle.row_lists.specs.declared.fault.LoadFault.TheVariants.{NoConceptFile}
 use Rattle.command_line.specs.declared.words.Mode.{Mode}
 use Rattle.command_line.specs.declared.words.Mode.TheVariants.{Query}
 use Rattle.query_run.specs.Lines.{AreAnswers, AreWritten, query_lines}

@@ -7,7 +7,7 @@ use Rattle.ecl_lexer.specs.declared.fault.QueryFault.{QueryFault}
 use Rattle.ecl_lexer.specs.declared.fault.QueryFault.TheVariants.{Long, Utf8, Token, Unsupported, Limit, Depth, Syntax, Memory}
 use Rattle.constraint_tree.specs.Refusal.{IsRefusalOf}
 use Rattle.constraint_tree.specs.Tree.{Tree}
-use Rattle.snapshot.specs.Contents.{Contents}
+use Rattle.held_release.specs.Contents.{Contents}
 use Rattle.answer_printer.specs.AnswerText.{refusal_text}
 use Rattle.query_run.specs.KeptLine.{kept_of}
 use Rattle.query_service.specs.Answer.{IsAnswer, IsForLine, constraint_answer}

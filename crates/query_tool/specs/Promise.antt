@@ -10,9 +10,10 @@ use Rattle.constraint_tree.specs.Denotation.{denotes}
 use Rattle.constraint_tree.specs.Refusal.{IsConstraint, IsRefusalOf}
 use Rattle.constraint_tree.specs.Tree.{Tree}
 use Rattle.release_files.specs.Source.{FileText}
-use Rattle.snapshot.specs.Contents.{Contents, load_of}
+use Rattle.held_release.specs.Contents.{Contents}
+use Rattle.snapshot.specs.Load.{load_of}
 use Rattle.release_rows.specs.Limits.{standard_limits}
-use Rattle.snapshot.specs.Name.{name_of}
+use Rattle.held_release.specs.Name.{name_of}
 use Rattle.release_rows.specs.Pieces.{AreInOrder, listed}
 use Rattle.answer_printer.specs.AnswerText.{answer_text, refusal_text}
 use Rattle.query_run.specs.Lines.{AreAnswers, query_lines}

@@ -5,7 +5,8 @@ ghost use Rattle.std.specs.List.Sorted.{IsSorted, IsStrictlyIncreasing};
 ghost use Rattle.std.specs.Ordering.{nat_cmp};
 ghost use Rattle.constraint_tree.specs.Denotation.{denotation};
 ghost use Rattle.constraint_tree.specs.Tree.{Tree};
-ghost use Rattle.snapshot.specs.Contents.{IsFaultOf, load_of};
+ghost use Rattle.held_release.specs.Contents.{IsFaultOf};
+ghost use Rattle.snapshot.specs.Load.{load_of};
 ghost use Rattle.release_rows.specs.Files.{name_concepts};
 ghost use Rattle.release_rows.specs.Pieces.{AreInOrder, FailsAtFiles, IsUnlisted, has_kind_at, listed};
 ghost use Rattle.release_rows.specs.DeviceFaults.{FailsAtRead, FileIs, RaisesOnlyAtDevice, is_device};
@@ -21,7 +22,7 @@ use postings::Indexes;
 use query_run::AnswerLine;
 use release_files::{FileSource, NamedBytes};
 use rewrites::Step;
-use snapshot::{Limits, LoadFault, Snapshot};
+use snapshot::{Limits, LoadFault, LoadSnapshot, Snapshot};
 use std::alloc::{AllocError, Global};
 use std::marker::Model;
 use streams::{AnswerFault, AnswerOutput, Piece};
@@ -34,7 +35,7 @@ pub struct Engine {
 }
 
 impl Model for Engine {
-    ghost use Rattle.snapshot.specs.Contents.{Contents};
+    ghost use Rattle.held_release.specs.Contents.{Contents};
 
     ghost Value = { Contents };
 

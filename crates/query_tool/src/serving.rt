@@ -10,7 +10,7 @@ use command_line::{Mode, Request};
 use query_run::RunFault;
 use query_service::{QueryEngine, Status};
 use release_files::{FileSource, NamedBytes};
-use snapshot::{Limits, LoadFault, Report, Snapshot};
+use snapshot::{Limits, LoadFault, LoadSnapshot, Report, Snapshot};
 use std::alloc::Global;
 use streams::{AnswerOutput, QueryInput};
 

@@ -7,13 +7,15 @@ use Rattle.std.specs.List.{AllByRecursion, IsDistinct, cons_option, list_any}
 use Rattle.std.proofs.lemmas.Bool.Decides.{nat_tests}
 use Rattle.std.proofs.lemmas.List.{length-map}
 use Rattle.std.proofs.lemmas.List.Folds.{list_any-append}
-use Rattle.release_rows.specs.Chosen.{choices, chosen, is_superseded, marked}
+use Rattle.row_lists.specs.Marked.{marked}
+use Rattle.release_rows.specs.Chosen.{choices, chosen, is_superseded}
 use Rattle.release_rows.specs.Files.{text_of_row, Place, RowAt}
-use Rattle.release_rows.specs.ReadRows.{AreFew, IsReadFrom}
+use Rattle.row_lists.specs.ListsRead.{AreFew}
+use Rattle.release_rows.specs.ReadRows.{IsReadFrom}
 use Rattle.release_rows.specs.Limits.{row_total}
-use Rattle.release_rows.specs.ReleaseLists.{ReleaseLists, concept_listed}
+use Rattle.row_lists.specs.ReleaseLists.{ReleaseLists, concept_listed}
 use Rattle.release_rows.specs.declared.limits.Limits.{Limits}
-use Rattle.release_rows.proofs.ChosenItemLemmas.{length-marked}
+use Rattle.row_lists.proofs.ChosenItemLemmas.{length-marked}
 use Rattle.release_rows.proofs.SingleLemmas.{any-at}
 
 -- ---- a row is among others: what holds of none of them does not hold of it

@@ -15,7 +15,7 @@ use Rattle.release_rows.specs.inside.Keys.{IsMet, IsShort, Keyed, key_in, uuids_
 use Rattle.release_rows.specs.inside.KeyedRows.{AreOfItsKind, Covers, KeyedRow}
 use Rattle.release_rows.specs.inside.VersionTable.{HasTaken, VersionTable}
 use Rattle.release_rows.specs.Traversal.{StopsAt, TakesAll, next, taken}
-use Rattle.release_rows.specs.declared.fault.LoadFault.{LoadFault}
+use Rattle.row_lists.specs.declared.fault.LoadFault.{LoadFault}
 use Rattle.release_rows.specs.inside.FirstPass.{AreSeen, AreShort, first_conflict, keys_behind, uuids_after}
 use Rattle.number_lists.proofs.MemberLemmas.{any-has, had_contained}
 use Rattle.number_lists.proofs.PlaceLemmas.{get_or-place_of, place_below, place_of}

@@ -2,7 +2,7 @@
 use Rattle.std.proofs.Common.{◌≡◌, List, [], ◌∷◌, ◌++◌, Option, None, Some, refl, arith, inl, inr, ◌⊎◌, append_assoc, append-nil}
 use Rattle.release_rows.specs.Faults.{NamesFirstFault, fault_at, first_fault}
 use Rattle.release_rows.specs.Files.{Place}
-use Rattle.release_rows.specs.declared.fault.LoadFault.{LoadFault}
+use Rattle.row_lists.specs.declared.fault.LoadFault.{LoadFault}
 use Rattle.release_rows.specs.declared.limits.Limits.{Limits}
 use Rattle.release_rows.proofs.WentLemmas.{first_fault-append}
 

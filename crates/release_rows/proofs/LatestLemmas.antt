@@ -6,7 +6,8 @@ use Rattle.std.proofs.lemmas.Bool.Decides.{nat_tests}
 use Rattle.std.proofs.lemmas.Grind.{common_steps}
 use Rattle.std.proofs.lemmas.List.Folds.{list_any-append}
 use Rattle.rf2_rows.specs.Versions.{same_time}
-use Rattle.release_rows.specs.Chosen.{choices, chosen, is_later, is_repeated, is_superseded, marked, same_component, same_version, time_of}
+use Rattle.row_lists.specs.Marked.{marked}
+use Rattle.release_rows.specs.Chosen.{choices, chosen, is_later, is_repeated, is_superseded, same_component, same_version, time_of}
 use Rattle.release_rows.specs.Files.{RowAt}
 use Rattle.release_rows.proofs.ApartLemmas.{AreAmong, IsAmong, are_among}
 use Rattle.release_rows.proofs.SingleLemmas.{any-none, is_later-itself}

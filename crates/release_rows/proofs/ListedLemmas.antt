@@ -5,8 +5,8 @@ use Rattle.std.proofs.lemmas.List.Elements.{filter_map-append}
 use Rattle.rf2_rows.specs.RowTexts.{RowText}
 use Rattle.release_rows.specs.Files.{text_of_row, RowAt}
 use Rattle.release_rows.specs.inside.RowStore.{RowStore, kept_behind, nothing_kept}
-use Rattle.release_rows.specs.ReleaseLists.{listed_of}
-use Rattle.release_rows.specs.inside.ChosenLists.{listed_behind}
+use Rattle.row_lists.specs.ReleaseLists.{listed_of}
+use Rattle.row_lists.specs.ChosenLists.{listed_behind}
 use Rattle.release_rows.specs.declared.limits.Limits.{Limits}
 use Rattle.release_rows.specs.inside.FirstPass.{kept_rows}
 

@@ -6,7 +6,7 @@ use Rattle.std.proofs.lemmas.List.Elements.{filter_map-append}
 use Rattle.release_rows.specs.Faults.{crowd_behind, fault_here, first_fault, first_of}
 use Rattle.release_rows.specs.Files.{Place, RowAt, row_at, rows_of}
 use Rattle.release_rows.specs.inside.FirstPass.{first_conflict}
-use Rattle.release_rows.specs.declared.fault.LoadFault.{LoadFault}
+use Rattle.row_lists.specs.declared.fault.LoadFault.{LoadFault}
 use Rattle.release_rows.specs.declared.limits.Limits.{Limits}
 
 -- the fault at a place behind rows, as far as these are only counted

@@ -26,8 +26,8 @@ use Rattle.std.specs.Prelude.{is_some, true, zero, suc}
 use Rattle.release_rows.specs.Pieces.{has_kind_at, AreInOrder, cut_file, FailsAt, FailsAtFile, GoesOver, fault_of, listed, text_named}
 use Rattle.release_rows.specs.Traversal.{StopsAt, TakesAll, taken}
 use Rattle.release_rows.specs.DeviceFaults.{FailsAtRead, is_device}
-use Rattle.release_rows.specs.declared.fault.LoadFault.{LoadFault}
-use Rattle.release_rows.specs.declared.fault.LoadFault.TheVariants.{Memory}
+use Rattle.row_lists.specs.declared.fault.LoadFault.{LoadFault}
+use Rattle.row_lists.specs.declared.fault.LoadFault.TheVariants.{Memory}
 use Rattle.release_rows.proofs.TakingLemmas.{Leads, Leads-end, Leads-next, Leads-on, Leads-stop, Leads-until, stops_lines, stops_none, takes_lines, takes_none}
 
 -- what a call for the next line says

@@ -4,21 +4,23 @@ use Rattle.std.proofs.Common.{Vec, arith, rules, ℕ, ◌≡◌, ◌≤◌, ◌�
 use Rattle.std.specs.Prelude.{MatchOption}
 use Rattle.std.specs.declared.alloc.Global.{Global}
 use Rattle.rf2_rows.specs.RowTexts.{RowText}
-use Rattle.release_rows.specs.Chosen.{choices, chosen, marked}
+use Rattle.row_lists.specs.Marked.{marked}
+use Rattle.release_rows.specs.Chosen.{choices, chosen}
 use Rattle.release_rows.specs.Files.{text_of_row, Place, RowAt}
 use Rattle.release_rows.specs.Faults.{first_fault, first_of}
-use Rattle.release_rows.specs.ReadRows.{IsReadFrom, unmarked}
+use Rattle.row_lists.specs.ListsRead.{unmarked}
+use Rattle.release_rows.specs.ReadRows.{IsReadFrom}
 use Rattle.release_rows.specs.inside.RowStore.{RowStore, nothing_kept}
 use Rattle.release_rows.specs.inside.Keys.{AreSingle, uuids_behind}
-use Rattle.release_rows.specs.ReleaseLists.{ReleaseLists, attribute_listed, isa_listed, listed_of, listing_of, member_listed, name_listed}
-use Rattle.release_rows.specs.inside.ChosenLists.{in_list, items_chosen, listed_chosen, same_listing}
+use Rattle.row_lists.specs.ReleaseLists.{ReleaseLists, attribute_listed, isa_listed, listed_of, listing_of, member_listed, name_listed}
+use Rattle.row_lists.specs.ChosenLists.{in_list, items_chosen, listed_chosen, same_listing}
 use Rattle.release_rows.specs.Limits.{row_total}
 use Rattle.release_rows.specs.inside.FirstPass.{AreChoicesAmong, AreSeen, IsSeen, first_conflict, kept_rows, keys_behind}
-use Rattle.release_rows.specs.declared.fault.LoadFault.{LoadFault}
+use Rattle.row_lists.specs.declared.fault.LoadFault.{LoadFault}
 use Rattle.release_rows.specs.declared.limits.Limits.{Limits}
-use Rattle.release_rows.specs.declared.row_lists.Listing.{Listing}
-use Rattle.release_rows.specs.declared.row_lists.Listing.TheVariants as listing
-use Rattle.release_rows.proofs.ChosenItemLemmas.{chosen-picked, map-marked}
+use Rattle.row_lists.specs.declared.row_lists.Listing.{Listing}
+use Rattle.row_lists.specs.declared.row_lists.Listing.TheVariants as listing
+use Rattle.row_lists.proofs.ChosenItemLemmas.{chosen-picked, map-marked}
 use Rattle.release_rows.proofs.ListedLemmas.{listed-rows}
 use Rattle.number_lists.specs.Members.{times}
 use Rattle.release_rows.proofs.SingleLemmas.{no_conflict, single-choices, single-keys}

@@ -11,7 +11,7 @@ use Rattle.rf2_rows.proofs.RowTextLemmas.{text_in-row}
 use Rattle.release_files.specs.Lines.{LineText}
 use Rattle.release_rows.specs.Files.{later_line}
 use Rattle.release_rows.specs.inside.RowStore.{IsAdded, IsCrowded, IsRead, IsStopped, RowStore}
-use Rattle.release_rows.specs.declared.fault.LoadFault.{LoadFault}
+use Rattle.row_lists.specs.declared.fault.LoadFault.{LoadFault}
 
 -- a result that is a row has what is told of it
 pub read-row : (kind : FileKind) (bytes : List ℕ) (result : Result Row RowFault) (row : Row) → result ≡ Ok row

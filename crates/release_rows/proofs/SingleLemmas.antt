@@ -10,7 +10,8 @@ use Rattle.std.proofs.Math.Bool.{and-false}
 use Rattle.std.proofs.lemmas.List.Folds.{list_any-append}
 use Rattle.rf2_rows.specs.RowTexts.{RowText, of_concept, of_concrete, of_description, of_member, of_relationship}
 use Rattle.rf2_rows.specs.Versions.{member_number}
-use Rattle.release_rows.specs.Chosen.{choices, is_later, is_superseded, marked, same_component, same_version, time_of}
+use Rattle.row_lists.specs.Marked.{marked}
+use Rattle.release_rows.specs.Chosen.{choices, is_later, is_superseded, same_component, same_version, time_of}
 use Rattle.release_rows.specs.Files.{text_of_row, RowAt}
 use Rattle.number_lists.specs.Members.{times}
 use Rattle.release_rows.specs.inside.Keys.{IsMet, key_in, uuids_behind}

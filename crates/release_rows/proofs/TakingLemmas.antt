@@ -12,7 +12,7 @@ use Rattle.release_rows.specs.Files.{Place, first_line, later_line, no_line, pla
 use Rattle.std.proofs.lemmas.Bool.{cases_Bool}
 use Rattle.release_rows.specs.Traversal.{StopsAt, TakesAll, next, taken}
 use Rattle.release_rows.specs.DeviceFaults.{FailsBelow, is_device}
-use Rattle.release_rows.specs.declared.fault.LoadFault.{LoadFault}
+use Rattle.row_lists.specs.declared.fault.LoadFault.{LoadFault}
 
 -- places are taken behind others
 TakesAll-behind : {Held : Type 0} (takes : Held → Place → Held → Type 0) (old middle new : Held) (front places : List Place)

@@ -10,10 +10,10 @@ use Rattle.release_rows.specs.Chosen.{is_later}
 use Rattle.release_rows.specs.inside.KeyedRows.{KeyedRow, same_version, AreOfItsKind, conflicts, is_repeated, Covers, choices, is_superseded}
 use Rattle.release_rows.specs.inside.VersionTable.{IsCodeOf, time_code, AgreesWith, HasTaken, IsOfVersion, IsVersionAmong, VersionTable, Version, firsts, is_outdated, without, is_older}
 use Rattle.number_lists.proofs.PlaceLemmas.{place_of-get_or}
-use Rattle.release_rows.specs.Spans.{Extends}
+use Rattle.row_lists.specs.Spans.{Extends}
 use Rattle.release_rows.specs.inside.VersionsInside.{AreKept, IsLineOf, IsPlacedAmong, version_in}
 use Rattle.release_rows.specs.declared.versions.VersionRow.{VersionRow}
-use Rattle.release_rows.proofs.SpanLemmas.{all-push, rows-same, span-extends, text-extends}
+use Rattle.row_lists.proofs.SpanLemmas.{all-push, rows-same, span-extends, text-extends}
 use Rattle.std.specs.List.{list_any}
 use Rattle.std.proofs.lemmas.Bool.{le-ltb, false≢true, false_from_ne_true, and_parts, and_left, and_right, cases_Bool}
 use Rattle.std.proofs.lemmas.List.{get_or-replicate, length-map, length-replicate, take_at, get_or-map, map_push, length_push, map-append}

@@ -13,7 +13,7 @@ use Rattle.release_rows.specs.inside.RowStore.{IsRead, IsShortAt, IsStopped, Row
 use Rattle.release_rows.specs.Limits.{left_behind, row_limit, row_total}
 use Rattle.release_rows.specs.inside.RowsInside.{kept_in}
 use Rattle.release_rows.specs.Traversal.{StopsAt, TakesAll, next, taken}
-use Rattle.release_rows.specs.declared.fault.LoadFault.{LoadFault}
+use Rattle.row_lists.specs.declared.fault.LoadFault.{LoadFault}
 use Rattle.release_rows.specs.declared.limits.Limits.{Limits}
 use Rattle.release_rows.specs.declared.rows.Rows.{Rows}
 use Rattle.release_rows.specs.inside.FirstPass.{AreShort, IsSeen, first_conflict, kept_rows, keys_behind, uuids_after}

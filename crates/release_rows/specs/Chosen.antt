@@ -7,6 +7,7 @@ use Rattle.rf2_rows.specs.Versions.{id_on, same_row, same_time, time_on}
 use Rattle.rf2_rows.specs.declared.kind.FileKind.{FileKind}
 use Rattle.rf2_rows.specs.declared.kind.FileKind.TheVariants.{Concept, Concrete, Description, Member, Relationship}
 use Rattle.release_rows.specs.Files.{RowAt}
+use Rattle.row_lists.specs.Marked.{marked}
 
 -- the kinds by numbers, and whether two are one
 abbrev pub kind_number : FileKind → ℕ
@@ -61,11 +62,6 @@ is_chosen rows earlier row = not (is_superseded rows row || is_repeated earlier 
 abbrev pub choices : List RowAt → List RowAt → List RowAt → List Bool
 choices rows earlier [] = []
 choices rows earlier (row ∷ later) = is_chosen rows earlier row ∷ choices rows (earlier ++ row ∷ []) later
-
--- the items of a list that are marked
-abbrev pub marked : {X : Type 0} → List Bool → List X → List X
-marked (mark ∷ marks) (item ∷ items) = if mark then item ∷ marked marks items else marked marks items
-marked _ _ = []
 
 -- the chosen rows
 abbrev pub chosen : List RowAt → List RowAt

@@ -1,8 +1,8 @@
 -- Faults of a load by the file that they name, and failures of the device, which a source counts.
 use Rattle.std.specs.Prelude.{◌≡◌, ◌<◌, ℕ, Bool, true, false, ⊤, IfErr, IfSome, Option, None, Some, Result, Ok, Err}
 use Rattle.release_files.specs.Source.{IsRaised}
-use Rattle.release_rows.specs.declared.fault.LoadFault.{LoadFault}
-use Rattle.release_rows.specs.declared.fault.LoadFault.TheVariants.{Conflict, Device, Header, Row, TooMany}
+use Rattle.row_lists.specs.declared.fault.LoadFault.{LoadFault}
+use Rattle.row_lists.specs.declared.fault.LoadFault.TheVariants.{Conflict, Device, Header, Row, TooMany}
 
 -- the fault is the device's
 abbrev pub is_device : LoadFault → Bool

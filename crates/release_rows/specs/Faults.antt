@@ -8,8 +8,8 @@ use Rattle.release_files.specs.Lines.{LineText}
 use Rattle.release_rows.specs.Chosen.{conflicts, same_kind}
 use Rattle.release_rows.specs.Files.{Place, RowAt, no_line, first_line, later_line, row_at, rows_of}
 use Rattle.release_rows.specs.Limits.{row_limit}
-use Rattle.release_rows.specs.declared.fault.LoadFault.{LoadFault}
-use Rattle.release_rows.specs.declared.fault.LoadFault.TheVariants.{Header, Row, Conflict, TooMany}
+use Rattle.row_lists.specs.declared.fault.LoadFault.{LoadFault}
+use Rattle.row_lists.specs.declared.fault.LoadFault.TheVariants.{Header, Row, Conflict, TooMany}
 use Rattle.release_rows.specs.declared.limits.Limits.{Limits}
 
 -- the fault of a first line

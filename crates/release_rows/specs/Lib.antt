@@ -1,16 +1,9 @@
 pub mod Chosen
-pub mod ConcreteValues
 pub mod DeviceFaults
-pub mod FaultNumbers
 pub mod Faults
 pub mod Files
-pub mod InForce
 pub mod inside
-pub mod LentRows
 pub mod Limits
-pub mod Metadata
 pub mod Pieces
 pub mod ReadRows
-pub mod ReleaseLists
-pub mod Spans
 pub mod Traversal

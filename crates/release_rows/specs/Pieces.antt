@@ -12,8 +12,8 @@ use Rattle.release_files.specs.declared.source.SourceFault.TheVariants as source
 use Rattle.release_rows.specs.Files.{Place}
 use Rattle.release_rows.specs.Traversal.{OfFiles, StopsAt, TakesAll}
 use Rattle.release_rows.specs.DeviceFaults.{FailsBelow, is_device}
-use Rattle.release_rows.specs.declared.fault.LoadFault.{LoadFault}
-use Rattle.release_rows.specs.declared.fault.LoadFault.TheVariants.{Device, Memory}
+use Rattle.row_lists.specs.declared.fault.LoadFault.{LoadFault}
+use Rattle.row_lists.specs.declared.fault.LoadFault.TheVariants.{Device, Memory}
 
 -- the first file of a name, with no bytes where there is none
 abbrev pub text_named : List FileText → List ℕ → FileText

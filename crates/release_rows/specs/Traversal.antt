@@ -3,8 +3,8 @@ use Rattle.std.specs.Prelude.{◌≡◌, ◌≢◌, ℕ, false, List, [], ◌∷
 use Rattle.release_files.specs.Lines.{line_text}
 use Rattle.rf2_rows.specs.declared.kind.FileKind.{FileKind}
 use Rattle.release_rows.specs.Files.{Place, first_line, later_line, no_line}
-use Rattle.release_rows.specs.declared.fault.LoadFault.{LoadFault}
-use Rattle.release_rows.specs.declared.fault.LoadFault.TheVariants.{Memory}
+use Rattle.row_lists.specs.declared.fault.LoadFault.{LoadFault}
+use Rattle.row_lists.specs.declared.fault.LoadFault.TheVariants.{Memory}
 use Rattle.release_rows.specs.declared.places.Met.{Met}
 use Rattle.release_rows.specs.declared.places.Met.TheVariants.{NoLine, First, Later}
 use Rattle.release_rows.specs.DeviceFaults.{is_device}

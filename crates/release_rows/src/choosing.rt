@@ -1,10 +1,10 @@
 //! Reading the rows of a release, and choosing among those of components that have several.
 ghost use Rattle.std.specs.Prelude.{◌≡◌, ◌≢◌, ◌≤◌, ◌<◌, ◌+◌, ◌-◌, ◌^◌, IfErr, IfOk, IfSome, MatchOption, OnOk, false, true, length, min};
 ghost use Rattle.std.specs.List.Sorted.{IsStrictlyIncreasing};
-ghost use Rattle.release_rows.specs.ReadRows.{AreFew, HasFirstFault, IsReadFrom, read_in};
-ghost use Rattle.release_rows.specs.inside.ChosenLists.{listed_chosen};
+ghost use Rattle.row_lists.specs.ListsRead.{AreFew, read_in, listed_in};
+ghost use Rattle.release_rows.specs.ReadRows.{HasFirstFault, IsReadFrom};
+ghost use Rattle.row_lists.specs.ChosenLists.{listed_chosen};
 ghost use Rattle.release_rows.specs.inside.Keys.{AreSingle};
-ghost use Rattle.release_rows.specs.inside.ListsInside.{listed_in};
 ghost use Rattle.release_rows.specs.Limits.{row_total};
 ghost use Rattle.release_rows.specs.inside.KeyedRows.{Covers};
 ghost use Rattle.release_rows.specs.inside.RowsInside.{kept_in};
@@ -13,49 +13,17 @@ ghost use Rattle.release_rows.specs.Traversal.{FaultOf, OfFiles};
 ghost use Rattle.release_rows.specs.DeviceFaults.{FailsAtRead, FailsBelow, FailsOnlyBelow, FileIs, RaisesOnlyAtDevice, is_device as is_device_of};
 
 use crate::comparing::Comparing;
-use crate::fault::LoadFault;
 use crate::keys::RowKeys;
 use crate::limits::Limits;
 use crate::places::PlaceSource;
 use crate::repeated::repeated_keys;
-use crate::row_lists::RowLists;
 use crate::rows::Rows;
 use crate::versions::Versions;
+use row_lists::{LoadFault, MOST_ROWS, ReadRows};
 use std::alloc::{AllocError, Global};
 
-// No list of files that is told has more rows within the limits. Of one that is not told nothing is
-// known, so the rows are counted before they are numbered.
-const MOST_ROWS: u64 = 68_000_000;
-
-/// The fault of files that have more rows than that.
+/// The fault of files that have more rows than can be numbered.
 pub const TOO_MANY_ROWS: LoadFault = LoadFault::TooMany { file: 0, line: 0 };
-
-/// What the chosen rows of files are made of, and how many rows there are, chosen or not.
-#[derive(Drop)]
-pub struct ReadRows {
-    /// What the chosen rows are made of.
-    pub lists: RowLists,
-    /// How many rows there are.
-    pub count: u64,
-}
-
-impl ReadRows {
-    /// Whether the rows, and what they are made of, are few enough to number.
-    pub fn are_few(&self) -> bool
-        ensures few { result ≡ true → AreFew self.now.count (read_in self.now.lists) }
-        ensures told { AreFew self.now.count (read_in self.now.lists) → result ≡ true }
-    {
-        let lists = &self.lists;
-        let most = lists
-            .concepts
-            .len()
-            .max(lists.names.len())
-            .max(lists.isa_ends.len())
-            .max(lists.attributes.len())
-            .max(lists.member_ends.len());
-        most as u64 <= self.count && self.count <= MOST_ROWS
-    }
-}
 
 /// Reads the rows of all files that have a kind. Where rows have one key, the files are gone over once
 /// more, so that these rows are compared.

@@ -6,12 +6,12 @@ ghost use Rattle.release_rows.specs.inside.Comparison.{IsCompared, IsDenied, IsR
 ghost use Rattle.release_rows.specs.Files.{later_line};
 ghost use Rattle.release_rows.specs.DeviceFaults.{FileIs, is_device};
 
-use crate::fault::LoadFault;
 use crate::keys::RowKeys;
 use crate::places::{Met, PlaceTaker};
 use crate::versions::{NotedRow, Versions};
 use release_files::Line;
 use rf2_rows::{FileKind, Row, RowReader};
+use row_lists::LoadFault;
 
 /// Compares the rows that were read before, as many as there were. Only those whose keys are repeated
 /// are read once more.

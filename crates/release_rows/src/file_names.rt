@@ -5,8 +5,8 @@ ghost use Rattle.std.specs.List.Sorted.{IsSorted};
 ghost use Rattle.std.specs.Ordering.{nat_cmp};
 ghost use Rattle.release_rows.specs.Pieces.{ListsNames, listing_fault};
 
-use crate::fault::LoadFault;
 use release_files::{FileSource, SourceFault};
+use row_lists::LoadFault;
 
 /// Leaves in `names` the names of the files that a source lists, in their byte order: the order in
 /// which they are to be read. Where the source fails, or memory is refused, there are none.

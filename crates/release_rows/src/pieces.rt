@@ -10,10 +10,10 @@ ghost use Rattle.release_rows.specs.Pieces.{cut_file, has_kind_at, FailsAt, Fail
 ghost use Rattle.release_rows.specs.Traversal.{StopsAt, TakesAll};
 ghost use Rattle.release_rows.specs.DeviceFaults.{FailsAtRead, FailsOnlyBelow, FileIs, RaisesOnlyAtDevice, is_device};
 
-use crate::fault::LoadFault;
 use crate::places::{Met, PlaceSource, PlaceTaker};
 use release_files::{FileSource, PieceLines, SourceFault};
 use rf2_rows::{FileKind, file_kind};
+use row_lists::LoadFault;
 use std::alloc::Global;
 
 /// The files of some names, each of which a source reads in pieces, as places.

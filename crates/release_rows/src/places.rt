@@ -6,9 +6,9 @@ ghost use Rattle.release_rows.specs.Files.{later_line, places_from, places_of_fi
 ghost use Rattle.release_rows.specs.Traversal.{StopsAt, TakesAll, place_of};
 ghost use Rattle.release_rows.specs.DeviceFaults.{FileIs, is_device};
 
-use crate::fault::LoadFault;
 use release_files::{Line, Lines, NamedBytes};
 use rf2_rows::{FileKind, file_kind};
+use row_lists::LoadFault;
 
 /// What is met in a file that has a kind.
 #[derive(Clone, Copy)]
@@ -27,7 +27,7 @@ pub trait PlaceTaker {
     ghost use Rattle.release_rows.specs.Files.{Place};
     ghost use Rattle.release_rows.specs.Traversal.{place_of};
     ghost use Rattle.release_rows.specs.DeviceFaults.{FileIs, is_device};
-    ghost use Rattle.release_rows.specs.declared.fault.LoadFault.{LoadFault};
+    ghost use Rattle.row_lists.specs.declared.fault.LoadFault.{LoadFault};
 
     /// A place was taken: what is held before and behind it.
     ghost takes: { Self → Place → Self → Type 0 };
@@ -51,7 +51,7 @@ pub trait PlaceSource {
     ghost use Rattle.release_rows.specs.Files.{Place};
     ghost use Rattle.release_rows.specs.Traversal.{FaultOf, StopsAt, TakesAll};
     ghost use Rattle.release_rows.specs.DeviceFaults.{FailsAtRead, FailsOnlyBelow, FileIs, RaisesOnlyAtDevice};
-    ghost use Rattle.release_rows.specs.declared.fault.LoadFault.{LoadFault};
+    ghost use Rattle.row_lists.specs.declared.fault.LoadFault.{LoadFault};
 
     /// The places in turn; `None` where nothing is claimed of them.
     ghost places: { Self → Option (List Place) };

@@ -8,13 +8,12 @@ ghost use Rattle.release_rows.specs.inside.RowStore.{IsAdded, IsCrowded, IsRead,
 ghost use Rattle.release_rows.specs.inside.RowsInside.{kept_in};
 ghost use Rattle.release_rows.specs.DeviceFaults.{FileIs, is_device};
 
-use crate::fault::LoadFault;
 use crate::keys::RowKeys;
 use crate::limits::Limits;
 use crate::places::{Met, PlaceTaker};
-use crate::row_lists::RowLists;
 use release_files::Line;
 use rf2_rows::{FileKind, Row, RowReader, header};
+use row_lists::{LoadFault, RowLists};
 use std::alloc::Global;
 
 /// What is kept of the rows read so far.

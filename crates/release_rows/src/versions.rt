@@ -10,9 +10,9 @@ ghost use Rattle.release_rows.specs.inside.KeyedRows.{KeyedRow, choices, conflic
 ghost use Rattle.release_rows.specs.inside.VersionTable.{IsCodeOf, Version, is_older, is_outdated, time_code, without};
 
 use crate::rising_keys::RisingKeys;
-use crate::spans::{Span, push_bytes};
 use first_met::FirstMet;
 use rf2_rows::{FileKind, same_row};
+use row_lists::{Span, push_bytes};
 use std::alloc::{AllocError, Global};
 use std::marker::Model;
 

@@ -10,7 +10,7 @@ use planner::{Choice, PhysicalPlan, bound, choose_with, floor};
 use postings::Indexes;
 use release_files::NamedBytes;
 use set_algebra::{ConceptPlan, lower};
-use snapshot::{Limits, LoadFault, Snapshot};
+use snapshot::{Limits, LoadFault, LoadSnapshot, Snapshot};
 use std::alloc::{AllocError, Global};
 use std::process::Abort;
 use std::test::Fail;

@@ -5,7 +5,7 @@ ghost use Rattle.ancestor_index.specs.HierarchyLists.{hierarchy_of};
 use crate::load_tests::{RELATIONSHIPS, chain_of, files_of, replaced, sample, sample_with};
 use ancestor_index::AncestorIndex;
 use release_files::NamedBytes;
-use snapshot::{Limits, LoadFault, Snapshot};
+use snapshot::{Limits, LoadFault, LoadSnapshot, Snapshot};
 use std::alloc::{AllocError, Global};
 use std::process::Abort;
 use std::test::Fail;

@@ -5,7 +5,7 @@ use release_files::NamedBytes;
 use rf2_rows::{FileKind, RowCause, RowFault, file_kind};
 use sample_release::sample_files;
 use sctid::{IdFault, Part, SctId};
-use snapshot::{Limits, LoadFault, Report, Snapshot};
+use snapshot::{Limits, LoadFault, LoadSnapshot, Report, Snapshot};
 use std::alloc::{AllocError, Global};
 use std::process::Abort;
 use std::test::Fail;

@@ -5,7 +5,7 @@ use crate::load_tests::{
 use release_files::NamedBytes;
 use rf2_rows::{FileKind, header};
 use sctid::SctId;
-use snapshot::{Limits, Snapshot};
+use snapshot::{Limits, LoadSnapshot, Snapshot};
 use std::alloc::{AllocError, Global};
 use std::process::Abort;
 use std::test::Fail;

@@ -5,7 +5,7 @@ use crate::load_tests::{MEMBERS, RELATIONSHIPS, replaced, sample, sample_with};
 use postings::{FlaggedNumber, Indexes, Stats};
 use release_files::NamedBytes;
 use rf2_rows::Value;
-use snapshot::{Limits, LoadFault, Snapshot};
+use snapshot::{Limits, LoadFault, LoadSnapshot, Snapshot};
 use std::alloc::Global;
 use std::process::Abort;
 use std::test::Fail;

@@ -8,7 +8,7 @@ use idset::{ConceptSet, MixedSet, SortedSet, WordSet};
 use release_files::NamedBytes;
 use rf2_rows::{RowCause, RowFault};
 use sctid::{IdFault, SctId};
-use snapshot::{Limits, LoadFault, Report, Snapshot};
+use snapshot::{Limits, LoadFault, LoadSnapshot, Report, Snapshot};
 use std::alloc::{AllocError, Global};
 use std::process::Abort;
 use std::test::Fail;

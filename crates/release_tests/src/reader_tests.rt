@@ -3,7 +3,7 @@ ghost use Rattle.std.specs.Prelude.{◌<◌, length};
 
 use crate::load_tests::sample;
 use rf2_rows::Value;
-use snapshot::{Limits, Report, Snapshot};
+use snapshot::{Limits, LoadSnapshot, Report, Snapshot};
 use std::process::Abort;
 use std::test::Fail;
 

@@ -1,7 +1,7 @@
 //! Loads of the sample release from a source that reads it in pieces, and fails.
 use crate::load_tests::sample;
 use release_files::{MemoryFiles, NamedBytes};
-use snapshot::{Limits, LoadFault, Report, Snapshot};
+use snapshot::{Limits, LoadFault, LoadSnapshot, Report, Snapshot};
 use std::alloc::Global;
 use std::process::Abort;
 use std::test::Fail;

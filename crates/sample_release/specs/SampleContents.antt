@@ -1,7 +1,7 @@
 -- What the built-in files are to load as.
 use Rattle.std.specs.Prelude.{ℕ, List, [], ◌∷◌, codes}
 use Rattle.constraint_tree.specs.Sample.{sample}
-use Rattle.snapshot.specs.Contents.{Contents}
+use Rattle.held_release.specs.Contents.{Contents}
 
 -- the sample release, with English names first: all five files are read, and six of their rows are in no list
 abbrev pub sample_contents : Contents

@@ -2,7 +2,7 @@
 #![tactic(auto)]
 
 ghost use Rattle.std.specs.Prelude.{◌≡◌, Ok, codes, map};
-ghost use Rattle.snapshot.specs.Contents.{load_of};
+ghost use Rattle.snapshot.specs.Load.{load_of};
 ghost use Rattle.release_files.specs.Source.{FileText, file_text};
 ghost use Rattle.release_rows.specs.Limits.{standard_limits};
 ghost use Rattle.sample_release.specs.SampleContents.{sample_contents, sample_names};

@@ -11,8 +11,8 @@ use Rattle.rf2_rows.specs.declared.kind.FileKind.{FileKind}
 use Rattle.release_rows.specs.Faults.{fault_at, fault_here, first_fault, first_of}
 use Rattle.release_rows.specs.Files.{Place, first_line, later_line, no_line, places_from, places_of_kind, places_of_lines}
 use Rattle.release_rows.specs.Pieces.{cut_file}
-use Rattle.release_rows.specs.declared.fault.LoadFault.{LoadFault}
-use Rattle.release_rows.specs.declared.fault.LoadFault.TheVariants.{TooMany}
+use Rattle.row_lists.specs.declared.fault.LoadFault.{LoadFault}
+use Rattle.row_lists.specs.declared.fault.LoadFault.TheVariants.{TooMany}
 use Rattle.release_rows.specs.declared.limits.Limits.{Limits}
 
 -- the parts of the first bytes of a text and those of the text: the same up to one that reaches the cut in both

@@ -14,20 +14,20 @@ use Rattle.rf2_rows.specs.declared.kind.FileKind.TheVariants.{Concrete}
 use Rattle.rf2_rows.specs.declared.row.ConceptRow.{ConceptRow}
 use Rattle.rf2_rows.specs.declared.row.MemberRow.{MemberRow}
 use Rattle.rf2_rows.specs.declared.row.RelationshipRow.{RelationshipRow}
-use Rattle.snapshot.specs.Contents.{contents_of, load_of, loaded_from}
+use Rattle.snapshot.specs.Load.{contents_of, load_of, loaded_from}
 use Rattle.release_rows.specs.Files.{text_of_row, Place, RowAt, is_concept_file, is_concept_kind, has_kind, places_from}
 use Rattle.rf2_rows.specs.Files.{file_kind_of}
 use Rattle.number_lists.specs.Members.{has}
-use Rattle.release_rows.specs.InForce.{attribute_in, attributes_in_force, concept_in, concept_rows, concepts_in_force, description_in, is_in_force, is_member_in_force, is_name, isa_in_force, member_in, members_in_force, name_on, names_in_force, relationship_in, release_of, rows_among}
+use Rattle.row_lists.specs.InForce.{attribute_in, attributes_in_force, concept_in, concept_rows, concepts_in_force, description_in, is_in_force, is_member_in_force, is_name, isa_in_force, member_in, members_in_force, name_on, names_in_force, relationship_in, release_of, rows_among}
 use Rattle.release_rows.specs.ReadRows.{IsReadFrom}
-use Rattle.snapshot.specs.inside.Finished.{attributes_among, contents_from, finished, names_among, release_from}
-use Rattle.snapshot.specs.ValuesInForce.{is_value_among}
+use Rattle.held_release.specs.Finished.{attributes_among, contents_from, finished, names_among, release_from}
+use Rattle.held_release.specs.ValuesInForce.{is_value_among}
 use Rattle.release_rows.specs.Limits.{limits_in_force}
-use Rattle.release_rows.specs.ReleaseLists.{ReleaseLists, attribute_listed, concept_listed, is_isa, isa_listed, listed_of, member_listed, name_listed}
-use Rattle.release_rows.specs.Metadata.{is_a}
+use Rattle.row_lists.specs.ReleaseLists.{ReleaseLists, attribute_listed, concept_listed, is_isa, isa_listed, listed_of, member_listed, name_listed}
+use Rattle.row_lists.specs.Metadata.{is_a}
 use Rattle.release_rows.specs.Pieces.{cut_file, listed, text_named}
 use Rattle.snapshot.proofs.LimitLemmas.{cut_first_fault, cut_places}
-use Rattle.release_rows.specs.declared.fault.LoadFault.TheVariants.{NoConceptFile}
+use Rattle.row_lists.specs.declared.fault.LoadFault.TheVariants.{NoConceptFile}
 use Rattle.release_rows.specs.declared.limits.Limits.{Limits}
 
 -- what is in force of each row is what is listed of it, where this is kept

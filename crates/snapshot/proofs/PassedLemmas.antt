@@ -10,12 +10,13 @@ use Rattle.rf2_rows.specs.RowTexts.{RowText, of_concept, of_concrete, of_descrip
 use Rattle.rf2_rows.specs.Rows.{ConcreteText}
 use Rattle.rf2_rows.specs.declared.row.ConceptRow.{ConceptRow}
 use Rattle.rf2_rows.specs.declared.row.RelationshipRow.{RelationshipRow}
-use Rattle.release_rows.specs.Chosen.{choices, marked}
+use Rattle.row_lists.specs.Marked.{marked}
+use Rattle.release_rows.specs.Chosen.{choices}
 use Rattle.release_rows.specs.Files.{RowAt}
 use Rattle.number_lists.specs.Members.{has}
-use Rattle.release_rows.specs.InForce.{attributes_in_force, concept_rows, concrete_rows, description_rows, is_concrete_in_force, is_in_force, listed_count, member_rows, relationship_rows, release_of}
+use Rattle.row_lists.specs.InForce.{attributes_in_force, concept_rows, concrete_rows, description_rows, is_concrete_in_force, is_in_force, listed_count, member_rows, relationship_rows, release_of}
 use Rattle.number_lists.specs.RisingOrder.{put, rising}
-use Rattle.release_rows.specs.Metadata.{is_a}
+use Rattle.row_lists.specs.Metadata.{is_a}
 use Rattle.snapshot.specs.Passed.{CountsPassedRows, failing, passed_texts}
 use Rattle.release_rows.proofs.ApartLemmas.{active-distinct}
 use Rattle.snapshot.proofs.LoadLemmas.{concepts-listed}

@@ -1,8 +1,2 @@
-pub mod AttributesBySource
-pub mod Contents
-pub mod inside
-pub mod Line
-pub mod Name
-pub mod Numbering
+pub mod Load
 pub mod Passed
-pub mod ValuesInForce

@@ -4,12 +4,12 @@ use Rattle.rf2_rows.specs.RowTexts.{RowText}
 use Rattle.rf2_rows.specs.Rows.{ConcreteText, DescriptionText}
 use Rattle.rf2_rows.specs.declared.row.ConceptRow.{ConceptRow}
 use Rattle.release_rows.specs.Chosen.{choices, chosen}
-use Rattle.snapshot.specs.Contents.{contents_of}
+use Rattle.snapshot.specs.Load.{contents_of}
 use Rattle.release_rows.specs.Files.{text_of_row, Place, RowAt, rows_of}
 use Rattle.release_rows.specs.Faults.{first_fault}
 use Rattle.number_lists.specs.Members.{has}
-use Rattle.release_rows.specs.InForce.{concept_rows, concepts_in_force, concrete_rows, description_rows, is_concrete_in_force, is_in_force, is_member_in_force, is_name, member_rows, relationship_rows}
-use Rattle.release_rows.specs.Metadata.{is_a}
+use Rattle.row_lists.specs.InForce.{concept_rows, concepts_in_force, concrete_rows, description_rows, is_concrete_in_force, is_in_force, is_member_in_force, is_name, member_rows, relationship_rows}
+use Rattle.row_lists.specs.Metadata.{is_a}
 use Rattle.release_rows.specs.declared.limits.Limits.{Limits}
 
 -- how many rows fail a test

@@ -1,22 +1,8 @@
-//! Laws about the definitions of this crate, in the words of a reader: functions that do nothing, each
-//! with the law as its contract.
-ghost use Rattle.snapshot.specs.Contents.{NamesLeastCyclic};
-ghost use Rattle.snapshot.specs.Name.{NamesFirstRow};
+//! A law about the definitions of this crate, in the words of a reader: a function that does nothing, with the law as its contract.
 ghost use Rattle.snapshot.specs.Passed.{CountsPassedRows};
-
-/// The concept that a cycle is refused by reaches itself by a chain of is-a rows, and no lesser one does.
-pub fn cyclic_concept_is_the_least()
-    ensures { NamesLeastCyclic }
-{}
 
 /// Of files without a fault by file and line, the rows that are counted as passed over are those in none
 /// of the release's lists: the sum over the kinds of the rows that are not in force.
 pub fn rows_are_listed_or_passed()
     ensures { CountsPassedRows }
-{}
-
-/// The name row that names a concept is one of its rows, and none of them comes before it.
-#[tactic(auto, using(crate::proofs::NameLawLemmas::names_first_row))]
-pub fn naming_row_comes_first()
-    ensures { NamesFirstRow }
 {}

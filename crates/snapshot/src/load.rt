@@ -1,52 +1,36 @@
-//! Loading a release: its files are read, its concepts numbered, and the rows between them kept.
-ghost use Rattle.std.specs.Prelude.{◌≡◌, ◌≢◌, ◌↔◌, ◌<◌, ◌≤◌, ◌^◌, ◌⊎◌, ℕ, Err, None, Some, Ok, false, IfOk, IfErr, IfSome, OnOk, is_some, map, length, string_bytes, count_by};
-ghost use Rattle.std.specs.List.{filter_map, list_any};
+//! Loading a release: its files are read, and what the rows that count make is held.
+ghost use Rattle.std.specs.Prelude.{◌≡◌, ◌≢◌, ◌↔◌, ◌<◌, ◌≤◌, ◌⊎◌, ℕ, Err, Some, Ok, false, IfOk, IfErr, IfSome, is_some, map, length, string_bytes, count_by};
+ghost use Rattle.std.specs.List.{list_any};
 ghost use Rattle.std.specs.Cmp.Lexicographic.{slice_cmp};
-ghost use Rattle.std.specs.List.Sorted.{IsSorted, IsStrictlyIncreasing};
+ghost use Rattle.std.specs.List.Sorted.{IsSorted};
 ghost use Rattle.std.specs.Ordering.{nat_cmp};
-ghost use Rattle.snapshot.specs.Contents.{IsFaultOf, first_cyclic, load_of, loaded_from};
+ghost use Rattle.rf2_rows.specs.Files.{file_kind_of};
 ghost use Rattle.release_files.specs.Source.{file_text};
 ghost use Rattle.release_rows.specs.Files.{has_kind as has_kind_of, is_concept_file, is_concept_kind, name_concepts};
 ghost use Rattle.release_rows.specs.Pieces.{AreInOrder, FailsAtFiles, IsUnlisted, has_kind_at, listed};
 ghost use Rattle.release_rows.specs.DeviceFaults.{FailsAtRead, FailsOnlyBelow, FileIs, RaisesOnlyAtDevice, is_device};
-ghost use Rattle.rf2_rows.specs.Files.{file_kind_of};
-ghost use Rattle.release_rows.specs.InForce.{rows_among};
-ghost use Rattle.number_lists.specs.RisingOrder.{rising as rising_of};
-ghost use Rattle.release_rows.specs.ReadRows.{AreFew, read_in};
-ghost use Rattle.snapshot.specs.inside.Finished.{attributes_among, names_among, IsCycle, finished};
 ghost use Rattle.release_rows.specs.Limits.{row_total};
-ghost use Rattle.snapshot.specs.Line.{concept_line};
-ghost use Rattle.snapshot.specs.Name.{name_among};
-ghost use Rattle.hierarchy.specs.Hierarchy.{IsWithin, Reaches};
-ghost use Rattle.snapshot.specs.Numbering.{numbered_row};
-ghost use Rattle.hierarchy.specs.ParentsFirst.{IsParentsFirst};
-ghost use Rattle.snapshot.specs.inside.LeastCycle.{IsLeastCycle};
-ghost use Rattle.snapshot.specs.inside.Sorted.{IsSortedBySource, in_file_order};
+ghost use Rattle.held_release.specs.Contents.{IsFaultOf};
+ghost use Rattle.snapshot.specs.Load.{load_of, loaded_from};
 
-use crate::concepts::Concepts;
-use crate::held_release::Snapshot;
-use crate::lines::{ConceptLines, lines_among};
-use crate::numbered_attributes::number_attributes;
-use crate::numbering::number_rows;
-use crate::sorted_attributes::{SortedAttributes, sort_by_source};
-use hierarchy::{least_cyclic, parents_first};
+use held_release::{Snapshot, finish};
 use release_files::{FileSource, NamedBytes};
 use release_rows::{
-    Attributes, Limits, LoadFault, MemoryPlaces, Names, PiecePlaces, PlaceSource, ReadRows,
-    RowLists, TOO_MANY_ROWS, list_names, read_rows,
+    Limits, MemoryPlaces, PiecePlaces, PlaceSource, TOO_MANY_ROWS, list_names, read_rows,
 };
 use rf2_rows::{FileKind, file_kind};
-use sctid::SctId;
+use row_lists::LoadFault;
 use std::alloc::{AllocError, Global};
 
-impl Snapshot {
+/// Loading a release from its files.
+pub trait LoadSnapshot {
     /// Loads the Snapshot files of a list, and passes over the others. The faults, of which the
     /// first is answered, are looked for in this order: `NoConceptFile` on the names alone; then
     /// file by file and line by line `TooMany` by bytes, `Header` on line 1 or in a file without
     /// lines, `Row`, `Conflict`, `TooMany` by rows; last `Cycle`. `Memory` is answered where a
     /// growth is refused, and never where no file has the name of a Concept file. `lang` is the
     /// language code whose names come first.
-    pub fn load(
+    fn load(
         alloc: Global,
         files: &[NamedBytes<'_>],
         lang: &str,
@@ -55,20 +39,7 @@ impl Snapshot {
         ensures ok { IfOk result (λ snapshot. load_of limits lang.now (map file_text files.now) ≡ Ok snapshot) }
         ensures err { IfErr result (λ fault. IsFaultOf fault (load_of limits lang.now (map file_text files.now))) }
         ensures unnamed { (result ≡ Err LoadFault.NoConceptFile) ↔ (list_any (λ file. is_concept_file (file_text file)) files.now ≡ false) }
-        ensures named { IfErr result (FileIs (λ file. file < length files.now)) }
-    {
-        if !has_concept_file(files) {
-            return Err(LoadFault::NoConceptFile);
-        }
-        let mut places = MemoryPlaces { files };
-        load_places(
-            alloc,
-            &mut places,
-            lang,
-            limits.in_force(),
-            kind_count(files),
-        )
-    }
+        ensures named { IfErr result (FileIs (λ file. file < length files.now)) };
 
     /// Loads the files that a source lists, in the byte order of their names, as `load` does, each
     /// read in pieces and no further than one byte past the limit. `names` is left with the names in
@@ -77,7 +48,7 @@ impl Snapshot {
     /// Where the source fails, that is answered as `Device`, and nothing is left behind. A source
     /// that lists a name twice has the first file of that name twice. It is `list_names` and then
     /// `load_named`, for a caller who doesn't need to know in which of the two it failed.
-    pub fn load_from<S: FileSource>(
+    fn load_from<S: FileSource>(
         alloc: Global,
         source: &mut S,
         names: &mut Vec<String>,
@@ -96,17 +67,11 @@ impl Snapshot {
         ensures unnamed { name_concepts string_bytes names.new.items ≡ false
             → (result ≡ Err LoadFault.NoConceptFile) ⊎ IsUnlisted result (map string_bytes names.new.items) }
         ensures found { result ≡ Err LoadFault.NoConceptFile → name_concepts string_bytes names.new.items ≡ false }
-        ensures named { IfErr result (FileIs (λ file. file < length names.new.items)) }
-    {
-        match list_names(source, names) {
-            Ok(()) => Snapshot::load_named(alloc, source, names.as_slice(), lang, limits),
-            Err(fault) => Err(fault),
-        }
-    }
+        ensures named { IfErr result (FileIs (λ file. file < length names.new.items)) };
 
     /// Loads the files of these names, in this order, as `load` does, each of which a source reads in
     /// pieces. A fault names a file by its place among the names: so does `Device`, always.
-    pub fn load_named<S: FileSource>(
+    fn load_named<S: FileSource>(
         alloc: Global,
         source: &mut S,
         names: &[String],
@@ -121,8 +86,49 @@ impl Snapshot {
         ensures kind { IfErr result (λ fault. FailsAtRead (has_kind_at (map string_bytes names.now)) fault) }
         ensures files { S.files source.new ≡ S.files source.old }
         ensures unnamed { (result ≡ Err LoadFault.NoConceptFile) ↔ (name_concepts string_bytes names.now ≡ false) }
-        ensures named { IfErr result (FileIs (λ file. file < length names.now)) }
-    {
+        ensures named { IfErr result (FileIs (λ file. file < length names.now)) };
+}
+
+impl LoadSnapshot for Snapshot {
+    fn load(
+        alloc: Global,
+        files: &[NamedBytes<'_>],
+        lang: &str,
+        limits: Limits,
+    ) -> Result<Snapshot, LoadFault> {
+        if !has_concept_file(files) {
+            return Err(LoadFault::NoConceptFile);
+        }
+        let mut places = MemoryPlaces { files };
+        load_places(
+            alloc,
+            &mut places,
+            lang,
+            limits.in_force(),
+            kind_count(files),
+        )
+    }
+
+    fn load_from<S: FileSource>(
+        alloc: Global,
+        source: &mut S,
+        names: &mut Vec<String>,
+        lang: &str,
+        limits: Limits,
+    ) -> Result<Snapshot, LoadFault> {
+        match list_names(source, names) {
+            Ok(()) => Snapshot::load_named(alloc, source, names.as_slice(), lang, limits),
+            Err(fault) => Err(fault),
+        }
+    }
+
+    fn load_named<S: FileSource>(
+        alloc: Global,
+        source: &mut S,
+        names: &[String],
+        lang: &str,
+        limits: Limits,
+    ) -> Result<Snapshot, LoadFault> {
         if !name_concept_file(names) {
             return Err(LoadFault::NoConceptFile);
         }
@@ -212,166 +218,4 @@ fn has_kind(name: &str) -> bool
     ensures { result ≡ is_some (file_kind_of name.now) }
 {
     file_kind(name).is_some()
-}
-
-// Numbers the concepts in force in rising order, and the is-a rows between them.
-fn finish(
-    alloc: Global,
-    read: ReadRows,
-    language: String,
-    files: u64,
-) -> Result<Snapshot, LoadFault>
-    requires { AreFew read.count (read_in read.lists) }
-    ensures ok { IfOk result (λ snapshot. finished (string_bytes language) files read.count (read_in read.lists) ≡ Ok snapshot) }
-    ensures err { IfErr result (λ fault. IsFaultOf fault (finished (string_bytes language) files read.count (read_in read.lists))) }
-{
-    let ReadRows { lists, count } = read;
-    let RowLists {
-        concepts,
-        names,
-        isa_ends,
-        attributes,
-        member_ends,
-        ..
-    } = lists;
-    let concepts = Concepts::new(alloc, rising(concepts))?;
-    match number_hierarchy(alloc, &concepts, isa_ends.as_slice()) {
-        Ok(hierarchy) => {
-            drop(isa_ends);
-            let NumberedHierarchy { isa, order } = hierarchy;
-            let lists = lists_among(
-                alloc,
-                &concepts,
-                names,
-                language.as_str(),
-                attributes,
-                member_ends.as_slice(),
-            )?;
-            let Lists {
-                lines,
-                attributes,
-                members,
-            } = lists;
-            let listed = u64::from(concepts.len())
-                + isa.len() as u64
-                + attributes.len() as u64
-                + members.len() as u64
-                + lines.name_count() as u64;
-            Ok(Snapshot {
-                concepts,
-                isa,
-                order,
-                attributes,
-                members,
-                lines,
-                language,
-                files,
-                passed: count.saturating_sub(listed),
-            })
-        }
-        Err(fault) => Err(fault),
-    }
-}
-
-// The lists of rows of some concepts beside the hierarchy.
-#[derive(Drop)]
-struct Lists {
-    lines: ConceptLines,
-    attributes: SortedAttributes,
-    members: Vec<(u32, u32)>,
-}
-
-// The lines, name rows, attribute rows, sorted by source, and member rows of some concepts, with their
-// names in a language.
-fn lists_among(
-    alloc: Global,
-    concepts: &Concepts,
-    names: Names,
-    language: &str,
-    attributes: Attributes,
-    member_ends: &[(SctId, SctId)],
-) -> Result<Lists, AllocError>
-    requires few { length names < 2 ^ 32 }
-    requires few_attributes { length attributes < 2 ^ 31 }
-    ensures names { IfOk result (λ lists. lists.lines.names ≡ names_among concepts.now names) }
-    ensures lines { IfOk result (λ lists. lists.lines.lines ≡ map (concept_line (name_among language.now lists.lines.names)) concepts.now) }
-    ensures attributes { IfOk result (λ lists. in_file_order concepts.now lists.attributes ≡ attributes_among concepts.now attributes) }
-    ensures sorted { IfOk result (λ lists. IsSortedBySource concepts.now lists.attributes) }
-    ensures members { IfOk result (λ lists. lists.members.items ≡ filter_map (numbered_row concepts.now) member_ends.now) }
-{
-    let attributes = sorted_among(alloc, concepts, attributes)?;
-    let members = number_rows(alloc, concepts, member_ends)?;
-    let lines = lines_among(alloc, concepts, names, language)?;
-    Ok(Lists {
-        lines,
-        attributes,
-        members,
-    })
-}
-
-// The attribute rows of some concepts, sorted by source. What was read of them leaves before they are
-// sorted.
-fn sorted_among(
-    alloc: Global,
-    concepts: &Concepts,
-    attributes: Attributes,
-) -> Result<SortedAttributes, AllocError>
-    requires { length attributes < 2 ^ 31 }
-    ensures order { IfOk result (λ sorted. in_file_order concepts.now sorted ≡ attributes_among concepts.now attributes) }
-    ensures sorted { IfOk result (λ sorted. IsSortedBySource concepts.now sorted) }
-{
-    let numbered = number_attributes(alloc, concepts, &attributes)?;
-    drop(attributes);
-    sort_by_source(alloc, concepts, numbered)
-}
-
-// The is-a rows by the numbers of their ends.
-#[derive(Drop)]
-struct NumberedHierarchy {
-    isa: Vec<(u32, u32)>,
-    // the concepts in an order in which parents come first
-    order: Vec<u32>,
-}
-
-// The rows between two of some concepts by the numbers of these, unless one reaches itself.
-fn number_hierarchy(
-    alloc: Global,
-    concepts: &Concepts,
-    ends: &[(SctId, SctId)],
-) -> Result<NumberedHierarchy, LoadFault>
-    requires { length ends.now < 2 ^ 31 }
-    ensures rows { IfOk result (λ hierarchy. hierarchy.isa.items ≡ filter_map (numbered_row concepts.now) ends.now) }
-    ensures order { IfOk result (λ hierarchy. IsParentsFirst (length concepts.now) hierarchy.isa.items hierarchy.order.items) }
-    ensures acyclic { OnOk result (first_cyclic concepts.now (rows_among concepts.now ends.now) ≡ None) }
-    ensures cycle { IfErr result (λ fault. IsCycle fault (first_cyclic concepts.now (rows_among concepts.now ends.now))) }
-{
-    let isa = number_rows(alloc, concepts, ends)?;
-    match parents_first(alloc, isa.as_slice(), concepts.len())? {
-        Some(order) => Ok(NumberedHierarchy { isa, order }),
-        None => Err(cycle_fault(alloc, concepts, isa.as_slice())),
-    }
-}
-
-// The fault that names the least concept that reaches itself.
-fn cycle_fault(alloc: Global, concepts: &Concepts, rows: &[(u32, u32)]) -> LoadFault
-    requires within { IsWithin (length concepts.now) rows.now }
-    requires few { length rows.now < 2 ^ 32 }
-    requires cyclic { (concept : ℕ) × (concept < length concepts.now) × Reaches rows.now concept concept }
-    ensures { IsLeastCycle result concepts.now rows.now }
-{
-    match least_cyclic(alloc, rows, concepts.len()) {
-        Ok(Some(concept)) => LoadFault::Cycle(concepts.id_at(concept)),
-        Ok(None) => unreachable!(),
-        Err(_) => LoadFault::Memory,
-    }
-}
-
-// Concepts in rising order, each once.
-fn rising(mut concepts: Vec<SctId>) -> Vec<SctId>
-    ensures rising { result.items ≡ rising_of concepts.items }
-    ensures increasing { IsStrictlyIncreasing result.items }
-{
-    concepts.sort_unstable();
-    concepts.dedup();
-    concepts
 }

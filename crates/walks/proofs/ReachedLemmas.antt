@@ -12,7 +12,7 @@ use Rattle.hierarchy.specs.Hierarchy.{IsWithin, Reaches, more_rows, one_row}
 use Rattle.hierarchy.specs.ParentsFirst.{IsParentsFirst}
 use Rattle.number_lists.specs.KeyedLists.{list_of}
 use Rattle.hierarchy.proofs.HierarchyLemmas.{chain_from_test}
-use Rattle.snapshot.specs.Numbering.{row_of_numbers}
+use Rattle.held_release.specs.Numbering.{row_of_numbers}
 use Rattle.number_lists.proofs.ListLemmas.{passing_item, some_item_passes, both_ways}
 use Rattle.number_lists.specs.Rising.{IsRisingBelow}
 use Rattle.idset.specs.Sets.{all_items}

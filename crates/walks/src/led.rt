@@ -16,7 +16,7 @@ use ancestor_index::AncestorIndex;
 use candidates::{Candidates, RowTally, restricted};
 use constraint_tree::Operator;
 use idset::ConceptSet;
-use snapshot::Snapshot;
+use held_release::Snapshot;
 use std::alloc::{AllocError, Global};
 
 /// The candidates among the concepts that an operator leads to from those of a set (Expression Constraint Language,

@@ -13,7 +13,7 @@ use crate::reached::reached;
 use ancestor_index::AncestorIndex;
 use candidates::RowTally;
 use idset::{ConceptSet, WordSet};
-use snapshot::Snapshot;
+use held_release::Snapshot;
 use std::alloc::{AllocError, Global};
 
 // A list of so many items is joined before the shorter ones: what it has need not be looked at again.

@@ -13,7 +13,7 @@ use Rattle.postings.specs.inside.ValueTables.{values_in}
 use Rattle.postings.specs.declared.groups.RowMarks.{RowMarks}
 use Rattle.postings.specs.declared.rows.CodedRow.{CodedRow}
 use Rattle.postings.specs.declared.rows.CodedRows.{CodedRows}
-use Rattle.snapshot.specs.declared.attribute_types.Types.{Types}
+use Rattle.held_release.specs.declared.attribute_types.Types.{Types}
 use Rattle.postings.specs.declared.values.Values.{Values}
 
 -- the row that numbers stand for

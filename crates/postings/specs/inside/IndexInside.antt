@@ -1,7 +1,7 @@
 -- What the fields of the indexes say, and what they keep.
 use Rattle.std.specs.Prelude.{◌≡◌, ◌<◌, ◌^◌, length, map}
 use Rattle.std.specs.List.Sorted.{IsStrictlyIncreasing}
-use Rattle.snapshot.specs.Numbering.{concept_number}
+use Rattle.held_release.specs.Numbering.{concept_number}
 use Rattle.postings.specs.inside.Coded.{rows_coded}
 use Rattle.postings.specs.Indexed.{HasListsFor, Indexed}
 use Rattle.postings.specs.inside.KeptRows.{rows_kept}

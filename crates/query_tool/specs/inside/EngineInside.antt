@@ -1,6 +1,6 @@
 -- What the fields of an engine say, and what they keep.
 use Rattle.std.specs.List.Sorted.{IsStrictlyIncreasing}
-use Rattle.snapshot.specs.Contents.{Contents}
+use Rattle.held_release.specs.Contents.{Contents}
 use Rattle.postings.specs.Indexed.{IsIndexOf}
 use Rattle.query_tool.specs.declared.engine.Engine.TheInside.{Inside}
 

@@ -11,8 +11,8 @@ use Rattle.release_rows.specs.inside.Keys.{IsMet, key_in}
 use Rattle.release_rows.specs.inside.KeyedRows.{AreOfItsKind, KeyedRow, conflicts}
 use Rattle.release_rows.specs.inside.VersionTable.{HasTaken, VersionTable}
 use Rattle.release_rows.specs.declared.comparing.Comparing.{Comparing}
-use Rattle.release_rows.specs.declared.fault.LoadFault.{LoadFault}
-use Rattle.release_rows.specs.declared.fault.LoadFault.TheVariants.{Conflict}
+use Rattle.row_lists.specs.declared.fault.LoadFault.{LoadFault}
+use Rattle.row_lists.specs.declared.fault.LoadFault.TheVariants.{Conflict}
 
 -- the UUIDs of the members that were met, the rows taken so far, and the keys of those that are still to come
 pub record Comparison : Type 0 where

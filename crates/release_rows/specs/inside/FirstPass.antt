@@ -8,9 +8,9 @@ use Rattle.release_rows.specs.ReadRows.{HasFirstFault, IsReadFrom}
 use Rattle.release_rows.specs.inside.RowStore.{RowStore, kept_behind, nothing_kept}
 use Rattle.release_rows.specs.inside.Keys.{IsShort, Keyed, key_in, uuids_behind}
 use Rattle.release_rows.specs.Limits.{row_total}
-use Rattle.release_rows.specs.ReleaseLists.{ReleaseLists}
+use Rattle.row_lists.specs.ReleaseLists.{ReleaseLists}
 use Rattle.release_rows.specs.Traversal.{OfFiles}
-use Rattle.release_rows.specs.declared.fault.LoadFault.{LoadFault}
+use Rattle.row_lists.specs.declared.fault.LoadFault.{LoadFault}
 use Rattle.release_rows.specs.declared.limits.Limits.{Limits}
 
 -- the UUIDs that were met behind rows, and the keys of the rows

@@ -7,10 +7,10 @@ use Rattle.release_rows.specs.Files.{Place, RowAt, row_at, text_of_row}
 use Rattle.release_rows.specs.Faults.{fault_here, first_of}
 use Rattle.release_rows.specs.inside.Keys.{IsShort, Keyed, keyed_behind, no_keys}
 use Rattle.release_rows.specs.Limits.{left_behind, row_limit}
-use Rattle.release_rows.specs.ReleaseLists.{ReleaseLists, listed_of}
-use Rattle.release_rows.specs.inside.ChosenLists.{listed_behind}
-use Rattle.release_rows.specs.declared.fault.LoadFault.{LoadFault}
-use Rattle.release_rows.specs.declared.fault.LoadFault.TheVariants.{TooMany}
+use Rattle.row_lists.specs.ReleaseLists.{ReleaseLists, listed_of}
+use Rattle.row_lists.specs.ChosenLists.{listed_behind}
+use Rattle.row_lists.specs.declared.fault.LoadFault.{LoadFault}
+use Rattle.row_lists.specs.declared.fault.LoadFault.TheVariants.{TooMany}
 use Rattle.release_rows.specs.declared.limits.Limits.{Limits}
 
 -- the keys of the rows, how many rows of each kind may still come, and the lists of the rows

@@ -1,6 +1,6 @@
 -- What the rows that the program holds say.
 use Rattle.release_rows.specs.inside.RowStore.{RowStore}
-use Rattle.release_rows.specs.inside.ListsInside.{listed_in}
+use Rattle.row_lists.specs.ListsRead.{listed_in}
 use Rattle.release_rows.specs.declared.rows.Rows.{Rows}
 
 abbrev pub kept_in : Rows → RowStore

@@ -3,7 +3,7 @@ use Rattle.std.specs.Prelude.{◌≡◌, ◌≤◌, ◌<◌, ℕ, ◌/◌, ◌^�
 use Rattle.std.specs.List.Sorted.{IsStrictlyIncreasing}
 use Rattle.rf2_rows.specs.Rows.{row_fault}
 use Rattle.release_rows.specs.inside.KeyedRows.{KeyedRow}
-use Rattle.release_rows.specs.Spans.{IsSpanOf, text_at}
+use Rattle.row_lists.specs.Spans.{IsSpanOf, text_at}
 use Rattle.release_rows.specs.inside.VersionTable.{VersionTable, Version}
 use Rattle.release_rows.specs.declared.versions.NotedRow.{NotedRow}
 use Rattle.release_rows.specs.declared.versions.VersionRow.{VersionRow}

@@ -1,8 +1,8 @@
 use Rattle.std.proofs.Common.{◌++◌, ◌+◌, List, ℕ, ap, drop, map, refl, subst, sym}
 use Rattle.std.specs.Prelude.{slice_index}
 use Rattle.std.specs.List.{flat_map}
-use Rattle.snapshot.specs.Name.{name_of}
-use Rattle.snapshot.specs.Line.{concept_line}
+use Rattle.held_release.specs.Name.{name_of}
+use Rattle.held_release.specs.Line.{concept_line}
 use Rattle.answer_printer.specs.inside.Prefix.{IsPrefixOf}
 use Rattle.answer_printer.proofs.AnswerLemmas.{prefix_more, text_end, text_turn}
 use Rattle.answer_printer.proofs.answer.append_lines.Goals as goal

@@ -1,8 +1,8 @@
 use Rattle.std.proofs.Common.{ℕ, ◌≡◌, ◌++◌, List, drop, map}
 use Rattle.std.specs.Prelude.{slice_index}
 use Rattle.std.specs.List.{flat_map}
-use Rattle.snapshot.specs.Name.{name_of}
-use Rattle.snapshot.specs.Line.{concept_line}
+use Rattle.held_release.specs.Name.{name_of}
+use Rattle.held_release.specs.Line.{concept_line}
 use Rattle.answer_printer.specs.inside.Prefix.{IsPrefixOf}
 use Rattle.answer_printer.proofs.answer.append_lines.Given as goal
 

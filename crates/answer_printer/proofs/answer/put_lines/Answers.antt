@@ -4,8 +4,8 @@ use Rattle.std.specs.Prelude.{slice_index}
 use Rattle.std.specs.List.{flat_map}
 use Rattle.streams.specs.Waiting.{Puts, WritesFront}
 use Rattle.streams.proofs.WaitingLemmas.{Puts-cut-more, Puts-then}
-use Rattle.snapshot.specs.Name.{name_of}
-use Rattle.snapshot.specs.Line.{concept_line}
+use Rattle.held_release.specs.Name.{name_of}
+use Rattle.held_release.specs.Line.{concept_line}
 use Rattle.answer_printer.proofs.AnswerLemmas.{text_end}
 use Rattle.answer_printer.proofs.answer.put_lines.Goals as goal
 

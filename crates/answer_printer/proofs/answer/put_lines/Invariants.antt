@@ -2,8 +2,8 @@ use Rattle.std.proofs.Common.{ℕ, ◌≡◌, ◌++◌, List, drop, false, map}
 use Rattle.std.specs.Prelude.{slice_index}
 use Rattle.std.specs.List.{flat_map}
 use Rattle.streams.specs.Waiting.{Puts}
-use Rattle.snapshot.specs.Name.{name_of}
-use Rattle.snapshot.specs.Line.{concept_line}
+use Rattle.held_release.specs.Name.{name_of}
+use Rattle.held_release.specs.Line.{concept_line}
 use Rattle.answer_printer.proofs.answer.put_lines.Given as goal
 
 -- the lines so far were put, and with those that are left they are all lines

@@ -1,6 +1,6 @@
 use Rattle.std.proofs.Common.{◌∙◌, List, ℕ, subst, sym}
 use Rattle.streams.specs.Waiting.{Puts}
-use Rattle.snapshot.specs.Name.{name_of}
+use Rattle.held_release.specs.Name.{name_of}
 use Rattle.answer_printer.proofs.AnswerLemmas.{are_concepts, lines_answer}
 use Rattle.answer_printer.proofs.answer.write_answer.Goals as goal
 

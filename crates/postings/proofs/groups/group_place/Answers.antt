@@ -2,7 +2,7 @@ use Rattle.std.proofs.Common.{◌+◌, ◌∙◌, ap, arith, length, nat_eq, ref
 use Rattle.std.specs.List.{position_or_len}
 use Rattle.first_met.specs.FirstMet.{keys_behind}
 use Rattle.postings.specs.inside.Coded.{ungrouped_pairs}
-use Rattle.snapshot.proofs.TypeLemmas.{place_near}
+use Rattle.held_release.proofs.TypeLemmas.{place_near}
 use Rattle.postings.proofs.GroupLemmas.{numbered_place, ungrouped_place}
 use Rattle.postings.proofs.PairKeyLemmas.{place-ungrouped_keys, ungrouped_keys-more, ungrouped_keys-numbered}
 use Rattle.postings.proofs.groups.group_place.Goals as goal

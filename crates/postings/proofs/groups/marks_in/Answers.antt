@@ -3,7 +3,7 @@ use Rattle.std.proofs.Common.{refl, subst, sym}
 use Rattle.std.specs.Prelude.{All}
 use Rattle.std.proofs.lemmas.List.{length-map}
 use Rattle.number_lists.specs.KeyedLists.{list_of}
-use Rattle.snapshot.proofs.SortedLemmas.{flat_map-more}
+use Rattle.held_release.proofs.SortedLemmas.{flat_map-more}
 use Rattle.postings.specs.inside.Coded.{AreRowMarks, group_codes, group_marks, groups_ahead, of_source, source_marks}
 use Rattle.postings.specs.declared.rows.CodedRow.{CodedRow}
 use Rattle.postings.proofs.PlaceLemmas.{list_of-places_by-within, rows_of_source}

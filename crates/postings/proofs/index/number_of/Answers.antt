@@ -1,6 +1,6 @@
 use Rattle.std.proofs.Common.{Ok, Err, rules}
 use Rattle.std.proofs.lemmas.List.Sorted.{answers_always, searched}
-use Rattle.snapshot.proofs.NumberingLemmas.{number_at, number_nowhere}
+use Rattle.held_release.proofs.NumberingLemmas.{number_at, number_nowhere}
 use Rattle.postings.proofs.NumberLemmas.{rises_on}
 use Rattle.postings.proofs.index.number_of.Goals as goal
 

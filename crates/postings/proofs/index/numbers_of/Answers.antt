@@ -1,6 +1,6 @@
 use Rattle.std.proofs.Common.{◌≡◌, ◌∙◌, ◌++◌, ◌∷◌, [], get_or, map, sym, ap, arith}
 use Rattle.std.proofs.lemmas.List.{get_or_default, map_more, take_all}
-use Rattle.snapshot.specs.Numbering.{concept_number}
+use Rattle.held_release.specs.Numbering.{concept_number}
 use Rattle.postings.proofs.index.numbers_of.Goals as goal
 
 pub loop-id-init : goal.loop-id-init

@@ -1,6 +1,6 @@
 -- The numbers so far.
 use Rattle.std.proofs.Common.{◌≡◌, map, take}
-use Rattle.snapshot.specs.Numbering.{concept_number}
+use Rattle.held_release.specs.Numbering.{concept_number}
 use Rattle.postings.proofs.index.numbers_of.Given as goal
 
 abbrev pub invariant-loop-id : goal.invariant-loop-id

@@ -3,7 +3,7 @@ use Rattle.std.proofs.Common.{sym, ap, subst, arith}
 use Rattle.std.specs.Prelude.{All, slice_get, slice_index}
 use Rattle.std.specs.List.{concat}
 use Rattle.std.proofs.lemmas.List.{length-map}
-use Rattle.snapshot.specs.AttributesBySource.{attributes_by_source}
+use Rattle.held_release.specs.AttributesBySource.{attributes_by_source}
 use Rattle.postings.specs.inside.Cells.{AreRowLists}
 use Rattle.postings.specs.inside.Coded.{AreRowMarks, IsBySource}
 use Rattle.postings.specs.Columns.{Flagged}
@@ -13,7 +13,7 @@ use Rattle.postings.specs.inside.RowIndexes.{AreByType}
 use Rattle.postings.specs.inside.ValueTables.{values_in}
 use Rattle.postings.specs.declared.row_indexes.RowIndexes.{RowIndexes}
 use Rattle.postings.specs.declared.rows.CodedRow.{CodedRow}
-use Rattle.snapshot.specs.declared.attribute_types.Types.{Types}
+use Rattle.held_release.specs.declared.attribute_types.Types.{Types}
 use Rattle.postings.specs.declared.values.Values.{Values}
 use Rattle.postings.proofs.IndexLemmas.{few_types}
 use Rattle.postings.proofs.KeptLemmas.{coded_kept, each_kept, many_groups, marked_are, one_number, units_are, units_below}

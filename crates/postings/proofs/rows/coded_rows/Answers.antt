@@ -6,7 +6,7 @@ use Rattle.std.proofs.lemmas.List.{take_all}
 use Rattle.std.proofs.lemmas.Option.{get_or_from_slice_get, slice_get_within}
 use Rattle.postings.proofs.DistinctLemmas.{insert_key}
 use Rattle.rf2_rows.specs.Release.{Attribute, text_value}
-use Rattle.snapshot.specs.AttributesBySource.{attribute_numbered, attributes_by_source, by_identifiers, numbered_lent, value_by_identifier}
+use Rattle.held_release.specs.AttributesBySource.{attribute_numbered, attributes_by_source, by_identifiers, numbered_lent, value_by_identifier}
 use Rattle.postings.specs.inside.Coded.{IsCoded, row_coded}
 use Rattle.postings.specs.Indexed.{types_of, value_at}
 use Rattle.postings.specs.inside.ValueTables.{values_in}

@@ -1,7 +1,7 @@
 use Rattle.std.proofs.Common.{ℕ, ◌++◌, ◌∷◌, [], ◌∙◌, Bor, List, Vec, Global, map, take, ap, sym, arith}
 use Rattle.std.proofs.lemmas.List.{append-nil, map_push, take_all}
-use Rattle.snapshot.specs.AttributesBySource.{attribute_numbered, attributes_by_source, by_identifiers, numbered_lent, value_by_identifier}
-use Rattle.snapshot.specs.declared.sorted_attributes.NumberedValue.{NumberedValue}
+use Rattle.held_release.specs.AttributesBySource.{attribute_numbered, attributes_by_source, by_identifiers, numbered_lent, value_by_identifier}
+use Rattle.held_release.specs.declared.sorted_attributes.NumberedValue.{NumberedValue}
 use Rattle.postings.specs.RowValues.{texts_at, texts_of}
 use Rattle.postings.proofs.ValueLemmas.{texts_more}
 use Rattle.postings.proofs.texts.lent_texts.Goals as goal

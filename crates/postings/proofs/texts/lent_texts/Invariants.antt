@@ -1,5 +1,5 @@
 use Rattle.std.proofs.Common.{◌≡◌, map, take}
-use Rattle.snapshot.specs.AttributesBySource.{attributes_by_source}
+use Rattle.held_release.specs.AttributesBySource.{attributes_by_source}
 use Rattle.postings.specs.RowValues.{texts_of}
 use Rattle.postings.proofs.texts.lent_texts.Given as goal
 

@@ -9,7 +9,7 @@ use Rattle.std.proofs.lemmas.List.{take_all}
 use Rattle.std.proofs.lemmas.List.Filters.{dedup_is}
 use Rattle.std.proofs.lemmas.List.Kept.{Contains-dedup, Contains-from_dedup, IsStrictlySortedBy-dedup}
 use Rattle.std.proofs.lemmas.List.Sorted.{Contains-permutation, IsPermutation-sym}
-use Rattle.snapshot.specs.AttributesBySource.{attribute_numbered, attributes_by_source, by_identifiers}
+use Rattle.held_release.specs.AttributesBySource.{attribute_numbered, attributes_by_source, by_identifiers}
 use Rattle.postings.specs.RowValues.{decimals_of}
 use Rattle.postings.proofs.ValueLemmas.{decimals_more, same_decimals}
 use Rattle.postings.proofs.values.decimals_among.Goals as goal

@@ -1,5 +1,5 @@
 use Rattle.std.proofs.Common.{◌≡◌, take}
-use Rattle.snapshot.specs.AttributesBySource.{attributes_by_source}
+use Rattle.held_release.specs.AttributesBySource.{attributes_by_source}
 use Rattle.postings.specs.RowValues.{decimals_of}
 use Rattle.postings.proofs.values.decimals_among.Given as goal
 

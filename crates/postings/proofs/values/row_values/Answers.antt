@@ -1,7 +1,7 @@
 use Rattle.std.proofs.Common.{◌≡◌, true, arith}
 use Rattle.rf2_rows.specs.Release.{Attribute}
-use Rattle.snapshot.specs.AttributesBySource.{attributes_by_source}
-use Rattle.snapshot.specs.ValuesInForce.{is_value_among}
+use Rattle.held_release.specs.AttributesBySource.{attributes_by_source}
+use Rattle.held_release.specs.ValuesInForce.{is_value_among}
 use Rattle.postings.proofs.ValueLemmas.{all_by_source, few_values, length-values, values_there}
 use Rattle.postings.proofs.values.row_values.Goals as goal
 

@@ -1,7 +1,8 @@
 use Rattle.std.proofs.Common.{◌≡◌, ◌∙◌, Ok, ap, codes, map}
 use Rattle.std.proofs.lemmas.Result.{IfOk-weaker, IfErr-weaker}
 use Rattle.release_files.specs.Source.{file_text}
-use Rattle.snapshot.specs.Contents.{IsFaultOf, load_of}
+use Rattle.held_release.specs.Contents.{IsFaultOf}
+use Rattle.snapshot.specs.Load.{load_of}
 use Rattle.release_rows.specs.declared.limits.Limits.{Limits}
 use Rattle.sample_release.specs.SampleContents.{sample_contents}
 use Rattle.query_service.proofs.ServeLemmas.{same_contents, same_fault}

@@ -2,7 +2,7 @@ use Rattle.std.proofs.Common.{◌≡◌, ◌∙◌, ap}
 use Rattle.std.proofs.lemmas.Result.{IfErr-weaker}
 use Rattle.streams.proofs.WaitingLemmas.{LeavesAnswer-weaker}
 use Rattle.constraint_tree.specs.Tree.{tree_of}
-use Rattle.snapshot.specs.Name.{name_of}
+use Rattle.held_release.specs.Name.{name_of}
 use Rattle.answer_printer.specs.AnswerText.{answer_text}
 use Rattle.query_service.specs.Answer.{constraint_answer}
 use Rattle.query_tool.proofs.writing.write_constraint.Goals as goal

@@ -1,5 +1,5 @@
 use Rattle.std.proofs.Common.{None, ap, arith, length}
-use Rattle.release_rows.specs.inside.ListsInside.{listed_in}
+use Rattle.row_lists.specs.ListsRead.{listed_in}
 use Rattle.release_rows.specs.inside.RowsInside.{kept_in}
 use Rattle.release_rows.proofs.ReadFromLemmas.{are-seen, conflict-seen, count-seen, read-found}
 use Rattle.release_rows.proofs.TakingLemmas.{at_told, if_told}

@@ -1,9 +1,9 @@
 use Rattle.std.proofs.Common.{◌<◌, ◌∙◌, ℕ, ap, arith, inl, inr, refl, subst, sym}
 use Rattle.std.proofs.lemmas.Bool.{cases_Bool, false_from_ne_true, false≢true}
-use Rattle.release_rows.specs.inside.ListsInside.{listed_in}
+use Rattle.row_lists.specs.ListsRead.{listed_in}
 use Rattle.release_rows.specs.inside.RowsInside.{kept_in}
 use Rattle.release_rows.specs.DeviceFaults.{FileIs, is_device}
-use Rattle.release_rows.specs.declared.fault.LoadFault.{LoadFault}
+use Rattle.row_lists.specs.declared.fault.LoadFault.{LoadFault}
 use Rattle.release_rows.proofs.ReadFromLemmas.{read_unmarked}
 use Rattle.release_rows.proofs.TakingLemmas.{at_told, fails_since, if_err, if_ok, if_told}
 use Rattle.release_rows.proofs.WentLemmas.{seen-stopped, seen-whole}

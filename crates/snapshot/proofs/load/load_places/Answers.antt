@@ -1,9 +1,9 @@
-use Rattle.release_rows.specs.ReadRows.{read_in}
+use Rattle.row_lists.specs.ListsRead.{read_in}
 use Rattle.release_rows.proofs.ApartLemmas.{AreFew-read}
-use Rattle.snapshot.specs.Contents.{IsFaultOf}
-use Rattle.snapshot.specs.inside.Finished.{finished}
+use Rattle.held_release.specs.Contents.{IsFaultOf}
+use Rattle.held_release.specs.Finished.{finished}
 use Rattle.snapshot.proofs.LoadLemmas.{loaded_from-read}
-use Rattle.snapshot.proofs.FinishLemmas.{finished-own, raised_by_none}
+use Rattle.snapshot.proofs.FaultLemmas.{finished-own, raised_by_none}
 use Rattle.release_rows.proofs.TakingLemmas.{at_told, if_err, if_told}
 use Rattle.snapshot.proofs.load.load_places.Goals as goal
 use Rattle.std.proofs.Common.{ℕ, ◌∙◌, List, Result, Ok, Err, IfOk, ap, arith, string_bytes, subst, sym}

@@ -3,7 +3,7 @@ use Rattle.std.specs.List.{list_any, position_or_len}
 use Rattle.first_met.specs.FirstMet.{keys_behind}
 use Rattle.postings.proofs.FirstKeyLemmas.{few_had, few_placed, few_same, new_had, new_last, new_placed, others_had, others_more}
 use Rattle.postings.proofs.FirstKeyLemmas.{others_placed}
-use Rattle.snapshot.proofs.TypeLemmas.{place_near}
+use Rattle.held_release.proofs.TypeLemmas.{place_near}
 use Rattle.postings.proofs.first_keys.FirstKeys.meet.Goals as goal
 use Rattle.postings.proofs.first_keys.FirstKeys.meet.Goals.{After-place_among-place}
 

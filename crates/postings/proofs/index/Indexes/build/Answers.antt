@@ -1,7 +1,7 @@
 use Rattle.std.proofs.Common.{ℕ, ◌≡◌, ◌<◌, ◌^◌, ◌∙◌, List, length, map, subst, sym}
 use Rattle.std.specs.List.Sorted.{IsStrictlyIncreasing}
-use Rattle.snapshot.specs.AttributesBySource.{attributes_by_source}
-use Rattle.snapshot.specs.Numbering.{concept_number}
+use Rattle.held_release.specs.AttributesBySource.{attributes_by_source}
+use Rattle.held_release.specs.Numbering.{concept_number}
 use Rattle.postings.proofs.BuildLemmas.{indexes_of_own, length-members, members_told, rows_told}
 use Rattle.postings.proofs.StatsLemmas.{lists_for}
 use Rattle.postings.proofs.index.Indexes.build.Goals as goal

@@ -1,6 +1,6 @@
 use Rattle.std.proofs.Common.{ℕ, ◌≡◌, ◌<◌, ◌∙◌, List, Some, length, ap, subst, sym, arith}
 use Rattle.std.specs.List.{slice_get}
-use Rattle.snapshot.specs.AttributesBySource.{attribute_of, with_source}
+use Rattle.held_release.specs.AttributesBySource.{attribute_of, with_source}
 use Rattle.postings.specs.inside.Coded.{IsCoded}
 use Rattle.postings.specs.Indexed.{Indexed, value_at, values_of}
 use Rattle.postings.specs.inside.KeptRows.{rows_kept}

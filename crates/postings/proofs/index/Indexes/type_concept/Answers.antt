@@ -1,7 +1,7 @@
 use Rattle.std.proofs.Common.{ℕ, ◌≡◌, ◌<◌, ◌∙◌, List, Option, ap, arith, get_or, length, map, slice_get, subst, sym}
 use Rattle.std.proofs.lemmas.List.{get_or-map, length-map}
 use Rattle.std.proofs.lemmas.Option.{slice_get-get_or}
-use Rattle.snapshot.specs.Numbering.{concept_number}
+use Rattle.held_release.specs.Numbering.{concept_number}
 use Rattle.postings.specs.inside.IndexInside.{indexed_in}
 use Rattle.postings.specs.Indexed.{Indexed, concept_of_type, types_of}
 use Rattle.postings.proofs.index.Indexes.type_concept.Goals as goal

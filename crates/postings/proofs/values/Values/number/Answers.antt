@@ -4,8 +4,8 @@ use Rattle.std.specs.List.{slice_get}
 use Rattle.std.specs.List.Sorted.{IsStrictlySortedBy}
 use Rattle.std.specs.Ordering.{int_cmp}
 use Rattle.std.proofs.lemmas.Option.{slice_get_within}
-use Rattle.snapshot.specs.AttributesBySource.{IsNumberBelow, numbered_lent, value_by_identifier}
-use Rattle.snapshot.specs.declared.sorted_attributes.NumberedValue.{NumberedValue}
+use Rattle.held_release.specs.AttributesBySource.{IsNumberBelow, numbered_lent, value_by_identifier}
+use Rattle.held_release.specs.declared.sorted_attributes.NumberedValue.{NumberedValue}
 use Rattle.postings.specs.inside.ValueTables.{values_in}
 use Rattle.postings.proofs.ValueLemmas.{concept_placed, decimal_placed, had_decimal, had_text, length-values, text_placed}
 use Rattle.postings.proofs.values.Values.number.Goals as goal

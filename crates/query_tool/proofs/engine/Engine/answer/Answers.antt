@@ -2,7 +2,7 @@ use Rattle.std.proofs.Common.{subst}
 use Rattle.std.specs.List.Sorted.{IsStrictlyIncreasing}
 use Rattle.std.proofs.lemmas.List.Kept.{IsStrictlyIncreasing-filter}
 use Rattle.constraint_tree.specs.Denotation.{denotation, denotes}
-use Rattle.snapshot.specs.Contents.{Contents}
+use Rattle.held_release.specs.Contents.{Contents}
 use Rattle.query_tool.proofs.engine.Engine.answer.Goals as goal
 
 pub returns-clause-rising : goal.returns-clause-rising

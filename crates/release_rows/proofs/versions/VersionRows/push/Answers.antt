@@ -2,7 +2,7 @@ use Rattle.std.proofs.Common.{arith}
 use Rattle.std.proofs.lemmas.Grind.{common_steps}
 use Rattle.std.proofs.lemmas.List.Elements.{All-weaker}
 use Rattle.release_rows.specs.inside.VersionsInside.{IsLineOf}
-use Rattle.release_rows.proofs.SpanLemmas.{all-push}
+use Rattle.row_lists.proofs.SpanLemmas.{all-push}
 use Rattle.release_rows.proofs.VersionLemmas.{line-extends, rows_kept}
 use Rattle.release_rows.proofs.versions.VersionRows.push.Goals as goal
 

@@ -1,0 +1,13 @@
+pub mod BucketLemmas
+pub mod FinishLemmas
+pub mod FirstRowLemmas
+pub mod KeptNameLemmas
+pub mod LawLemmas
+pub mod LineLemmas
+pub mod NameInLineLemmas
+pub mod NameLawLemmas
+pub mod NumberedLemmas
+pub mod NumberingLemmas
+pub mod SortedLemmas
+pub mod SortingLemmas
+pub mod TypeLemmas

@@ -1,0 +1,40 @@
+use Rattle.std.proofs.Common.{◌+◌, ◌-◌, ◌/◌, arith}
+use Rattle.std.proofs.lemmas.Grind.{common_steps}
+use Rattle.held_release.proofs.NumberingLemmas.{number_at, number_nowhere}
+use Rattle.number_lists.proofs.IncreasingLemmas.{not_falling}
+use Rattle.held_release.proofs.concepts.number_between.Goals as goal
+
+pub returns-then-found-id : goal.returns-then-found-id
+returns-then-found-id c =
+    grind (
+      arith,
+      common_steps,
+      (number_at c.args.ids.now c.requires.rising c.args.id (c.loop-low.low + (c.loop-low.high - c.loop-low.low) / 2)),
+      c.loop-low-test.true,
+      c.loop-low.invariant.within,
+    )
+
+pub loop-low-preserved-then-found-id-2 : goal.loop-low-preserved-then-found-id-2
+loop-low-preserved-then-found-id-2 c =
+    let middle = c.loop-low.low + (c.loop-low.high - c.loop-low.low) / 2 in record {
+      within = c.loop-low.invariant.within;
+      above = λ place before. grind (arith, common_steps, not_falling c.args.ids.now c.requires.rising place middle);
+      below = c.loop-low.invariant.below;
+    }
+
+pub loop-low-preserved : goal.loop-low-preserved
+loop-low-preserved c =
+    let middle = c.loop-low.low + (c.loop-low.high - c.loop-low.low) / 2 in record {
+      within = omega (arith, c.loop-low-test.true, c.loop-low.invariant.within);
+      above = c.loop-low.invariant.above;
+      below = λ place behind below. grind (arith, common_steps, not_falling c.args.ids.now c.requires.rising middle place);
+    }
+
+pub returns : goal.returns
+returns c = grind (
+  arith,
+  (number_nowhere c.args.ids.now c.requires.rising c.args.id c.loop-low.high c.loop-low.invariant.within),
+  c.loop-low.invariant.above,
+  c.loop-low.invariant.below,
+  c.loop-low-test.false,
+)

@@ -1,0 +1,5 @@
+use Rattle.held_release.proofs.LawLemmas.{names_least_cyclic}
+use Rattle.held_release.proofs.laws.cyclic_concept_is_the_least.Goals as goal
+
+pub returns : goal.returns
+returns c = names_least_cyclic

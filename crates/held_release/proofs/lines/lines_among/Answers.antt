@@ -1,0 +1,43 @@
+use Rattle.std.proofs.Common.{List, ap, arith, length}
+use Rattle.rf2_rows.specs.Release.{Name}
+use Rattle.held_release.proofs.FinishLemmas.{length-names_among}
+use Rattle.held_release.proofs.LineLemmas.{places_within}
+use Rattle.held_release.proofs.lines.lines_among.Goals as goal
+
+pub first_places-requires : goal.first_places-requires
+first_places-requires c =
+    omega (
+      arith,
+      ap (λ (names : List Name). length names) c.retain_among.ensures,
+      length-names_among c.args.concepts.now c.args.names,
+      c.requires,
+    )
+
+pub lines_by_place-requires-clause-few : goal.lines_by_place-requires-clause-few
+lines_by_place-requires-clause-few c =
+    omega (
+      arith,
+      ap (λ (names : List Name). length names) c.retain_among.ensures,
+      length-names_among c.args.concepts.now c.args.names,
+      c.requires,
+    )
+
+pub lines_by_place-requires-clause-within : goal.lines_by_place-requires-clause-within
+lines_by_place-requires-clause-within c =
+    grind (
+      arith,
+      c.as_slice.ensures.value,
+      (places_within c.args.language.now c.args.concepts.now c.retain_among.new.self c.retain_among.new.self
+          c.in_ok-places.places.items c.in_ok-places.ensures),
+    )
+
+pub returns-clause-lines : goal.returns-clause-lines
+returns-clause-lines c =
+    grind (
+      arith,
+      c.ids.ensures,
+      c.as_slice.ensures.value,
+      c.in_ok-places.ensures,
+      c.lines_by_place.ensures.names,
+      (c.lines_by_place.ensures.lines),
+    )

@@ -1,0 +1,28 @@
+use Rattle.std.proofs.lemmas.Bool.Decides.{nat_tests}
+use Rattle.std.proofs.lemmas.Grind.{common_steps}
+use Rattle.std.proofs.Common.{◌∙◌, ap, arith, decimal}
+use Rattle.std.proofs.lemmas.Str.{IsCharBoundary-after_ascii, IsCharBoundary-before_ascii}
+use Rattle.held_release.proofs.NameInLineLemmas.{named_line}
+use Rattle.held_release.proofs.lines.name_between.Goals as goal
+
+pub range-requires-clause-start_boundary : goal.range-requires-clause-start_boundary
+range-requires-clause-start_boundary c = grind (arith, common_steps, nat_tests, IsCharBoundary-after_ascii, named_line)
+
+pub range-requires-clause-end_boundary : goal.range-requires-clause-end_boundary
+range-requires-clause-end_boundary c = grind (arith, common_steps, nat_tests, IsCharBoundary-before_ascii, named_line)
+
+pub range-requires-clause-start_le_end : goal.range-requires-clause-start_le_end
+range-requires-clause-start_le_end c =
+    let named =
+    named_line c.args.texts.now c.format.result.now c.args.concept c.args.from c.args.to
+    (c.format.ensures.text ∙ ap decimal c.number.ensures.number) c.requires.rise c.requires.end c.requires.line
+    c.if-to-from.false in
+    omega (arith, named.2)
+
+pub returns : goal.returns
+returns c =
+    let (name, line, long, before, behind, found) =
+    named_line c.args.texts.now c.format.result.now c.args.concept c.args.from c.args.to
+    (c.format.ensures.text ∙ ap decimal c.number.ensures.number) c.requires.rise c.requires.end c.requires.line
+    c.if-to-from.false in
+    grind (arith, line, found, c.range.ensures.value, c.format.ensures.text, c.number.ensures.number)

@@ -1,0 +1,14 @@
+-- What the fields of the concepts in force say, and what they keep.
+use Rattle.std.specs.Prelude.{ℕ, ◌<◌, ◌^◌, List, length}
+use Rattle.std.specs.List.Sorted.{IsStrictlyIncreasing}
+use Rattle.held_release.specs.inside.Buckets.{AreBucketStarts}
+use Rattle.held_release.specs.declared.concepts.Concepts.TheInside.{Inside}
+
+abbrev pub ids_in : Inside → List ℕ
+ids_in inside = inside.ids.items
+
+-- the identifiers rise, and each bucket of them is found where it starts
+pub record AreInBuckets (inside : Inside) : Type 0 where
+  pub rising : IsStrictlyIncreasing inside.ids.items
+  pub few : length inside.ids.items < 2 ^ 31
+  pub starts : AreBucketStarts inside.ids.items inside.starts.items

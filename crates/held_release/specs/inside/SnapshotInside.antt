@@ -1,0 +1,44 @@
+-- What the fields of a snapshot say, and what they keep.
+use Rattle.std.specs.Prelude.{◌≡◌, ◌<◌, ◌^◌, true, All, map, length, string_bytes}
+use Rattle.std.specs.List.Sorted.{IsStrictlyIncreasing}
+use Rattle.rf2_rows.specs.Release.{Attribute}
+use Rattle.held_release.specs.Contents.{Contents}
+use Rattle.held_release.specs.ValuesInForce.{is_value_among}
+use Rattle.held_release.specs.Line.{concept_line}
+use Rattle.held_release.specs.Name.{name_among}
+use Rattle.hierarchy.specs.Hierarchy.{IsWithin}
+use Rattle.held_release.specs.Numbering.{row_of_numbers}
+use Rattle.hierarchy.specs.ParentsFirst.{IsParentsFirst}
+use Rattle.held_release.specs.inside.Sorted.{IsSortedBySource, in_file_order}
+use Rattle.held_release.specs.declared.held_release.Snapshot.TheInside.{Inside}
+
+-- the contents that the fields stand for
+abbrev pub contents_in : Inside → Contents
+contents_in inside = record {
+  release = record {
+    concepts = inside.concepts;
+    isa = map (row_of_numbers inside.concepts) inside.isa.items;
+    attributes = in_file_order inside.concepts inside.attributes;
+    members = map (row_of_numbers inside.concepts) inside.members.items;
+    names = inside.lines.names;
+  };
+  language = string_bytes inside.language;
+  files = inside.files;
+  passed = inside.passed;
+}
+
+-- the concepts rise; the numbers in rows are those of concepts; the lines are those of the concepts; parents come
+-- first in the order of the concepts; the attribute rows are sorted by source, few enough to number; their values
+-- that are concepts are in force; and there are few is-a rows and member rows
+abbrev pub IsNumbered : Inside → Type 0
+IsNumbered inside =
+    IsStrictlyIncreasing inside.concepts
+    × IsWithin (length inside.concepts) inside.isa.items
+    × IsWithin (length inside.concepts) inside.members.items
+    × (inside.lines.lines ≡ map (concept_line (name_among (string_bytes inside.language) inside.lines.names)) inside.concepts)
+    × IsParentsFirst (length inside.concepts) inside.isa.items inside.order.items
+    × IsSortedBySource inside.concepts inside.attributes
+    × (length inside.attributes.rows < 2 ^ 31)
+    × All (λ (row : Attribute). is_value_among inside.concepts row.value ≡ true) (in_file_order inside.concepts inside.attributes)
+    × (length inside.isa.items < 2 ^ 31)
+    × (length inside.members.items < 2 ^ 31)

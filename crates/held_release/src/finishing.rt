@@ -1,0 +1,190 @@
+//! From the rows that were read to the release that they make: its concepts numbered, and the rows between them kept.
+ghost use Rattle.std.specs.Prelude.{◌≡◌, ◌<◌, ◌^◌, ℕ, None, Ok, IfOk, IfErr, OnOk, map, length, string_bytes};
+ghost use Rattle.std.specs.List.{filter_map};
+ghost use Rattle.std.specs.List.Sorted.{IsStrictlyIncreasing};
+ghost use Rattle.number_lists.specs.RisingOrder.{rising as rising_of};
+ghost use Rattle.hierarchy.specs.Hierarchy.{IsWithin, Reaches};
+ghost use Rattle.hierarchy.specs.ParentsFirst.{IsParentsFirst};
+ghost use Rattle.row_lists.specs.InForce.{rows_among};
+ghost use Rattle.row_lists.specs.ListsRead.{AreFew, read_in};
+ghost use Rattle.held_release.specs.Contents.{IsFaultOf, first_cyclic};
+ghost use Rattle.held_release.specs.Finished.{IsCycle, attributes_among, finished, names_among};
+ghost use Rattle.held_release.specs.Line.{concept_line};
+ghost use Rattle.held_release.specs.Name.{name_among};
+ghost use Rattle.held_release.specs.Numbering.{numbered_row};
+ghost use Rattle.held_release.specs.inside.LeastCycle.{IsLeastCycle};
+ghost use Rattle.held_release.specs.inside.Sorted.{IsSortedBySource, in_file_order};
+
+use crate::concepts::Concepts;
+use crate::held_release::Snapshot;
+use crate::lines::{ConceptLines, lines_among};
+use crate::numbered_attributes::number_attributes;
+use crate::numbering::number_rows;
+use crate::sorted_attributes::{SortedAttributes, sort_by_source};
+use hierarchy::{least_cyclic, parents_first};
+use row_lists::{Attributes, LoadFault, Names, ReadRows, RowLists};
+use sctid::SctId;
+use std::alloc::{AllocError, Global};
+
+/// The release that the rows make which were read of so many files: its concepts in force are numbered in rising order, and the rows
+/// between them kept; names in a language come first. The fault is `Cycle`, with the least concept that reaches itself, or `Memory`.
+pub fn finish(
+    alloc: Global,
+    read: ReadRows,
+    language: String,
+    files: u64,
+) -> Result<Snapshot, LoadFault>
+    requires { AreFew read.count (read_in read.lists) }
+    ensures ok { IfOk result (λ snapshot. finished (string_bytes language) files read.count (read_in read.lists) ≡ Ok snapshot) }
+    ensures err { IfErr result (λ fault. IsFaultOf fault (finished (string_bytes language) files read.count (read_in read.lists))) }
+{
+    let ReadRows { lists, count } = read;
+    let RowLists {
+        concepts,
+        names,
+        isa_ends,
+        attributes,
+        member_ends,
+        ..
+    } = lists;
+    let concepts = Concepts::new(alloc, rising(concepts))?;
+    match number_hierarchy(alloc, &concepts, isa_ends.as_slice()) {
+        Ok(hierarchy) => {
+            drop(isa_ends);
+            let NumberedHierarchy { isa, order } = hierarchy;
+            let lists = lists_among(
+                alloc,
+                &concepts,
+                names,
+                language.as_str(),
+                attributes,
+                member_ends.as_slice(),
+            )?;
+            let Lists {
+                lines,
+                attributes,
+                members,
+            } = lists;
+            let listed = u64::from(concepts.len())
+                + isa.len() as u64
+                + attributes.len() as u64
+                + members.len() as u64
+                + lines.name_count() as u64;
+            Ok(Snapshot {
+                concepts,
+                isa,
+                order,
+                attributes,
+                members,
+                lines,
+                language,
+                files,
+                passed: count.saturating_sub(listed),
+            })
+        }
+        Err(fault) => Err(fault),
+    }
+}
+
+// The lists of rows of some concepts beside the hierarchy.
+#[derive(Drop)]
+struct Lists {
+    lines: ConceptLines,
+    attributes: SortedAttributes,
+    members: Vec<(u32, u32)>,
+}
+
+// The lines, name rows, attribute rows, sorted by source, and member rows of some concepts, with their
+// names in a language.
+fn lists_among(
+    alloc: Global,
+    concepts: &Concepts,
+    names: Names,
+    language: &str,
+    attributes: Attributes,
+    member_ends: &[(SctId, SctId)],
+) -> Result<Lists, AllocError>
+    requires few { length names < 2 ^ 32 }
+    requires few_attributes { length attributes < 2 ^ 31 }
+    ensures names { IfOk result (λ lists. lists.lines.names ≡ names_among concepts.now names) }
+    ensures lines { IfOk result (λ lists. lists.lines.lines ≡ map (concept_line (name_among language.now lists.lines.names)) concepts.now) }
+    ensures attributes { IfOk result (λ lists. in_file_order concepts.now lists.attributes ≡ attributes_among concepts.now attributes) }
+    ensures sorted { IfOk result (λ lists. IsSortedBySource concepts.now lists.attributes) }
+    ensures members { IfOk result (λ lists. lists.members.items ≡ filter_map (numbered_row concepts.now) member_ends.now) }
+{
+    let attributes = sorted_among(alloc, concepts, attributes)?;
+    let members = number_rows(alloc, concepts, member_ends)?;
+    let lines = lines_among(alloc, concepts, names, language)?;
+    Ok(Lists {
+        lines,
+        attributes,
+        members,
+    })
+}
+
+// The attribute rows of some concepts, sorted by source. What was read of them leaves before they are
+// sorted.
+fn sorted_among(
+    alloc: Global,
+    concepts: &Concepts,
+    attributes: Attributes,
+) -> Result<SortedAttributes, AllocError>
+    requires { length attributes < 2 ^ 31 }
+    ensures order { IfOk result (λ sorted. in_file_order concepts.now sorted ≡ attributes_among concepts.now attributes) }
+    ensures sorted { IfOk result (λ sorted. IsSortedBySource concepts.now sorted) }
+{
+    let numbered = number_attributes(alloc, concepts, &attributes)?;
+    drop(attributes);
+    sort_by_source(alloc, concepts, numbered)
+}
+
+// The is-a rows by the numbers of their ends.
+#[derive(Drop)]
+struct NumberedHierarchy {
+    isa: Vec<(u32, u32)>,
+    // the concepts in an order in which parents come first
+    order: Vec<u32>,
+}
+
+// The rows between two of some concepts by the numbers of these, unless one reaches itself.
+fn number_hierarchy(
+    alloc: Global,
+    concepts: &Concepts,
+    ends: &[(SctId, SctId)],
+) -> Result<NumberedHierarchy, LoadFault>
+    requires { length ends.now < 2 ^ 31 }
+    ensures rows { IfOk result (λ hierarchy. hierarchy.isa.items ≡ filter_map (numbered_row concepts.now) ends.now) }
+    ensures order { IfOk result (λ hierarchy. IsParentsFirst (length concepts.now) hierarchy.isa.items hierarchy.order.items) }
+    ensures acyclic { OnOk result (first_cyclic concepts.now (rows_among concepts.now ends.now) ≡ None) }
+    ensures cycle { IfErr result (λ fault. IsCycle fault (first_cyclic concepts.now (rows_among concepts.now ends.now))) }
+{
+    let isa = number_rows(alloc, concepts, ends)?;
+    match parents_first(alloc, isa.as_slice(), concepts.len())? {
+        Some(order) => Ok(NumberedHierarchy { isa, order }),
+        None => Err(cycle_fault(alloc, concepts, isa.as_slice())),
+    }
+}
+
+// The fault that names the least concept that reaches itself.
+fn cycle_fault(alloc: Global, concepts: &Concepts, rows: &[(u32, u32)]) -> LoadFault
+    requires within { IsWithin (length concepts.now) rows.now }
+    requires few { length rows.now < 2 ^ 32 }
+    requires cyclic { (concept : ℕ) × (concept < length concepts.now) × Reaches rows.now concept concept }
+    ensures { IsLeastCycle result concepts.now rows.now }
+{
+    match least_cyclic(alloc, rows, concepts.len()) {
+        Ok(Some(concept)) => LoadFault::Cycle(concepts.id_at(concept)),
+        Ok(None) => unreachable!(),
+        Err(_) => LoadFault::Memory,
+    }
+}
+
+// Concepts in rising order, each once.
+fn rising(mut concepts: Vec<SctId>) -> Vec<SctId>
+    ensures rising { result.items ≡ rising_of concepts.items }
+    ensures increasing { IsStrictlyIncreasing result.items }
+{
+    concepts.sort_unstable();
+    concepts.dedup();
+    concepts
+}

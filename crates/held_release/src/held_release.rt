@@ -1,0 +1,210 @@
+//! A release in memory, and reading it.
+ghost use Rattle.std.specs.Prelude.{◌≡◌, ◌<◌, ◌^◌, ℕ, List, None, Some, true, map, length, slice_index};
+ghost use Rattle.std.specs.List.{slice_get};
+ghost use Rattle.std.specs.List.Sorted.{IsStrictlyIncreasing};
+ghost use Rattle.held_release.specs.AttributesBySource.{IsNumberBelow, attribute_numbered, attribute_of, attributes_by_source, by_identifiers, numbered_lent, value_by_identifier, with_source};
+ghost use Rattle.held_release.specs.ValuesInForce.{AreValuesInForce, is_value_among};
+ghost use Rattle.held_release.specs.Line.{concept_line};
+ghost use Rattle.held_release.specs.Name.{name_of, text_lent};
+ghost use Rattle.hierarchy.specs.Hierarchy.{IsWithin};
+ghost use Rattle.held_release.specs.Numbering.{concept_number, row_of_numbers};
+ghost use Rattle.rf2_rows.specs.Rows.{value_lent};
+ghost use Rattle.hierarchy.specs.ParentsFirst.{IsParentsFirst};
+
+use crate::concepts::Concepts;
+use crate::lines::ConceptLines;
+use crate::report::Report;
+use crate::sorted_attributes::{AttributeNumbers, AttributeRow, NumberedValue, SortedAttributes};
+use rf2_rows::Value;
+use sctid::SctId;
+use std::marker::Model;
+
+/// The rows in force of a release. Its concepts have the numbers from 0, in the rising order of
+/// their identifiers. Contracts see the release, the asked language, and the counts of files and of
+/// rows that are passed over.
+#[derive(Drop)]
+pub struct Snapshot {
+    // the concepts in force
+    pub(crate) concepts: Concepts,
+    // child and parent of each is-a row, in the order of the rows
+    pub(crate) isa: Vec<(u32, u32)>,
+    // the numbers of the concepts in an order in which parents come first
+    pub(crate) order: Vec<u32>,
+    // the attribute rows sorted by source
+    pub(crate) attributes: SortedAttributes,
+    // reference set and component of each member row, in the order of the rows
+    pub(crate) members: Vec<(u32, u32)>,
+    // the line of each concept, and the name rows in the order of the rows
+    pub(crate) lines: ConceptLines,
+    // the language whose names come first
+    pub(crate) language: String,
+    // how many files have a kind
+    pub(crate) files: u64,
+    // how many rows are in none of the lists
+    pub(crate) passed: u64,
+}
+
+impl Model for Snapshot {
+    ghost use Rattle.held_release.specs.Contents.{Contents};
+
+    ghost Value = { Contents };
+
+    ghost use Rattle.held_release.specs.inside.SnapshotInside.{contents_in, IsNumbered};
+
+    ghost view = { contents_in };
+
+    ghost invariant = { IsNumbered };
+}
+
+impl Snapshot {
+    /// How many concepts are in force: fewer than 2^31.
+    pub fn concept_count(&self) -> u32
+        ensures count { result ≡ length self.now.release.concepts }
+        ensures few { length self.now.release.concepts < 2 ^ 31 }
+        ensures rising { IsStrictlyIncreasing self.now.release.concepts }
+    {
+        self.concepts.len()
+    }
+
+    /// The number of the concept with an identifier, or `None` where there is none in force.
+    pub fn index_of(&self, id: u64) -> Option<u32>
+        ensures { result ≡ concept_number self.now.release.concepts id }
+    {
+        self.concepts.index_of(id)
+    }
+
+    /// The identifier of a concept by its number, which is below `concept_count`.
+    pub fn id_at(&self, concept: u32) -> SctId
+        requires { concept < length self.now.release.concepts }
+        ensures { result ≡ slice_index self.now.release.concepts concept }
+    {
+        self.concepts.id_at(concept)
+    }
+
+    /// The name of a concept by its number, which is below `concept_count`: the term of its fully
+    /// specified name, of several the one in the asked language, and of these the one with the least
+    /// identifier. `None` where it has none (Release File Specification, "Description file").
+    #[tactic(auto, using(crate::proofs::LineLemmas::line_among, crate::proofs::NameInLineLemmas::same_name))]
+    pub fn name(&self, concept: u32) -> Option<&str>
+        requires { concept < length self.now.release.concepts }
+        ensures { text_lent result ≡ name_of self.now.release self.now.language (slice_index self.now.release.concepts concept) }
+    {
+        self.lines.name(concept, self.concepts.id_at(concept))
+    }
+
+    /// The line of a concept by its number, which is below `concept_count`: its identifier, behind a
+    /// space its name between bars where it has one, and LF.
+    #[tactic(auto, using(crate::proofs::LineLemmas::line_among))]
+    pub fn line(&self, concept: u32) -> &[u8]
+        requires { concept < length self.now.release.concepts }
+        ensures { result.now ≡ concept_line (name_of self.now.release self.now.language) (slice_index self.now.release.concepts concept) }
+    {
+        self.lines.line(concept)
+    }
+
+    /// Child and parent of each is-a row in force by their numbers, in the order of the files and
+    /// their lines: fewer than 2^31 rows.
+    pub fn isa_rows(&self) -> &[(u32, u32)]
+        ensures rows { map (row_of_numbers self.now.release.concepts) result.now ≡ self.now.release.isa }
+        ensures within { IsWithin (length self.now.release.concepts) result.now }
+        ensures few { length result.now < 2 ^ 31 }
+    {
+        self.isa.as_slice()
+    }
+
+    /// The numbers of the concepts in an order in which parents come before their children: each of
+    /// them once, and no is-a row leads to a concept that stands later.
+    #[tactic(auto, using(crate::proofs::NumberingLemmas::same_numbers))]
+    pub fn parents_first(&self) -> &[u32]
+        ensures { (rows : List (ℕ × ℕ)) → map (row_of_numbers self.now.release.concepts) rows ≡ self.now.release.isa
+            → IsWithin (length self.now.release.concepts) rows
+            → IsParentsFirst (length self.now.release.concepts) rows result.now }
+    {
+        self.order.as_slice()
+    }
+
+    /// Reference set and component of each member row in force by their numbers, in the order of the
+    /// files and their lines: fewer than 2^31 rows (Release File Specification, "Simple reference set").
+    pub fn member_rows(&self) -> &[(u32, u32)]
+        ensures rows { map (row_of_numbers self.now.release.concepts) result.now ≡ self.now.release.members }
+        ensures within { IsWithin (length self.now.release.concepts) result.now }
+        ensures few { length result.now < 2 ^ 31 }
+    {
+        self.members.as_slice()
+    }
+
+    /// How many attribute rows are in force: fewer than 2^31, and as many by source. Each value that is
+    /// a concept is in force.
+    #[tactic(auto, using(crate::proofs::SortedLemmas::rows_counted))]
+    pub fn attribute_count(&self) -> u32
+        ensures count { result ≡ length self.now.release.attributes }
+        ensures few { length self.now.release.attributes < 2 ^ 31 }
+        ensures by_source { length (attributes_by_source self.now.release) ≡ length self.now.release.attributes }
+        ensures values { AreValuesInForce self.now.release }
+    {
+        self.attributes.len() as u32
+    }
+
+    /// An attribute row in force by its number, which is below `attribute_count`. The rows are
+    /// numbered by source: those of the first concept come first, and those of one concept are in the
+    /// order of the files and their lines. A value that is a concept is in force.
+    pub fn attribute_row(&self, n: u32) -> AttributeRow<'_>
+        requires { n < length self.now.release.attributes }
+        ensures row { slice_get (attributes_by_source self.now.release) n ≡ Some (with_source self.now.release.concepts (attribute_of result)) }
+        ensures source { result.source < length self.now.release.concepts }
+        ensures value { is_value_among self.now.release.concepts (value_lent result.value) ≡ true }
+    {
+        let row = self.attribute_numbers(n);
+        AttributeRow {
+            source: row.source,
+            type_id: row.type_id,
+            group: row.group,
+            value: identified_value(&self.concepts, row.value),
+        }
+    }
+
+    /// The same with a concept that is the value by its number, so that no identifier of it is read.
+    pub fn attribute_numbers(&self, n: u32) -> AttributeNumbers<'_>
+        requires { n < length self.now.release.attributes }
+        ensures row { slice_get (attributes_by_source self.now.release) n ≡ Some (by_identifiers self.now.release.concepts (attribute_numbered result)) }
+        ensures source { result.source < length self.now.release.concepts }
+        ensures value { IsNumberBelow (length self.now.release.concepts) (numbered_lent result.value) }
+    {
+        self.attributes.numbers(n as usize)
+    }
+
+    /// How many files the release was loaded from, and how many of its rows are in force or passed
+    /// over.
+    pub fn report(&self) -> Report
+        ensures files { result.files ≡ self.now.files }
+        ensures concepts { result.concepts ≡ length self.now.release.concepts }
+        ensures isa { result.isa ≡ length self.now.release.isa }
+        ensures attributes { result.attributes ≡ length self.now.release.attributes }
+        ensures members { result.members ≡ length self.now.release.members }
+        ensures names { result.names ≡ length self.now.release.names }
+        ensures passed { result.passed ≡ self.now.passed }
+    {
+        Report {
+            files: self.files,
+            concepts: u64::from(self.concepts.len()),
+            isa: self.isa.len() as u64,
+            attributes: self.attributes.len() as u64,
+            members: self.members.len() as u64,
+            names: self.lines.name_count() as u64,
+            passed: self.passed,
+        }
+    }
+}
+
+// A value with a concept by its identifier in place of its number.
+fn identified_value<'a>(concepts: &Concepts, value: NumberedValue<'a>) -> Value<'a>
+    requires { IsNumberBelow (length concepts.now) (numbered_lent value) }
+    ensures value { value_lent result ≡ value_by_identifier concepts.now (numbered_lent value.entry) }
+    ensures among { is_value_among concepts.now (value_lent result) ≡ true }
+{
+    match value {
+        NumberedValue::Concept(number) => Value::Concept(concepts.id_at(number)),
+        NumberedValue::Decimal(decimal) => Value::Decimal(decimal),
+        NumberedValue::Other(text) => Value::Other(text),
+    }
+}

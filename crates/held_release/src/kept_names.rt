@@ -1,0 +1,134 @@
+//! Name rows whose texts stand in a buffer that begins with lines.
+ghost use Rattle.std.specs.Prelude.{◌≡◌, ◌≤◌, ◌<◌, ◌+◌, ◌-◌, ◌^◌, [], true, All, IfOk, IfSome, OnOk, length, map, slice_index_or, string_bytes};
+ghost use Rattle.held_release.specs.inside.NamesInLines.{AreNoted, IsKept, name_kept};
+ghost use Rattle.row_lists.specs.LentRows.{name_read};
+ghost use Rattle.row_lists.specs.Spans.{AreSpansOf, Extends, StandsAt, no_span, text_at};
+
+use row_lists::{Names, ReadName, Span, push_text};
+use sctid::SctId;
+use std::alloc::{AllocError, Global};
+
+// No file within the limits of a load has a term of more bytes.
+const MOST_BYTES: usize = u32::MAX as usize;
+
+/// A name row: the description, the concept that it names, where its term starts and how many bytes it
+/// has, and its language code by the number of the span where this stands.
+#[derive(Clone, Copy)]
+pub struct KeptName {
+    id: SctId,
+    concept: SctId,
+    start: usize,
+    bytes: u32,
+    language: u32,
+}
+
+/// The name rows, whose terms stand at spans as far as these are known. The other terms come behind the
+/// texts of the buffer, and so do the language codes, for which the spans are added.
+pub fn keep_names(
+    alloc: Global,
+    names: &Names,
+    spans: &[Option<Span>],
+    texts: &mut String,
+    languages: &mut Vec<Span>,
+) -> Result<Vec<KeptName>, AllocError>
+    requires few { length names.now < 2 ^ 32 }
+    requires noted { AreNoted names.now (string_bytes texts.old) spans.now }
+    requires none { languages.old.items ≡ [] }
+    ensures grown { OnOk result (Extends (string_bytes texts.old) (string_bytes texts.new)) }
+    ensures names { IfOk result (λ kept. map (name_kept (string_bytes texts.new) languages.new.items) kept.items ≡ names.now) }
+{
+    let mut kept = Vec::with_capacity(alloc, names.len())?;
+    for place in 0..names.len() {
+        kept.push(keep_name(&names.row(place), spans[place], texts, languages)?)?;
+    }
+    Ok(kept)
+}
+
+// A name row, whose term stands at a span if this is known.
+fn keep_name(
+    name: &ReadName<'_>,
+    span: Option<Span>,
+    texts: &mut String,
+    languages: &mut Vec<Span>,
+) -> Result<KeptName, AllocError>
+    requires span { IfSome span (StandsAt (string_bytes texts.old) name.now.term.now) }
+    requires languages { AreSpansOf (string_bytes texts.old) languages.old.items }
+    requires few { length languages.old.items + 1 < 2 ^ 32 }
+    ensures grown { OnOk result (Extends (string_bytes texts.old) (string_bytes texts.new)) }
+    ensures more { OnOk result (Extends languages.old.items languages.new.items) }
+    ensures few { OnOk result (length languages.new.items ≤ length languages.old.items + 1) }
+    ensures languages { OnOk result (AreSpansOf (string_bytes texts.new) languages.new.items) }
+    ensures kept { IfOk result (λ kept. IsKept (string_bytes texts.new) languages.new.items kept) }
+    ensures name { IfOk result (λ kept. name_kept (string_bytes texts.new) languages.new.items kept ≡ name_read name.now) }
+{
+    let language = keep_language(name.language, texts, languages)?;
+    let term = keep_term(name.term, span, texts)?;
+    let bytes = short_len(term)?;
+    Ok(KeptName {
+        id: name.id,
+        concept: name.concept,
+        start: term.start(),
+        bytes,
+        language,
+    })
+}
+
+// How many bytes a text has, in 32 bits.
+fn short_len(span: Span) -> Result<u32, AllocError>
+    requires { span.start ≤ span.end }
+    ensures { IfOk result (λ bytes. span.start + bytes ≡ span.end) }
+{
+    let bytes = span.len();
+    if bytes > MOST_BYTES {
+        return Err(AllocError);
+    }
+    Ok(bytes as u32)
+}
+
+// Where a term stands: at the span if this is known, and else behind the texts.
+fn keep_term(term: &str, span: Option<Span>, texts: &mut String) -> Result<Span, AllocError>
+    requires { IfSome span (StandsAt (string_bytes texts.old) term.now) }
+    ensures grown { OnOk result (Extends (string_bytes texts.old) (string_bytes texts.new)) }
+    ensures span { IfOk result (StandsAt (string_bytes texts.new) term.now) }
+{
+    match span {
+        Some(span) => Ok(span),
+        None => push_text(texts, term),
+    }
+}
+
+// The number of the span where a language code stands: the last one if it is the code there, and else a
+// new one behind the texts.
+fn keep_language(
+    language: &str,
+    texts: &mut String,
+    languages: &mut Vec<Span>,
+) -> Result<u32, AllocError>
+    requires languages { AreSpansOf (string_bytes texts.old) languages.old.items }
+    requires few { length languages.old.items + 1 < 2 ^ 32 }
+    ensures grown { OnOk result (Extends (string_bytes texts.old) (string_bytes texts.new)) }
+    ensures more { OnOk result (Extends languages.old.items languages.new.items) }
+    ensures few { OnOk result (length languages.new.items ≤ length languages.old.items + 1) }
+    ensures languages { OnOk result (AreSpansOf (string_bytes texts.new) languages.new.items) }
+    ensures within { IfOk result (λ number. number < length languages.new.items) }
+    ensures language { IfOk result (λ number. text_at (string_bytes texts.new) (slice_index_or languages.new.items number no_span) ≡ language.now) }
+{
+    if is_last(language.as_bytes(), texts.as_bytes(), languages.as_slice()) {
+        return Ok((languages.len() - 1) as u32);
+    }
+    let span = push_text(texts, language)?;
+    languages.push(span)?;
+    Ok((languages.len() - 1) as u32)
+}
+
+// Whether a text stands at the last one of some spans.
+fn is_last(text: &[u8], texts: &[u8], spans: &[Span]) -> bool
+    requires { AreSpansOf texts.now spans.now }
+    ensures some { result ≡ true → 0 < length spans.now }
+    ensures last { result ≡ true → text_at texts.now (slice_index_or spans.now (length spans.now - 1) no_span) ≡ text.now }
+{
+    if spans.is_empty() {
+        return false;
+    }
+    spans[spans.len() - 1].bytes_in(texts) == text
+}

@@ -1,0 +1,59 @@
+//! Which of the name rows names each concept.
+ghost use Rattle.std.specs.Prelude.{◌≡◌, ◌<◌, ◌^◌, IfOk, IfSome, length, slice_index_or};
+ghost use Rattle.held_release.specs.inside.FirstRows.{AreFirstPlaces, IsFirstOfTwo};
+ghost use Rattle.held_release.specs.Name.{comes_before as comes_before_of};
+ghost use Rattle.rf2_rows.specs.Release.{Name};
+
+use crate::concepts::Concepts;
+use row_lists::Names;
+use std::alloc::{AllocError, Global};
+
+/// For each of some concepts the place of the row that names it in a language, if there is one.
+pub fn first_places(
+    alloc: Global,
+    names: &Names,
+    concepts: &Concepts,
+    language: &str,
+) -> Result<Vec<Option<u32>>, AllocError>
+    requires { length names.now < 2 ^ 32 }
+    ensures { IfOk result (λ places. AreFirstPlaces language.now concepts.now names.now names.now places.items) }
+{
+    let mut places = vec![in alloc; None; concepts.len() as usize]?;
+    for place in (0..names.len()).rev() {
+        if let Some(number) = concepts.index_of(names.row(place).concept.number()) {
+            let later = places[number as usize];
+            let first = first_of_two(names, language, place as u32, later);
+            places[number as usize] = Some(first);
+        }
+    }
+    Ok(places)
+}
+
+// Of the row at a place and a later one, if there is one, the place of the one that comes first.
+fn first_of_two(names: &Names, language: &str, place: u32, later: Option<u32>) -> u32
+    requires place { place < length names.now }
+    requires later { IfSome later (λ other. other < length names.now) }
+    ensures { IsFirstOfTwo language.now names.now place later result }
+{
+    match later {
+        Some(other) if comes_before(names, language, other as usize, place as usize) => { other }
+        _ => place,
+    }
+}
+
+// Whether the row at a place comes before another as a name in a language.
+fn comes_before(names: &Names, language: &str, one: usize, other: usize) -> bool
+    requires one { one < length names.now }
+    requires other { other < length names.now }
+    ensures { (default : Name) → result ≡ comes_before_of language.now (slice_index_or names.now one default) (slice_index_or names.now other default) }
+{
+    let one = names.row(one);
+    let other = names.row(other);
+    let one_is_in = one.language == language;
+    let other_is_in = other.language == language;
+    if one_is_in == other_is_in {
+        one.id < other.id
+    } else {
+        one_is_in
+    }
+}

@@ -1,8 +1,0 @@
-use Rattle.std.proofs.Common.{◌≡◌, ◌++◌}
-use Rattle.release_rows.specs.inside.ChosenLists.{in_list, items_chosen}
-use Rattle.release_rows.proofs.ChosenItemLemmas.{to_come}
-use Rattle.release_rows.proofs.row_lists.chosen_items.Given as goal
-
-abbrev pub invariant-loop-place : goal.invariant-loop-place
-invariant-loop-place g l =
-    items_chosen (in_list l.list l.marks) l.choices l.items ≡ l.chosen.items ++ to_come l.list l.marks l.choices l.place l.left

@@ -1,0 +1,5 @@
+pub mod AttributeLemmas
+pub mod ChosenItemLemmas
+pub mod ConcreteLemmas
+pub mod NameLemmas
+pub mod SpanLemmas

@@ -1,0 +1,40 @@
+-- Name rows keep their texts while the buffer grows.
+use Rattle.std.proofs.Common.{rules, arith, ℕ, ◌≡◌, ◌<◌, length, get_or, List, [], ◌∷◌, map, refl, IsUtf8, Bool, filter}
+use Rattle.std.proofs.lemmas.Bool.Decides.{nat_tests}
+use Rattle.std.proofs.lemmas.Grind.{common_steps}
+use Rattle.std.proofs.lemmas.Bool.{cases_Bool}
+use Rattle.std.proofs.lemmas.List.{get_or-map, get_or_read, length-map}
+use Rattle.rf2_rows.specs.Release.{Name}
+use Rattle.row_lists.specs.inside.NamesInside.{IsPlaced, name_in}
+use Rattle.row_lists.specs.Spans.{Extends, no_span}
+use Rattle.row_lists.specs.declared.names.NameRow.{NameRow}
+use Rattle.row_lists.proofs.ChosenItemLemmas.{map-marked}
+use Rattle.row_lists.proofs.SpanLemmas.{text-extends, text_span-extends}
+
+module _ (texts grown : List ℕ) (extends : Extends texts grown) where
+  pub name-extends : (row : NameRow) → IsPlaced texts row → name_in grown row ≡ name_in texts row
+  name-extends row placed = grind (arith, common_steps, nat_tests, text-extends)
+
+  pub placed-extends : IsUtf8 texts → IsUtf8 grown → (row : NameRow) → IsPlaced texts row → IsPlaced grown row
+  placed-extends whole all row placed = search (rules, text_span-extends)
+
+-- what a test of what rows stand for leaves of them
+pub map-filter : {X Y : Type 0} (f : X → Y) (test : Y → Bool) (xs : List X) → map f (filter (λ x. test (f x)) xs) ≡ filter test (map f xs)
+map-filter f test [] = refl
+map-filter f test (x ∷ xs) = grind (arith, common_steps, nat_tests, cases_Bool, (map-filter f test xs))
+
+-- the row at a place stands for the name there, as `grind` finds it
+abbrev no_row : NameRow
+no_row = record { id = 0; concept = 0; language = no_span; term = no_span }
+
+pub name_at_place : (texts : List ℕ) (rows : List NameRow) (place : ℕ) (default : Name) → place < length rows
+    → get_or (map (name_in texts) rows) place default ≡ name_in texts (get_or rows place no_row)
+name_at_place texts rows place default within = get_or-map (name_in texts) rows place no_row default within
+
+pub row_at_place : (rows : List NameRow) (place : ℕ) (row : NameRow) → place < length rows → row ≡ get_or rows place row → row ≡ get_or rows place no_row
+row_at_place rows place row within is = get_or_read rows place row within is no_row
+
+-- what `grind` takes where a row is read, and where rows are chosen
+pub ruleset rows_read = (name_at_place, row_at_place, length-map)
+
+pub ruleset rows_chosen = (map-marked)

@@ -1,0 +1,8 @@
+use Rattle.std.proofs.Common.{◌≡◌, ◌++◌}
+use Rattle.row_lists.specs.ChosenLists.{in_list, items_chosen}
+use Rattle.row_lists.proofs.ChosenItemLemmas.{to_come}
+use Rattle.row_lists.proofs.row_lists.chosen_items.Given as goal
+
+abbrev pub invariant-loop-place : goal.invariant-loop-place
+invariant-loop-place g l =
+    items_chosen (in_list l.list l.marks) l.choices l.items ≡ l.chosen.items ++ to_come l.list l.marks l.choices l.place l.left

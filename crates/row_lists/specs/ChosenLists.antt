@@ -1,0 +1,51 @@
+-- The lists of a release with a row more, and those of the chosen rows.
+use Rattle.std.specs.Prelude.{Bool, true, false, List, [], ◌∷◌, ◌++◌, map, option_to_list}
+use Rattle.rf2_rows.specs.RowTexts.{RowText}
+use Rattle.row_lists.specs.Marked.{marked}
+use Rattle.row_lists.specs.ReleaseLists.{ReleaseLists, attribute_listed, concept_listed, isa_listed, listing_of, member_listed, name_listed}
+use Rattle.row_lists.specs.declared.row_lists.Listing.{Listing}
+use Rattle.row_lists.specs.declared.row_lists.Listing.TheVariants as listing
+
+-- the lists with a row more
+abbrev pub listed_behind : ReleaseLists → RowText → ReleaseLists
+listed_behind listed row = record {
+  marks = listed.marks ++ listing_of row ∷ [];
+  active_concepts = listed.active_concepts ++ option_to_list (concept_listed row);
+  names = listed.names ++ option_to_list (name_listed row);
+  isa_ends = listed.isa_ends ++ option_to_list (isa_listed row);
+  attributes = listed.attributes ++ option_to_list (attribute_listed row);
+  member_ends = listed.member_ends ++ option_to_list (member_listed row);
+}
+
+-- but for its mark
+abbrev pub filled : ReleaseLists → RowText → ReleaseLists
+filled listed row = record (listed_behind listed row) { marks = listed.marks }
+
+-- two lists are one
+abbrev pub same_listing : Listing → Listing → Bool
+same_listing listing.Nowhere listing.Nowhere = true
+same_listing listing.Concept listing.Concept = true
+same_listing listing.Name listing.Name = true
+same_listing listing.IsA listing.IsA = true
+same_listing listing.Attribute listing.Attribute = true
+same_listing listing.Member listing.Member = true
+same_listing one other = false
+
+-- of the items of a list those whose rows are chosen, where it is told of each row whether it is in the list and
+-- whether it is chosen
+abbrev pub items_chosen : {X : Type 0} → List Bool → List Bool → List X → List X
+items_chosen heres choices items = marked (marked heres choices) items
+
+-- the rows that are in a list
+abbrev pub in_list : Listing → List Listing → List Bool
+in_list list marks = map (λ mark. same_listing mark list) marks
+
+-- the lists of the chosen rows
+abbrev pub listed_chosen : ReleaseLists → List Bool → ReleaseLists
+listed_chosen listed choices = record listed {
+  active_concepts = items_chosen (in_list listing.Concept listed.marks) choices listed.active_concepts;
+  names = items_chosen (in_list listing.Name listed.marks) choices listed.names;
+  isa_ends = items_chosen (in_list listing.IsA listed.marks) choices listed.isa_ends;
+  attributes = items_chosen (in_list listing.Attribute listed.marks) choices listed.attributes;
+  member_ends = items_chosen (in_list listing.Member listed.marks) choices listed.member_ends;
+}

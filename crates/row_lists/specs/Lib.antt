@@ -1,0 +1,11 @@
+pub mod ChosenLists
+pub mod ConcreteValues
+pub mod FaultNumbers
+pub mod InForce
+pub mod inside
+pub mod LentRows
+pub mod ListsRead
+pub mod Marked
+pub mod Metadata
+pub mod ReleaseLists
+pub mod Spans

@@ -1,0 +1,4 @@
+-- Definitions that private functions alone need: no contract of a public call names one.
+pub mod AttributesInside
+pub mod ConcreteInside
+pub mod NamesInside

@@ -1,0 +1,174 @@
+//! Attribute rows in the order in which they were read.
+ghost use Rattle.std.specs.Prelude.{◌≡◌, ◌<◌, ◌++◌, ◌∷◌, [], IfOk, OnOk, length, slice_index_or};
+ghost use Rattle.rf2_rows.specs.Release.{Attribute};
+ghost use Rattle.rf2_rows.specs.Rows.{value_lent};
+ghost use Rattle.row_lists.specs.inside.AttributesInside.{IsWithinValues, value_in};
+ghost use Rattle.row_lists.specs.LentRows.{attribute_read};
+ghost use Rattle.row_lists.specs.ChosenLists.{in_list, items_chosen};
+ghost use Rattle.row_lists.specs.ConcreteValues.{concrete_lent, concrete_value};
+ghost use Rattle.row_lists.specs.Spans.{Extends};
+
+use crate::concrete_values::{ConcreteValues, LentConcrete};
+use crate::row_lists::{Listing, chosen_items};
+use rf2_rows::Value;
+use sctid::SctId;
+use std::alloc::{AllocError, Global};
+use std::marker::Model;
+
+/// The value of an attribute: a concept, or where it stands among the values that are none.
+#[derive(Clone, Copy)]
+enum KeptValue {
+    Concept(SctId),
+    Concrete(usize),
+}
+
+/// An attribute row: its source, type, group and value.
+#[derive(Clone, Copy)]
+struct KeptRow {
+    source: SctId,
+    type_id: SctId,
+    group: u32,
+    value: KeptValue,
+}
+
+/// An attribute row as it was read, whose text is lent.
+#[derive(Clone, Copy)]
+pub struct ReadRow<'a> {
+    pub source: SctId,
+    pub type_id: SctId,
+    pub group: u32,
+    pub value: Value<'a>,
+}
+
+/// Attribute rows in the order in which they were read. Contracts see the list of them.
+#[derive(Drop)]
+pub struct Attributes {
+    rows: Vec<KeptRow>,
+    // the values that are no concepts
+    concrete: ConcreteValues,
+}
+
+impl Model for Attributes {
+    ghost use Rattle.std.specs.Prelude.{List};
+    ghost use Rattle.rf2_rows.specs.Release.{Attribute};
+
+    ghost Value = { List Attribute };
+
+    ghost use Rattle.row_lists.specs.inside.AttributesInside.{AreAttributesPlaced, attributes_in};
+
+    ghost view = { attributes_in };
+
+    ghost invariant = { AreAttributesPlaced };
+}
+
+impl Attributes {
+    pub(crate) fn new(alloc: Global) -> Attributes
+        ensures { result ≡ [] }
+    {
+        Attributes {
+            rows: Vec::new(alloc),
+            concrete: ConcreteValues::new(alloc),
+        }
+    }
+
+    /// How many rows there are.
+    pub fn len(&self) -> usize
+        ensures { result ≡ length self.now }
+    {
+        self.rows.len()
+    }
+
+    /// The row at a place.
+    pub fn row(&self, place: usize) -> ReadRow<'_>
+        requires { place < length self.now }
+        ensures { (default : Attribute) → attribute_read result ≡ slice_index_or self.now place default }
+    {
+        let row = self.rows[place];
+        ReadRow {
+            source: row.source,
+            type_id: row.type_id,
+            group: row.group,
+            value: lend_value(&self.concrete, row.value),
+        }
+    }
+
+    /// Adds a row.
+    pub(crate) fn push(
+        &mut self,
+        source: SctId,
+        type_id: SctId,
+        group: u32,
+        value: &Value<'_>,
+    ) -> Result<(), AllocError>
+        ensures { OnOk result (self.new ≡ self.old ++ record { source = source; type_id = type_id; group = group; value = value_lent value.now } ∷ []) }
+    {
+        let kept = keep_value(&mut self.concrete, value)?;
+        self.rows.push(KeptRow {
+            source,
+            type_id,
+            group,
+            value: kept,
+        })?;
+        Ok(())
+    }
+
+    /// Leaves the rows that are made of chosen rows of the release, where for each of these it is told
+    /// which list it is in and whether it is chosen.
+    pub(crate) fn choose(
+        &mut self,
+        alloc: Global,
+        marks: &[Listing],
+        choices: &[bool],
+    ) -> Result<(), AllocError>
+        ensures { OnOk result (self.new ≡ items_chosen (in_list Listing.Attribute marks.now) choices.now self.old) }
+    {
+        self.rows = chosen_items(
+            alloc,
+            self.rows.as_slice(),
+            marks,
+            Listing::Attribute,
+            choices,
+        )?;
+        Ok(())
+    }
+}
+
+// Keeps a value, behind the others if it is no concept.
+fn keep_value(concrete: &mut ConcreteValues, value: &Value<'_>) -> Result<KeptValue, AllocError>
+    ensures grown { Extends concrete.old concrete.new }
+    ensures value { IfOk result (λ kept. value_in concrete.new kept ≡ value_lent value.now) }
+    ensures within { IfOk result (λ kept. IsWithinValues concrete.new kept) }
+{
+    match value {
+        Value::Concept(concept) => Ok(KeptValue::Concept(*concept)),
+        Value::Decimal(decimal) => {
+            let place = concrete.push_decimal(*decimal)?;
+            Ok(KeptValue::Concrete(place))
+        }
+        Value::Other(text) => {
+            let place = concrete.push_text(text)?;
+            Ok(KeptValue::Concrete(place))
+        }
+    }
+}
+
+// A value that is kept, with its text lent.
+fn lend_value(concrete: &ConcreteValues, value: KeptValue) -> Value<'_>
+    requires { IsWithinValues concrete.now value }
+    ensures { value_lent result ≡ value_in concrete.now value }
+{
+    match value {
+        KeptValue::Concept(concept) => Value::Concept(concept),
+        KeptValue::Concrete(place) => as_value(concrete.value(place)),
+    }
+}
+
+// A value that is no concept as the value of an attribute.
+fn as_value(value: LentConcrete<'_>) -> Value<'_>
+    ensures { value_lent result ≡ concrete_value (concrete_lent value.entry) }
+{
+    match value {
+        LentConcrete::Decimal(decimal) => Value::Decimal(decimal),
+        LentConcrete::Other(text) => Value::Other(text),
+    }
+}

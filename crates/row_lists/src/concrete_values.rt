@@ -1,0 +1,101 @@
+//! The values of attributes that are no concepts, with their texts in one buffer.
+ghost use Rattle.std.specs.Prelude.{◌≡◌, ◌≤◌, ◌<◌, ◌+◌, [], IfOk, length, slice_index_or};
+ghost use Rattle.row_lists.specs.ConcreteValues.{a_number, a_text, concrete_lent, no_text};
+ghost use Rattle.row_lists.specs.inside.ConcreteInside.{IsPlaced, concrete_in};
+ghost use Rattle.row_lists.specs.Spans.{Extends};
+
+use crate::spans::{Span, push_bytes};
+use rf2_rows::Decimal;
+use std::alloc::{AllocError, Global};
+use std::marker::Model;
+
+/// A value that is no concept. The text of one that is no number stands in the buffer.
+#[derive(Clone, Copy)]
+enum KeptConcrete {
+    Decimal(Decimal),
+    Other(Span),
+}
+
+/// A value that is no concept, with its text lent.
+#[derive(Clone, Copy)]
+pub enum LentConcrete<'a> {
+    Decimal(Decimal),
+    Other(&'a [u8]),
+}
+
+/// Values that are no concepts, one after another: few rows have one, and the others take no room for it. Contracts see
+/// the list of them.
+#[derive(Drop)]
+pub struct ConcreteValues {
+    values: Vec<KeptConcrete>,
+    // the texts of values, one behind the other
+    texts: Vec<u8>,
+}
+
+impl Model for ConcreteValues {
+    ghost use Rattle.std.specs.Prelude.{List};
+    ghost use Rattle.row_lists.specs.ConcreteValues.{Concrete};
+
+    ghost Value = { List Concrete };
+
+    ghost use Rattle.row_lists.specs.inside.ConcreteInside.{AreConcretePlaced, concrete_in_all};
+
+    ghost view = { concrete_in_all };
+
+    ghost invariant = { AreConcretePlaced };
+}
+
+impl ConcreteValues {
+    pub fn new(alloc: Global) -> ConcreteValues
+        ensures { result ≡ [] }
+    {
+        ConcreteValues {
+            values: Vec::new(alloc),
+            texts: Vec::new(alloc),
+        }
+    }
+
+    /// Adds a number, and answers its place.
+    pub fn push_decimal(&mut self, decimal: Decimal) -> Result<usize, AllocError>
+        ensures grown { Extends self.old self.new }
+        ensures count { length self.new ≤ length self.old + 1 }
+        ensures within { IfOk result (λ place. place < length self.new) }
+        ensures value { IfOk result (λ place. slice_index_or self.new place no_text ≡ a_number decimal.0) }
+    {
+        let place = self.values.len();
+        self.values.push(KeptConcrete::Decimal(decimal))?;
+        Ok(place)
+    }
+
+    /// Adds another text, and answers its place.
+    pub fn push_text(&mut self, text: &[u8]) -> Result<usize, AllocError>
+        ensures grown { Extends self.old self.new }
+        ensures count { length self.new ≤ length self.old + 1 }
+        ensures within { IfOk result (λ place. place < length self.new) }
+        ensures value { IfOk result (λ place. slice_index_or self.new place no_text ≡ a_text text.now) }
+    {
+        let place = self.values.len();
+        let span = push_bytes(&mut self.texts, text)?;
+        self.values.push(KeptConcrete::Other(span))?;
+        Ok(place)
+    }
+
+    /// The value at a place, with its text lent.
+    pub fn value(&self, place: usize) -> LentConcrete<'_>
+        requires { place < length self.now }
+        ensures { concrete_lent result ≡ slice_index_or self.now place no_text }
+    {
+        lend_concrete(self.texts.as_slice(), self.values[place])
+    }
+}
+
+// A value that is kept, with its text lent.
+fn lend_concrete(texts: &[u8], value: KeptConcrete) -> LentConcrete<'_>
+    requires { IsPlaced texts.now value }
+    ensures { concrete_lent result ≡ concrete_in texts.now value }
+{
+    match value {
+        KeptConcrete::Decimal(decimal) => LentConcrete::Decimal(decimal),
+        KeptConcrete::Other(text) => LentConcrete::Other(text.bytes_in(texts)),
+    }
+}

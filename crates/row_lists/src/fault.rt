@@ -1,0 +1,102 @@
+//! Why a list of files is no release.
+use rf2_rows::RowFault;
+use sctid::SctId;
+use std::alloc::{AllocError, AllocFailed};
+use thiserror::Error;
+
+/// The first fault of a list of files, or the want of memory. A `file` is a place in the list that
+/// was handed in, from 0, and a `line` the number of a line in it, from 1.
+#[derive(Clone, Copy, Debug, PartialEq, Eq, Error)]
+pub enum LoadFault {
+    /// No file of the list has the name of a Concept file. This is looked for first.
+    #[error("there is no Snapshot file of concepts")]
+    NoConceptFile,
+    /// The first line is not the header of the file's kind, or there is no line.
+    #[error("file {file}: the first line is not the header of its kind")]
+    Header {
+        /// The file.
+        file: usize,
+    },
+    /// A line is no row of its kind.
+    #[error("file {file}, line {line}: {fault}")]
+    Row {
+        /// The file.
+        file: usize,
+        /// The line.
+        line: u64,
+        /// What is wrong with it.
+        fault: RowFault,
+    },
+    /// An earlier row of the same kind, active or not, has the same identifier and the same effective
+    /// time, and differs in another column.
+    #[error("file {file}, line {line}: the row conflicts with an earlier one")]
+    Conflict {
+        /// The file.
+        file: usize,
+        /// The line of the later row.
+        line: u64,
+    },
+    /// The line goes past the limit on bytes of a file, or its row past the limit on rows of its kind.
+    #[error("file {file}, line {line}: more than the limits allow")]
+    TooMany {
+        /// The file.
+        file: usize,
+        /// The first line past the limit.
+        line: u64,
+    },
+    /// This concept, the least such, reaches itself by is-a rows. This is looked for last.
+    #[error("concept {} is its own descendant", .0.number())]
+    Cycle(SctId),
+    /// The device failed: at the file, or where the files were listed.
+    #[error("a file could not be read")]
+    Device {
+        /// The file.
+        file: Option<usize>,
+    },
+    /// A growth of memory was refused.
+    #[error("out of memory")]
+    Memory,
+}
+
+impl LoadFault {
+    ghost use Rattle.std.specs.Prelude.{◌≡◌};
+    ghost use Rattle.row_lists.specs.FaultNumbers.{fault_number};
+
+    /// The number of the fault, from 1.
+    pub fn number(self) -> u8
+        ensures { result ≡ fault_number self }
+    {
+        match self {
+            LoadFault::NoConceptFile => 1,
+            LoadFault::Header { .. } => 2,
+            LoadFault::Row { .. } => 3,
+            LoadFault::Conflict { .. } => 4,
+            LoadFault::TooMany { .. } => 5,
+            LoadFault::Cycle(_) => 6,
+            LoadFault::Device { .. } => 7,
+            LoadFault::Memory => 8,
+        }
+    }
+}
+
+impl From<AllocError> for LoadFault {
+    ghost use Rattle.std.specs.Prelude.{◌≡◌};
+    ghost use Rattle.row_lists.specs.declared.fault.LoadFault.TheVariants.{Memory};
+
+    ghost from_gives = { λ _ fault. fault ≡ Memory };
+
+    fn from(_refused: AllocError) -> LoadFault {
+        LoadFault::Memory
+    }
+}
+
+impl<T: Drop> From<AllocFailed<T>> for LoadFault {
+    ghost use Rattle.std.specs.Prelude.{◌≡◌};
+    ghost use Rattle.row_lists.specs.declared.fault.LoadFault.TheVariants.{Memory};
+
+    ghost from_gives = { λ _ fault. fault ≡ Memory };
+
+    fn from(_refused: AllocFailed<T>) -> LoadFault {
+        LoadFault::Memory
+    }
+}

@@ -1,0 +1,18 @@
+//! What is read of a release: the lists of its rows, as far as the rows themselves tell; or why a list of files is none.
+#![tactic(auto)]
+
+mod attributes;
+mod concrete_values;
+mod fault;
+mod names;
+mod read;
+mod row_lists;
+mod spans;
+
+pub use crate::attributes::{Attributes, ReadRow};
+pub use crate::concrete_values::{ConcreteValues, LentConcrete};
+pub use crate::fault::LoadFault;
+pub use crate::names::{KnownConcepts, Names, ReadName};
+pub use crate::read::{MOST_ROWS, ReadRows};
+pub use crate::row_lists::RowLists;
+pub use crate::spans::{Span, push_bytes, push_text};

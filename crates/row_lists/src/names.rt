@@ -1,0 +1,162 @@
+//! Name rows in the order in which they were read, with their texts in one buffer.
+ghost use Rattle.std.specs.Prelude.{◌≡◌, ◌<◌, ◌++◌, ◌∷◌, [], OnOk, filter, length, slice_index_or};
+ghost use Rattle.rf2_rows.specs.Release.{Name};
+ghost use Rattle.row_lists.specs.ChosenLists.{in_list, items_chosen};
+ghost use Rattle.row_lists.specs.LentRows.{name_read};
+ghost use Rattle.row_lists.specs.inside.NamesInside.{IsPlaced, name_in};
+
+use crate::row_lists::{Listing, chosen_items};
+use crate::spans::{Span, push_text};
+use sctid::SctId;
+use std::alloc::{AllocError, Global};
+use std::marker::Model;
+
+/// A name row: the description, the concept that it names, and where its texts stand in the buffer.
+#[derive(Clone, Copy)]
+struct NameRow {
+    id: SctId,
+    concept: SctId,
+    language: Span,
+    term: Span,
+}
+
+/// A name row as it was read, whose texts are lent.
+#[derive(Clone, Copy)]
+pub struct ReadName<'a> {
+    pub id: SctId,
+    pub concept: SctId,
+    pub language: &'a str,
+    pub term: &'a str,
+}
+
+/// Some concepts, which are told from the others by their identifiers.
+pub trait KnownConcepts {
+    ghost use Rattle.std.specs.Prelude.{◌≡◌, ℕ, Bool};
+
+    /// Whether the concept with an identifier is one of them.
+    ghost knows: { Self → ℕ → Bool };
+
+    /// Whether the concept with an identifier is one of them.
+    fn has(&self, id: u64) -> bool
+        ensures { result ≡ knows self.now id };
+}
+
+/// Name rows in the order in which they were read. Contracts see the list of them.
+#[derive(Drop)]
+pub struct Names {
+    rows: Vec<NameRow>,
+    // the language code and the term of each row, one behind the other
+    texts: String,
+}
+
+impl Model for Names {
+    ghost use Rattle.std.specs.Prelude.{List};
+    ghost use Rattle.rf2_rows.specs.Release.{Name};
+
+    ghost Value = { List Name };
+
+    ghost use Rattle.row_lists.specs.inside.NamesInside.{ArePlaced, names_in};
+
+    ghost view = { names_in };
+
+    ghost invariant = { ArePlaced };
+}
+
+impl Names {
+    pub(crate) fn new(alloc: Global) -> Names
+        ensures { result ≡ [] }
+    {
+        Names {
+            rows: Vec::new(alloc),
+            texts: String::new(alloc),
+        }
+    }
+
+    /// How many rows there are.
+    pub fn len(&self) -> usize
+        ensures { result ≡ length self.now }
+    {
+        self.rows.len()
+    }
+
+    /// Adds a row.
+    pub(crate) fn push(
+        &mut self,
+        id: SctId,
+        concept: SctId,
+        language: &str,
+        term: &str,
+    ) -> Result<(), AllocError>
+        ensures { OnOk result (self.new ≡ self.old ++ record { id = id; concept = concept; language = language.now; term = term.now } ∷ []) }
+    {
+        let language = push_text(&mut self.texts, language)?;
+        let term = push_text(&mut self.texts, term)?;
+        self.rows.push(NameRow {
+            id,
+            concept,
+            language,
+            term,
+        })?;
+        Ok(())
+    }
+
+    /// Leaves the rows that are made of chosen rows of the release, where for each of these it is told
+    /// which list it is in and whether it is chosen.
+    #[tactic(auto, using(crate::proofs::NameLemmas::rows_chosen))]
+    pub(crate) fn choose(
+        &mut self,
+        alloc: Global,
+        marks: &[Listing],
+        choices: &[bool],
+    ) -> Result<(), AllocError>
+        ensures { OnOk result (self.new ≡ items_chosen (in_list Listing.Name marks.now) choices.now self.old) }
+    {
+        self.rows = chosen_items(alloc, self.rows.as_slice(), marks, Listing::Name, choices)?;
+        Ok(())
+    }
+
+    /// The row at a place.
+    #[tactic(auto, using(crate::proofs::NameLemmas::rows_read))]
+    pub fn row(&self, place: usize) -> ReadName<'_>
+        requires { place < length self.now }
+        ensures { (default : Name) → name_read result ≡ slice_index_or self.now place default }
+    {
+        let row = self.rows[place];
+        ReadName {
+            id: row.id,
+            concept: row.concept,
+            language: language_of(self.texts.as_str(), &row),
+            term: term_of(self.texts.as_str(), &row),
+        }
+    }
+
+    /// Leaves the rows of some concepts. The texts of the others stay in the buffer.
+    pub fn retain_among<C: KnownConcepts>(&mut self, concepts: &C)
+        ensures { self.new ≡ filter (λ (name : Name). C.knows concepts.now name.concept) self.old }
+    {
+        self.rows.retain(|row| is_row_among(concepts, row));
+    }
+}
+
+// The language code of a row.
+fn language_of<'a>(texts: &'a str, row: &NameRow) -> &'a str
+    requires { IsPlaced texts.now row.now }
+    ensures { result.now ≡ (name_in texts.now row.now).language }
+{
+    row.language.text_in(texts)
+}
+
+// The term of a row.
+fn term_of<'a>(texts: &'a str, row: &NameRow) -> &'a str
+    requires { IsPlaced texts.now row.now }
+    ensures { result.now ≡ (name_in texts.now row.now).term }
+{
+    row.term.text_in(texts)
+}
+
+// Whether a row is of one of some concepts.
+fn is_row_among<C: KnownConcepts>(concepts: &C, row: &NameRow) -> bool
+    ensures { result ≡ C.knows concepts.now row.now.concept }
+{
+    concepts.has(row.concept.number())
+}

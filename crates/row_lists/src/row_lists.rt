@@ -1,0 +1,230 @@
+//! What a load lists of the rows that it reads, as far as the rows themselves tell.
+ghost use Rattle.std.specs.Prelude.{◌≡◌, ◌&&◌, ◌==◌, [], IfOk, OnOk};
+ghost use Rattle.rf2_rows.specs.RowTexts.{of_concept, of_concrete, of_description, of_member, of_relationship, text_in};
+ghost use Rattle.rf2_rows.specs.Rows.{concrete_text, description_text};
+ghost use Rattle.row_lists.specs.InForce.{is_name as is_name_row};
+ghost use Rattle.row_lists.specs.ReleaseLists.{listed_of, listing_of};
+ghost use Rattle.row_lists.specs.ChosenLists.{filled, in_list, items_chosen, listed_behind, listed_chosen, same_listing};
+ghost use Rattle.row_lists.specs.ListsRead.{listed_in};
+ghost use Rattle.row_lists.specs.Metadata.{inferred_relationship};
+
+use crate::attributes::Attributes;
+use crate::names::Names;
+use rf2_rows::{ConceptRow, ConcreteRow, DescriptionRow, MemberRow, RelationshipRow, Row, Value};
+use sctid::SctId;
+use std::alloc::{AllocError, Global};
+
+// |Is a|, the type of the rows that make the hierarchy.
+const IS_A: u64 = 116680003;
+
+// |Inferred relationship|, the characteristic type of the rows that count.
+const INFERRED: u64 = 900000000000011006;
+
+// |Fully specified name|, the type of the descriptions that name concepts.
+const FULLY_SPECIFIED_NAME: u64 = 900000000000003001;
+
+/// The list that a row is in.
+#[derive(Clone, Copy, PartialEq, Eq)]
+pub enum Listing {
+    Nowhere,
+    Concept,
+    Name,
+    IsA,
+    Attribute,
+    Member,
+}
+
+/// What the rows of a release are made of, as far as the rows themselves tell.
+#[derive(Drop)]
+pub struct RowLists {
+    /// The active concepts.
+    pub concepts: Vec<SctId>,
+    /// The active fully specified names.
+    pub names: Names,
+    /// Child and parent of the active, inferred is-a rows.
+    pub isa_ends: Vec<(SctId, SctId)>,
+    /// The other active, inferred rows of both kinds of relationship.
+    pub attributes: Attributes,
+    /// Reference set and component of the active member rows.
+    pub member_ends: Vec<(SctId, SctId)>,
+    // for each row the list that it is in
+    marks: Vec<Listing>,
+}
+
+impl RowLists {
+    /// Of no rows.
+    pub fn new(alloc: Global) -> RowLists
+        ensures { listed_in result ≡ listed_of [] }
+    {
+        RowLists {
+            concepts: Vec::new(alloc),
+            names: Names::new(alloc),
+            isa_ends: Vec::new(alloc),
+            attributes: Attributes::new(alloc),
+            member_ends: Vec::new(alloc),
+            marks: Vec::new(alloc),
+        }
+    }
+
+    /// Lists a row.
+    pub fn add(&mut self, row: &Row<'_>) -> Result<(), AllocError>
+        ensures { OnOk result (listed_in self.new ≡ listed_behind (listed_in self.old) (text_in row.now)) }
+    {
+        let listing = match row {
+            Row::Concept(row) => self.add_concept(row)?,
+            Row::Description(row) => self.add_description(row)?,
+            Row::Relationship(row) => self.add_relationship(row)?,
+            Row::Concrete(row) => self.add_concrete(row)?,
+            Row::Member(row) => self.add_member(row)?,
+        };
+        self.marks.push(listing)?;
+        Ok(())
+    }
+
+    fn add_concept(&mut self, row: &ConceptRow) -> Result<Listing, AllocError>
+        ensures list { IfOk result (λ listing. listing ≡ listing_of (of_concept row.now)) }
+        ensures lists { OnOk result (listed_in self.new ≡ filled (listed_in self.old) (of_concept row.now)) }
+    {
+        if !row.active {
+            return Ok(Listing::Nowhere);
+        }
+        self.concepts.push(row.id)?;
+        Ok(Listing::Concept)
+    }
+
+    fn add_description(&mut self, row: &DescriptionRow<'_>) -> Result<Listing, AllocError>
+        ensures list { IfOk result (λ listing. listing ≡ listing_of (of_description (description_text row.now))) }
+        ensures lists { OnOk result (listed_in self.new ≡ filled (listed_in self.old) (of_description (description_text row.now))) }
+    {
+        if !is_name(row) {
+            return Ok(Listing::Nowhere);
+        }
+        self.names
+            .push(row.id, row.concept_id, row.language_code, row.term)?;
+        Ok(Listing::Name)
+    }
+
+    fn add_relationship(&mut self, row: &RelationshipRow) -> Result<Listing, AllocError>
+        ensures list { IfOk result (λ listing. listing ≡ listing_of (of_relationship row.now)) }
+        ensures lists { OnOk result (listed_in self.new ≡ filled (listed_in self.old) (of_relationship row.now)) }
+    {
+        if !is_inferred(row.active, row.characteristic_type_id) {
+            return Ok(Listing::Nowhere);
+        }
+        if row.type_id.number() == IS_A {
+            self.isa_ends.push((row.source_id, row.destination_id))?;
+            return Ok(Listing::IsA);
+        }
+        let value = Value::Concept(row.destination_id);
+        self.attributes
+            .push(row.source_id, row.type_id, row.relationship_group, &value)?;
+        Ok(Listing::Attribute)
+    }
+
+    fn add_concrete(&mut self, row: &ConcreteRow<'_>) -> Result<Listing, AllocError>
+        ensures list { IfOk result (λ listing. listing ≡ listing_of (of_concrete (concrete_text row.now))) }
+        ensures lists { OnOk result (listed_in self.new ≡ filled (listed_in self.old) (of_concrete (concrete_text row.now))) }
+    {
+        let ConcreteRow { value, .. } = row;
+        if !is_inferred(row.active, row.characteristic_type_id) || row.type_id.number() == IS_A {
+            return Ok(Listing::Nowhere);
+        }
+        self.attributes
+            .push(row.source_id, row.type_id, row.relationship_group, value)?;
+        Ok(Listing::Attribute)
+    }
+
+    fn add_member(&mut self, row: &MemberRow) -> Result<Listing, AllocError>
+        ensures list { IfOk result (λ listing. listing ≡ listing_of (of_member row.now)) }
+        ensures lists { OnOk result (listed_in self.new ≡ filled (listed_in self.old) (of_member row.now)) }
+    {
+        if !row.active {
+            return Ok(Listing::Nowhere);
+        }
+        self.member_ends
+            .push((row.refset_id, row.referenced_component_id))?;
+        Ok(Listing::Member)
+    }
+
+    /// Leaves what the chosen rows are made of.
+    pub fn choose(&mut self, alloc: Global, choices: &[bool]) -> Result<(), AllocError>
+        ensures { OnOk result (listed_in self.new ≡ listed_chosen (listed_in self.old) choices.now) }
+    {
+        let marks = self.marks.as_slice();
+        self.concepts = chosen_items(
+            alloc,
+            self.concepts.as_slice(),
+            marks,
+            Listing::Concept,
+            choices,
+        )?;
+        self.isa_ends = chosen_items(
+            alloc,
+            self.isa_ends.as_slice(),
+            marks,
+            Listing::IsA,
+            choices,
+        )?;
+        self.member_ends = chosen_items(
+            alloc,
+            self.member_ends.as_slice(),
+            marks,
+            Listing::Member,
+            choices,
+        )?;
+        self.names.choose(alloc, marks, choices)?;
+        self.attributes.choose(alloc, marks, choices)
+    }
+}
+
+/// Of the items that were made of the rows in a list those whose rows are chosen.
+pub fn chosen_items<T: Copy>(
+    alloc: Global,
+    items: &[T],
+    marks: &[Listing],
+    list: Listing,
+    choices: &[bool],
+) -> Result<Vec<T>, AllocError>
+    ensures { IfOk result (λ chosen. chosen.items ≡ items_chosen (in_list list marks.now) choices.now items.now) }
+{
+    let mut chosen = Vec::new(alloc);
+    let mut left = items;
+    for (place, mark) in marks.iter().enumerate() {
+        if choices.len() <= place {
+            return Ok(chosen);
+        }
+        if !is_listing(*mark, list) {
+            continue;
+        }
+        let Some((item, rest)) = left.split_first() else {
+            return Ok(chosen);
+        };
+        left = rest;
+        if !choices[place] {
+            continue;
+        }
+        chosen.push(*item)?;
+    }
+    Ok(chosen)
+}
+
+// Whether two lists are one.
+fn is_listing(one: Listing, other: Listing) -> bool
+    ensures { result ≡ same_listing one other }
+{
+    one == other
+}
+
+// Whether a row of a relationship counts, as far as the row itself tells.
+fn is_inferred(active: bool, characteristic_type: SctId) -> bool
+    ensures { result ≡ (active && (characteristic_type == inferred_relationship)) }
+{
+    active && characteristic_type.number() == INFERRED
+}
+
+// Whether a row names a concept, as far as the row itself tells.
+fn is_name(row: &DescriptionRow<'_>) -> bool
+    ensures { result ≡ is_name_row (description_text row.now) }
+{
+    row.active && row.type_id.number() == FULLY_SPECIFIED_NAME
+}

@@ -1,0 +1,36 @@
+-- The faults of what is made of the rows that were read.
+use Rattle.std.proofs.Common.{ℕ, Bool, ◌≡◌, ◌≢◌, List, Option, None, Some, Result, Ok, Err, arith, false, refl}
+use Rattle.row_lists.specs.ReleaseLists.{ReleaseLists}
+use Rattle.row_lists.specs.declared.fault.LoadFault.{LoadFault}
+use Rattle.row_lists.specs.declared.fault.LoadFault.TheVariants.{Cycle, Memory, NoConceptFile}
+use Rattle.held_release.specs.Contents.{Contents, IsFaultOf, least_cyclic, unless_cyclic}
+use Rattle.held_release.specs.Finished.{contents_from, finished, release_from}
+use Rattle.release_rows.specs.DeviceFaults.{FailsAtRead, RaisesOnlyAtDevice, file_of, is_device}
+
+-- a fault that is neither the device's nor that of a file, nor the want of a Concept file
+pub record IsOfNoFile (fault : LoadFault) : Type 0 where
+  pub own : is_device fault ≡ false
+  pub kind : (reads : ℕ → Bool) → FailsAtRead reads fault
+  pub named : file_of fault ≡ None
+  pub found : fault ≢ NoConceptFile
+
+cycle-own : (fault : LoadFault) (contents : Contents) (cyclic : Option ℕ)
+    → IsFaultOf fault (unless_cyclic contents cyclic) → IsOfNoFile fault
+cycle-own Memory contents cyclic said =
+    record { own = refl; kind = λ reads. tt; named = refl; found = λ same. cc }
+cycle-own (Cycle concept) contents cyclic said =
+    record { own = refl; kind = λ reads. tt; named = refl; found = λ same. cc }
+cycle-own fault contents None said = absurd (grind arith)
+cycle-own fault contents (Some concept) said = absurd (grind arith)
+
+-- so is each fault of what is finished
+pub finished-own : (language : List ℕ) (files count : ℕ) (listed : ReleaseLists) (fault : LoadFault)
+    → IsFaultOf fault (finished language files count listed) → IsOfNoFile fault
+finished-own language files count listed fault said =
+    cycle-own fault (contents_from language files count listed) (least_cyclic (release_from listed)) said
+
+-- where the count of failures stays the same nothing more is to be said of it
+pub raised_by_none : {T : Type 0} {old new : ℕ} (result : Result T LoadFault)
+    → new ≡ old → RaisesOnlyAtDevice result old new
+raised_by_none (Ok done) same = same
+raised_by_none (Err fault) same = λ other. same

@@ -1,7 +1,0 @@
-use Rattle.std.proofs.Common.{arith}
-use Rattle.std.proofs.lemmas.Grind.{common_steps}
-use Rattle.snapshot.proofs.NumberingLemmas.{number_has}
-use Rattle.snapshot.proofs.concepts.ConceptsKnownConcepts.has.Goals as goal
-
-pub returns : goal.returns
-returns c = grind (arith, common_steps, number_has c.args.self.now c.args.id)

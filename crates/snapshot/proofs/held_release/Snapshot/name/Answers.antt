@@ -1,9 +1,0 @@
-use Rattle.std.proofs.Common.{get_or, arith, string_bytes}
-use Rattle.snapshot.specs.Name.{name_among}
-use Rattle.snapshot.proofs.LineLemmas.{line_among}
-use Rattle.snapshot.proofs.held_release.Snapshot.name.Goals as goal
-
-pub name-requires-clause-line : goal.name-requires-clause-line
-name-requires-clause-line c =
-    let inside = c.self.inside in
-    (name_among (string_bytes inside.language) inside.lines.names (get_or inside.concepts c.args.concept 0), grind (arith, line_among))

@@ -1,7 +1,0 @@
--- Each concept's place is that of the row that comes first among the rows behind.
-use Rattle.std.proofs.Common.{drop}
-use Rattle.snapshot.specs.inside.FirstRows.{AreFirstPlaces}
-use Rattle.snapshot.proofs.naming.first_places.Given as goal
-
-abbrev pub invariant-loop-place : goal.invariant-loop-place
-invariant-loop-place l = AreFirstPlaces l.language l.concepts l.names (drop l.place l.names) l.places.items

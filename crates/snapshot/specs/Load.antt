@@ -1,0 +1,40 @@
+-- What a list of files contains, or which fault it has.
+use Rattle.std.specs.Prelude.{ℕ, ◌-◌, if◌then◌else◌, List, [], length, map, filter, Option, None, Some, Result, Err}
+use Rattle.std.specs.List.{list_any}
+use Rattle.release_files.specs.Source.{FileText}
+use Rattle.row_lists.specs.InForce.{release_of, listed_count}
+use Rattle.row_lists.specs.declared.fault.LoadFault.{LoadFault}
+use Rattle.row_lists.specs.declared.fault.LoadFault.TheVariants.{NoConceptFile}
+use Rattle.held_release.specs.Contents.{Contents, least_cyclic, unless_cyclic}
+use Rattle.release_rows.specs.Faults.{first_fault}
+use Rattle.release_rows.specs.Chosen.{chosen}
+use Rattle.release_rows.specs.Files.{Place, places_from, rows_of, text_of_row, is_concept_file, has_kind}
+use Rattle.release_rows.specs.Limits.{limits_in_force}
+use Rattle.release_rows.specs.declared.limits.Limits.{Limits}
+
+-- what the places of so many files without a fault contain: the release that the chosen rows make
+abbrev pub contents_of : List ℕ → ℕ → List Place → Contents
+contents_of language count places =
+    let release = release_of (map text_of_row (chosen (rows_of places))) in
+    record {
+      release = release;
+      language = language;
+      files = count;
+      passed = length (rows_of places) - listed_count release;
+    }
+
+abbrev pub unless_faulty : Contents → Option LoadFault → Result Contents LoadFault
+unless_faulty contents None = unless_cyclic contents (least_cyclic contents.release)
+unless_faulty contents (Some fault) = Err fault
+
+-- what the places of so many files contain, or their first fault: by file and line, then a cycle
+abbrev pub loaded_from : Limits → List ℕ → ℕ → List Place → Result Contents LoadFault
+loaded_from limits language count places = unless_faulty (contents_of language count places) (first_fault limits [] places)
+
+-- what a list of files contains, or its first fault: no file with the name of a Concept file, or that of
+-- their places
+abbrev pub load_of : Limits → List ℕ → List FileText → Result Contents LoadFault
+load_of limits language files =
+    if list_any is_concept_file files
+    then loaded_from (limits_in_force limits) language (length (filter has_kind files)) (places_from 0 files)
+    else Err NoConceptFile
