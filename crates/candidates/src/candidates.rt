@@ -4,9 +4,9 @@ ghost use Rattle.postings.specs.Groups.{all_groups, groups_in};
 ghost use Rattle.postings.specs.Indexed.{IsIndexOf};
 ghost use Rattle.candidates.specs.Within.{AreBelow, may_be};
 
+use held_release::Snapshot;
 use idset::ConceptSet;
 use postings::Indexes;
-use held_release::Snapshot;
 use std::alloc::{AllocError, Global};
 
 // To ask a concept by its own list takes about as long as to go through so many concepts, and to ask so few takes no longer

@@ -15,12 +15,12 @@ ghost use Rattle.candidates.specs.Within.{AreBelow, may_be, numbers_within};
 use crate::nodes::no_concept;
 use crate::plans::execute_within;
 use candidates::{Candidates, Visits, restricted};
+use held_release::Snapshot;
 use idset::ConceptSet;
 use pair_sets::values_along;
 use plan_bounds::{Choice, plan_floor};
 use postings::Indexes;
 use set_algebra::ConceptPlan;
-use held_release::Snapshot;
 use std::alloc::{AllocError, Global};
 
 /// The candidates among the concepts that a plan of dotted attributes means.

@@ -15,12 +15,12 @@ ghost use Rattle.candidates.specs.Within.{AreBelow, may_be};
 use crate::counting::{count_members, count_units, count_walk};
 use candidates::{Candidates, RowTally, Visits, restricted};
 use constraint_tree::{Cardinality, Operator};
+use held_release::Snapshot;
 use idset::ConceptSet;
 use pair_sets::with_groups;
 use plan_bounds::Choice;
 use postings::Indexes;
 use set_algebra::{ConceptPlan, UnitPlan};
-use held_release::Snapshot;
 use std::alloc::{AllocError, Global};
 use walks::{
     items_from_all, items_unlisted, keeps_apart, led_among, members_way, members_within, walk_way,

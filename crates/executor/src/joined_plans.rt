@@ -16,11 +16,11 @@ use crate::guesses::{lead_of, rows_without};
 use crate::nodes::{either, every_candidate, no_concept};
 use crate::plans::{execute_tallied, execute_within};
 use candidates::{Candidates, RowTally, Visits, extent_of};
+use held_release::Snapshot;
 use idset::ConceptSet;
 use plan_bounds::{Choice, plan_floor};
 use postings::Indexes;
 use set_algebra::ConceptPlan;
-use held_release::Snapshot;
 use std::alloc::{AllocError, Global};
 
 /// The candidates among the concepts that all of some plans mean; of no plans each candidate. One part is executed

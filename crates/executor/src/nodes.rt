@@ -9,9 +9,9 @@ ghost use Rattle.candidates.specs.Numbers.{numbers_in};
 ghost use Rattle.candidates.specs.Within.{AreBelow, may_be};
 
 use candidates::{Candidates, restricted};
+use held_release::Snapshot;
 use idset::ConceptSet;
 use postings::Indexes;
-use held_release::Snapshot;
 use std::alloc::{AllocError, Global};
 
 /// No concept.

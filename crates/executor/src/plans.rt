@@ -25,12 +25,12 @@ use crate::unit_plans::execute_groups;
 use crate::walk_plans::walk_from;
 use candidates::{Candidates, RowTally, Visits, none_left};
 use constraint_tree::Cardinality;
+use held_release::Snapshot;
 use idset::ConceptSet;
 use pair_sets::{Tested, count_of_test, groups_of, with_pairs_within, without};
 use plan_bounds::{Choice, PhysicalPlan, after_first, first_choice, plan_floor, unit_size};
 use postings::Indexes;
 use set_algebra::{ConceptPlan, UnitPlan, ValueTest};
-use held_release::Snapshot;
 use std::alloc::{AllocError, Global};
 
 /// The concepts that a plan means over a release, as a set of their numbers whose bound is the number of concepts, whatever the

@@ -10,11 +10,11 @@ ghost use Rattle.plan_bounds.specs.Sizes.{group_size, size as size_of};
 
 use crate::counting::minus_reads;
 use candidates::{Candidates, Extent, Visits, extent_to_take, group_extent_to_take};
+use held_release::Snapshot;
 use idset::ConceptSet;
 use plan_bounds::{Choice, plan_floor, plan_size, unit_floor, unit_size};
 use postings::Indexes;
 use set_algebra::{ConceptPlan, UnitPlan};
-use held_release::Snapshot;
 use std::alloc::{AllocError, Global};
 
 /// With what the second part is executed.

@@ -21,12 +21,12 @@ use crate::plans::{execute_within, tested_of};
 use crate::second_part::second_unit_part;
 use candidates::{Candidates, RowTally, Visits, group_extent_of, none_left};
 use constraint_tree::Cardinality;
+use held_release::Snapshot;
 use idset::ConceptSet;
 use pair_sets::{Tested, count_of_test, groups_with_pairs_within, without};
 use plan_bounds::{Choice, after_first, first_choice, plan_floor, unit_floor};
 use postings::Indexes;
 use set_algebra::{ConceptPlan, UnitPlan, ValueTest};
-use held_release::Snapshot;
 use std::alloc::{AllocError, Global};
 
 /// The candidates among the groups that a plan means, as a set of their numbers whose bound is the number of groups; they are

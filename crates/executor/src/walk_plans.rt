@@ -14,11 +14,11 @@ use crate::guesses::rows_without;
 use crate::plans::execute_within;
 use candidates::{Candidates, RowTally, Visits, extent_of};
 use constraint_tree::Operator;
+use held_release::Snapshot;
 use idset::ConceptSet;
 use plan_bounds::Choice;
 use postings::Indexes;
 use set_algebra::ConceptPlan;
-use held_release::Snapshot;
 use std::alloc::{AllocError, Global};
 use walks::{enough_for, items_enough};
 

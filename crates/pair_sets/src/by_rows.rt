@@ -18,9 +18,9 @@ use crate::hits::{group_hits_by_type, group_hits_by_value, hits_by_type, hits_by
 use crate::tested::Tested;
 use candidates::Candidates;
 use constraint_tree::Cardinality;
+use held_release::Snapshot;
 use idset::ConceptSet;
 use postings::Indexes;
-use held_release::Snapshot;
 use std::alloc::{AllocError, Global};
 
 /// By the rows of some concepts, which rise: the concepts so many of whose pairs have a type that is one of some and one of

@@ -13,10 +13,10 @@ use crate::tested::{Tested, count_of_test};
 use crate::types::{types_in, types_to_read};
 use crate::ways::{LeafReads, PassingValues, Way, items_among, values_are_read_before};
 use candidates::{Extent, are_read_before, look_ups, rows_of_value};
+use held_release::Snapshot;
 use idset::ConceptSet;
 use postings::Indexes;
 use set_algebra::Choice;
-use held_release::Snapshot;
 use std::alloc::{AllocError, Global};
 
 // To look up a value takes about as long as to read so many rows that stand side by side.

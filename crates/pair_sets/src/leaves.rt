@@ -19,10 +19,10 @@ use crate::tested::Tested;
 use crate::ways::{LeafReads, Way};
 use candidates::{Candidates, Visits, extent_for, restricted};
 use constraint_tree::Cardinality;
+use held_release::Snapshot;
 use idset::ConceptSet;
 use postings::Indexes;
 use set_algebra::{Choice, NodeLimits};
-use held_release::Snapshot;
 use std::alloc::{AllocError, Global};
 
 /// The candidates so many of whose distinct pairs, their own or those read backwards, have a type in a set and a value

@@ -5,10 +5,10 @@ ghost use Rattle.postings.specs.Indexed.{IsIndexOf, types_of};
 ghost use Rattle.pair_sets.specs.inside.Hits.{ArePlacesOf, is_type_in};
 ghost use Rattle.candidates.specs.Numbers.{is_one_of};
 
+use held_release::Snapshot;
 use idset::{ConceptSet, is_marked, marks_of};
 use postings::Indexes;
 use sctid::SctId;
-use held_release::Snapshot;
 use std::alloc::{AllocError, Global};
 
 /// The types of rows that are in a set.

@@ -11,9 +11,9 @@ ghost use Rattle.std.specs.List.{range_with_len};
 
 use crate::counts::as_often;
 use constraint_tree::Cardinality;
+use held_release::Snapshot;
 use idset::ConceptSet;
 use postings::Indexes;
-use held_release::Snapshot;
 use std::alloc::{AllocError, Global};
 
 /// The concepts so many of whose groups are among some (Release File Specification, "Relationship file",

@@ -15,8 +15,8 @@ use crate::walks::{meets, walk};
 use ancestor_index::AncestorIndex;
 use candidates::{Candidates, RowTally, restricted};
 use constraint_tree::Operator;
-use idset::ConceptSet;
 use held_release::Snapshot;
+use idset::ConceptSet;
 use std::alloc::{AllocError, Global};
 
 /// The candidates among the concepts that an operator leads to from those of a set (Expression Constraint Language,

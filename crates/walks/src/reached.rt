@@ -8,8 +8,8 @@ ghost use Rattle.walks.specs.inside.Steps.{lists_of};
 
 use crate::family::Family;
 use ancestor_index::AncestorIndex;
-use idset::{ConceptSet, WordSet};
 use held_release::Snapshot;
+use idset::{ConceptSet, WordSet};
 use std::alloc::{AllocError, Global};
 
 /// The concepts that are in the list of one of a set, in a family whose lists hold those of their own concepts. The set is given as a

@@ -9,9 +9,9 @@ ghost use Rattle.walks.specs.inside.Components.{is_in_one_of};
 ghost use Rattle.candidates.specs.Within.{AreBelow, may_be};
 
 use candidates::{Candidates, restricted};
+use held_release::Snapshot;
 use idset::{ConceptSet, has_number};
 use postings::Indexes;
-use held_release::Snapshot;
 use std::alloc::{AllocError, Global};
 
 // To look up a candidate in a list takes about as long as to copy so many components.

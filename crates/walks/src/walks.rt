@@ -12,8 +12,8 @@ use crate::family::{Family, Reach, Step};
 use crate::reached::reached;
 use ancestor_index::AncestorIndex;
 use candidates::RowTally;
-use idset::{ConceptSet, WordSet};
 use held_release::Snapshot;
+use idset::{ConceptSet, WordSet};
 use std::alloc::{AllocError, Global};
 
 // A list of so many items is joined before the shorter ones: what it has need not be looked at again.
