@@ -1,13 +1,15 @@
 #!/usr/bin/env bash
 # Proves, builds and runs a program that times a library over a release, in a folder of its own. The words are the
-# program's name, the file that is its `main.rt`, the crates that it stands on, the folder of a release, and, to keep
-# what was made for the next run, another folder. The crates are those that ./hosecrag has proved.
+# program's name, the file that is its `main.rt`, the crates that it stands on, the folder of a release (or - where it
+# needs none), and, to keep what was made for the next run, another folder. The crates are those that ./hosecrag has
+# proved.
 set -euo pipefail
 here=$(cd "$(dirname "$0")" && pwd)
 name=$1
 main=$2
 crates=$3
-release=$(cd "$4" && pwd)
+release=$4
+if [ "$release" != - ]; then release=$(cd "$release" && pwd); fi
 work=${5:-$(mktemp -d)}
 mkdir -p "$work"
 work=$(cd "$work" && pwd)
@@ -31,12 +33,20 @@ for file in "$here/${main%main.rt.in}"*.rt.in; do
     part=${file#"$here/${main%main.rt.in}"}
     cp "$file" "$sources/$name/src/${part%.in}"
 done
+# and its proofs, where it has some that are not found by search, in a folder `X_proofs`
+proofs=${main%main.rt.in}proofs
+if [ -d "$here/$proofs" ]; then
+    (cd "$here/$proofs" && find . -name '*.in') | while read -r file; do
+        install -D -m 644 "$here/$proofs/$file" "$sources/$name/proofs/${file%.in}"
+    done
+fi
 of=$(cat "$sources/$name/src/"*.rt | sha256sum; ls "$here/../out")
 if [ ! -x "$work/$name" ] || [ "$of" != "$(cat "$work/$name.of")" ]; then
     (make_program_of "$name" "$(nproc)" "$work/$name") >"$work/$name.log" 2>&1 || { cat "$work/$name.log" >&2 && exit 1; }
     echo "$of" >"$work/$name.of"
 fi
 cd "$work"
+if [ "$release" = - ]; then exec "./$name"; fi
 find "$release" -name 'sct2_Concept_*.txt' -exec cp {} concepts.txt \;
 find "$release" -name 'sct2_Relationship_*.txt' -exec cp {} relationships.txt \;
 find "$release" -name 'sct2_RelationshipConcreteValues_*.txt' -exec cp {} values.txt \;

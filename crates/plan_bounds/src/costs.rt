@@ -10,8 +10,8 @@ ghost use Rattle.plan_bounds.specs.Tallies.{IsTallyOf};
 
 use crate::choice::{after_first, first_choice};
 use crate::counts::{
-    NodeCost, concepts, groups, in_all, in_first, in_some, leaf, members, units as units_of,
-    values, walk,
+    NodeCost, concepts, cost_of_all, cost_of_first, cost_of_members, cost_of_some, cost_of_units,
+    cost_of_values, cost_of_walk, counts_of_leaf, groups,
 };
 use crate::tally::Tally;
 use constraint_tree::Cardinality;
@@ -52,27 +52,27 @@ pub fn cost<'a>(plan: &ConceptPlan, choices: &'a [Choice], indexes: &Indexes) ->
         ConceptPlan::One(_) => without_parts(1, choices),
         ConceptPlan::Walk(operator, operand) => {
             let inner = cost(operand, choices, indexes);
-            let own = walk(indexes, *operator, operand, inner.size);
+            let own = cost_of_walk(indexes, *operator, operand, inner.size);
             with_parts(own, inner.bound, inner.rest)
         }
         ConceptPlan::Members(operand) => {
             let inner = cost(operand, choices, indexes);
-            let own = members(indexes, operand, inner.size);
+            let own = cost_of_members(indexes, operand, inner.size);
             with_parts(own, inner.bound, inner.rest)
         }
         ConceptPlan::And(parts) => {
             let inner = parts_cost(parts, all, choices, indexes);
-            with_parts(in_all(&inner.tally), inner.bound, inner.rest)
+            with_parts(cost_of_all(&inner.tally), inner.bound, inner.rest)
         }
         ConceptPlan::Or(parts) => {
             let inner = parts_cost(parts, all, choices, indexes);
-            let own = in_some(all, &inner.tally, parts.len() as u64);
+            let own = cost_of_some(all, &inner.tally, parts.len() as u64);
             with_parts(own, inner.bound, inner.rest)
         }
         ConceptPlan::Minus(first, second) => {
             let left = cost(first, choices, indexes);
             let right = cost(second, left.rest, indexes);
-            with_two(in_first(left.size, right.size), &left, &right)
+            with_two(cost_of_first(left.size, right.size), &left, &right)
         }
         ConceptPlan::Values(start, names) => values_cost(start, names, choices, indexes),
         ConceptPlan::Pairs {
@@ -83,7 +83,7 @@ pub fn cost<'a>(plan: &ConceptPlan, choices: &'a [Choice], indexes: &Indexes) ->
         } => pairs_cost(all, *back, *count, types, test, choices, indexes),
         ConceptPlan::Units { count, units } => {
             let inner = unit_cost(units, choices, indexes);
-            let own = units_of(*count, all, inner.size);
+            let own = cost_of_units(*count, all, inner.size);
             with_parts(own, inner.bound, inner.rest)
         }
     }
@@ -103,7 +103,7 @@ fn values_cost<'a>(
 {
     let from = cost(start, choices, indexes);
     let types = parts_cost(names, 0, from.rest, indexes);
-    let own = values(indexes, names.len() as u64, from.size);
+    let own = cost_of_values(indexes, names.len() as u64, from.size);
     with_parts(own, from.bound.saturating_add(types.bound), types.rest)
 }
 
@@ -125,7 +125,7 @@ fn pairs_cost<'a>(
     let of_types = cost(types, after_first(choices), indexes);
     let of_test = test_cost(test, of_types.rest, indexes);
     let sizes = (of_types.size, of_test.size);
-    let leaf = leaf(indexes, all, back, count, types, test, sizes);
+    let leaf = counts_of_leaf(indexes, all, back, count, types, test, sizes);
     with_two(leaf.cost(first_choice(choices)), &of_types, &of_test)
 }
 
@@ -143,17 +143,17 @@ pub fn unit_cost<'a>(plan: &UnitPlan, choices: &'a [Choice], indexes: &Indexes) 
         UnitPlan::Every => without_parts(all, choices),
         UnitPlan::And(parts) => {
             let inner = unit_parts_cost(parts, all, choices, indexes);
-            with_parts(in_all(&inner.tally), inner.bound, inner.rest)
+            with_parts(cost_of_all(&inner.tally), inner.bound, inner.rest)
         }
         UnitPlan::Or(parts) => {
             let inner = unit_parts_cost(parts, all, choices, indexes);
-            let own = in_some(all, &inner.tally, parts.len() as u64);
+            let own = cost_of_some(all, &inner.tally, parts.len() as u64);
             with_parts(own, inner.bound, inner.rest)
         }
         UnitPlan::Minus(first, second) => {
             let left = unit_cost(first, choices, indexes);
             let right = unit_cost(second, left.rest, indexes);
-            with_two(in_first(left.size, right.size), &left, &right)
+            with_two(cost_of_first(left.size, right.size), &left, &right)
         }
         UnitPlan::Pairs { count, types, test } => {
             pairs_cost(all, false, *count, types, test, choices, indexes)

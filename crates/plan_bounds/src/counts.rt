@@ -40,7 +40,12 @@ pub fn groups(indexes: &Indexes) -> u64
 }
 
 /// Of a walk from a set of so many concepts.
-pub fn walk(indexes: &Indexes, operator: Operator, operand: &ConceptPlan, size: u64) -> NodeCost
+pub fn cost_of_walk(
+    indexes: &Indexes,
+    operator: Operator,
+    operand: &ConceptPlan,
+    size: u64,
+) -> NodeCost
     ensures size { result.size ≡ walk_size indexes.now operator (one_of (plan_of operand.now)) size }
     ensures bound { result.bound ≡ capped (walk_bound indexes.now operator (one_of (plan_of operand.now)) size) }
 {
@@ -168,7 +173,7 @@ fn lists_length(indexes: &Indexes, operator: Operator) -> u64
 }
 
 /// Of the components of the reference sets in a set of so many concepts.
-pub fn members(indexes: &Indexes, operand: &ConceptPlan, size: u64) -> NodeCost
+pub fn cost_of_members(indexes: &Indexes, operand: &ConceptPlan, size: u64) -> NodeCost
     ensures size { result.size ≡ members_size indexes.now (one_of (plan_of operand.now)) }
     ensures bound { result.bound ≡ capped (members_bound indexes.now (one_of (plan_of operand.now)) size) }
 {
@@ -202,7 +207,7 @@ pub fn member_count(indexes: &Indexes, id: u64) -> u64
 }
 
 /// Of the values along so many types, from a set of so many concepts.
-pub fn values(indexes: &Indexes, types: u64, size: u64) -> NodeCost
+pub fn cost_of_values(indexes: &Indexes, types: u64, size: u64) -> NodeCost
     ensures size { result.size ≡ values_size indexes.now types size }
     ensures bound { result.bound ≡ capped (values_bound indexes.now types size) }
 {
@@ -219,7 +224,7 @@ pub fn values(indexes: &Indexes, types: u64, size: u64) -> NodeCost
 }
 
 /// Of the concepts so many of whose groups are among so many.
-pub fn units(count: Cardinality, all: u64, size: u64) -> NodeCost
+pub fn cost_of_units(count: Cardinality, all: u64, size: u64) -> NodeCost
     ensures size { result.size ≡ found_by (count.min == 0) all size }
     ensures bound { result.bound ≡ capped (size + passed_over (count.min == 0) all) }
 {
@@ -237,7 +242,7 @@ pub fn units(count: Cardinality, all: u64, size: u64) -> NodeCost
 }
 
 /// Of what all of some parts find: each is read, and what is left behind each.
-pub fn in_all(parts: &Tally) -> NodeCost
+pub fn cost_of_all(parts: &Tally) -> NodeCost
     ensures size { result.size ≡ parts.now.least }
     ensures bound { result.bound ≡ capped (parts.now.sum * 2) }
 {
@@ -248,7 +253,7 @@ pub fn in_all(parts: &Tally) -> NodeCost
 }
 
 /// Of what one of so many parts finds: what is left is read before each.
-pub fn in_some(all: u64, parts: &Tally, count: u64) -> NodeCost
+pub fn cost_of_some(all: u64, parts: &Tally, count: u64) -> NodeCost
     ensures size { result.size ≡ min all parts.now.sum }
     ensures bound { result.bound ≡ capped (parts.now.sum * count) }
 {
@@ -259,7 +264,7 @@ pub fn in_some(all: u64, parts: &Tally, count: u64) -> NodeCost
 }
 
 /// Of what the first of two finds and the second does not.
-pub fn in_first(first: u64, second: u64) -> NodeCost
+pub fn cost_of_first(first: u64, second: u64) -> NodeCost
     ensures size { result.size ≡ first }
     ensures bound { result.bound ≡ capped (first + second) }
 {
@@ -270,7 +275,7 @@ pub fn in_first(first: u64, second: u64) -> NodeCost
 }
 
 /// A leaf, by how many concepts or groups there are, and by the sizes of its types and of the plan of its test.
-pub fn leaf(
+pub fn counts_of_leaf(
     indexes: &Indexes,
     all: u64,
     back: bool,

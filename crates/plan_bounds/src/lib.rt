@@ -15,8 +15,8 @@ mod tally;
 
 pub use crate::choice::{after_first, first_choice};
 pub use crate::counts::{
-    NodeCost, concepts, groups, in_all, in_first, in_some, leaf as leaf_counts, members, units,
-    values, walk,
+    NodeCost, concepts, cost_of_all, cost_of_first, cost_of_members, cost_of_some, cost_of_units,
+    cost_of_values, cost_of_walk, counts_of_leaf, groups,
 };
 pub use crate::floors::{PlanFloor, plan_floor, unit_floor};
 pub use crate::laws::{finds_within_size, floor_within_bound, leads_are_least};

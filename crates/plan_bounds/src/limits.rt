@@ -8,7 +8,7 @@ ghost use Rattle.plan_bounds.specs.Floors.{leaf_floor as leaf_floor_of, of_one};
 ghost use Rattle.plan_bounds.specs.Sizes.{group_size, size as size_of};
 
 use crate::costs::{cost, unit_cost};
-use crate::counts::{leaf, members, units, walk};
+use crate::counts::{cost_of_members, cost_of_units, cost_of_walk, counts_of_leaf};
 use crate::floors::{leaf_floor, members_floor, walk_floor};
 use constraint_tree::{Cardinality, Operator};
 use postings::Indexes;
@@ -27,7 +27,7 @@ pub fn walk_limits(
 {
     NodeLimits {
         floor: walk_floor(indexes, operator, operand),
-        bound: walk(indexes, operator, operand, size).bound,
+        bound: cost_of_walk(indexes, operator, operand, size).bound,
     }
 }
 
@@ -39,7 +39,7 @@ pub fn members_limits(indexes: &Indexes, operand: &ConceptPlan, size: u64) -> No
 {
     NodeLimits {
         floor: members_floor(indexes, operand),
-        bound: members(indexes, operand, size).bound,
+        bound: cost_of_members(indexes, operand, size).bound,
     }
 }
 
@@ -58,7 +58,7 @@ pub fn leaf_limits(
     ensures bound { result.bound ≡ capped (leaf_bound (leaf_of indexes.now all back count (plan_of types.now) (test_plan_of test.now) sizes.0 sizes.1) choice) }
     ensures ordered { result.floor ≤ result.bound }
 {
-    let leaf = leaf(indexes, all, back, count, types, test, sizes);
+    let leaf = counts_of_leaf(indexes, all, back, count, types, test, sizes);
     NodeLimits {
         floor: leaf_floor(indexes, back, types, test, choice),
         bound: leaf.cost(choice).bound,
@@ -73,7 +73,7 @@ pub fn units_limits(count: Cardinality, all: u64, size: u64) -> NodeLimits
 {
     NodeLimits {
         floor: 0,
-        bound: units(count, all, size).bound,
+        bound: cost_of_units(count, all, size).bound,
     }
 }
 

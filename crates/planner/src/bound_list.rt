@@ -11,8 +11,9 @@ ghost use Rattle.plan_bounds.specs.Tallies.{IsTallyOf};
 
 use constraint_tree::{Cardinality, Operator};
 use plan_bounds::{
-    NodeCost, Tally, after_first, concepts, first_choice, groups, in_all, in_first, in_some,
-    leaf_counts as leaf, members, units as units_of, values, walk,
+    NodeCost, Tally, after_first, concepts, cost_of_all, cost_of_first, cost_of_members,
+    cost_of_some, cost_of_units, cost_of_values, cost_of_walk, counts_of_leaf, first_choice,
+    groups,
 };
 use postings::Indexes;
 use set_algebra::{Choice, ConceptPlan, UnitPlan, ValueTest};
@@ -108,7 +109,7 @@ fn list_walk<'a>(
     ensures { IfOk result (λ node. IsNode indexes.now choices.now (walk_plan operator (plan_of operand.now)) bounds.old.items bounds.new.items node.own node.rest.now) }
 {
     let inner = list(operand, choices, indexes, bounds)?;
-    let own = walk(indexes, operator, operand, inner.size);
+    let own = cost_of_walk(indexes, operator, operand, inner.size);
     Ok(Node {
         own,
         rest: inner.rest,
@@ -126,7 +127,7 @@ fn list_members<'a>(
     ensures { IfOk result (λ node. IsNode indexes.now choices.now (members_plan (plan_of operand.now)) bounds.old.items bounds.new.items node.own node.rest.now) }
 {
     let inner = list(operand, choices, indexes, bounds)?;
-    let own = members(indexes, operand, inner.size);
+    let own = cost_of_members(indexes, operand, inner.size);
     Ok(Node {
         own,
         rest: inner.rest,
@@ -145,7 +146,7 @@ fn list_and<'a>(
 {
     let inner = list_parts(parts, concepts(indexes), choices, indexes, bounds)?;
     Ok(Node {
-        own: in_all(&inner.tally),
+        own: cost_of_all(&inner.tally),
         rest: inner.rest,
     })
 }
@@ -162,7 +163,7 @@ fn list_or<'a>(
 {
     let all = concepts(indexes);
     let inner = list_parts(parts, all, choices, indexes, bounds)?;
-    let own = in_some(all, &inner.tally, parts.len() as u64);
+    let own = cost_of_some(all, &inner.tally, parts.len() as u64);
     Ok(Node {
         own,
         rest: inner.rest,
@@ -183,7 +184,7 @@ fn list_minus<'a>(
     let left = list(first, choices, indexes, bounds)?;
     let right = list(second, left.rest, indexes, bounds)?;
     Ok(Node {
-        own: in_first(left.size, right.size),
+        own: cost_of_first(left.size, right.size),
         rest: right.rest,
     })
 }
@@ -201,7 +202,7 @@ fn list_values<'a>(
 {
     let from = list(start, choices, indexes, bounds)?;
     let types = list_parts(names, 0, from.rest, indexes, bounds)?;
-    let own = values(indexes, names.len() as u64, from.size);
+    let own = cost_of_values(indexes, names.len() as u64, from.size);
     Ok(Node {
         own,
         rest: types.rest,
@@ -225,7 +226,7 @@ fn list_pairs<'a>(
     let of_types = list(types, after_first(choices), indexes, bounds)?;
     let of_test = list_test(test, of_types.rest, indexes, bounds)?;
     let sizes = (of_types.size, of_test.size);
-    let leaf = leaf(indexes, all, back, count, types, test, sizes);
+    let leaf = counts_of_leaf(indexes, all, back, count, types, test, sizes);
     Ok(Node {
         own: leaf.cost(first_choice(choices)),
         rest: of_test.rest,
@@ -244,7 +245,7 @@ fn list_of_units<'a>(
     ensures { IfOk result (λ node. IsNode indexes.now choices.now (units_plan count (unit_plan_of units.now)) bounds.old.items bounds.new.items node.own node.rest.now) }
 {
     let inner = list_units(units, choices, indexes, bounds)?;
-    let own = units_of(count, concepts(indexes), inner.size);
+    let own = cost_of_units(count, concepts(indexes), inner.size);
     Ok(Node {
         own,
         rest: inner.rest,
@@ -306,7 +307,7 @@ fn list_units_and<'a>(
 {
     let inner = list_unit_parts(parts, groups(indexes), choices, indexes, bounds)?;
     Ok(Node {
-        own: in_all(&inner.tally),
+        own: cost_of_all(&inner.tally),
         rest: inner.rest,
     })
 }
@@ -323,7 +324,7 @@ fn list_units_or<'a>(
 {
     let all = groups(indexes);
     let inner = list_unit_parts(parts, all, choices, indexes, bounds)?;
-    let own = in_some(all, &inner.tally, parts.len() as u64);
+    let own = cost_of_some(all, &inner.tally, parts.len() as u64);
     Ok(Node {
         own,
         rest: inner.rest,
@@ -344,7 +345,7 @@ fn list_units_minus<'a>(
     let left = list_units(first, choices, indexes, bounds)?;
     let right = list_units(second, left.rest, indexes, bounds)?;
     Ok(Node {
-        own: in_first(left.size, right.size),
+        own: cost_of_first(left.size, right.size),
         rest: right.rest,
     })
 }

@@ -12,8 +12,8 @@ ghost use Rattle.plan_bounds.specs.Tallies.{IsTallyOf};
 
 use constraint_tree::{Cardinality, Operator};
 use plan_bounds::{
-    Tally, after_first, concepts, groups, leaf_counts as leaf, members, units as units_of, values,
-    walk,
+    Tally, after_first, concepts, cost_of_members, cost_of_units, cost_of_values, cost_of_walk,
+    counts_of_leaf, groups,
 };
 use postings::Indexes;
 use set_algebra::{Choice, ConceptPlan, UnitPlan, ValueTest};
@@ -135,7 +135,7 @@ fn settle_walk<'a>(
     ensures { IfOk result (λ found. IsNodeSettled indexes.now asked.now others.now (walk_plan operator (plan_of operand.now)) choosing.old choosing.new found) }
 {
     let inner = settle(operand, asked, others, indexes, choosing)?;
-    let own = walk(indexes, operator, operand, inner.size);
+    let own = cost_of_walk(indexes, operator, operand, inner.size);
     Ok(Settled {
         size: own.size,
         asked: inner.asked,
@@ -155,7 +155,7 @@ fn settle_members<'a>(
     ensures { IfOk result (λ found. IsNodeSettled indexes.now asked.now others.now (members_plan (plan_of operand.now)) choosing.old choosing.new found) }
 {
     let inner = settle(operand, asked, others, indexes, choosing)?;
-    let own = members(indexes, operand, inner.size);
+    let own = cost_of_members(indexes, operand, inner.size);
     Ok(Settled {
         size: own.size,
         asked: inner.asked,
@@ -239,7 +239,7 @@ fn settle_values<'a>(
 {
     let from = settle(start, asked, others, indexes, choosing)?;
     let types = settle_parts(names, 0, from.asked, from.others, indexes, choosing)?;
-    let own = values(indexes, names.len() as u64, from.size);
+    let own = cost_of_values(indexes, names.len() as u64, from.size);
     Ok(Settled {
         size: own.size,
         asked: types.asked,
@@ -267,7 +267,7 @@ fn settle_pairs<'a>(
     let of_types = settle(types, inside.0, inside.1, indexes, choosing)?;
     let of_test = settle_test(test, of_types.asked, of_types.others, indexes, choosing)?;
     let sizes = (of_types.size, of_test.size);
-    let leaf = leaf(indexes, all, back, count, types, test, sizes);
+    let leaf = counts_of_leaf(indexes, all, back, count, types, test, sizes);
     let choice = leaf.choice(first(asked), first(others));
     put_choice(choosing, at, choice);
     Ok(Settled {
@@ -290,7 +290,7 @@ fn settle_of_units<'a>(
     ensures { IfOk result (λ found. IsNodeSettled indexes.now asked.now others.now (units_plan count (unit_plan_of units.now)) choosing.old choosing.new found) }
 {
     let inner = settle_units(units, asked, others, indexes, choosing)?;
-    let own = units_of(count, concepts(indexes), inner.size);
+    let own = cost_of_units(count, concepts(indexes), inner.size);
     Ok(Settled {
         size: own.size,
         asked: inner.asked,

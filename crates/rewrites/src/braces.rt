@@ -11,7 +11,7 @@ ghost use Rattle.rewrites.specs.declared.rule.Rule.TheVariants.{BraceOr, BraceOn
 use crate::connective::{Connective, given_parts};
 use crate::counts::{asks_none, asks_some, at_least};
 use crate::fault::RuleFault;
-use crate::made::{both, given, more, pairs, units};
+use crate::made::{both, given, pairs, units, with_last};
 use constraint_tree::Cardinality;
 use set_algebra::views::{first_unit_of, unit_and_of, unit_or_of, unit_pairs_of, units_of};
 use set_algebra::{ConceptPlan, UnitPlan, ValueTest};
@@ -43,7 +43,7 @@ fn each_units(
 {
     let mut made = Vec::new(alloc);
     for part in parts {
-        made = more(made, units(alloc, count, part))?;
+        made = with_last(made, units(alloc, count, part))?;
     }
     Ok(made)
 }

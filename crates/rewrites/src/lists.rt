@@ -3,7 +3,7 @@ ghost use Rattle.std.specs.Prelude.{◌≡◌, IfOk};
 ghost use Rattle.set_algebra.specs.Plan.{Plans, plan_of, plans_of, plan_then, and_plan};
 ghost use Rattle.rewrites.specs.PlanLists.{plans_joined, plans_each};
 
-use crate::made::more;
+use crate::made::with_last;
 use set_algebra::ConceptPlan;
 use set_algebra::copy::each;
 use std::alloc::{AllocError, Global};
@@ -71,7 +71,7 @@ pub(crate) fn each_with(
 {
     let mut made = Vec::new(alloc);
     for part in parts {
-        made = more(made, and_first(alloc, part, rest))?;
+        made = with_last(made, and_first(alloc, part, rest))?;
     }
     Ok(made)
 }

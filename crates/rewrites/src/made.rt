@@ -33,7 +33,7 @@ pub(crate) fn given_units(made: Result<UnitPlan, AllocError>) -> Result<UnitPlan
 }
 
 // A list with one more at its end, where that is made.
-pub(crate) fn more(
+pub(crate) fn with_last(
     plans: Vec<ConceptPlan>,
     made: Result<ConceptPlan, AllocError>,
 ) -> Result<Vec<ConceptPlan>, AllocError>
@@ -45,7 +45,7 @@ pub(crate) fn more(
     Ok(plans)
 }
 
-pub(crate) fn more_units(
+pub(crate) fn with_last_units(
     plans: Vec<UnitPlan>,
     made: Result<UnitPlan, AllocError>,
 ) -> Result<Vec<UnitPlan>, AllocError>

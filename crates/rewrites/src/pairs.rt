@@ -9,7 +9,7 @@ ghost use Rattle.rewrites.specs.declared.rule.Rule.TheVariants.{TypesOr, TestOr}
 use crate::connective::{Connective, given_parts};
 use crate::counts::asks_some;
 use crate::fault::RuleFault;
-use crate::made::{more, pairs};
+use crate::made::{pairs, with_last};
 use constraint_tree::Cardinality;
 use set_algebra::copy::boxed;
 use set_algebra::views::{or_of, pairs_of, within_of};
@@ -40,7 +40,7 @@ fn each_type(
 {
     let mut made = Vec::new(alloc);
     for part in parts {
-        made = more(made, pairs(alloc, back, count, part, test))?;
+        made = with_last(made, pairs(alloc, back, count, part, test))?;
     }
     Ok(made)
 }
@@ -70,7 +70,7 @@ fn each_value(
 {
     let mut made = Vec::new(alloc);
     for part in parts {
-        made = more(made, pairs_within(alloc, back, count, types, part))?;
+        made = with_last(made, pairs_within(alloc, back, count, types, part))?;
     }
     Ok(made)
 }

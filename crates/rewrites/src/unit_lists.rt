@@ -3,7 +3,7 @@ ghost use Rattle.std.specs.Prelude.{◌≡◌, IfOk};
 ghost use Rattle.set_algebra.specs.Plan.{PlansOfUnits, unit_plan_of, unit_plans_of, unit_plan_then, and_units};
 ghost use Rattle.rewrites.specs.PlanLists.{groups_joined, groups_each};
 
-use crate::made::more_units;
+use crate::made::with_last_units;
 use set_algebra::UnitPlan;
 use set_algebra::copy::each_unit;
 use std::alloc::{AllocError, Global};
@@ -71,7 +71,7 @@ pub(crate) fn each_with(
 {
     let mut made = Vec::new(alloc);
     for part in parts {
-        made = more_units(made, and_first(alloc, part, rest))?;
+        made = with_last_units(made, and_first(alloc, part, rest))?;
     }
     Ok(made)
 }

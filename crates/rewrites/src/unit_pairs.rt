@@ -10,7 +10,7 @@ ghost use Rattle.rewrites.specs.declared.rule.Rule.TheVariants.{TypesOr, TestOr,
 use crate::connective::{Connective, given_unit_parts};
 use crate::counts::{asks_nothing, asks_some, asks_too_much, complement, split};
 use crate::fault::RuleFault;
-use crate::made::{both_units, given_units, minus_units, more_units, unit_in_box, unit_pairs};
+use crate::made::{both_units, given_units, minus_units, unit_in_box, unit_pairs, with_last_units};
 use constraint_tree::Cardinality;
 use set_algebra::copy::boxed;
 use set_algebra::views::{or_of, unit_pairs_of, within_of};
@@ -40,7 +40,7 @@ fn each_type(
 {
     let mut made = Vec::new(alloc);
     for part in parts {
-        made = more_units(made, unit_pairs(alloc, count, part, test))?;
+        made = with_last_units(made, unit_pairs(alloc, count, part, test))?;
     }
     Ok(made)
 }
@@ -69,7 +69,7 @@ fn each_value(
 {
     let mut made = Vec::new(alloc);
     for part in parts {
-        made = more_units(made, pairs_within(alloc, count, types, part))?;
+        made = with_last_units(made, pairs_within(alloc, count, types, part))?;
     }
     Ok(made)
 }

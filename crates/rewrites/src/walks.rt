@@ -8,7 +8,7 @@ ghost use Rattle.rewrites.specs.declared.rule.Rule.TheVariants.{WalkOr, WalkTwic
 
 use crate::connective::{Connective, given_parts};
 use crate::fault::RuleFault;
-use crate::made::{given, members, more, walk};
+use crate::made::{given, members, walk, with_last};
 use constraint_tree::Operator;
 use set_algebra::ConceptPlan;
 use set_algebra::views::{or_of, walk_of};
@@ -56,7 +56,7 @@ fn each_walk(
 {
     let mut made = Vec::new(alloc);
     for part in parts {
-        made = more(made, walk(alloc, operator, part))?;
+        made = with_last(made, walk(alloc, operator, part))?;
     }
     Ok(made)
 }
@@ -66,7 +66,7 @@ fn each_members(alloc: Global, parts: &[ConceptPlan]) -> Result<Vec<ConceptPlan>
 {
     let mut made = Vec::new(alloc);
     for part in parts {
-        made = more(made, members(alloc, part))?;
+        made = with_last(made, members(alloc, part))?;
     }
     Ok(made)
 }

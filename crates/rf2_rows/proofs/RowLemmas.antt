@@ -7,7 +7,7 @@ use Rattle.text_parts.specs.Parts.{texts_of}
 use Rattle.rf2_rows.specs.Columns.{Format, active_format, cause_of, component_format, group_format, id_format}
 use Rattle.rf2_rows.specs.Columns.{text_format, time_format, uuid_format, value_format}
 use Rattle.rf2_rows.specs.Rows.{column_fault, fields_fault}
-use Rattle.rf2_rows.specs.inside.SharedColumns.{description_end_fault, end_fault, front_fault}
+use Rattle.rf2_rows.specs.inside.SharedColumns.{description_end_fault, end_fault, version_fault}
 use Rattle.rf2_rows.specs.declared.fault.RowFault.{RowFault}
 use Rattle.rf2_rows.specs.declared.kind.FileKind.TheVariants.{Concept as ConceptFile, Description as DescriptionFile, Relationship as RelationshipFile}
 use Rattle.rf2_rows.specs.declared.kind.FileKind.TheVariants.{Concrete as ConcreteFile, Member as MemberFile}
@@ -34,15 +34,15 @@ module _ (fields : List (Bor (List ℕ))) where
   fault_at number format = column_fault number (cause_of format (text_at fields (number - 1)))
 
   -- the columns behind the identifier stand together
-  fronted : (one rest : Option RowFault)
+  versioned : (one rest : Option RowFault)
       → option_or one (option_or (fault_at 2 time_format) (option_or (fault_at 3 active_format) (option_or (fault_at 4 (id_format Concept)) rest)))
       ≡ option_or one (option_or (option_or (fault_at 2 time_format) (option_or (fault_at 3 active_format) (fault_at 4 (id_format Concept)))) rest)
-  fronted one rest = ap (option_or one) (three_first (fault_at 2 time_format) (fault_at 3 active_format) (fault_at 4 (id_format Concept)) rest)
+  versioned one rest = ap (option_or one) (three_first (fault_at 2 time_format) (fault_at 3 active_format) (fault_at 4 (id_format Concept)) rest)
 
   pub concept_fault : length fields ≡ 5
       → fields_fault ConceptFile (texts_of fields)
-      ≡ option_or (fault_at 1 (id_format Concept)) (option_or (front_fault (texts_of fields)) (option_or (fault_at 5 (id_format Concept)) None))
-  concept_fault same = rw (five_texts fields same) (fronted (fault_at 1 (id_format Concept)) (option_or (fault_at 5 (id_format Concept)) None))
+      ≡ option_or (fault_at 1 (id_format Concept)) (option_or (version_fault (texts_of fields)) (option_or (fault_at 5 (id_format Concept)) None))
+  concept_fault same = rw (five_texts fields same) (versioned (fault_at 1 (id_format Concept)) (option_or (fault_at 5 (id_format Concept)) None))
 
   -- so do those behind the module of a description
   abbrev description_end : Option RowFault → Option RowFault
@@ -56,10 +56,10 @@ module _ (fields : List (Bor (List ℕ))) where
 
   pub description_fault : length fields ≡ 9
       → fields_fault DescriptionFile (texts_of fields)
-      ≡ option_or (fault_at 1 (id_format Description)) (option_or (front_fault (texts_of fields)) (description_end_fault (texts_of fields)))
+      ≡ option_or (fault_at 1 (id_format Description)) (option_or (version_fault (texts_of fields)) (description_end_fault (texts_of fields)))
   description_fault same =
       rw (nine_texts fields same)
-      (fronted (fault_at 1 (id_format Description)) (description_end (option_or (fault_at 9 (id_format Concept)) None))
+      (versioned (fault_at 1 (id_format Description)) (description_end (option_or (fault_at 9 (id_format Concept)) None))
       ∙ ap (λ last. option_or (fault_at 1 (id_format Description)) (option_or
       (option_or (fault_at 2 time_format) (option_or (fault_at 3 active_format) (fault_at 4 (id_format Concept))))
       (description_end last))) (description_ended (fault_at 9 (id_format Concept))))
@@ -69,29 +69,29 @@ module _ (fields : List (Bor (List ℕ))) where
 
   pub member_fault : length fields ≡ 6
       → fields_fault MemberFile (texts_of fields)
-      ≡ option_or (fault_at 1 uuid_format) (option_or (front_fault (texts_of fields)) member_end)
-  member_fault same = rw (six_texts fields same) (fronted (fault_at 1 uuid_format) member_end)
+      ≡ option_or (fault_at 1 uuid_format) (option_or (version_fault (texts_of fields)) member_end)
+  member_fault same = rw (six_texts fields same) (versioned (fault_at 1 uuid_format) member_end)
 
   -- a relationship's value is a concept, or another value
   abbrev pub relationship_faults : Format → Option RowFault
   relationship_faults value =
-      option_or (fault_at 1 (id_format Relationship)) (option_or (front_fault (texts_of fields))
+      option_or (fault_at 1 (id_format Relationship)) (option_or (version_fault (texts_of fields))
       (option_or (fault_at 5 (id_format Concept)) (option_or (fault_at 6 value) (end_fault (texts_of fields)))))
 
   -- and so do those behind it
-  ended : (one front source value : Option RowFault)
-      → option_or one (option_or front (option_or source (option_or value
+  ended : (one version source value : Option RowFault)
+      → option_or one (option_or version (option_or source (option_or value
       (option_or (fault_at 7 group_format) (option_or (fault_at 8 (id_format Concept))
       (option_or (fault_at 9 (id_format Concept)) (option_or (fault_at 10 (id_format Concept)) None)))))))
-      ≡ option_or one (option_or front (option_or source (option_or value
+      ≡ option_or one (option_or version (option_or source (option_or value
       (option_or (fault_at 7 group_format) (option_or (fault_at 8 (id_format Concept))
       (option_or (fault_at 9 (id_format Concept)) (fault_at 10 (id_format Concept))))))))
-  ended one front source value =
-      ap (λ end. option_or one (option_or front (option_or source (option_or value end))))
+  ended one version source value =
+      ap (λ end. option_or one (option_or version (option_or source (option_or value end))))
       (four_last (fault_at 7 group_format) (fault_at 8 (id_format Concept)) (fault_at 9 (id_format Concept)) (fault_at 10 (id_format Concept)))
 
-  abbrev front_at : Option RowFault
-  front_at = option_or (fault_at 2 time_format) (option_or (fault_at 3 active_format) (fault_at 4 (id_format Concept)))
+  abbrev version_at : Option RowFault
+  version_at = option_or (fault_at 2 time_format) (option_or (fault_at 3 active_format) (fault_at 4 (id_format Concept)))
 
   abbrev end_at : Option RowFault
   end_at =
@@ -101,13 +101,13 @@ module _ (fields : List (Bor (List ℕ))) where
   in_relationship : (value : Format)
       → option_or (fault_at 1 (id_format Relationship)) (option_or (fault_at 2 time_format) (option_or (fault_at 3 active_format)
       (option_or (fault_at 4 (id_format Concept)) (option_or (fault_at 5 (id_format Concept)) (option_or (fault_at 6 value) end_at)))))
-      ≡ option_or (fault_at 1 (id_format Relationship)) (option_or front_at
+      ≡ option_or (fault_at 1 (id_format Relationship)) (option_or version_at
       (option_or (fault_at 5 (id_format Concept)) (option_or (fault_at 6 value)
       (option_or (fault_at 7 group_format) (option_or (fault_at 8 (id_format Concept))
       (option_or (fault_at 9 (id_format Concept)) (fault_at 10 (id_format Concept))))))))
   in_relationship value =
-      fronted (fault_at 1 (id_format Relationship)) (option_or (fault_at 5 (id_format Concept)) (option_or (fault_at 6 value) end_at))
-      ∙ ended (fault_at 1 (id_format Relationship)) front_at (fault_at 5 (id_format Concept)) (fault_at 6 value)
+      versioned (fault_at 1 (id_format Relationship)) (option_or (fault_at 5 (id_format Concept)) (option_or (fault_at 6 value) end_at))
+      ∙ ended (fault_at 1 (id_format Relationship)) version_at (fault_at 5 (id_format Concept)) (fault_at 6 value)
 
   pub relationship_fault : length fields ≡ 10 → fields_fault RelationshipFile (texts_of fields) ≡ relationship_faults (id_format Concept)
   relationship_fault same = rw (ten_texts fields same) (in_relationship (id_format Concept))

@@ -9,7 +9,7 @@ use crate::fields::{fault, identifier, text};
 use crate::kind::FileKind;
 use crate::recent_concepts::RecentConcepts;
 use crate::row::ConcreteRow;
-use crate::shared::{read_front, read_relationship_end};
+use crate::shared::{read_relationship_end, read_version_columns};
 use crate::value::Value;
 use numerals::decimal;
 use sctid::Part;
@@ -26,7 +26,7 @@ pub fn read_concrete<'a>(
         return Err(fault(RowCause::Fields, 0));
     }
     let id = identifier(fields[0], Part::Relationship, 1)?;
-    let front = read_front(&mut recent.module_id, fields)?;
+    let version = read_version_columns(&mut recent.module_id, fields)?;
     let source_id = identifier(fields[4], Part::Concept, 5)?;
     let value = match concrete_value(fields[5], 6) {
         Ok(value) => value,
@@ -35,9 +35,9 @@ pub fn read_concrete<'a>(
     let end = read_relationship_end(recent, fields)?;
     Ok(ConcreteRow {
         id,
-        effective_time: front.effective_time,
-        active: front.active,
-        module_id: front.module_id,
+        effective_time: version.effective_time,
+        active: version.active,
+        module_id: version.module_id,
         source_id,
         value,
         relationship_group: end.relationship_group,

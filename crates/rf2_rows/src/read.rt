@@ -10,7 +10,7 @@ use crate::fields::{component, fault, hyphenated, identifier, text};
 use crate::kind::FileKind;
 use crate::recent_concepts::RecentConcepts;
 use crate::row::{ConceptRow, DescriptionRow, MemberRow, RelationshipRow, Row};
-use crate::shared::{Front, read_front, read_relationship_end};
+use crate::shared::{VersionColumns, read_relationship_end, read_version_columns};
 use crate::tabs::{Fields, push_fields};
 use sctid::{Part, SctId};
 
@@ -87,13 +87,13 @@ fn read_concept(recent: &mut RecentConcepts, fields: &[&[u8]]) -> Result<Concept
         return Err(fault(RowCause::Fields, 0));
     }
     let id = identifier(fields[0], Part::Concept, 1)?;
-    let front = read_front(&mut recent.module_id, fields)?;
+    let version = read_version_columns(&mut recent.module_id, fields)?;
     let definition_status_id = recent.definition_status_id.read(fields[4], 5)?;
     Ok(ConceptRow {
         id,
-        effective_time: front.effective_time,
-        active: front.active,
-        module_id: front.module_id,
+        effective_time: version.effective_time,
+        active: version.active,
+        module_id: version.module_id,
         definition_status_id,
     })
 }
@@ -110,20 +110,20 @@ fn read_description<'a>(
         return Err(fault(RowCause::Fields, 0));
     }
     let id = identifier(fields[0], Part::Description, 1)?;
-    let front = read_front(&mut recent.module_id, fields)?;
-    read_description_end(recent, id, front, fields)
+    let version = read_version_columns(&mut recent.module_id, fields)?;
+    read_description_end(recent, id, version, fields)
 }
 
 // The row of the Description file whose first columns are read.
 fn read_description_end<'a>(
     recent: &mut RecentConcepts,
     id: SctId,
-    front: Front,
+    version: VersionColumns,
     fields: &[&'a [u8]],
 ) -> Result<DescriptionRow<'a>, RowFault>
     requires { length fields.now ≡ 9 }
     ensures { let texts = texts_of fields.now in
-        IsReadingLent description_text (description_end_fault texts) (description_from id front texts) result }
+        IsReadingLent description_text (description_end_fault texts) (description_from id version texts) result }
 {
     let concept_id = identifier(fields[4], Part::Concept, 5)?;
     let language_code = text(fields[5], 6)?;
@@ -132,9 +132,9 @@ fn read_description_end<'a>(
     let case_significance_id = recent.case_significance_id.read(fields[8], 9)?;
     Ok(DescriptionRow {
         id,
-        effective_time: front.effective_time,
-        active: front.active,
-        module_id: front.module_id,
+        effective_time: version.effective_time,
+        active: version.active,
+        module_id: version.module_id,
         concept_id,
         language_code,
         type_id,
@@ -155,15 +155,15 @@ fn read_relationship(
         return Err(fault(RowCause::Fields, 0));
     }
     let id = identifier(fields[0], Part::Relationship, 1)?;
-    let front = read_front(&mut recent.module_id, fields)?;
+    let version = read_version_columns(&mut recent.module_id, fields)?;
     let source_id = identifier(fields[4], Part::Concept, 5)?;
     let destination_id = identifier(fields[5], Part::Concept, 6)?;
     let end = read_relationship_end(recent, fields)?;
     Ok(RelationshipRow {
         id,
-        effective_time: front.effective_time,
-        active: front.active,
-        module_id: front.module_id,
+        effective_time: version.effective_time,
+        active: version.active,
+        module_id: version.module_id,
         source_id,
         destination_id,
         relationship_group: end.relationship_group,
@@ -182,14 +182,14 @@ fn read_member(recent: &mut RecentConcepts, fields: &[&[u8]]) -> Result<MemberRo
         return Err(fault(RowCause::Fields, 0));
     }
     let id = hyphenated(fields[0], 1)?;
-    let front = read_front(&mut recent.module_id, fields)?;
+    let version = read_version_columns(&mut recent.module_id, fields)?;
     let refset_id = identifier(fields[4], Part::Concept, 5)?;
     let referenced_component_id = component(fields[5], 6)?;
     Ok(MemberRow {
         id,
-        effective_time: front.effective_time,
-        active: front.active,
-        module_id: front.module_id,
+        effective_time: version.effective_time,
+        active: version.active,
+        module_id: version.module_id,
         refset_id,
         referenced_component_id,
     })

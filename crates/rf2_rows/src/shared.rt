@@ -2,7 +2,7 @@
 ghost use Rattle.std.specs.Prelude.{◌≡◌, ◌≤◌, length};
 ghost use Rattle.text_parts.specs.Parts.{texts_of};
 ghost use Rattle.rf2_rows.specs.Rows.{IsReading};
-ghost use Rattle.rf2_rows.specs.inside.SharedColumns.{end_fault, end_of, front_fault, front_of};
+ghost use Rattle.rf2_rows.specs.inside.SharedColumns.{end_fault, end_of, version_fault, version_of};
 
 use crate::fault::RowFault;
 use crate::fields::{flag, group, identifier, time};
@@ -12,21 +12,24 @@ use sctid::{Part, SctId};
 
 /// The columns behind the identifier, which rows of every kind have.
 #[derive(Clone, Copy)]
-pub struct Front {
+pub struct VersionColumns {
     pub effective_time: Option<u32>,
     pub active: bool,
     pub module_id: SctId,
 }
 
 /// Reads the columns behind the identifier, which are the second to the fourth.
-pub fn read_front(recent: &mut Recent, fields: &[&[u8]]) -> Result<Front, RowFault>
+pub fn read_version_columns(
+    recent: &mut Recent,
+    fields: &[&[u8]],
+) -> Result<VersionColumns, RowFault>
     requires { 4 ≤ length fields.now }
-    ensures { let texts = texts_of fields.now in IsReading (front_fault texts) (front_of texts) result }
+    ensures { let texts = texts_of fields.now in IsReading (version_fault texts) (version_of texts) result }
 {
     let effective_time = time(fields[1], 2)?;
     let active = flag(fields[2], 3)?;
     let module_id = recent.read(fields[3], 4)?;
-    Ok(Front {
+    Ok(VersionColumns {
         effective_time,
         active,
         module_id,

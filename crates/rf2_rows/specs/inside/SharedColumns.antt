@@ -4,21 +4,21 @@ use Rattle.std.specs.Prelude.{ℕ, List, [], slice_index_or, Option}
 use Rattle.std.specs.Option.{option_or}
 use Rattle.sctid.specs.declared.Part.TheVariants.{Concept}
 use Rattle.rf2_rows.specs.declared.fault.RowFault.{RowFault}
-use Rattle.rf2_rows.specs.declared.shared.Front.{Front}
+use Rattle.rf2_rows.specs.declared.shared.VersionColumns.{VersionColumns}
 use Rattle.rf2_rows.specs.declared.shared.RelationshipEnd.{RelationshipEnd}
 use Rattle.rf2_rows.specs.Columns.{active_format, cause_of, group_format, id_format, text_format, time_format}
 use Rattle.rf2_rows.specs.Rows.{DescriptionText, active_of, column_fault, time_of}
 use Rattle.numerals.specs.Numbers.{number_of}
 
 -- the columns behind the identifier
-abbrev pub front_fault : List (List ℕ) → Option RowFault
-front_fault texts =
+abbrev pub version_fault : List (List ℕ) → Option RowFault
+version_fault texts =
     option_or (column_fault 2 (cause_of time_format (slice_index_or texts 1 [])))
     (option_or (column_fault 3 (cause_of active_format (slice_index_or texts 2 [])))
     (column_fault 4 (cause_of (id_format Concept) (slice_index_or texts 3 []))))
 
-abbrev pub front_of : List (List ℕ) → Front
-front_of texts = record {
+abbrev pub version_of : List (List ℕ) → VersionColumns
+version_of texts = record {
   effective_time = time_of (slice_index_or texts 1 []);
   active = active_of (slice_index_or texts 2 []);
   module_id = number_of (slice_index_or texts 3 []);
@@ -50,12 +50,12 @@ description_end_fault texts =
     (column_fault 9 (cause_of (id_format Concept) (slice_index_or texts 8 []))))))
 
 -- the description with a number, the columns behind it, and those behind the module
-abbrev pub description_from : ℕ → Front → List (List ℕ) → DescriptionText
-description_from id front texts = record {
+abbrev pub description_from : ℕ → VersionColumns → List (List ℕ) → DescriptionText
+description_from id version texts = record {
   id = id;
-  effective_time = front.effective_time;
-  active = front.active;
-  module_id = front.module_id;
+  effective_time = version.effective_time;
+  active = version.active;
+  module_id = version.module_id;
   concept_id = number_of (slice_index_or texts 4 []);
   language_code = slice_index_or texts 5 [];
   type_id = number_of (slice_index_or texts 6 []);

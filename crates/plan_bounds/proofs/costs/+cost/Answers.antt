@@ -60,12 +60,12 @@ cost-returns-in-And t c =
     let is = and_are c.in-And.parts c.in-And.is c.deref-in-And.ensures.value in
     record {
       size = c.with_parts-in-And.ensures.size
-          ∙ c.in_all.ensures.size
+          ∙ c.cost_of_all.ensures.size
           ∙ inner.tally.least
           ∙ ap (λ (all : ℕ). least_of all (sizes indexed choices parts)) c.concepts-all.ensures
           ∙ sym (ap (size indexed choices) is);
       bound = capped_two _ _ c.with_parts-in-And.ensures.bound
-          (c.in_all.ensures.bound ∙ (λ i. capped (inner.tally.sum i * 2)) ∙ capped_product (total (sizes indexed choices parts)) 2) inner.bound
+          (c.cost_of_all.ensures.bound ∙ (λ i. capped (inner.tally.sum i * 2)) ∙ capped_product (total (sizes indexed choices parts)) 2) inner.bound
           ∙ sym (ap (λ (plan : Plan). capped (bound indexed choices plan)) is);
       rest = c.with_parts-in-And.ensures.rest ∙ inner.rest ∙ sym (ap (λ (plan : Plan). drop (leaves plan) choices) is);
     }
@@ -79,11 +79,11 @@ cost-returns-in-Or t c =
     let count : c.len.result ≡ plan_count parts = omega (arith, plan_count-parts c.deref-in-Or.result.now) in
     let is = or_are c.in-Or.parts c.in-Or.is c.deref-in-Or.ensures.value in
     record {
-      size = capped_least (total (sizes indexed choices parts)) (c.with_parts-in-Or.ensures.size ∙ c.in_some-own.ensures.size)
+      size = capped_least (total (sizes indexed choices parts)) (c.with_parts-in-Or.ensures.size ∙ c.cost_of_some-own.ensures.size)
           inner.tally.sum c.concepts-all.ensures c.concepts-all.type_inv
           ∙ sym (ap (size indexed choices) is);
       bound = capped_two _ _ c.with_parts-in-Or.ensures.bound
-          (c.in_some-own.ensures.bound
+          (c.cost_of_some-own.ensures.bound
           ∙ (λ i. capped (inner.tally.sum i * count i))
           ∙ capped_product (total (sizes indexed choices parts)) (plan_count parts)) inner.bound
           ∙ sym (ap (λ (plan : Plan). capped (bound indexed choices plan)) is);
@@ -99,9 +99,9 @@ cost-returns-in-Minus t c =
     let right = c.cost-right.ensures in
     let is = minus_are c.in-Minus.first c.in-Minus.second c.in-Minus.is c.deref-in-Minus.ensures c.deref-in-Minus-2.ensures in
     record {
-      size = c.with_two.ensures.size ∙ c.in_first.ensures.size ∙ left.size ∙ sym (ap (size indexed choices) is);
+      size = c.with_two.ensures.size ∙ c.cost_of_first.ensures.size ∙ left.size ∙ sym (ap (size indexed choices) is);
       bound = capped_three _ _ _ c.with_two.ensures.bound
-          (c.in_first.ensures.bound
+          (c.cost_of_first.ensures.bound
           ∙ (λ i. capped (left.size i + (right.size ∙ ap (λ (rest : List Choice). size indexed rest second) left.rest) i)))
           left.bound (right.bound ∙ ap (λ (rest : List Choice). capped (bound indexed rest second)) left.rest)
           ∙ sym (ap (λ (plan : Plan). capped (bound indexed choices plan)) is);
@@ -127,11 +127,11 @@ values_cost-returns t c =
     let types = c.parts_cost-types.ensures in
     let count = sym (plan_count-parts c.args.names.now) in
     record {
-      size = c.with_parts.ensures.size ∙ c.values-own.ensures.size ∙ (λ i. values_size indexed (count i) (from.size i));
+      size = c.with_parts.ensures.size ∙ c.cost_of_values-own.ensures.size ∙ (λ i. values_size indexed (count i) (from.size i));
       bound = omega (
         arith,
         ap (λ (rest : List Choice). plans_sum (own_number indexed) rest names) from.rest,
-        c.values-own.ensures.bound ∙ (λ i. capped (values_bound indexed (count i) (from.size i))),
+        c.cost_of_values-own.ensures.bound ∙ (λ i. capped (values_bound indexed (count i) (from.size i))),
       );
       rest = c.with_parts.ensures.rest ∙ behind_both _ _ c.args.choices.now refl from.rest types.rest;
     }
@@ -146,7 +146,7 @@ pairs_cost-returns t c =
     let of_test = c.test_cost-of_test.ensures in
     let inside : c.after_first.result.now ≡ drop 1 choices = c.after_first.ensures in
     let behind = of_types.rest ∙ ap (drop (leaves types)) inside in
-    let leaf = c.leaf-leaf.ensures
+    let leaf = c.counts_of_leaf-leaf.ensures
     ∙ (λ i. leaf_of indexed c.args.all c.args.back c.args.count types test
     ((of_types.size ∙ ap (λ (rest : List Choice). size indexed rest types) inside) i)
     ((of_test.size ∙ ap (λ (rest : List Choice). test_size indexed rest test) behind) i)) in
@@ -168,12 +168,12 @@ unit_cost-returns-in-And t c =
     let is = and_units_are c.in-And.parts c.in-And.is c.deref.ensures.value in
     record {
       size = c.with_parts.ensures.size
-          ∙ c.in_all.ensures.size
+          ∙ c.cost_of_all.ensures.size
           ∙ inner.tally.least
           ∙ ap (λ (all : ℕ). least_of all (group_sizes indexed choices parts)) c.groups-all.ensures
           ∙ sym (ap (group_size indexed choices) is);
       bound = capped_two _ _ c.with_parts.ensures.bound
-          (c.in_all.ensures.bound ∙ (λ i. capped (inner.tally.sum i * 2)) ∙ capped_product (total (group_sizes indexed choices parts)) 2) inner.bound
+          (c.cost_of_all.ensures.bound ∙ (λ i. capped (inner.tally.sum i * 2)) ∙ capped_product (total (group_sizes indexed choices parts)) 2) inner.bound
           ∙ sym (ap (λ (plan : PlanOfUnits). capped (group_sum (own_number indexed) choices plan)) is);
       rest = c.with_parts.ensures.rest ∙ inner.rest ∙ sym (ap (λ (plan : PlanOfUnits). drop (group_leaves plan) choices) is);
     }
@@ -187,11 +187,11 @@ unit_cost-returns-in-Or t c =
     let count : c.len.result ≡ group_count parts = omega (arith, group_count-parts c.deref-in-Or.result.now) in
     let is = or_units_are c.in-Or.parts c.in-Or.is c.deref-in-Or.ensures.value in
     record {
-      size = capped_least (total (group_sizes indexed choices parts)) (c.with_parts-in-Or.ensures.size ∙ c.in_some-own.ensures.size)
+      size = capped_least (total (group_sizes indexed choices parts)) (c.with_parts-in-Or.ensures.size ∙ c.cost_of_some-own.ensures.size)
           inner.tally.sum c.groups-all.ensures c.groups-all.type_inv
           ∙ sym (ap (group_size indexed choices) is);
       bound = capped_two _ _ c.with_parts-in-Or.ensures.bound
-          (c.in_some-own.ensures.bound
+          (c.cost_of_some-own.ensures.bound
           ∙ (λ i. capped (inner.tally.sum i * count i))
           ∙ capped_product (total (group_sizes indexed choices parts)) (group_count parts)) inner.bound
           ∙ sym (ap (λ (plan : PlanOfUnits). capped (group_sum (own_number indexed) choices plan)) is);
@@ -207,9 +207,9 @@ unit_cost-returns-in-Minus t c =
     let right = c.unit_cost-right.ensures in
     let is = minus_units_are c.in-Minus.first c.in-Minus.second c.in-Minus.is c.deref-in-Minus.ensures c.deref-in-Minus-2.ensures in
     record {
-      size = c.with_two.ensures.size ∙ c.in_first.ensures.size ∙ left.size ∙ sym (ap (group_size indexed choices) is);
+      size = c.with_two.ensures.size ∙ c.cost_of_first.ensures.size ∙ left.size ∙ sym (ap (group_size indexed choices) is);
       bound = capped_three _ _ _ c.with_two.ensures.bound
-          (c.in_first.ensures.bound
+          (c.cost_of_first.ensures.bound
           ∙ (λ i. capped (left.size i + (right.size ∙ ap (λ (rest : List Choice). group_size indexed rest second) left.rest) i)))
           left.bound (right.bound ∙ ap (λ (rest : List Choice). capped (group_sum (own_number indexed) rest second)) left.rest)
           ∙ sym (ap (λ (plan : PlanOfUnits). capped (group_sum (own_number indexed) choices plan)) is);

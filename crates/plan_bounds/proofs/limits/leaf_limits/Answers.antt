@@ -11,7 +11,7 @@ returns-clause-ordered c =
     omega (
       arith,
       c.leaf_floor.ensures,
-      c.cost.ensures.bound ∙ ap (λ (leaf : Leaf). capped (leaf_bound leaf c.args.choice)) c.leaf-leaf.ensures,
+      c.cost.ensures.bound ∙ ap (λ (leaf : Leaf). capped (leaf_bound leaf c.args.choice)) c.counts_of_leaf-leaf.ensures,
       leaf-le c.args.indexes.now c.args.all c.args.back c.args.count (plan_of c.args.types.now) (test_plan_of c.args.test.now) c.args.sizes.0
           c.args.sizes.1 c.args.choice,
     )

@@ -9,6 +9,6 @@ returns-clause-ordered c =
     omega (
       arith,
       c.walk_floor.ensures,
-      c.walk.ensures.bound,
+      c.cost_of_walk.ensures.bound,
       walk-le c.args.indexes.now c.args.operator (one_of (plan_of c.args.operand.now)) c.args.size,
     )

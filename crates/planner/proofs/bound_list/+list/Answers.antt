@@ -94,10 +94,10 @@ list_or-returns t c =
     let inner = c.in_ok-inner.ensures in
     let count = sym (plan_count-parts c.args.parts.now) in
     listed inner.bounds
-    (c.in_some-own.ensures.bound
+    (c.cost_of_some-own.ensures.bound
     ∙ (λ i. capped (inner.tally.sum i * count i))
     ∙ capped_product (total (sizes indexed c.args.choices.now parts)) (plan_count parts))
-    (capped_least (total (sizes indexed c.args.choices.now parts)) c.in_some-own.ensures.size inner.tally.sum c.concepts-all.ensures
+    (capped_least (total (sizes indexed c.args.choices.now parts)) c.cost_of_some-own.ensures.size inner.tally.sum c.concepts-all.ensures
     c.concepts-all.type_inv)
     inner.rest
 
@@ -108,10 +108,10 @@ list_units_or-returns t c =
     let inner = c.in_ok-inner.ensures in
     let count = sym (group_count-parts c.args.parts.now) in
     listed inner.bounds
-    (c.in_some-own.ensures.bound
+    (c.cost_of_some-own.ensures.bound
     ∙ (λ i. capped (inner.tally.sum i * count i))
     ∙ capped_product (total (group_sizes indexed c.args.choices.now parts)) (group_count parts))
-    (capped_least (total (group_sizes indexed c.args.choices.now parts)) c.in_some-own.ensures.size inner.tally.sum c.groups-all.ensures
+    (capped_least (total (group_sizes indexed c.args.choices.now parts)) c.cost_of_some-own.ensures.size inner.tally.sum c.groups-all.ensures
     c.groups-all.type_inv)
     inner.rest
 
@@ -123,8 +123,8 @@ list_minus-returns t c =
     let right = c.in_ok-right.ensures in
     listed
     (two_behind _ _ _ (right.bounds ∙ (λ i. c.list.new.bounds.items ++ own_bounds indexed (left.rest i) second)) left.bounds)
-    (c.in_first.ensures.bound ∙ (λ i. capped (left.size i + (right.size ∙ ap (λ (rest : List Choice). size indexed rest second) left.rest) i)))
-    (c.in_first.ensures.size ∙ left.size)
+    (c.cost_of_first.ensures.bound ∙ (λ i. capped (left.size i + (right.size ∙ ap (λ (rest : List Choice). size indexed rest second) left.rest) i)))
+    (c.cost_of_first.ensures.size ∙ left.size)
     (behind_both _ _ c.args.choices.now refl left.rest right.rest)
 
 pub list_units_minus-returns : goal.list_units_minus-returns
@@ -135,8 +135,8 @@ list_units_minus-returns t c =
     let right = c.in_ok-right.ensures in
     listed
     (two_behind _ _ _ (right.bounds ∙ (λ i. c.list_units.new.bounds.items ++ group_list (own_list indexed) (left.rest i) second)) left.bounds)
-    (c.in_first.ensures.bound ∙ (λ i. capped (left.size i + (right.size ∙ ap (λ (rest : List Choice). group_size indexed rest second) left.rest) i)))
-    (c.in_first.ensures.size ∙ left.size)
+    (c.cost_of_first.ensures.bound ∙ (λ i. capped (left.size i + (right.size ∙ ap (λ (rest : List Choice). group_size indexed rest second) left.rest) i)))
+    (c.cost_of_first.ensures.size ∙ left.size)
     (behind_both _ _ c.args.choices.now refl left.rest right.rest)
 
 pub list_values-returns : goal.list_values-returns
@@ -148,8 +148,8 @@ list_values-returns t c =
     let count = sym (plan_count-parts c.args.names.now) in
     listed
     (two_behind _ _ _ (types.bounds ∙ (λ i. c.list.new.bounds.items ++ plans_list (own_list indexed) (from.rest i) names)) from.bounds)
-    (c.values-own.ensures.bound ∙ (λ i. capped (values_bound indexed (count i) (from.size i))))
-    (c.values-own.ensures.size ∙ (λ i. values_size indexed (count i) (from.size i)))
+    (c.cost_of_values-own.ensures.bound ∙ (λ i. capped (values_bound indexed (count i) (from.size i))))
+    (c.cost_of_values-own.ensures.size ∙ (λ i. values_size indexed (count i) (from.size i)))
     (behind_both _ _ c.args.choices.now refl from.rest types.rest)
 
 pub list_pairs-returns : goal.list_pairs-returns
@@ -162,7 +162,7 @@ list_pairs-returns t c =
     let of_test = c.in_ok-of_test.ensures in
     let inside : c.after_first.result.now ≡ drop 1 choices = c.after_first.ensures in
     let behind = of_types.rest ∙ ap (drop (leaves types)) inside in
-    let leaf = c.leaf-leaf.ensures
+    let leaf = c.counts_of_leaf-leaf.ensures
     ∙ (λ i. leaf_of indexed c.args.all c.args.back c.args.count types test
     ((of_types.size ∙ ap (λ (rest : List Choice). size indexed rest types) inside) i)
     ((of_test.size ∙ ap (λ (rest : List Choice). test_size indexed rest test) behind) i)) in

@@ -199,7 +199,7 @@ settle_values-returns t c =
           ∙ append_assoc had (leads indexed of_start start) (plans_list (lead_list indexed) of_names names)
           ∙ (λ i. had ++ (sym (leads_chosen indexed asked others start of_names) i
           ++ plans_list (lead_list indexed) (sym (drop_chosen indexed asked others start of_names) i) names));
-      size = c.values-own.ensures.size
+      size = c.cost_of_values-own.ensures.size
           ∙ (λ i. values_size indexed (sym (plan_count-parts c.args.names.now) i) (from.size i))
           ∙ ap (values_size indexed (plan_count names)) (sym (size_chosen indexed asked others start of_names));
       asked = behind_both _ _ asked refl from.asked types.asked;
@@ -221,8 +221,8 @@ settle_pairs-returns t c =
     let all = c.args.all in
     let back = c.args.back in
     let count = c.args.count in
-    let leaf = c.leaf-leaf.ensures ∙ (λ i. leaf_of indexed all back count types test (of_types.size i) (of_test.size i)) in
-    let choice = c.choice-choice.ensures ∙ (λ i. choice_of c.leaf-leaf.result (c.first.ensures i) (c.first-2.ensures i)) in
+    let leaf = c.counts_of_leaf-leaf.ensures ∙ (λ i. leaf_of indexed all back count types test (of_types.size i) (of_test.size i)) in
+    let choice = c.choice-choice.ensures ∙ (λ i. choice_of c.counts_of_leaf-leaf.result (c.first.ensures i) (c.first-2.ensures i)) in
     record {
       choices = leaf_choices indexed asked others types test c.after_first.ensures c.after_first-2.ensures of_types.asked of_types.others
           all back count choice leaf given free.choices free.at of_types.choices of_test.choices c.put_choice.ensures.choices;

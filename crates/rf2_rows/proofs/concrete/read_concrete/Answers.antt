@@ -7,8 +7,8 @@ use Rattle.rf2_rows.proofs.concrete.read_concrete.Goals as goal
 pub returns-in_err-id : goal.returns-in_err-id
 returns-in_err-id c = grind (arith, concrete_fault c.args.fields.now c.if-fields-ne10.false)
 
-pub returns-in_err-front : goal.returns-in_err-front
-returns-in_err-front c = grind (arith, concrete_fault c.args.fields.now c.if-fields-ne10.false)
+pub returns-in_err-version : goal.returns-in_err-version
+returns-in_err-version c = grind (arith, concrete_fault c.args.fields.now c.if-fields-ne10.false)
 
 pub returns-in_err-source_id : goal.returns-in_err-source_id
 returns-in_err-source_id c = grind (arith, concrete_fault c.args.fields.now c.if-fields-ne10.false)

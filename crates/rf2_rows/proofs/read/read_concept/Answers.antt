@@ -7,8 +7,8 @@ use Rattle.rf2_rows.proofs.read.read_concept.Goals as goal
 pub returns-in_err-id : goal.returns-in_err-id
 returns-in_err-id c = grind (arith, concept_fault c.args.fields.now c.if-fields-ne5.false)
 
-pub returns-in_err-front : goal.returns-in_err-front
-returns-in_err-front c = grind (arith, concept_fault c.args.fields.now c.if-fields-ne5.false)
+pub returns-in_err-version : goal.returns-in_err-version
+returns-in_err-version c = grind (arith, concept_fault c.args.fields.now c.if-fields-ne5.false)
 
 pub returns-in_err-definition_status_id : goal.returns-in_err-definition_status_id
 returns-in_err-definition_status_id c = grind (arith, concept_fault c.args.fields.now c.if-fields-ne5.false)

@@ -1,7 +1,7 @@
 -- At each exit the columns before have no fault and this one has; at the end none has.
 use Rattle.std.proofs.Common.{arith}
 use Rattle.rf2_rows.proofs.Columns.{get_or-texts_of}
-use Rattle.rf2_rows.proofs.shared.read_front.Goals as goal
+use Rattle.rf2_rows.proofs.shared.read_version_columns.Goals as goal
 
 pub returns-in_err-effective_time : goal.returns-in_err-effective_time
 returns-in_err-effective_time c = grind (arith, get_or-texts_of c.args.fields.now 1)
