@@ -3,7 +3,8 @@ ghost use Rattle.std.specs.Prelude.{◌≡◌, ◌+◌, drop, suc};
 ghost use Rattle.set_algebra.specs.Plan.{unit_plan_of, unit_plans_of, plan_of, plans_of, test_plan_of, values_plan};
 ghost use Rattle.plan_bounds.specs.Alternatives.{leaf_size};
 ghost use Rattle.plan_bounds.specs.Bounds.{bound as bound_of, capped, leaf_bound_at, own_number};
-ghost use Rattle.plan_bounds.specs.Leaves.{first_choice as first_choice_of, group_leaves, groups_leaves, leaves, plans_leaves, test_choices, test_leaves, type_choices};
+ghost use Rattle.plan_bounds.specs.Leaves.{first_choice as first_choice_of, group_leaves, groups_leaves, leaves};
+ghost use Rattle.plan_bounds.specs.Leaves.{plans_leaves, test_choices, test_leaves, type_choices};
 ghost use Rattle.plan_bounds.specs.Nodes.{group_sum, groups_sum, plans_sum, test_sum};
 ghost use Rattle.plan_bounds.specs.Sizes.{group_size, group_sizes, leaf_at, size as size_of, sizes, test_size};
 ghost use Rattle.plan_bounds.specs.Tallies.{IsTallyOf};
@@ -118,8 +119,11 @@ fn pairs_cost<'a>(
     choices: &'a [Choice],
     indexes: &Indexes,
 ) -> PlanCost<'a>
-    ensures size { result.size ≡ leaf_size (leaf_at indexes.now all back count (plan_of types.now) (test_plan_of test.now) choices.now) (first_choice_of choices.now) }
-    ensures bound { result.bound ≡ capped (leaf_bound_at indexes.now all back count (plan_of types.now) (test_plan_of test.now) choices.now + (bound_of indexes.now (type_choices choices.now) (plan_of types.now) + test_sum (own_number indexes.now) (test_choices choices.now (plan_of types.now)) (test_plan_of test.now))) }
+    ensures size { result.size
+        ≡ leaf_size (leaf_at indexes.now all back count (plan_of types.now) (test_plan_of test.now) choices.now) (first_choice_of choices.now) }
+    ensures bound { result.bound ≡ capped (leaf_bound_at indexes.now all back count (plan_of types.now) (test_plan_of test.now) choices.now
+        + (bound_of indexes.now (type_choices choices.now) (plan_of types.now)
+        + test_sum (own_number indexes.now) (test_choices choices.now (plan_of types.now)) (test_plan_of test.now))) }
     ensures rest { result.rest.now ≡ drop (suc (leaves (plan_of types.now) + test_leaves (test_plan_of test.now))) choices.now }
 {
     let of_types = cost(types, after_first(choices), indexes);

@@ -5,7 +5,9 @@ ghost use Rattle.set_algebra.specs.Plan.{plan_of, test_plan_of};
 ghost use Rattle.postings.specs.Groups.{groups_in};
 ghost use Rattle.plan_bounds.specs.Alternatives.{found_by, passed_over};
 ghost use Rattle.plan_bounds.specs.Bounds.{capped, members_bound, values_bound, walk_bound};
-ghost use Rattle.plan_bounds.specs.Counts.{is_extreme as is_extreme_of, leads_to_self as leads_to_self_of, leaf_of, list_length as list_length_of, lists_along, lists_length as lists_length_of, member_count as member_count_of, one_of, type_rows as type_rows_of, rows_left, value_row_count as value_row_count_of, value_rows as value_rows_of};
+ghost use Rattle.plan_bounds.specs.Counts.{is_extreme as is_extreme_of, leads_to_self as leads_to_self_of, leaf_of, list_length as list_length_of};
+ghost use Rattle.plan_bounds.specs.Counts.{lists_along, lists_length as lists_length_of, member_count as member_count_of, one_of};
+ghost use Rattle.plan_bounds.specs.Counts.{type_rows as type_rows_of, rows_left, value_row_count as value_row_count_of, value_rows as value_rows_of};
 ghost use Rattle.postings.specs.Stats.{type_row_count as type_row_count_of};
 ghost use Rattle.plan_bounds.specs.Sizes.{members_size, values_size, walk_size};
 

@@ -5,7 +5,8 @@ ghost use Rattle.held_release.specs.Numbering.{concept_number};
 ghost use Rattle.plan_bounds.specs.Bounds.{capped};
 ghost use Rattle.plan_bounds.specs.Counts.{is_extreme as is_extreme_of, list_length as list_length_of, member_count as member_count_of, one_of};
 ghost use Rattle.plan_bounds.specs.Floors.{floor as floor_of, floor_number, if_in_force, leaf_floor as leaf_floor_of, of_one, within_floor};
-ghost use Rattle.plan_bounds.specs.Leaves.{first_choice as first_choice_of, group_leaves, groups_leaves, leaves, plans_leaves, test_choices, test_leaves, type_choices};
+ghost use Rattle.plan_bounds.specs.Leaves.{first_choice as first_choice_of, group_leaves, groups_leaves, leaves};
+ghost use Rattle.plan_bounds.specs.Leaves.{plans_leaves, test_choices, test_leaves, type_choices};
 ghost use Rattle.plan_bounds.specs.Nodes.{group_sum, groups_sum, plans_sum, test_sum};
 
 use crate::choice::{after_first, first_choice};
@@ -91,7 +92,9 @@ fn pairs_floor<'a>(
     choices: &'a [Choice],
     indexes: &Indexes,
 ) -> PlanFloor<'a>
-    ensures floor { result.floor ≡ capped (leaf_floor_of indexes.now back (plan_of types.now) (test_plan_of test.now) (first_choice_of choices.now) + (floor_of indexes.now (type_choices choices.now) (plan_of types.now) + test_sum (floor_number indexes.now) (test_choices choices.now (plan_of types.now)) (test_plan_of test.now))) }
+    ensures floor { result.floor ≡ capped (leaf_floor_of indexes.now back (plan_of types.now) (test_plan_of test.now) (first_choice_of choices.now)
+        + (floor_of indexes.now (type_choices choices.now) (plan_of types.now)
+        + test_sum (floor_number indexes.now) (test_choices choices.now (plan_of types.now)) (test_plan_of test.now))) }
     ensures rest { result.rest.now ≡ drop (suc (leaves (plan_of types.now) + test_leaves (test_plan_of test.now))) choices.now }
 {
     let of_types = plan_floor(types, after_first(choices), indexes);

@@ -1,7 +1,8 @@
 //! The own bounds of all nodes of a plan, a node before its children.
 ghost use Rattle.std.specs.Prelude.{◌≡◌, ◌<◌, ◌++◌, ◌∷◌, [], IfOk, OnOk, drop, length};
 ghost use Rattle.std.specs.List.{slice_set};
-ghost use Rattle.set_algebra.specs.Plan.{and_plan, and_units, members_plan, minus_plan, minus_units, or_plan, or_units, plan_of, plans_of, test_plan_of, unit_plan_of, unit_plans_of, units_plan, values_plan, walk_plan};
+ghost use Rattle.set_algebra.specs.Plan.{and_plan, and_units, members_plan, minus_plan, minus_units, or_plan, or_units, plan_of};
+ghost use Rattle.set_algebra.specs.Plan.{plans_of, test_plan_of, unit_plan_of, unit_plans_of, units_plan, values_plan, walk_plan};
 ghost use Rattle.plan_bounds.specs.Bounds.{own_bounds, own_list};
 ghost use Rattle.plan_bounds.specs.Leaves.{group_leaves, groups_leaves, leaves, plans_leaves, test_leaves};
 ghost use Rattle.plan_bounds.specs.Nodes.{group_list, groups_list, node_list, plans_list, test_list};
@@ -106,7 +107,8 @@ fn list_walk<'a>(
     indexes: &Indexes,
     bounds: &mut Vec<u64>,
 ) -> Result<Node<'a>, AllocError>
-    ensures { IfOk result (λ node. IsNode indexes.now choices.now (walk_plan operator (plan_of operand.now)) bounds.old.items bounds.new.items node.own node.rest.now) }
+    ensures { IfOk result (λ node.
+        IsNode indexes.now choices.now (walk_plan operator (plan_of operand.now)) bounds.old.items bounds.new.items node.own node.rest.now) }
 {
     let inner = list(operand, choices, indexes, bounds)?;
     let own = cost_of_walk(indexes, operator, operand, inner.size);
@@ -124,7 +126,8 @@ fn list_members<'a>(
     indexes: &Indexes,
     bounds: &mut Vec<u64>,
 ) -> Result<Node<'a>, AllocError>
-    ensures { IfOk result (λ node. IsNode indexes.now choices.now (members_plan (plan_of operand.now)) bounds.old.items bounds.new.items node.own node.rest.now) }
+    ensures { IfOk result (λ node.
+        IsNode indexes.now choices.now (members_plan (plan_of operand.now)) bounds.old.items bounds.new.items node.own node.rest.now) }
 {
     let inner = list(operand, choices, indexes, bounds)?;
     let own = cost_of_members(indexes, operand, inner.size);
@@ -179,7 +182,8 @@ fn list_minus<'a>(
     indexes: &Indexes,
     bounds: &mut Vec<u64>,
 ) -> Result<Node<'a>, AllocError>
-    ensures { IfOk result (λ node. IsNode indexes.now choices.now (minus_plan (plan_of first.now) (plan_of second.now)) bounds.old.items bounds.new.items node.own node.rest.now) }
+    ensures { IfOk result (λ node.
+        IsNode indexes.now choices.now (minus_plan (plan_of first.now) (plan_of second.now)) bounds.old.items bounds.new.items node.own node.rest.now) }
 {
     let left = list(first, choices, indexes, bounds)?;
     let right = list(second, left.rest, indexes, bounds)?;
@@ -198,7 +202,8 @@ fn list_values<'a>(
     indexes: &Indexes,
     bounds: &mut Vec<u64>,
 ) -> Result<Node<'a>, AllocError>
-    ensures { IfOk result (λ node. IsNode indexes.now choices.now (values_plan (plan_of start.now) (plans_of names.now)) bounds.old.items bounds.new.items node.own node.rest.now) }
+    ensures { IfOk result (λ node.
+        IsNode indexes.now choices.now (values_plan (plan_of start.now) (plans_of names.now)) bounds.old.items bounds.new.items node.own node.rest.now) }
 {
     let from = list(start, choices, indexes, bounds)?;
     let types = list_parts(names, 0, from.rest, indexes, bounds)?;
@@ -221,7 +226,9 @@ fn list_pairs<'a>(
     indexes: &Indexes,
     bounds: &mut Vec<u64>,
 ) -> Result<Node<'a>, AllocError>
-    ensures { IfOk result (λ node. IsLeafNode indexes.now choices.now all back count (plan_of types.now) (test_plan_of test.now) bounds.old.items bounds.new.items node.own node.rest.now) }
+    ensures { IfOk result (λ node.
+        IsLeafNode indexes.now choices.now all back count (plan_of types.now) (test_plan_of test.now)
+        bounds.old.items bounds.new.items node.own node.rest.now) }
 {
     let of_types = list(types, after_first(choices), indexes, bounds)?;
     let of_test = list_test(test, of_types.rest, indexes, bounds)?;
@@ -242,7 +249,8 @@ fn list_of_units<'a>(
     indexes: &Indexes,
     bounds: &mut Vec<u64>,
 ) -> Result<Node<'a>, AllocError>
-    ensures { IfOk result (λ node. IsNode indexes.now choices.now (units_plan count (unit_plan_of units.now)) bounds.old.items bounds.new.items node.own node.rest.now) }
+    ensures { IfOk result (λ node.
+        IsNode indexes.now choices.now (units_plan count (unit_plan_of units.now)) bounds.old.items bounds.new.items node.own node.rest.now) }
 {
     let inner = list_units(units, choices, indexes, bounds)?;
     let own = cost_of_units(count, concepts(indexes), inner.size);
@@ -303,7 +311,8 @@ fn list_units_and<'a>(
     indexes: &Indexes,
     bounds: &mut Vec<u64>,
 ) -> Result<Node<'a>, AllocError>
-    ensures { IfOk result (λ node. IsGroupNode indexes.now choices.now (and_units (unit_plans_of parts.now)) bounds.old.items bounds.new.items node.own node.rest.now) }
+    ensures { IfOk result (λ node.
+        IsGroupNode indexes.now choices.now (and_units (unit_plans_of parts.now)) bounds.old.items bounds.new.items node.own node.rest.now) }
 {
     let inner = list_unit_parts(parts, groups(indexes), choices, indexes, bounds)?;
     Ok(Node {
@@ -320,7 +329,8 @@ fn list_units_or<'a>(
     indexes: &Indexes,
     bounds: &mut Vec<u64>,
 ) -> Result<Node<'a>, AllocError>
-    ensures { IfOk result (λ node. IsGroupNode indexes.now choices.now (or_units (unit_plans_of parts.now)) bounds.old.items bounds.new.items node.own node.rest.now) }
+    ensures { IfOk result (λ node.
+        IsGroupNode indexes.now choices.now (or_units (unit_plans_of parts.now)) bounds.old.items bounds.new.items node.own node.rest.now) }
 {
     let all = groups(indexes);
     let inner = list_unit_parts(parts, all, choices, indexes, bounds)?;
@@ -340,7 +350,9 @@ fn list_units_minus<'a>(
     indexes: &Indexes,
     bounds: &mut Vec<u64>,
 ) -> Result<Node<'a>, AllocError>
-    ensures { IfOk result (λ node. IsGroupNode indexes.now choices.now (minus_units (unit_plan_of first.now) (unit_plan_of second.now)) bounds.old.items bounds.new.items node.own node.rest.now) }
+    ensures { IfOk result (λ node.
+        IsGroupNode indexes.now choices.now (minus_units (unit_plan_of first.now) (unit_plan_of second.now))
+        bounds.old.items bounds.new.items node.own node.rest.now) }
 {
     let left = list_units(first, choices, indexes, bounds)?;
     let right = list_units(second, left.rest, indexes, bounds)?;

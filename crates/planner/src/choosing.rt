@@ -1,7 +1,8 @@
 //! The choices of a plan, and which part of each node that joins sets by AND is taken first.
 ghost use Rattle.std.specs.Prelude.{◌≡◌, ◌<◌, ◌++◌, ◌∷◌, [], IfOk, OnOk, drop, length};
 ghost use Rattle.std.specs.List.{slice_set};
-ghost use Rattle.set_algebra.specs.Plan.{and_plan, and_units, members_plan, minus_plan, minus_units, or_plan, or_units, plan_of, plans_of, test_plan_of, unit_plan_of, unit_plans_of, units_plan, values_plan, walk_plan};
+ghost use Rattle.set_algebra.specs.Plan.{and_plan, and_units, members_plan, minus_plan, minus_units, or_plan, or_units, plan_of};
+ghost use Rattle.set_algebra.specs.Plan.{plans_of, test_plan_of, unit_plan_of, unit_plans_of, units_plan, values_plan, walk_plan};
 ghost use Rattle.planner.specs.Chosen.{chosen, group_chosen, groups_chosen, plans_chosen, test_chosen};
 ghost use Rattle.plan_bounds.specs.Leads.{lead_list};
 ghost use Rattle.plan_bounds.specs.Leaves.{first_of, group_leaves, groups_leaves, leaves, plans_leaves, test_leaves};
@@ -69,7 +70,8 @@ pub fn settle<'a>(
     choosing: &mut Choosing,
 ) -> Result<Settled<'a>, AllocError>
     ensures choices { OnOk result (choosing.new.choices.items ≡ choosing.old.choices.items ++ chosen indexes.now asked.now others.now (plan_of plan.now)) }
-    ensures leads { OnOk result (choosing.new.leads.items ≡ choosing.old.leads.items ++ node_list (lead_list indexes.now) (chosen indexes.now asked.now others.now (plan_of plan.now)) (plan_of plan.now)) }
+    ensures leads { OnOk result (choosing.new.leads.items ≡ choosing.old.leads.items
+        ++ node_list (lead_list indexes.now) (chosen indexes.now asked.now others.now (plan_of plan.now)) (plan_of plan.now)) }
     ensures size { IfOk result (λ found. found.size ≡ size_of indexes.now (chosen indexes.now asked.now others.now (plan_of plan.now)) (plan_of plan.now)) }
     ensures asked { IfOk result (λ found. found.asked.now ≡ drop (leaves (plan_of plan.now)) asked.now) }
     ensures others { IfOk result (λ found. found.others.now ≡ drop (leaves (plan_of plan.now)) others.now) }
@@ -214,7 +216,8 @@ fn settle_minus<'a>(
     indexes: &Indexes,
     choosing: &mut Choosing,
 ) -> Result<Settled<'a>, AllocError>
-    ensures { IfOk result (λ found. IsNodeSettled indexes.now asked.now others.now (minus_plan (plan_of first.now) (plan_of second.now)) choosing.old choosing.new found) }
+    ensures { IfOk result (λ found.
+        IsNodeSettled indexes.now asked.now others.now (minus_plan (plan_of first.now) (plan_of second.now)) choosing.old choosing.new found) }
 {
     let left = settle(first, asked, others, indexes, choosing)?;
     let right = settle(second, left.asked, left.others, indexes, choosing)?;
@@ -235,7 +238,8 @@ fn settle_values<'a>(
     indexes: &Indexes,
     choosing: &mut Choosing,
 ) -> Result<Settled<'a>, AllocError>
-    ensures { IfOk result (λ found. IsNodeSettled indexes.now asked.now others.now (values_plan (plan_of start.now) (plans_of names.now)) choosing.old choosing.new found) }
+    ensures { IfOk result (λ found.
+        IsNodeSettled indexes.now asked.now others.now (values_plan (plan_of start.now) (plans_of names.now)) choosing.old choosing.new found) }
 {
     let from = settle(start, asked, others, indexes, choosing)?;
     let types = settle_parts(names, 0, from.asked, from.others, indexes, choosing)?;
@@ -260,7 +264,8 @@ fn settle_pairs<'a>(
     indexes: &Indexes,
     choosing: &mut Choosing,
 ) -> Result<Settled<'a>, AllocError>
-    ensures { IfOk result (λ found. IsLeafSettled indexes.now asked.now others.now all back count (plan_of types.now) (test_plan_of test.now) choosing.old choosing.new found) }
+    ensures { IfOk result (λ found.
+        IsLeafSettled indexes.now asked.now others.now all back count (plan_of types.now) (test_plan_of test.now) choosing.old choosing.new found) }
 {
     let at = free_choice(choosing)?;
     let inside = (after_first(asked), after_first(others));
@@ -287,7 +292,8 @@ fn settle_of_units<'a>(
     indexes: &Indexes,
     choosing: &mut Choosing,
 ) -> Result<Settled<'a>, AllocError>
-    ensures { IfOk result (λ found. IsNodeSettled indexes.now asked.now others.now (units_plan count (unit_plan_of units.now)) choosing.old choosing.new found) }
+    ensures { IfOk result (λ found.
+        IsNodeSettled indexes.now asked.now others.now (units_plan count (unit_plan_of units.now)) choosing.old choosing.new found) }
 {
     let inner = settle_units(units, asked, others, indexes, choosing)?;
     let own = cost_of_units(count, concepts(indexes), inner.size);
@@ -307,9 +313,12 @@ fn settle_units<'a>(
     indexes: &Indexes,
     choosing: &mut Choosing,
 ) -> Result<Settled<'a>, AllocError>
-    ensures choices { OnOk result (choosing.new.choices.items ≡ choosing.old.choices.items ++ group_chosen indexes.now asked.now others.now (unit_plan_of plan.now)) }
-    ensures leads { OnOk result (choosing.new.leads.items ≡ choosing.old.leads.items ++ group_list (lead_list indexes.now) (group_chosen indexes.now asked.now others.now (unit_plan_of plan.now)) (unit_plan_of plan.now)) }
-    ensures size { IfOk result (λ found. found.size ≡ group_size indexes.now (group_chosen indexes.now asked.now others.now (unit_plan_of plan.now)) (unit_plan_of plan.now)) }
+    ensures choices { OnOk result (choosing.new.choices.items ≡ choosing.old.choices.items
+        ++ group_chosen indexes.now asked.now others.now (unit_plan_of plan.now)) }
+    ensures leads { OnOk result (choosing.new.leads.items ≡ choosing.old.leads.items
+        ++ group_list (lead_list indexes.now) (group_chosen indexes.now asked.now others.now (unit_plan_of plan.now)) (unit_plan_of plan.now)) }
+    ensures size { IfOk result (λ found. found.size
+        ≡ group_size indexes.now (group_chosen indexes.now asked.now others.now (unit_plan_of plan.now)) (unit_plan_of plan.now)) }
     ensures asked { IfOk result (λ found. found.asked.now ≡ drop (group_leaves (unit_plan_of plan.now)) asked.now) }
     ensures others { IfOk result (λ found. found.others.now ≡ drop (group_leaves (unit_plan_of plan.now)) others.now) }
 {
@@ -396,7 +405,8 @@ fn settle_units_minus<'a>(
     indexes: &Indexes,
     choosing: &mut Choosing,
 ) -> Result<Settled<'a>, AllocError>
-    ensures { IfOk result (λ found. IsGroupSettled indexes.now asked.now others.now (minus_units (unit_plan_of first.now) (unit_plan_of second.now)) choosing.old choosing.new found) }
+    ensures { IfOk result (λ found.
+        IsGroupSettled indexes.now asked.now others.now (minus_units (unit_plan_of first.now) (unit_plan_of second.now)) choosing.old choosing.new found) }
 {
     let left = settle_units(first, asked, others, indexes, choosing)?;
     let right = settle_units(second, left.asked, left.others, indexes, choosing)?;
@@ -416,9 +426,12 @@ fn settle_test<'a>(
     indexes: &Indexes,
     choosing: &mut Choosing,
 ) -> Result<Settled<'a>, AllocError>
-    ensures choices { OnOk result (choosing.new.choices.items ≡ choosing.old.choices.items ++ test_chosen indexes.now asked.now others.now (test_plan_of test.now)) }
-    ensures leads { OnOk result (choosing.new.leads.items ≡ choosing.old.leads.items ++ test_list (lead_list indexes.now) (test_chosen indexes.now asked.now others.now (test_plan_of test.now)) (test_plan_of test.now)) }
-    ensures size { IfOk result (λ found. found.size ≡ test_size indexes.now (test_chosen indexes.now asked.now others.now (test_plan_of test.now)) (test_plan_of test.now)) }
+    ensures choices { OnOk result (choosing.new.choices.items ≡ choosing.old.choices.items
+        ++ test_chosen indexes.now asked.now others.now (test_plan_of test.now)) }
+    ensures leads { OnOk result (choosing.new.leads.items ≡ choosing.old.leads.items
+        ++ test_list (lead_list indexes.now) (test_chosen indexes.now asked.now others.now (test_plan_of test.now)) (test_plan_of test.now)) }
+    ensures size { IfOk result (λ found. found.size
+        ≡ test_size indexes.now (test_chosen indexes.now asked.now others.now (test_plan_of test.now)) (test_plan_of test.now)) }
     ensures asked { IfOk result (λ found. found.asked.now ≡ drop (test_leaves (test_plan_of test.now)) asked.now) }
     ensures others { IfOk result (λ found. found.others.now ≡ drop (test_leaves (test_plan_of test.now)) others.now) }
 {
@@ -440,9 +453,12 @@ fn settle_parts<'a>(
     indexes: &Indexes,
     choosing: &mut Choosing,
 ) -> Result<SettledParts<'a>, AllocError>
-    ensures choices { OnOk result (choosing.new.choices.items ≡ choosing.old.choices.items ++ plans_chosen indexes.now asked.now others.now (plans_of parts.now)) }
-    ensures leads { OnOk result (choosing.new.leads.items ≡ choosing.old.leads.items ++ plans_list (lead_list indexes.now) (plans_chosen indexes.now asked.now others.now (plans_of parts.now)) (plans_of parts.now)) }
-    ensures tally { IfOk result (λ found. IsTallyOf all (sizes indexes.now (plans_chosen indexes.now asked.now others.now (plans_of parts.now)) (plans_of parts.now)) found.tally) }
+    ensures choices { OnOk result (choosing.new.choices.items ≡ choosing.old.choices.items
+        ++ plans_chosen indexes.now asked.now others.now (plans_of parts.now)) }
+    ensures leads { OnOk result (choosing.new.leads.items ≡ choosing.old.leads.items
+        ++ plans_list (lead_list indexes.now) (plans_chosen indexes.now asked.now others.now (plans_of parts.now)) (plans_of parts.now)) }
+    ensures tally { IfOk result (λ found.
+        IsTallyOf all (sizes indexes.now (plans_chosen indexes.now asked.now others.now (plans_of parts.now)) (plans_of parts.now)) found.tally) }
     ensures asked { IfOk result (λ found. found.asked.now ≡ drop (plans_leaves (plans_of parts.now)) asked.now) }
     ensures others { IfOk result (λ found. found.others.now ≡ drop (plans_leaves (plans_of parts.now)) others.now) }
 {
@@ -478,9 +494,13 @@ fn settle_unit_parts<'a>(
     indexes: &Indexes,
     choosing: &mut Choosing,
 ) -> Result<SettledParts<'a>, AllocError>
-    ensures choices { OnOk result (choosing.new.choices.items ≡ choosing.old.choices.items ++ groups_chosen indexes.now asked.now others.now (unit_plans_of parts.now)) }
-    ensures leads { OnOk result (choosing.new.leads.items ≡ choosing.old.leads.items ++ groups_list (lead_list indexes.now) (groups_chosen indexes.now asked.now others.now (unit_plans_of parts.now)) (unit_plans_of parts.now)) }
-    ensures tally { IfOk result (λ found. IsTallyOf all (group_sizes indexes.now (groups_chosen indexes.now asked.now others.now (unit_plans_of parts.now)) (unit_plans_of parts.now)) found.tally) }
+    ensures choices { OnOk result (choosing.new.choices.items ≡ choosing.old.choices.items
+        ++ groups_chosen indexes.now asked.now others.now (unit_plans_of parts.now)) }
+    ensures leads { OnOk result (choosing.new.leads.items ≡ choosing.old.leads.items
+        ++ groups_list (lead_list indexes.now) (groups_chosen indexes.now asked.now others.now (unit_plans_of parts.now)) (unit_plans_of parts.now)) }
+    ensures tally { IfOk result (λ found.
+        IsTallyOf all (group_sizes indexes.now (groups_chosen indexes.now asked.now others.now (unit_plans_of parts.now))
+        (unit_plans_of parts.now)) found.tally) }
     ensures asked { IfOk result (λ found. found.asked.now ≡ drop (groups_leaves (unit_plans_of parts.now)) asked.now) }
     ensures others { IfOk result (λ found. found.others.now ≡ drop (groups_leaves (unit_plans_of parts.now)) others.now) }
 {

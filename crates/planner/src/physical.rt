@@ -74,7 +74,8 @@ fn chosen_for(
     indexes: &Indexes,
 ) -> Result<Choosing, AllocError>
     ensures choices { IfOk result (λ found. found.choices.items ≡ chosen indexes.now asked.now others.now (plan_of plan.now)) }
-    ensures leads { IfOk result (λ found. found.leads.items ≡ leads indexes.now (chosen indexes.now asked.now others.now (plan_of plan.now)) (plan_of plan.now)) }
+    ensures leads { IfOk result (λ found. found.leads.items
+        ≡ leads indexes.now (chosen indexes.now asked.now others.now (plan_of plan.now)) (plan_of plan.now)) }
 {
     let mut found = nothing_chosen(alloc);
     settle(plan, asked, others, indexes, &mut found)?;

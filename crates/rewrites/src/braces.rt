@@ -84,7 +84,8 @@ fn guarded(
     types: &ConceptPlan,
     test: &ValueTest,
 ) -> Result<ConceptPlan, AllocError>
-    ensures { IfOk result (λ new. plan_of new ≡ both_plan (pairs_plan false (at_least 1) (plan_of types.now) (test_plan_of test.now)) (units_plan count (unit_plan_of groups.now))) }
+    ensures { IfOk result (λ new. plan_of new
+        ≡ both_plan (pairs_plan false (at_least 1) (plan_of types.now) (test_plan_of test.now)) (units_plan count (unit_plan_of groups.now))) }
 {
     let guard = pairs(alloc, false, at_least(1), types, test);
     let groups = units(alloc, count, groups);

@@ -1,6 +1,7 @@
 //! A rule at a place, in place.
 ghost use Rattle.std.specs.Prelude.{suc, ◌≡◌, ◌≤◌, ◌∷◌, Bool, IfOk, option_map};
-ghost use Rattle.set_algebra.specs.Plan.{Plan, plan_of, plans_of, unit_plan_of, unit_plans_of, test_plan_of, and_plan, or_plan, values_plan, pairs_plan, and_units, or_units, pairs_units};
+ghost use Rattle.set_algebra.specs.Plan.{Plan, plan_of, plans_of, unit_plan_of, unit_plans_of, test_plan_of, and_plan};
+ghost use Rattle.set_algebra.specs.Plan.{or_plan, values_plan, pairs_plan, and_units, or_units, pairs_units};
 ghost use Rattle.set_algebra.specs.Places.{concept_node, group_node};
 ghost use Rattle.constraint_tree.specs.declared.operator.Cardinality.{Cardinality};
 ghost use Rattle.rewrites.specs.Counts.{only_if};
@@ -99,9 +100,12 @@ fn change_part(
     number: u32,
     place: &[u32],
 ) -> Result<bool, AllocError>
-    ensures and { IfOk result (λ fits. only_if fits (concept_node (and_plan (plans_of parts.new.items))) ≡ rewritten_at rule (number ∷ place.now) (concept_node (and_plan (plans_of parts.old.items)))) }
-    ensures or { IfOk result (λ fits. only_if fits (concept_node (or_plan (plans_of parts.new.items))) ≡ rewritten_at rule (number ∷ place.now) (concept_node (or_plan (plans_of parts.old.items)))) }
-    ensures values { IfOk result (λ fits. (start : Plan) → only_if fits (concept_node (values_plan start (plans_of parts.new.items))) ≡ rewritten_at rule (suc number ∷ place.now) (concept_node (values_plan start (plans_of parts.old.items)))) }
+    ensures and { IfOk result (λ fits. only_if fits (concept_node (and_plan (plans_of parts.new.items)))
+        ≡ rewritten_at rule (number ∷ place.now) (concept_node (and_plan (plans_of parts.old.items)))) }
+    ensures or { IfOk result (λ fits. only_if fits (concept_node (or_plan (plans_of parts.new.items)))
+        ≡ rewritten_at rule (number ∷ place.now) (concept_node (or_plan (plans_of parts.old.items)))) }
+    ensures values { IfOk result (λ fits. (start : Plan) → only_if fits (concept_node (values_plan start (plans_of parts.new.items)))
+        ≡ rewritten_at rule (suc number ∷ place.now) (concept_node (values_plan start (plans_of parts.old.items)))) }
 {
     let number = number as usize;
     if number >= parts.len() {
@@ -119,8 +123,12 @@ fn change_test(
     number: u32,
     place: &[u32],
 ) -> Result<bool, AllocError>
-    ensures pairs { IfOk result (λ fits. (back : Bool) (count : Cardinality) (types : Plan) → only_if fits (concept_node (pairs_plan back count types (test_plan_of test.new))) ≡ rewritten_at rule (suc number ∷ place.now) (concept_node (pairs_plan back count types (test_plan_of test.old)))) }
-    ensures unit { IfOk result (λ fits. (count : Cardinality) (types : Plan) → only_if fits (group_node (pairs_units count types (test_plan_of test.new))) ≡ rewritten_at rule (suc number ∷ place.now) (group_node (pairs_units count types (test_plan_of test.old)))) }
+    ensures pairs { IfOk result (λ fits. (back : Bool) (count : Cardinality) (types : Plan)
+        → only_if fits (concept_node (pairs_plan back count types (test_plan_of test.new)))
+        ≡ rewritten_at rule (suc number ∷ place.now) (concept_node (pairs_plan back count types (test_plan_of test.old)))) }
+    ensures unit { IfOk result (λ fits. (count : Cardinality) (types : Plan)
+        → only_if fits (group_node (pairs_units count types (test_plan_of test.new)))
+        ≡ rewritten_at rule (suc number ∷ place.now) (group_node (pairs_units count types (test_plan_of test.old)))) }
 {
     if number != 0 {
         return Ok(false);
@@ -176,7 +184,8 @@ fn change_unit_later(
     rest: &[u32],
 ) -> Result<bool, AllocError>
     requires { 1 ≤ number }
-    ensures { IfOk result (λ fits. only_if fits (group_node (unit_plan_of plan.new)) ≡ rewritten_at rule (number ∷ rest.now) (group_node (unit_plan_of plan.old))) }
+    ensures { IfOk result (λ fits. only_if fits (group_node (unit_plan_of plan.new))
+        ≡ rewritten_at rule (number ∷ rest.now) (group_node (unit_plan_of plan.old))) }
 {
     match plan {
         UnitPlan::And(parts) => change_unit_part(alloc, parts, rule, number, rest),
@@ -208,8 +217,10 @@ fn change_unit_part(
     number: u32,
     place: &[u32],
 ) -> Result<bool, AllocError>
-    ensures and { IfOk result (λ fits. only_if fits (group_node (and_units (unit_plans_of parts.new.items))) ≡ rewritten_at rule (number ∷ place.now) (group_node (and_units (unit_plans_of parts.old.items)))) }
-    ensures or { IfOk result (λ fits. only_if fits (group_node (or_units (unit_plans_of parts.new.items))) ≡ rewritten_at rule (number ∷ place.now) (group_node (or_units (unit_plans_of parts.old.items)))) }
+    ensures and { IfOk result (λ fits. only_if fits (group_node (and_units (unit_plans_of parts.new.items)))
+        ≡ rewritten_at rule (number ∷ place.now) (group_node (and_units (unit_plans_of parts.old.items)))) }
+    ensures or { IfOk result (λ fits. only_if fits (group_node (or_units (unit_plans_of parts.new.items)))
+        ≡ rewritten_at rule (number ∷ place.now) (group_node (or_units (unit_plans_of parts.old.items)))) }
 {
     let number = number as usize;
     if number >= parts.len() {

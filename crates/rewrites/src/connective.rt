@@ -33,7 +33,8 @@ pub(crate) fn parts_under(
     connective: Connective,
     plan: &ConceptPlan,
 ) -> Result<&[ConceptPlan], OtherForm>
-    ensures { MatchResult result (λ parts. plan_of plan.now ≡ connected connective (plans_of parts.now)) (λ _. parts_under connective (plan_of plan.now) ≡ None) }
+    ensures { MatchResult result (λ parts. plan_of plan.now ≡ connected connective (plans_of parts.now))
+        (λ _. parts_under connective (plan_of plan.now) ≡ None) }
 {
     match connective {
         Connective::And => and_of(plan),
@@ -67,7 +68,8 @@ pub(crate) fn given_parts(
 // The same of plans of groups.
 #[tactic(auto, using(set_algebra::proofs::PlanLemmas::plans_of_items))]
 pub(crate) fn unit_parts_of(plan: &UnitPlan) -> Result<(Connective, &[UnitPlan]), OtherForm>
-    ensures { MatchResult result (λ found. unit_plan_of plan.now ≡ connected_groups found.0 (unit_plans_of found.1.now)) (λ _. is_connected_group (unit_plan_of plan.now) ≡ false) }
+    ensures { MatchResult result (λ found. unit_plan_of plan.now ≡ connected_groups found.0 (unit_plans_of found.1.now))
+        (λ _. is_connected_group (unit_plan_of plan.now) ≡ false) }
 {
     match plan {
         UnitPlan::And(parts) => Ok((Connective::And, parts)),
@@ -80,7 +82,8 @@ pub(crate) fn unit_parts_under(
     connective: Connective,
     plan: &UnitPlan,
 ) -> Result<&[UnitPlan], OtherForm>
-    ensures { MatchResult result (λ parts. unit_plan_of plan.now ≡ connected_groups connective (unit_plans_of parts.now)) (λ _. group_parts_under connective (unit_plan_of plan.now) ≡ None) }
+    ensures { MatchResult result (λ parts. unit_plan_of plan.now ≡ connected_groups connective (unit_plans_of parts.now))
+        (λ _. group_parts_under connective (unit_plan_of plan.now) ≡ None) }
 {
     match connective {
         Connective::And => unit_and_of(plan),

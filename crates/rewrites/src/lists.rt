@@ -27,7 +27,8 @@ fn with_copies(
     parts: Result<Vec<ConceptPlan>, AllocError>,
     others: &[ConceptPlan],
 ) -> Result<Vec<ConceptPlan>, AllocError>
-    ensures { (plans : Plans) → IfOk parts (λ made. plans_of made.items ≡ plans) → IfOk result (λ both. plans_of both.items ≡ plans_joined plans (plans_of others.now)) }
+    ensures { (plans : Plans) → IfOk parts (λ made. plans_of made.items ≡ plans)
+        → IfOk result (λ both. plans_of both.items ≡ plans_joined plans (plans_of others.now)) }
 {
     let mut parts = parts?;
     let mut others = each(alloc, others)?;

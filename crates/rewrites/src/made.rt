@@ -1,7 +1,8 @@
 //! Nodes made of copies of others.
 ghost use Rattle.std.specs.Prelude.{◌≡◌, Some, Ok, IfOk, [], ◌∷◌, ◌++◌};
 ghost use Rattle.set_algebra.specs.Lowering.{both_plan};
-ghost use Rattle.set_algebra.specs.Plan.{Plan, PlanOfUnits, plan_of, unit_plan_of, test_plan_of, walk_plan, members_plan, pairs_plan, units_plan, pairs_units, minus_plan, minus_units};
+ghost use Rattle.set_algebra.specs.Plan.{Plan, PlanOfUnits, plan_of, unit_plan_of, test_plan_of, walk_plan};
+ghost use Rattle.set_algebra.specs.Plan.{members_plan, pairs_plan, units_plan, pairs_units, minus_plan, minus_units};
 ghost use Rattle.set_algebra.specs.declared.plan.ConceptPlan.{ConceptPlan};
 ghost use Rattle.set_algebra.specs.declared.plan.UnitPlan.{UnitPlan};
 ghost use Rattle.rewrites.specs.inside.Gives.{Gives, GivesGroup};
@@ -144,7 +145,8 @@ pub(crate) fn both(
     one: Result<ConceptPlan, AllocError>,
     other: Result<ConceptPlan, AllocError>,
 ) -> Result<ConceptPlan, AllocError>
-    ensures { (first second : Plan) → IfOk one (λ new. plan_of new ≡ first) → IfOk other (λ new. plan_of new ≡ second) → IfOk result (λ new. plan_of new ≡ both_plan first second) }
+    ensures { (first second : Plan) → IfOk one (λ new. plan_of new ≡ first) → IfOk other (λ new. plan_of new ≡ second)
+        → IfOk result (λ new. plan_of new ≡ both_plan first second) }
 {
     Ok(ConceptPlan::And(vec![in alloc; one?, other?]?))
 }
@@ -155,7 +157,8 @@ pub(crate) fn both_units(
     one: Result<UnitPlan, AllocError>,
     other: Result<UnitPlan, AllocError>,
 ) -> Result<UnitPlan, AllocError>
-    ensures { (first second : PlanOfUnits) → IfOk one (λ new. unit_plan_of new ≡ first) → IfOk other (λ new. unit_plan_of new ≡ second) → IfOk result (λ new. unit_plan_of new ≡ both_groups first second) }
+    ensures { (first second : PlanOfUnits) → IfOk one (λ new. unit_plan_of new ≡ first) → IfOk other (λ new. unit_plan_of new ≡ second)
+        → IfOk result (λ new. unit_plan_of new ≡ both_groups first second) }
 {
     Ok(UnitPlan::And(vec![in alloc; one?, other?]?))
 }
@@ -165,7 +168,8 @@ pub(crate) fn minus(
     first: Result<Box<ConceptPlan>, AllocError>,
     second: Result<Box<ConceptPlan>, AllocError>,
 ) -> Result<ConceptPlan, AllocError>
-    ensures { (from without : Plan) → IfOk first (λ own. plan_of own.value ≡ from) → IfOk second (λ own. plan_of own.value ≡ without) → IfOk result (λ new. plan_of new ≡ minus_plan from without) }
+    ensures { (from without : Plan) → IfOk first (λ own. plan_of own.value ≡ from) → IfOk second (λ own. plan_of own.value ≡ without)
+        → IfOk result (λ new. plan_of new ≡ minus_plan from without) }
 {
     Ok(ConceptPlan::Minus(first?, second?))
 }
@@ -174,7 +178,8 @@ pub(crate) fn minus_units(
     first: Result<Box<UnitPlan>, AllocError>,
     second: Result<Box<UnitPlan>, AllocError>,
 ) -> Result<UnitPlan, AllocError>
-    ensures { (from without : PlanOfUnits) → IfOk first (λ own. unit_plan_of own.value ≡ from) → IfOk second (λ own. unit_plan_of own.value ≡ without) → IfOk result (λ new. unit_plan_of new ≡ minus_units from without) }
+    ensures { (from without : PlanOfUnits) → IfOk first (λ own. unit_plan_of own.value ≡ from) → IfOk second (λ own. unit_plan_of own.value ≡ without)
+        → IfOk result (λ new. unit_plan_of new ≡ minus_units from without) }
 {
     Ok(UnitPlan::Minus(first?, second?))
 }

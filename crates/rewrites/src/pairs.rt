@@ -66,7 +66,8 @@ fn each_value(
     types: &ConceptPlan,
     parts: &[ConceptPlan],
 ) -> Result<Vec<ConceptPlan>, AllocError>
-    ensures { IfOk result (λ made. plans_of made.items ≡ plans_each (λ part. pairs_plan back count (plan_of types.now) (within_plan part)) (plans_of parts.now)) }
+    ensures { IfOk result (λ made. plans_of made.items
+        ≡ plans_each (λ part. pairs_plan back count (plan_of types.now) (within_plan part)) (plans_of parts.now)) }
 {
     let mut made = Vec::new(alloc);
     for part in parts {

@@ -147,7 +147,8 @@ fn without_only(plan: ConceptPlan) -> ConceptPlan
 
 // The only part, or the parts as they were.
 fn take_only(parts: Vec<ConceptPlan>) -> Result<ConceptPlan, Vec<ConceptPlan>>
-    ensures { MatchResult result (λ only. plans_of parts.items ≡ plan_then (plan_of only) no_plans) (λ same. (plans_of same.items ≡ plans_of parts.items) × (only_part (plans_of parts.items) ≡ None)) }
+    ensures { MatchResult result (λ only. plans_of parts.items ≡ plan_then (plan_of only) no_plans)
+        (λ same. (plans_of same.items ≡ plans_of parts.items) × (only_part (plans_of parts.items) ≡ None)) }
 {
     let mut parts = parts;
     if parts.len() != 1 {

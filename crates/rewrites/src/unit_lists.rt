@@ -27,7 +27,8 @@ fn with_copies(
     parts: Result<Vec<UnitPlan>, AllocError>,
     others: &[UnitPlan],
 ) -> Result<Vec<UnitPlan>, AllocError>
-    ensures { (plans : PlansOfUnits) → IfOk parts (λ made. unit_plans_of made.items ≡ plans) → IfOk result (λ both. unit_plans_of both.items ≡ groups_joined plans (unit_plans_of others.now)) }
+    ensures { (plans : PlansOfUnits) → IfOk parts (λ made. unit_plans_of made.items ≡ plans)
+        → IfOk result (λ both. unit_plans_of both.items ≡ groups_joined plans (unit_plans_of others.now)) }
 {
     let mut parts = parts?;
     let mut others = each_unit(alloc, others)?;
@@ -67,7 +68,8 @@ pub(crate) fn each_with(
     parts: &[UnitPlan],
     rest: &[UnitPlan],
 ) -> Result<Vec<UnitPlan>, AllocError>
-    ensures { IfOk result (λ made. unit_plans_of made.items ≡ groups_each (λ part. and_units (unit_plan_then part (unit_plans_of rest.now))) (unit_plans_of parts.now)) }
+    ensures { IfOk result (λ made. unit_plans_of made.items
+        ≡ groups_each (λ part. and_units (unit_plan_then part (unit_plans_of rest.now))) (unit_plans_of parts.now)) }
 {
     let mut made = Vec::new(alloc);
     for part in parts {

@@ -1,6 +1,7 @@
 //! Rules of pairs of groups: TypesOr, TestOr, RangeSplit, RangeTurn and RangeAll.
 ghost use Rattle.std.specs.Prelude.{◌≡◌, IfOk, option_map};
-ghost use Rattle.set_algebra.specs.Plan.{plan_of, plans_of, test_plan_of, unit_plan_of, unit_plans_of, pairs_units, minus_units, every_unit, nothing_unit, within_plan};
+ghost use Rattle.set_algebra.specs.Plan.{plan_of, plans_of, test_plan_of, unit_plan_of, unit_plans_of};
+ghost use Rattle.set_algebra.specs.Plan.{pairs_units, minus_units, every_unit, nothing_unit, within_plan};
 ghost use Rattle.rewrites.specs.Counts.{settled};
 ghost use Rattle.rewrites.specs.inside.Gives.{GivesGroup};
 ghost use Rattle.rewrites.specs.PlanLists.{groups_of_each};
@@ -65,7 +66,8 @@ fn each_value(
     types: &ConceptPlan,
     parts: &[ConceptPlan],
 ) -> Result<Vec<UnitPlan>, AllocError>
-    ensures { IfOk result (λ made. unit_plans_of made.items ≡ groups_of_each (λ part. pairs_units count (plan_of types.now) (within_plan part)) (plans_of parts.now)) }
+    ensures { IfOk result (λ made. unit_plans_of made.items
+        ≡ groups_of_each (λ part. pairs_units count (plan_of types.now) (within_plan part)) (plans_of parts.now)) }
 {
     let mut made = Vec::new(alloc);
     for part in parts {
@@ -108,7 +110,8 @@ fn with_counts(
     types: &ConceptPlan,
     test: &ValueTest,
 ) -> Result<UnitPlan, AllocError>
-    ensures { IfOk result (λ new. unit_plan_of new ≡ both_groups (pairs_units one (plan_of types.now) (test_plan_of test.now)) (pairs_units other (plan_of types.now) (test_plan_of test.now))) }
+    ensures { IfOk result (λ new. unit_plan_of new
+        ≡ both_groups (pairs_units one (plan_of types.now) (test_plan_of test.now)) (pairs_units other (plan_of types.now) (test_plan_of test.now))) }
 {
     let one = unit_pairs(alloc, one, types, test);
     let other = unit_pairs(alloc, other, types, test);

@@ -131,7 +131,8 @@ fn minus_from_and(
     rest: &[UnitPlan],
     without: &UnitPlan,
 ) -> Result<UnitPlan, AllocError>
-    ensures { IfOk result (λ new. unit_plan_of new ≡ minus_units (and_units (unit_plan_then (unit_plan_of from.now) (unit_plans_of rest.now))) (unit_plan_of without.now)) }
+    ensures { IfOk result (λ new. unit_plan_of new
+        ≡ minus_units (and_units (unit_plan_then (unit_plan_of from.now) (unit_plans_of rest.now))) (unit_plan_of without.now)) }
 {
     let kept = unit_in_box(alloc, and_first(alloc, from, rest));
     minus_units(kept, boxed_unit(alloc, without))
@@ -158,7 +159,8 @@ fn minus_each(
     first: &UnitPlan,
     rest: &[UnitPlan],
 ) -> Result<UnitPlan, AllocError>
-    ensures { IfOk result (λ new. unit_plan_of new ≡ minus_units (minus_units (unit_plan_of from.now) (unit_plan_of first.now)) (or_units (unit_plans_of rest.now))) }
+    ensures { IfOk result (λ new. unit_plan_of new
+        ≡ minus_units (minus_units (unit_plan_of from.now) (unit_plan_of first.now)) (or_units (unit_plans_of rest.now))) }
 {
     let kept = minus_units(boxed_unit(alloc, from), boxed_unit(alloc, first));
     minus_units(

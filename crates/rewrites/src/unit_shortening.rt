@@ -90,7 +90,8 @@ fn without_only(plan: UnitPlan) -> UnitPlan
 
 // The only part, or the parts as they were.
 fn take_only(parts: Vec<UnitPlan>) -> Result<UnitPlan, Vec<UnitPlan>>
-    ensures { MatchResult result (λ only. unit_plans_of parts.items ≡ unit_plan_then (unit_plan_of only) no_unit_plans) (λ same. (unit_plans_of same.items ≡ unit_plans_of parts.items) × (only_group_part (unit_plans_of parts.items) ≡ None)) }
+    ensures { MatchResult result (λ only. unit_plans_of parts.items ≡ unit_plan_then (unit_plan_of only) no_unit_plans)
+        (λ same. (unit_plans_of same.items ≡ unit_plans_of parts.items) × (only_group_part (unit_plans_of parts.items) ≡ None)) }
 {
     let mut parts = parts;
     if parts.len() != 1 {

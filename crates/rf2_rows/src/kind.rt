@@ -1,7 +1,8 @@
 //! The kinds of file, told by their names, and their headers.
 ghost use Rattle.std.specs.Prelude.{◌≡◌, None, Some, IsNone, IfSome};
 ghost use Rattle.rf2_rows.specs.Columns.{header_of};
-ghost use Rattle.rf2_rows.specs.Files.{file_kind_of, file_name, stem_of, elements_of, kind_of_elements, kind_named, component_kind, reference_set_kind, is_snapshot, is_terminology, is_reference_set};
+ghost use Rattle.rf2_rows.specs.Files.{file_kind_of, file_name, stem_of, elements_of, kind_of_elements, kind_named};
+ghost use Rattle.rf2_rows.specs.Files.{component_kind, reference_set_kind, is_snapshot, is_terminology, is_reference_set};
 
 use bstr::ByteSlice;
 use text_parts::cut;

@@ -1,7 +1,8 @@
 //! Reading a line as a row.
 ghost use Rattle.std.specs.Prelude.{◌≡◌, None, Some, IfOk, IfErr, length};
 ghost use Rattle.text_parts.specs.Parts.{texts_of};
-ghost use Rattle.rf2_rows.specs.Rows.{IsReading, IsReadingLent, fields_fault, row_fault, concept_of, description_of, description_text, relationship_of, member_of, IsRow};
+ghost use Rattle.rf2_rows.specs.Rows.{IsReading, IsReadingLent, fields_fault, row_fault, concept_of};
+ghost use Rattle.rf2_rows.specs.Rows.{description_of, description_text, relationship_of, member_of, IsRow};
 ghost use Rattle.rf2_rows.specs.inside.SharedColumns.{description_end_fault, description_from};
 
 use crate::concrete::read_concrete;
